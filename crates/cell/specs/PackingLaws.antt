@@ -1,6 +1,5 @@
 -- Unpacking a number and packing it again gives that number, so numbers that hold the same are equal.
-use Rattle.std.specs.Prelude.{◌≡◌, ℕ, zero, suc, ◌%◌, ◌/◌}
-use Rattle.std.specs.Prelude.{◌==◌, Bool, true}
+use Rattle.std.specs.Prelude.{◌≡◌, ℕ, zero, suc, ◌%◌, ◌/◌, ◌==◌, Bool, true}
 use Rattle.std.specs.Cmp.{IsEquivalence}
 use Rattle.std.proofs.Common.{arith, eq-eqb, ne_eqb, refl, sym, ap, subst, ◌∙◌, inl, inr}
 use Rattle.std.proofs.lemmas.Bool.{cases_eq, false_from_ne_true}

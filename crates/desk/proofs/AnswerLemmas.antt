@@ -5,11 +5,10 @@ use Rattle.streams.specs.Sinks.{Seen}
 use Rattle.desk.specs.Ends.{CallEnds, Writes}
 use Rattle.desk.proofs.WriterLemmas.{Writes-refused}
 use Rattle.desk.proofs.StateLemmas.{is-kept}
-use Rattle.desk.specs.States.{IsWithin, state_of}
+use Rattle.desk.specs.States.{IsWithin, state_of, ScreenOver}
 use Rattle.script.specs.Words.{placeless}
 use Rattle.world.specs.declared.call.Call.{Call}
 use Rattle.world.specs.declared.call.Reply.{Reply}
-use Rattle.desk.specs.States.{ScreenOver}
 use Rattle.desk.specs.declared.screen.Fault.{Fault}
 use Rattle.desk.specs.Runs.{MayAnswer, state_after}
 use Rattle.desk.specs.steps.Answers.{call_end}

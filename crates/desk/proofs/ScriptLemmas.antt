@@ -17,22 +17,20 @@ use Rattle.std.specs.Io.KnownBytes.{Appends, Consumes, IsAtEnd}
 use Rattle.std.proofs.KnownBytes.{Appends-nil, Appends-trans, Consumes-nil, Consumes-trans}
 use Rattle.std.proofs.lemmas.List.Splits.{length-slice_split, slice_split-cons_no, slice_split_at, slice_split_none}
 use Rattle.streams.specs.Sinks.{Seen}
-use Rattle.desk.specs.States.{State}
+use Rattle.desk.specs.States.{State, state_of, HasOneSize, KeepsSize, ScreenOver}
 use Rattle.streams.specs.Sources.{SourceSeen}
 use Rattle.desk.specs.Runs.{Outcome, Run, is_refused, state_after}
 use Rattle.desk.specs.Ends.{Makes}
 use Rattle.desk.proofs.MakesLemmas.{Makes-append, Makes-nothing}
 use Rattle.streams.specs.Counts.{count_after}
-use Rattle.desk.specs.States.{state_of}
 use Rattle.desk.specs.Showing.{RunShows}
 use Rattle.desk.proofs.ShowingLemmas.{cut-keeps_size, makes-keep_size, shows-broken, shows-unbroken, then-keeps_size}
 use Rattle.script.specs.Readings.{Reading, before_others, ends_with, next_number, reading, reading_of, parse_line}
 use Rattle.script.specs.Characters.{is_newline}
-use Rattle.script.specs.steps.Bytes.{HasNoNewline, ReadsLine}
+use Rattle.script.specs.Lines.{HasNoNewline, ReadsLine}
 use Rattle.desk.specs.ScriptEnds.{FlushFails, FlushSucceeds, LineEnds, LineStops, LogCloses, Logs, MayFollow, RunsLines, ScriptEnds, ScriptStops, calls_of, log_failed, log_lines, log_text}
 use Rattle.desk.specs.ScriptEnds.{numbered_call, write_fault}
 use Rattle.world.specs.declared.call.Call.{Call}
-use Rattle.desk.specs.States.{HasOneSize, KeepsSize, ScreenOver}
 use Rattle.script.specs.declared.fault.TextFault.{TextFault}
 use Rattle.script.specs.declared.fault.ScriptEnd.{ScriptEnd}
 use Rattle.script.specs.declared.bytes.LineEnd.TheVariants.{Newline, ScriptEnd as Script_end, ReadFailed}

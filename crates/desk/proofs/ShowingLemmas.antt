@@ -24,13 +24,12 @@ use Rattle.streams.specs.declared.sending.WriteFault.{WriteFault}
 use Rattle.paint.proofs.Repair.{Agrees-update, Agrees-fault, IsKnown, reads-known}
 use Rattle.desk.proofs.MakesLemmas.{Makes-nothing, Makes-one}
 use Rattle.desk.proofs.StateLemmas.{IsWithin-refl, painter-quiet}
-use Rattle.desk.specs.States.{IsWithin, State, after, wanted}
+use Rattle.desk.specs.States.{IsWithin, State, after, wanted, state_of, HasOneSize, KeepsSize, ScreenOver}
 use Rattle.desk.specs.Runs.{Outcome, MayAnswer, Run, all_sent, state_after, state_at_end}
 use Rattle.world.proofs.Sizes.{size-call}
 use Rattle.compose.specs.Desks.{DeskTable, world}
 use Rattle.desk.specs.Ends.{CallEnds, IsCut, Makes, RunEnds, Stops, cut_of}
 use Rattle.desk.specs.Methods.{CallMade}
-use Rattle.desk.specs.States.{state_of}
 use Rattle.desk.specs.Showing.{EndsInDoupdate, EndsInUpdate, ShowsWorld, RunShows}
 use Rattle.world.specs.declared.call.Call.{Call}
 use Rattle.world.specs.declared.call.Call.TheVariants as calls
@@ -38,7 +37,6 @@ use Rattle.world.specs.declared.call.Refresh.TheVariants.{UpdatePanels, Doupdate
 use Rattle.desk.specs.steps.Quiet.{each-call, quiet-reply}
 use Rattle.world.specs.declared.call.Reply.{Reply}
 use Rattle.desk.specs.declared.screen.RunEnd.{RunEnd}
-use Rattle.desk.specs.States.{HasOneSize, KeepsSize, ScreenOver}
 use Rattle.desk.specs.declared.screen.Fault.{Fault}
 use Rattle.desk.specs.declared.screen.Fault.TheVariants.{Refused, Write}
 

@@ -1,13 +1,12 @@
 -- In which columns calls change the virtual screen.
-use Rattle.std.proofs.Common.{◌≡◌, ℕ, ◌+◌, ◌-◌, ◌<◌, ◌≤◌, ◌&&◌, Bool, false, nat_le, nat_lt, List, length, max, min, set, MatchOption, Option, Some, None, Result, Ok, Err}
-use Rattle.std.proofs.Common.{sym, ap, ◌∙◌, arith}
+use Rattle.std.proofs.Common.{◌≡◌, ℕ, ◌+◌, ◌-◌, ◌<◌, ◌≤◌, ◌&&◌, Bool, false, nat_le, nat_lt, List, length, max, min, set, MatchOption, Option, Some, None, Result, Ok, Err, sym, ap, ◌∙◌, arith}
 use Rattle.std.specs.Option.{option_and_then, option_map_or}
 use Rattle.std.proofs.lemmas.Bool.{cases_lt}
 use Rattle.std.proofs.lemmas.Bool.Decides.{nat_tests}
 use Rattle.cell.specs.Pictures.{HasSize, Picture, origin, picture_of, shown_at}
 use Rattle.cell.specs.Shown.{Shown}
 use Rattle.cell.proofs.PictureLemmas.{HasSize-lines_from, cell_or-lines_from}
-use Rattle.paint.specs.Changes.{is_in, join, may_change, stretch_of}
+use Rattle.paint.specs.Changes.{is_in, join, may_change, stretch_of, DifferOnly}
 use Rattle.paint.specs.declared.changes.Stretch.{Stretch}
 use Rattle.paint.proofs.Changed.{not-added, not-before, out-of}
 use Rattle.paint.proofs.Copying.{same-outside}
@@ -18,7 +17,6 @@ use Rattle.compose.specs.Calling.{Called}
 use Rattle.compose.specs.Desks.{DeskTable, world}
 use Rattle.compose.proofs.DeskLemmas.{size-called, sound-called, world-left}
 use Rattle.desk.specs.States.{IsKept, IsScreen}
-use Rattle.paint.specs.Changes.{DifferOnly}
 use Rattle.paint.specs.Updates.{PainterState}
 use Rattle.world.specs.World.{World}
 use Rattle.world.specs.calls.Copying.{copywin_drawing}
@@ -34,9 +32,6 @@ pub wider : {Q : ℕ → ℕ → Type 0} (changes : List Stretch) (y : ℕ) (s :
     → (y < length changes → (u : ℕ) → u < bound → is_in s u ≡ false → Q y u)
     → (v u : ℕ) → v < y + 1 → v < length changes → u < bound → may_change (set changes y (join (stretch_of changes y) s)) v u ≡ false → Q v u
 wider {Q} changes y s bound done here v u few inside left none = grind (arith, cases_lt, not-before, not-added)
-
-and-right : (b c : Bool) → c ≡ false → (b && c) ≡ false
-and-right b c h = grind arith
 
 -- ---- what is touched of a window
 

@@ -35,9 +35,6 @@ flushes_after-append : (flushes : ℕ) (calls more : List Call) → flushes_afte
 flushes_after-append flushes [] more = refl
 flushes_after-append flushes (call ∷ calls) more = flushes_after-append (count_after (is_doupdate call) flushes) calls more
 
-or-damaged : (damaged affected : Bool) → damaged ≡ true → (damaged || affected) ≡ true
-or-damaged damaged affected h = grind arith
-
 or_turned : (a b c : Bool) → (b || (a || c)) ≡ ((a || b) || c)
 or_turned a b c = grind arith
 
@@ -77,19 +74,3 @@ module _ {W : Type 0} (seen : W → Seen) where
   pub refused-ends : (old : ScreenOver W) (desk : DeskTable) (call : Call) (e : Refusal) → Called old.desk call (Err e) desk
       → CallEnds seen old call (Err (Refused e)) (record old { desk = desk })
   refused-ends old desk call e h = grind arith
-
-  -- a doupdate sent all of its text
-  pub updated-ends : (old : ScreenOver W) (writer : W) (bytes : ℕ)
-      → Updates old.painter old.desk.virtual.clear (seen old.writer) (seen writer) (wanted (world old.desk)) bytes
-      → CallEnds seen old (calls.Refresh Doupdate) (Ok (Sent (record { bytes = bytes }))) (record {
-        desk = record old.desk { virtual = record old.desk.virtual { clear = false } };
-        painter = record old.painter { last = Some (wanted (world old.desk)) };
-        writer = writer;
-      })
-  updated-ends old writer bytes u = grind (arith, or-damaged)
-
-  -- a doupdate sent a prefix of its text
-  pub cut-ends : (old : ScreenOver W) (writer : W) (fault : WriteFault)
-      → BreaksOff old.painter old.desk.virtual.clear (seen old.writer) (seen writer) (wanted (world old.desk)) fault.sent
-      → CallEnds seen old (calls.Refresh Doupdate) (Err (Write fault)) (record { desk = old.desk; painter = record old.painter { last = None }; writer = writer })
-  cut-ends old writer fault b = grind arith

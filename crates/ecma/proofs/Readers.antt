@@ -11,8 +11,7 @@ use Rattle.std.proofs.lemmas.Str.{digit_value_digit}
 use Rattle.cell.specs.Glyphs.{is_printable}
 use Rattle.ecma.specs.declared.terminal.State.{State}
 use Rattle.ecma.specs.declared.terminal.State.TheVariants.{Text, Escape, Parameters, Failed}
-use Rattle.ecma.specs.Items.{Function, SGR, Printable, Control, Unfinished, IsDigit, AreParameters, IsBeginning, EndsOrEscapes, final_byte, control_sequence, escape, introducer}
-use Rattle.ecma.specs.Items.{separator}
+use Rattle.ecma.specs.Items.{Function, SGR, Printable, Control, Unfinished, IsDigit, AreParameters, IsBeginning, EndsOrEscapes, final_byte, control_sequence, escape, introducer, separator}
 use Rattle.ecma.specs.Terminals.{Terminal, print, effect}
 use Rattle.ecma.specs.Streams.{FailsAt, IsInProfile, Leads}
 use Rattle.ecma.specs.Parameters.{Parameter, parameter_of}

@@ -1,10 +1,9 @@
 -- From parent to parent: which windows are the ancestors of one, and where it begins in each.
-use Rattle.std.proofs.Common.{◌≡◌, ℕ, zero, suc, ◌+◌, ◌≤◌, false, ◌==◌, ◌||◌, Option, Some, None, IsSome, IsSomeAnd, [], ◌∷◌, arith, refl, ◌∙◌, subst}
-use Rattle.std.specs.Prelude.{option_and_then}
-use Rattle.std.specs.Option.{option_map, option_map_or}
+use Rattle.std.proofs.Common.{◌≡◌, ℕ, zero, suc, ◌+◌, ◌≤◌, false, ◌==◌, ◌||◌, Some, None, IsSome, IsSomeAnd, [], ◌∷◌, arith}
+use Rattle.std.specs.Option.{option_map}
 use Rattle.cell.specs.Glyphs.{Glyph}
-use Rattle.world.specs.Windows.{Backing, own_grid, part_of, GridPlace, HasPlace, Window, WindowMap, Windows, ancestors, ancestors_within, derives, leads, own, own_within, parent_number}
-use Rattle.world.specs.Sound.{AreSoundWindows, HasCells, IsPartOf, IsSoundWindow}
+use Rattle.world.specs.Windows.{Backing, own_grid, part_of, GridPlace, HasPlace, Window, WindowMap, Windows, ancestors, ancestors_within, derives, own, own_within}
+use Rattle.world.specs.Sound.{AreSoundWindows, IsSoundWindow}
 use Rattle.slots.specs.declared.slot.Part.{Part}
 use Rattle.slots.specs.declared.place.Place.{Place}
 use Rattle.slots.specs.Slots.{in_parent}
@@ -14,24 +13,14 @@ use Rattle.slots.proofs.LongerWalks.{own_of_part, own-parent}
 
 -- ---- ancestors
 
-anc-at : (n m : ℕ) (window : WindowMap) (s : GridPlace) → ((u y x : ℕ) → own_within n window u y x ≡ Some s → ancestors_within m window u ≡ ancestors_within n window u)
-    → (u y x : ℕ) (o : Option Window) → option_and_then (λ a. leads (own_within n window) u y x a.backing) o ≡ Some s
-    → option_map_or (λ p. p ∷ ancestors_within m window p) (option_and_then (λ a. parent_number a.backing) o) []
-    ≡ option_map_or (λ p. p ∷ ancestors_within n window p) (option_and_then (λ a. parent_number a.backing) o) []
-anc-at n m window s more u y x o h = grind arith
-
 anc-same : (n m : ℕ) → n ≤ m → (window : WindowMap) (u y x : ℕ) (s : GridPlace) → own_within n window u y x ≡ Some s → ancestors_within m window u ≡ ancestors_within n window u
 anc-same zero m le window u y x s h = cc
-anc-same (suc n) zero le window u y x s h = absurd (omega (arith, le))
-anc-same (suc n) (suc m) le window u y x s h = anc-at n m window s (λ v z t k. anc-same n m (omega (arith, le)) window v z t s k) u y x (window u) h
-
-anc_of_part : (n : ℕ) (window : WindowMap) (u : ℕ) (b : Window) (part : Part) → window u ≡ Some b → b.backing ≡ part_of part.parent part.line part.column
-    → ancestors_within (suc n) window u ≡ part.parent ∷ ancestors_within n window part.parent
-anc_of_part n window u b part e is = rw (e, is) refl
+anc-same (suc n) zero le window u y x s h = grind arith
+anc-same (suc n) (suc m) le window u y x s h = grind (arith, (anc-same n m (omega (arith, le)) window))
 
 pub ancestors-parent : (window : WindowMap) (u : ℕ) (b : Window) (part : Part) → window u ≡ Some b → b.backing ≡ part_of part.parent part.line part.column → IsSome (own window u 0 0)
     → ancestors window u ≡ part.parent ∷ ancestors window part.parent
-ancestors-parent window u b part e is ends = grind (arith, some_of, anc_of_part, anc-same, own_of_part)
+ancestors-parent window u b part e is ends = grind (arith, some_of, anc-same, own_of_part)
 
 pub ancestors-none : (window : WindowMap) (u : ℕ) (b : Window) (cells : ℕ → ℕ → Glyph) → window u ≡ Some b → b.backing ≡ own_grid cells → ancestors window u ≡ []
 ancestors-none window u b cells e is = grind arith
@@ -64,22 +53,7 @@ sound-there windows u b s e = rw e at (s.each u)
 pub Walk-step : (windows : Windows) (w u line column : ℕ) (part : Part) → AreSoundWindows windows → (h : Walk windows.window w u line column)
     → h.above.backing ≡ part_of part.parent part.line part.column
     → Walk windows.window w part.parent (line + part.line) (column + part.column)
-Walk-step windows w u line column part s h is =
-    let sound = sound-there windows u h.above s h.at_is in
-    let p = some_and (windows.window part.parent) (IsPartOf part.line part.column h.above) (subst (λ (b : Backing). HasCells windows.window h.above b) is sound.cells) in
-    record {
-      below = h.below;
-      above = p.0;
-      from_is = h.from_is;
-      at_is = p.1;
-      lines = omega (arith, h.lines, p.2.lines);
-      columns = omega (arith, h.columns, p.2.columns);
-      leads = λ y x.
-          h.leads y x
-          ∙ own-parent windows.window u h.above part h.at_is is sound.chain_ends (y + line) (x + column)
-          ∙ (λ i. own windows.window part.parent ((let e : y + line + part.line ≡ y + (line + part.line) = omega arith in e) i)
-          ((let e : x + column + part.column ≡ x + (column + part.column) = omega arith in e) i));
-    }
+Walk-step windows w u line column part s h is = grind (arith, sound-there windows u, own-parent windows.window u h.above part)
 
 -- a window has its first place
 pub first-there : (windows : Windows) (u : ℕ) → AreSoundWindows windows → IsSome (windows.window u) → HasPlace windows.window u 0 0

@@ -1,12 +1,11 @@
 -- What is touched of a window, passed on from window to window.
-use Rattle.std.proofs.Common.{◌≡◌, ◌≢◌, ℕ, ◌+◌, ◌-◌, ◌≤◌, Bool, true, false, if◌then◌else◌, ◌==◌, ◌&&◌, ◌||◌, nat_lt, nat_le, Option, Some, None, IsSome, IsSomeAnd, ◌∷◌, ap, arith, refl}
-use Rattle.std.proofs.Common.{sym, ◌∙◌, subst, eq-eqb, ne_eqb, zero-add}
+use Rattle.std.proofs.Common.{◌≡◌, ◌≢◌, ℕ, ◌+◌, ◌-◌, ◌≤◌, Bool, true, false, if◌then◌else◌, ◌==◌, ◌||◌, Option, Some, None, IsSome, IsSomeAnd, [], ◌∷◌, ap, arith, refl}
+use Rattle.std.proofs.Common.{sym, ◌∙◌, eq-eqb, ne_eqb, zero-add}
 use Rattle.std.specs.List.{list_any}
 use Rattle.std.specs.Option.{option_map, option_map_or}
-use mathlib.Core.Path.{fun_ext}
-use Rattle.std.proofs.lemmas.Bool.{and_from, and_parts, cases_eq, cases_lt, le-leb, leb-true, lt-ltb, le-ltb}
+use Rattle.std.proofs.lemmas.Bool.{cases_eq, cases_lt, lt-ltb, le-ltb}
 use Rattle.std.proofs.lemmas.Bool.Decides.{nat_tests}
-use Rattle.world.specs.Windows.{part_of, GridPlace, HasPlace, Window, WindowMap, Windows, ancestors, any_below, with_change, onward, own}
+use Rattle.world.specs.Windows.{part_of, GridPlace, HasPlace, Window, WindowMap, Windows, ancestors, with_change, onward, own}
 use Rattle.world.specs.Sharing.{shows_part_of}
 use Rattle.world.specs.Sound.{AreSoundWindows}
 use Rattle.world.specs.calls.Copying.{after_copying, in_line, shows_touched_of, with_touches}
@@ -17,7 +16,7 @@ use Rattle.world.proofs.WindowLaws.{own-onward, touched-touched}
 use Rattle.slots.specs.declared.place.Place.{Place}
 use Rattle.slots.specs.declared.slot.Part.{Part}
 use Rattle.slots.specs.Slots.{in_parent}
-use Rattle.grids.specs.steps.Syncs.{has_column, is_touched_at, part_in_parent, shows_touched, touched_shown}
+use Rattle.grids.specs.steps.Syncs.{has_column, part_in_parent, shows_touched, touched_shown}
 use Rattle.slots.proofs.Chain.{from_parent, no_parent, some_of}
 use Rattle.grids.proofs.Shared.{shared-in, from-shared}
 use Rattle.grids.proofs.Touches.{changed-here, changed-nothing, changed-other, changed-same, changed-twice, touching-is, touching-none}
@@ -42,46 +41,18 @@ module _ (window : WindowMap) (s t : ℕ) (a : Window) (g : GridPlace) (p0 p1 q0
   meets : (o : Option Columns) (v y x : ℕ) → in_columns o v y x ≡ true → Meets o v y x
   unfolding in_columns
   meets None v y x h = cc
-  meets (Some r) v y x h =
-      let shared = shared-in window s t (onward p0 p1 g) (onward q0 q1 g) leads_s leads_t (in_line v r) y x h in
-      record {
-        line = omega (arith, shared.top, shared.bottom);
-        column = omega (arith, shared.left);
-        among = and_from (nat_le r.first (q1 + x - p1)) (nat_le (q1 + x - p1) r.last) (le-leb r.first (q1 + x - p1) (omega (arith, shared.left)))
-            (le-leb (q1 + x - p1) r.last (omega (arith, shared.right)));
-      }
+  meets (Some r) v y x h = grind (arith, nat_tests, shared-in window s t (onward p0 p1 g) (onward q0 q1 g) leads_s leads_t (in_line v r) y x h)
 
   from-meets : (o : Option Columns) (v y x : ℕ) → Meets o v y x → in_columns o v y x ≡ true
   unfolding in_columns
-  from-meets None v y x h = let among = h.among in cc
-  from-meets (Some r) v y x h =
-      let parts = and_parts (nat_le r.first (q1 + x - p1)) (nat_le (q1 + x - p1) r.last) h.among in
-      let first = leb-true r.first (q1 + x - p1) parts.0 in
-      let last = leb-true (q1 + x - p1) r.last parts.1 in
-      from-shared window s t (onward p0 p1 g) (onward q0 q1 g) leads_s leads_t (in_line v r) y x
-      (record { grid = refl; top = omega (arith, h.line); bottom = omega (arith, h.line); left = omega (arith, h.column, first); right = omega (arith, h.column, last) })
-
-  shows-line : (y x : ℕ) → shows_touched_of window s t y x ≡ any_below a.lines (λ v. in_columns (a.touched v) v y x)
-  unfolding in_columns
-  shows-line y x = grind arith
+  from-meets None v y x h = grind arith
+  from-meets (Some r) v y x h = grind (arith, nat_tests, from-shared window s t (onward p0 p1 g) (onward q0 q1 g) leads_s leads_t (in_line v r) y x)
 
   pub shows-is : (y x : ℕ) → shows_touched_of window s t y x ≡ shows_touched a (p0, p1) (q0, q1) y x
-  shows-is y x = shows-line y x ∙ both_ways (any_below a.lines (λ v. in_columns (a.touched v) v y x)) (shows_touched a (p0, p1) (q0, q1) y x)
-      (λ h.
-      let found = any_below-true a.lines (λ v. in_columns (a.touched v) v y x) h in
-      let m = meets (a.touched found.number) found.number y x found.passes in
-      let at : found.number ≡ q0 + y - p0 = omega (arith, m.line) in
-      and_from (nat_le p0 (q0 + y) && nat_le p1 (q1 + x)) (is_touched_at a (q0 + y - p0) (q1 + x - p1))
-      (and_from (nat_le p0 (q0 + y)) (nat_le p1 (q1 + x)) (le-leb p0 (q0 + y) (omega (arith, m.line))) (le-leb p1 (q1 + x) m.column))
-      (and_from (nat_lt (q0 + y - p0) a.lines) (has_column (a.touched (q0 + y - p0)) (q1 + x - p1)) (lt-ltb (q0 + y - p0) a.lines (omega (arith, found.below, at)))
-      (subst (λ v. has_column (a.touched v) (q1 + x - p1) ≡ true) at m.among)))
-      (λ h.
-      let parts = and_parts (nat_le p0 (q0 + y) && nat_le p1 (q1 + x)) (is_touched_at a (q0 + y - p0) (q1 + x - p1)) h in
-      let starts = and_parts (nat_le p0 (q0 + y)) (nat_le p1 (q1 + x)) parts.0 in
-      let touched = and_parts (nat_lt (q0 + y - p0) a.lines) (has_column (a.touched (q0 + y - p0)) (q1 + x - p1)) parts.1 in
-      let line = leb-true p0 (q0 + y) starts.0 in
-      any_below-some a.lines (λ v. in_columns (a.touched v) v y x) (q0 + y - p0) (let lt : nat_lt (q0 + y - p0) a.lines ≡ true = touched.0 in grind (arith, nat_tests))
-      (from-meets (a.touched (q0 + y - p0)) (q0 + y - p0) y x (record { line = omega (arith, line); column = leb-true p1 (q1 + x) starts.1; among = touched.1 })))
+  unfolding in_columns
+  shows-is y x = both_ways (shows_touched_of window s t y x) (shows_touched a (p0, p1) (q0, q1) y x)
+      (λ h. grind (arith, nat_tests, meets, any_below-true a.lines (λ v. in_columns (a.touched v) v y x)))
+      (λ h. grind (arith, nat_tests, any_below-some a.lines (λ v. in_columns (a.touched v) v y x) (q0 + y - p0), from-meets (a.touched (q0 + y - p0)) (q0 + y - p0) y x))
 
 -- ---- of a window and one from which it derives
 
@@ -106,18 +77,13 @@ module _ (windows : Windows) (w u line column : ℕ) (sound : AreSoundWindows wi
 touching-twice : (a : Window) (s t : ℕ → ℕ → Bool) → with_touches s (with_touches t a) ≡ with_touches (λ y x. s y x || t y x) a
 touching-twice a s t = grind (arith, touching-is, cases_lt, lt-ltb, touched-touched, le-ltb)
 
-or-same : (t : Bool) → (t || t) ≡ t
-or-same t = grind arith
-
-or-swap : (s t : Bool) → (s || t) ≡ (t || s)
-or-swap s t = grind arith
-
-touching-again : (a : Window) (t : ℕ → ℕ → Bool) → with_touches t (with_touches t a) ≡ with_touches t a
-touching-again a t = touching-twice a t t ∙ ap (λ (s : ℕ → ℕ → Bool). with_touches s a) (fun_ext (λ y. fun_ext (λ x. or-same (t y x))))
+touched-twice : (window : WindowMap) (w : ℕ) (s t : ℕ → ℕ → Bool)
+    → with_change (with_change window w (with_touches t)) w (with_touches s) ≡ with_change window w (with_touches (λ y x. s y x || t y x))
+touched-twice window w s t = changed-twice window w (with_touches t) (with_touches s) ∙ changed-same window w _ _ (λ a is. touching-twice a s t)
 
 again : (o : Option Window) (t : ℕ → ℕ → Bool) → option_map (with_touches t) (option_map (with_touches t) o) ≡ option_map (with_touches t) o
 again None t = refl
-again (Some a) t = ap Some (touching-again a t)
+again (Some a) t = grind (arith, touching-twice a t t)
 
 -- ---- what is touched doesn't change what else a window is
 
@@ -133,9 +99,6 @@ pub record SameBut (o : Option Window) (b : Window) : Type 0 where
 
 same-window : (o p : Option Window) (b : Window) → option_map untouched o ≡ option_map untouched p → p ≡ Some b → SameBut o b
 same-window o p b h e = grind arith
-
-untouched_if : (t : Bool) (o : Option Window) (test : ℕ → ℕ → Bool) → option_map untouched (if t then option_map (with_touches test) o else o) ≡ option_map untouched o
-untouched_if t o test = grind arith
 
 -- ---- upwards: window u has been reached, and what is touched was passed on to it and to all on the way
 
@@ -202,7 +165,7 @@ module _ (old : Windows) (sound : AreSoundWindows old) (w u line column : ℕ) (
 
     pub handed-on : IsHandedTo old next w part.parent (line + part.line) (column + part.column)
     unfolding test
-    handed-on = grind (arith, next-walk, next_at, untouched_if, changed-other, next-ancestors, cases_eq, changed-here, test-is, eq-eqb, again, ne_eqb)
+    handed-on = grind (arith, next-walk, next_at, changed-other, next-ancestors, cases_eq, changed-here, test-is, eq-eqb, again, ne_eqb)
 
 -- ---- at the last window
 
@@ -240,42 +203,28 @@ module _ (old : Windows) (sound : AreSoundWindows old) (w u line column : ℕ) (
   of_any : ℕ → ℕ → Bool
   of_any y x = list_any (λ v. shows_touched_of old.window v w y x) (ancestors old.window u)
 
-  or_further : ℕ → ℕ → Bool
-  or_further y x = further y x || shows_touched_of old.window part.parent w y x
-
-  all-further : of_any ≡ or_further
-  unfolding further of_any or_further
-  all-further = fun_ext (λ y. fun_ext (λ x.
-      ap (list_any (λ v. shows_touched_of old.window v w y x)) (next-ancestors old sound w u line column part walk part_is)
-      ∙ or-swap (shows_touched_of old.window part.parent w y x) (list_any (λ v. shows_touched_of old.window v w y x) (ancestors old.window part.parent))))
+  all-further : (λ (y x : ℕ). further y x || taken y x) ≡ of_any
+  unfolding further of_any
+  all-further = grind (arith, taken-is, next-ancestors old sound w u line column part walk part_is)
 
   taken_at : next.window ≡ with_change cur.window w (with_touches taken)
   unfolding taken
   taken_at = grind arith
 
+  taken-rest : with_change next.window w (with_touches further) ≡ (after_copying old (Syncdown (record { 0 = w }))).window
+  unfolding of_any
+  taken-rest = ap (λ (ws : WindowMap). with_change ws w (with_touches further)) taken_at ∙ touched-twice cur.window w further taken
+      ∙ ap (λ (t : ℕ → ℕ → Bool). with_change cur.window w (with_touches t)) all-further ∙ h.rest
+
   pub taken-on : IsTakenFrom old next w part.parent (line + part.line) (column + part.column)
-  unfolding taken further further-walk of_any or_further
-  taken-on = record {
-    walk = next-walk old sound w u line column part walk part_is;
-    size = step ∙ ap (λ (ws : Windows). record ws { window = with_change cur.window w (with_touches taken) }) h.size ∙ ap (λ (ws : WindowMap). record old { window = ws }) (sym taken_at);
-    same = λ v. ap (λ (ws : WindowMap). option_map untouched (ws v)) taken_at ∙ untouched_if (v == w) (cur.window v) taken ∙ h.same v;
-    others = λ v apart. ap (λ (ws : WindowMap). ws v) taken_at ∙ changed-other cur.window w (with_touches taken) v apart ∙ h.others v apart;
-    rest =
-        ap (λ (ws : WindowMap). with_change ws w (with_touches further)) taken_at
-        ∙ changed-twice cur.window w (with_touches taken) (with_touches further)
-        ∙ changed-same cur.window w (λ a. with_touches further (with_touches taken a)) (with_touches (λ y x. list_any (λ v. shows_touched_of old.window v w y x) (ancestors old.window u)))
-        (λ a is. touching-twice a further taken
-        ∙ ap (λ (t : ℕ → ℕ → Bool). with_touches (λ y x. further y x || t y x) a) taken-is
-        ∙ ap (λ (t : ℕ → ℕ → Bool). with_touches t a) (sym all-further))
-        ∙ h.rest;
-  }
+  unfolding taken further further-walk
+  taken-on = record { walk = further-walk; size = grind (arith, taken_at); same = λ v. grind (arith, taken_at); others = λ v apart. grind (arith, taken_at, ne_eqb); rest = taken-rest }
+
+touched-nowhere : (window : WindowMap) (w : ℕ) (t : ℕ → ℕ → Bool) → ((y x : ℕ) → t y x ≡ false) → with_change window w (with_touches t) ≡ window
+touched-nowhere window w t h = changed-nothing window w (with_touches t) (λ a is. touching-none a t (λ y x below on. h y x))
 
 pub taken-all : (old cur : Windows) (w u line column : ℕ) → (h : IsTakenFrom old cur w u line column) → part_in_parent h.walk.above.backing ≡ None → cur
     ≡ after_copying old (Syncdown (record { 0 = w }))
 taken-all old cur w u line column h last =
-    let grid = part-none h.walk.above.backing last in
-    let none = ancestors-none old.window u h.walk.above grid.0 h.walk.at_is grid.1 in
-    let nothing : ℕ → ℕ → Bool = λ y x. list_any (λ v. shows_touched_of old.window v w y x) (ancestors old.window u) in
-    h.size ∙ ap (λ (ws : WindowMap). record old { window = ws })
-    (sym (changed-nothing cur.window w (with_touches nothing) (λ a is. touching-none a nothing (λ y x below on. ap (list_any (λ v. shows_touched_of old.window v w y x)) none)))
-    ∙ h.rest)
+    let none : ancestors old.window u ≡ [] = grind (arith, part-none, ancestors-none) in
+    h.size ∙ ap (λ (ws : WindowMap). record old { window = ws }) (sym (touched-nowhere cur.window w _ (λ y x. ap (list_any (λ v. shows_touched_of old.window v w y x)) none)) ∙ h.rest)

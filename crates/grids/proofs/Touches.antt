@@ -1,9 +1,10 @@
 -- A window that is touched line by line.
-use Rattle.std.proofs.Common.{◌≡◌, ◌≢◌, ℕ, zero, suc, ◌+◌, ◌-◌, ◌<◌, ◌≤◌, Bool, false, if◌then◌else◌, ◌==◌, ◌&&◌, nat_lt, nat_le, Option, Some, IsSomeAnd, ap, arith, refl, sym, ◌∙◌}
-use Rattle.std.proofs.Common.{inl, inr, eq-eqb, ne_eqb}
+use Rattle.std.proofs.Common.{◌≡◌, ◌≢◌, ℕ, zero, suc, ◌+◌, ◌-◌, ◌<◌, ◌≤◌, Bool, false, if◌then◌else◌, ◌&&◌, nat_lt, nat_le, Option, Some, IsSomeAnd, ap, arith, refl, sym}
+use Rattle.std.proofs.Common.{eq-eqb, ne_eqb}
 use Rattle.std.specs.Option.{option_map}
-use Rattle.std.proofs.lemmas.Bool.{cases_eq, cases_lt, cond-true, cond-false, lt-ltb, le-ltb}
-use Rattle.std.proofs.lemmas.Iterator.Adapters.{option_map_id}
+use mathlib.Core.Path.{fun_ext}
+use Rattle.std.proofs.lemmas.Bool.{cases_eq, cases_lt, lt-ltb, le-ltb}
+use Rattle.std.proofs.lemmas.Bool.Decides.{nat_tests}
 use Rattle.cell.specs.Pictures.{Place}
 use Rattle.cell.specs.declared.limits.TheConstants.{LARGEST_PAD}
 use Rattle.world.specs.Windows.{Window, WindowMap, Windows, with_change, touched_below, joined_columns}
@@ -16,24 +17,14 @@ use Rattle.grids.proofs.Writes.{touched-none, touched-past}
 
 -- ---- one window changed twice, and not at all
 
-both : (o : Option Window) (f g : Window → Window) → option_map g (option_map f o) ≡ option_map (λ a. g (f a)) o
-both o f g = grind arith
-
-both_if : (t : Bool) (o : Option Window) (f g : Window → Window) → (if t then option_map g (if t then option_map f o else o) else (if t then option_map f o else o))
-    ≡ (if t then option_map (λ a. g (f a)) o else o)
-both_if t o f g = grind (arith, both)
-
 pub changed-twice : (window : WindowMap) (w : ℕ) (f g : Window → Window) → with_change (with_change window w f) w g ≡ with_change window w (λ a. g (f a))
-changed-twice window w f g = grind (arith, both_if)
+changed-twice window w f g = grind arith
 
 pub changed-same : (window : WindowMap) (w : ℕ) (f g : Window → Window) → ((a : Window) → window w ≡ Some a → f a ≡ g a) → with_change window w f ≡ with_change window w g
 changed-same window w f g h = grind (arith, cases_eq, eq-eqb, ne_eqb)
 
-same_if : (t : Bool) (o : Option Window) → (if t then option_map (λ a. a) o else o) ≡ o
-same_if t o = grind (arith, option_map_id)
-
 pub changed-nothing : (window : WindowMap) (w : ℕ) (f : Window → Window) → ((a : Window) → window w ≡ Some a → f a ≡ a) → with_change window w f ≡ window
-changed-nothing window w f h = grind (arith, changed-same, same_if)
+changed-nothing window w f h = fun_ext (λ u. grind (arith, cases_eq, eq-eqb, ne_eqb))
 
 pub changed-other : (window : WindowMap) (w : ℕ) (f : Window → Window) (u : ℕ) → u ≢ w → with_change window w f u ≡ window u
 changed-other window w f u other = grind (arith, ne_eqb)
@@ -64,49 +55,36 @@ touching-none a test h = grind (arith, touching-is, cases_lt, lt-ltb, touched-no
 abbrev pub before : ℕ → (ℕ → ℕ → Bool) → ℕ → ℕ → Bool
 before k test y x = nat_lt y k && test y x
 
-before-off : (k y : ℕ) (t : Bool) → k ≤ y → (nat_lt y k && t) ≡ false
-before-off k y t h = grind (arith, le-ltb)
-
-before-on : (k y : ℕ) (t : Bool) → y < k → (nat_lt y k && t) ≡ t
-before-on k y t h = grind (arith, lt-ltb)
-
 module _ (a : Window) (test : ℕ → ℕ → Bool) (y : ℕ) (below : y < a.lines) where
   on_line : ℕ → ℕ → Option Columns
   on_line k z = if nat_lt z a.lines then touched_below a.columns (λ x. nat_lt z k && test z x) (a.touched z) else a.touched z
 
   line-other : (z : ℕ) → z ≢ y → on_line y z ≡ on_line (y + 1) z
   unfolding on_line
-  line-other z other = grind (arith, cases_lt, before-on, before-off)
+  line-other z other = grind (arith, cases_lt, nat_tests)
 
   line-before : on_line y y ≡ a.touched y
   unfolding on_line
-  line-before = grind (arith, lt-ltb, touched-none, before-off)
+  line-before = grind (arith, nat_tests, touched-none)
 
   line-after : on_line (y + 1) y ≡ touched_below a.columns (test y) (a.touched y)
   unfolding on_line
-  line-after = grind (arith, lt-ltb, touched-same, before-on)
+  line-after = grind (arith, nat_tests, touched-same)
 
   -- no column of the line passes
   pub line-none : ((x : ℕ) → x < a.columns → test y x ≡ false) → with_touches (before y test) a ≡ with_touches (before (y + 1) test) a
   unfolding on_line
   line-none h = grind (arith, touching-is, cases_eq, line-before, touched-none, line-after, line-other)
 
+  line-all : (first last : ℕ) → first ≤ last → last < a.columns → ((x : ℕ) → x < a.columns → test y x ≡ (nat_le first x && nat_le x last))
+      → touched_below a.columns (test y) (a.touched y) ≡ joined_columns (a.touched y) first last
+  line-all first last ordered within h = grind (arith, touched-same, touched-past first last (λ x. nat_le first x && nat_le x last) (a.touched y) (λ x. refl) ordered (a.columns - suc last))
+
   -- those from first to last pass
   pub line-some : (first last : ℕ) → first ≤ last → last < a.columns → ((x : ℕ) → x < a.columns → test y x ≡ (nat_le first x && nat_le x last))
       → with_touched y first last (with_touches (before y test) a) ≡ with_touches (before (y + 1) test) a
   unfolding on_line
-  line-some first last ordered within h = touching-is a (λ z. if z == y then joined_columns (on_line y z) first last else on_line y z) (before (y + 1) test) (λ z. elim (cases_eq z y) [
-    | inl same ↦
-        let all : a.columns ≡ suc last + (a.columns - suc last) = omega arith in
-        cond-true (z == y) (joined_columns (on_line y z) first last) (on_line y z) (eq-eqb z y same)
-        ∙ ap (λ v. joined_columns (on_line y v) first last) same
-        ∙ ap (λ (r : Option Columns). joined_columns r first last) line-before
-        ∙ sym (touched-same a.columns (test y) (λ x. nat_le first x && nat_le x last) (a.touched y) h
-        ∙ ap (λ n. touched_below n (λ x. nat_le first x && nat_le x last) (a.touched y)) all
-        ∙ touched-past first last (λ x. nat_le first x && nat_le x last) (a.touched y) (λ x. refl) ordered (a.columns - suc last))
-        ∙ sym line-after ∙ ap (on_line (y + 1)) (sym same)
-    | inr other ↦ cond-false (z == y) (joined_columns (on_line y z) first last) (on_line y z) (ne_eqb z y other) ∙ line-other z other
-  ])
+  line-some first last ordered within h = grind (arith, touching-is, cases_eq, line-before, line-other, line-after, line-all)
 
 -- ---- the windows after some lines
 
@@ -115,12 +93,10 @@ module _ (w : Windows) (win : ℕ) (test : ℕ → ℕ → Bool) where
   touched_before k = record w { window = with_change w.window win (with_touches (before k test)) }
 
   pub none-before : w ≡ touched_before 0
-  none-before = ap (λ (ws : WindowMap). record w { window = ws }) (sym (changed-nothing w.window win (with_touches (before 0 test))
-      (λ a is. touching-none a (before 0 test) (λ y x below on. before-off 0 y (test y x) (omega arith)))))
+  none-before = ap (λ (ws : WindowMap). record w { window = ws }) (sym (changed-nothing w.window win _ (λ a is. touching-none a _ (λ y x below on. grind (arith, nat_tests)))))
 
   pub all-before : (a : Window) → w.window win ≡ Some a → (k : ℕ) → a.lines ≤ k → touched_before k ≡ record w { window = with_change w.window win (with_touches test) }
-  all-before a there k all = ap (λ (ws : WindowMap). record w { window = ws }) (changed-same w.window win (with_touches (before k test)) (with_touches test)
-      (λ b is. touching-same b (before k test) test (λ y x below on. before-on k y (test y x) (let same : b ≡ a = cc in let lines = ap (λ (c : Window). c.lines) same in omega arith))))
+  all-before a there k all = ap (λ (ws : WindowMap). record w { window = ws }) (changed-same w.window win _ _ (λ b is. grind (arith, touching-same, nat_tests)))
 
   pub next-none : (a : Window) → w.window win ≡ Some a → (y : ℕ) → y < a.lines → ((x : ℕ) → x < a.columns → test y x ≡ false) → touched_before y ≡ touched_before (y + 1)
   next-none a there y below h = grind (arith, changed-same, line-none)

@@ -56,12 +56,6 @@ module _ {lines columns : ℕ} {changes : List Stretch} {shown wanted : Picture}
     after = line-back y below h;
   }
 
-  pub line-whole : (y : ℕ) {part : ℕ × ℕ} → y < lines → IsWithin columns (stretch_of changes y) part → part.0 ≡ part.1 → line_of shown y ≡ line_of wanted y
-  line-whole y {part} below h none =
-      sym (take-append-drop part.1 (line_of shown y)) ∙ (λ i. prefix i ++ line-back y below h i) ∙ take-append-drop part.1 (line_of wanted y) where
-        prefix : take part.1 (line_of shown y) ≡ take part.1 (line_of wanted y)
-        prefix = ap (λ n. take n (line_of shown y)) (sym none) ∙ line-prefix y below h ∙ ap (λ n. take n (line_of wanted y)) none
-
   pub lines-prefix : (n : ℕ) → ((y : ℕ) → y < n → stretch_of changes y ≡ no_stretch) → take n shown ≡ take n wanted
   lines-prefix n none = take-same [] n shown wanted (old_size.height ∙ sym new_size.height) (λ y few below. line-none y (omega (arith, below, old_size.height)) (none y few))
 

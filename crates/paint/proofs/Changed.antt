@@ -35,9 +35,6 @@ module _ (lines : List ℕ) (changes : List Stretch) (others : (v : ℕ) → con
   cleared-on : (from : ℕ) → ((v : ℕ) → v < from → stretch_of changes v ≡ no_stretch) → (next : Option ℕ) → IsNext lines from next → ClearedBefore lines next changes
   cleared-on from before y none = grind (arith, cases_lt)
 
-  pub cleared-first : (next : Option ℕ) → IsNext lines 0 next → ClearedBefore lines next changes
-  cleared-first = grind (arith, cleared-on)
-
 -- the line that is looked at
 pub looked-at : (lines : List ℕ) (changes : List Stretch) (next : Option ℕ) (y : ℕ) → next ≡ Some y → ClearedBefore lines next changes → ClearedBefore lines (Some y) changes
 looked-at lines changes next y is = grind arith

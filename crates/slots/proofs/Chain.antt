@@ -1,18 +1,24 @@
 -- The chain of parents: it ends, and it is no longer than the number of windows.
-use Rattle.std.proofs.Common.{◌≡◌, ℕ, zero, suc, ◌+◌, ◌-◌, ◌<◌, ◌≤◌, ◌≢◌, Option, Some, None, IsSome, IsSomeAnd, List, [], ◌∷◌, length, slice_set, ap, arith, refl, sym, ◌∙◌}
-use Rattle.std.proofs.Common.{inl, inr, ◌⊎◌, get_or-set_other}
+use Rattle.std.proofs.Common.{◌≡◌, ℕ, zero, suc, ◌+◌, ◌-◌, ◌<◌, ◌≤◌, Option, Some, None, IsSome, IsSomeAnd, List, length, ap, arith, refl, sym, ◌∙◌}
+use Rattle.std.proofs.Common.{inl, inr, ◌⊎◌, true, map, eqb}
+use Rattle.std.specs.List.{list_any, range_with_len}
+use Rattle.std.proofs.lemmas.Bool.{eq-eqb}
+use Rattle.std.proofs.lemmas.List.Folds.{list_any_at}
+use Rattle.std.proofs.lemmas.List.FromFn.{get_or-map-range_with_len, length-map-range_with_len}
+use Rattle.std.proofs.lemmas.Map.Steps.{le-length_from_below}
 use Rattle.std.specs.Option.{option_map}
-use Rattle.std.proofs.lemmas.Bool.{cases_eq}
 use Rattle.cell.specs.Glyphs.{Glyph}
 use Rattle.cell.specs.Pictures.{glyph_at}
 use Rattle.cell.specs.declared.limits.TheConstants.{MOST_WINDOWS}
-use Rattle.world.specs.Windows.{own_grid, GridPlace, own, own_within, window_limit, leads}
+use Rattle.world.specs.Windows.{own_grid, own, own_within, window_limit}
 use Rattle.slots.specs.declared.place.Place.{Place}
 use Rattle.slots.specs.declared.slot.Part.{Part}
 use Rattle.slots.specs.declared.slot.Cells.{Cells}
 use Rattle.slots.specs.declared.slot.Cells.TheVariants.{Own, Shared}
-use Rattle.slots.specs.Kept.{Kept, IsKept, backing_of}
-use Rattle.slots.specs.Slots.{slot_at, window_map, FitsIn, HasParentIn, IsChained, part_in, in_parent, depth_at, lines_at, columns_at}
+use Rattle.slots.specs.Kept.{Kept, IsKept, backing_of, window_of}
+use Rattle.slots.proofs.LongerWalks.{own_of_part}
+use Rattle.slots.proofs.OneSlot.{slot_below}
+use Rattle.slots.specs.Slots.{slot_at, window_map, FitsIn, HasParentIn, IsChained, IsRoot, part_in, in_parent, depth_at, lines_at, columns_at}
 
 pub some_of : {A : Type 0} (o : Option A) → IsSome o → (a : A) × (o ≡ Some a)
 some_of o h = grind arith
@@ -28,66 +34,24 @@ pub parent_at : (slots : List (Option Kept)) → IsChained slots → (w : ℕ) (
     → (p : Kept) × (slot_at slots part.parent ≡ Some p) × FitsIn k part p
 parent_at slots s w k part e is = grind (arith, each_at)
 
--- a slot with a grid is at the end of its chain
-depth_of_grid : (slots : List (Option Kept)) (k : Kept) (cells : Cells) → HasParentIn slots k cells → 0 < k.depth → (part : Part) × (cells ≡ Shared part)
-depth_of_grid slots k cells h up = grind arith
+-- each depth up to its own is the depth of a slot, so it is below their number
+module _ (slots : List (Option Kept)) (s : IsChained slots) where
+  abbrev depths : List ℕ
+  depths = map (depth_at slots) (range_with_len 0 (length slots))
 
--- how many slots are taken
-taken_in : List (Option Kept) → ℕ
-taken_in [] = 0
-taken_in (None ∷ slots) = taken_in slots
-taken_in (Some k ∷ slots) = suc (taken_in slots)
+  has-depth : (w : ℕ) (k : Kept) → slot_at slots w ≡ Some k → list_any (eqb k.depth) depths ≡ true
+  has-depth w k e =
+      let below = slot_below slots w k e in
+      list_any_at (eqb k.depth) depths w 0 (omega (arith, length-map-range_with_len (depth_at slots) 0 (length slots)))
+      (eq-eqb _ _ (sym (get_or-map-range_with_len (depth_at slots) 0 (length slots) w w 0 (omega arith) (omega arith) ∙ rw e refl)))
 
-taken_in-le : (slots : List (Option Kept)) → taken_in slots ≤ length slots
-unfolding taken_in
-taken_in-le [] = omega arith
-taken_in-le (None ∷ slots) = omega (arith, taken_in-le slots)
-taken_in-le (Some k ∷ slots) = omega (arith, taken_in-le slots)
+  has-below : (n w : ℕ) (k : Kept) → slot_at slots w ≡ Some k → k.depth ≡ n → (d : ℕ) → d ≤ n → list_any (eqb d) depths ≡ true
+  has-below zero w k e is d le = grind (arith, (has-depth w k e))
+  has-below (suc n) w k e is d le = let here = has-depth w k e in grind (arith, (each_at slots s w k e), (parent_at slots s w k), (has-below n))
 
--- a slot that is given up counts no more
-taken_in-set : (slots : List (Option Kept)) (w : ℕ) (k : Kept) → slot_at slots w ≡ Some k → taken_in slots ≡ suc (taken_in (slice_set slots w None))
-unfolding taken_in
-taken_in-set [] w k e = cc
-taken_in-set (None ∷ slots) zero k e = cc
-taken_in-set (Some j ∷ slots) zero k e = refl
-taken_in-set (None ∷ slots) (suc w) k e = taken_in-set slots w k e
-taken_in-set (Some j ∷ slots) (suc w) k e = ap suc (taken_in-set slots w k e)
-
--- where each depth below m occurs, at least m slots are taken
-abbrev Occurs : List (Option Kept) → ℕ → Type 0
-Occurs slots d = (w : ℕ) × (k : Kept) × (slot_at slots w ≡ Some k) × (k.depth ≡ d)
-
-apart_by_depth : (slots : List (Option Kept)) (v w : ℕ) (j k : Kept) → slot_at slots v ≡ Some j → slot_at slots w ≡ Some k → j.depth < k.depth → v ≡ w → ⊥
-apart_by_depth slots v w j k e f lt same = grind arith
-
-many_taken : (m : ℕ) (slots : List (Option Kept)) → ((d : ℕ) → d < m → Occurs slots d) → m ≤ taken_in slots
-many_taken zero slots h = omega arith
-many_taken (suc m) slots h =
-    let o = h m (omega arith) in
-    let w = o.0 in
-    let k = o.1 in
-    let rest : (d : ℕ) → d < m → Occurs (slice_set slots w None) d =
-    λ d lt.
-    let q = h d (omega arith) in
-    let apart : q.0 ≢ w = λ same. apart_by_depth slots q.0 w q.1 k q.2 o.2 (omega (arith, q.3, o.3)) same in
-    (q.0, q.1, get_or-set_other slots w q.0 None None apart ∙ q.2, q.3) in
-    omega (arith, many_taken m (slice_set slots w None) rest, taken_in-set slots w k o.2)
-
--- each depth up to its own occurs among the ancestors of a window
-occurs_above : (slots : List (Option Kept)) → IsChained slots → (n w : ℕ) (k : Kept) → slot_at slots w ≡ Some k → k.depth ≡ n → (d : ℕ) → d ≤ n → Occurs slots d
-occurs_above slots s zero w k e is d le = (w, k, e, omega arith)
-occurs_above slots s (suc n) w k e is d le =
-    elim (cases_eq d (suc n)) [
-      | inl same ↦ (w, k, e, is ∙ sym same)
-      | inr less ↦
-          let part = depth_of_grid slots k k.cells (each_at slots s w k e).1 (omega arith) in
-          let p = parent_at slots s w k part.0 e part.1 in
-          occurs_above slots s n part.0.parent p.0 p.1 (omega (arith, p.2.depth)) d (omega arith)
-    ]
-
-pub depth_below : (slots : List (Option Kept)) → IsChained slots → (w : ℕ) (k : Kept) → slot_at slots w ≡ Some k → k.depth < length slots
-depth_below slots s w k e =
-    omega (arith, taken_in-le slots, many_taken (suc k.depth) slots (λ d lt. occurs_above slots s k.depth w k e refl d (omega arith)))
+  pub depth_below : (w : ℕ) (k : Kept) → slot_at slots w ≡ Some k → k.depth < length slots
+  depth_below w k e =
+      omega (arith, le-length_from_below depths (suc k.depth) (λ d lt. has-below k.depth w k e refl d (omega (arith, lt))), length-map-range_with_len (depth_at slots) 0 (length slots))
 
 -- the place in the parent
 pub from_parent : (at next : Place) (o : Option Part) → Some next ≡ option_map (in_parent at) o → (part : Part) × (o ≡ Some part) × (next ≡ in_parent at part)
@@ -103,17 +67,6 @@ pub record Leads (slots : List (Option Kept)) (win grid line column : ℕ) : Typ
   pub lines : line + lines_at slots win ≤ lines_at slots grid
   pub columns : column + columns_at slots win ≤ columns_at slots grid
 
-own_step : (slots : List (Option Kept)) (w : ℕ) (k : Kept) (part : Part) → slot_at slots w ≡ Some k → k.cells ≡ Shared part → (n y x : ℕ)
-    → own_within (suc n) (window_map slots) w y x ≡ own_within n (window_map slots) part.parent (y + part.line) (x + part.column)
-own_step slots w k part e is n y x = rw (e, is) refl
-
-end_of : (further : ℕ → ℕ → ℕ → Option GridPlace) (w y x : ℕ) (cells : Cells) → part_in cells ≡ None → leads further w y x (backing_of cells) ≡ Some (record { grid = w; line = y; column = x })
-end_of further w y x cells is = grind arith
-
-own_end : (slots : List (Option Kept)) (w : ℕ) (k : Kept) → slot_at slots w ≡ Some k → part_in k.cells ≡ None → (n y x : ℕ)
-    → own_within (suc n) (window_map slots) w y x ≡ Some (record { grid = w; line = y; column = x })
-own_end slots w k e is n y x = grind (arith, end_of)
-
 pub shared_of : (cells : Cells) (part : Part) → part_in cells ≡ Some part → cells ≡ Shared part
 shared_of cells part is = grind arith
 
@@ -128,15 +81,14 @@ depth_at_below slots s w taken = grind (arith, some_of, depth_below)
 pub Leads-step : (slots : List (Option Kept)) → IsChained slots → (win grid line column : ℕ) (k : Kept) (part : Part) → slot_at slots grid ≡ Some k → part_in k.cells ≡ Some part →
     Leads slots win grid line column → Leads slots win part.parent (line + part.line) (column + part.column)
 Leads-step slots s win grid line column k part e in_part h =
-    let is = shared_of k.cells part in_part in
-    let p = parent_at slots s grid k part e is in
+    let p = parent_at slots s grid k part e (shared_of k.cells part in_part) in
     record {
-      taken = rw p.1 refl;
+      taken = grind arith;
       same = λ n.
-          let deeper : depth_at slots grid + n ≡ suc (depth_at slots part.parent + n) = rw (e, p.1) (omega (arith, p.2.depth)) in
-          h.same n ∙ rw deeper (own_step slots grid k part e is (suc (depth_at slots part.parent + n)) line column);
-      lines = rw p.1 (let old = rw e at h.lines in omega (arith, old, p.2.within.lines));
-      columns = rw p.1 (let old = rw e at h.columns in omega (arith, old, p.2.within.columns));
+          let deeper : depth_at slots grid + n ≡ suc (depth_at slots part.parent + n) = grind arith in
+          h.same n ∙ rw deeper (own_of_part (suc (depth_at slots part.parent + n)) (window_map slots) grid (window_of k) part line column (rw e refl) (ap backing_of (shared_of k.cells part in_part)));
+      lines = grind arith;
+      columns = grind arith;
     }
 
 -- the end of the chain
@@ -146,10 +98,9 @@ pub Leads-end : (slots : List (Option Kept)) → IsChained slots → length slot
 Leads-end slots s few win grid line column k taken e is h =
     let n = window_limit - suc (depth_at slots win) in
     let whole : window_limit ≡ suc (depth_at slots win + n) = omega (arith, limit-is, depth_at_below slots s win taken) in
-    rw whole (h.same n ∙ own_end slots grid k e is (depth_at slots grid + n) line column)
+    let same = h.same n in rw whole (grind arith)
 
 -- a grid of its own, and a part of another window
-
 pub own_source : (cells : Cells) → part_in cells ≡ None → (grid : ℕ → ℕ → Glyph) × (backing_of cells ≡ own_grid grid)
 own_source (Own sheet) is = (λ y x. glyph_at sheet (y, x), refl)
 own_source (Shared part) is = cc
@@ -157,27 +108,22 @@ own_source (Shared part) is = cc
 pub own_alone : (cells : Cells) (grid : ℕ → ℕ → Glyph) → backing_of cells ≡ own_grid grid → part_in cells ≡ None
 own_alone cells grid is = grind arith
 
--- each chain ends
 pub own_or_shared : (cells : Cells) → (part_in cells ≡ None) ⊎ ((part : Part) × (cells ≡ Shared part))
 own_or_shared cells = grind arith
 
-ends : (slots : List (Option Kept)) → IsChained slots → (n w : ℕ) (k : Kept) → slot_at slots w ≡ Some k → k.depth ≡ n → (m y x : ℕ) → IsSome (own_within (suc (n + m)) (window_map slots) w y x)
-ends slots s zero w k e is m y x = elim (own_or_shared k.cells) [
-  | inl own ↦ rw (own_end slots w k e own (0 + m) y x) refl
-  | inr more ↦ let p = parent_at slots s w k more.0 e more.1 in absurd (omega (arith, p.2.depth))
-]
-ends slots s (suc n) w k e is m y x = elim (own_or_shared k.cells) [
-  | inl own ↦ rw (own_end slots w k e own (suc n + m) y x) refl
-  | inr more ↦
-      let part = more.0 in
-      let p = parent_at slots s w k part e more.1 in
-      let step : own_within (suc (suc n + m)) (window_map slots) w y x ≡ own_within (suc (n + m)) (window_map slots) part.parent (y + part.line) (x + part.column) =
-      own_step slots w k part e more.1 (suc n + m) y x ∙ ap (λ j. own_within j (window_map slots) part.parent (y + part.line) (x + part.column)) (let j : suc n + m ≡ suc (n + m) = omega arith in j) in
-      rw step (ends slots s n part.parent p.0 p.1 (omega (arith, p.2.depth)) m (y + part.line) (x + part.column))
-]
+-- the first place of a window leads to a place of a grid, in which the window lies
+module _ (slots : List (Option Kept)) (s : IsChained slots) (few : length slots ≤ MOST_WINDOWS + 1) (win : ℕ) (taken : IsSome (slot_at slots win)) where
+  root-from : (n at line column : ℕ) (k : Kept) → slot_at slots at ≡ Some k → k.depth ≡ n → Leads slots win at line column → IsSomeAnd (own (window_map slots) win 0 0) (IsRoot slots win)
+  root-from zero at line column k e is h = let end = Leads-end slots s few win at line column k taken e in grind (arith, own_or_shared, parent_at, each_at)
+  root-from (suc n) at line column k e is h = elim (own_or_shared k.cells) [
+    | inl alone ↦ let end = Leads-end slots s few win at line column k taken e alone h in grind (arith, each_at)
+    | inr more ↦
+        let p = parent_at slots s at k more.0 e more.1 in
+        root-from n more.0.parent _ _ p.0 p.1 (omega (arith, p.2.depth)) (Leads-step slots s win at line column k more.0 e (grind arith) h)
+  ]
+
+  pub some-root : IsSomeAnd (own (window_map slots) win 0 0) (IsRoot slots win)
+  some-root = let k = some_of (slot_at slots win) taken in root-from k.0.depth win 0 0 k.0 k.1 refl (record { taken = taken; same = λ n. refl; lines = omega arith; columns = omega arith })
 
 pub chain_ends : (slots : List (Option Kept)) → IsChained slots → length slots ≤ MOST_WINDOWS + 1 → (w : ℕ) (k : Kept) → slot_at slots w ≡ Some k → IsSome (own (window_map slots) w 0 0)
-chain_ends slots s few w k e =
-    let n = window_limit - suc k.depth in
-    let whole : window_limit ≡ suc (k.depth + n) = omega (arith, limit-is, depth_below slots s w k e) in
-    rw whole (ends slots s k.depth w k e refl n 0 0)
+chain_ends slots s few w k e = let root = some-root slots s few w (rw e refl) in grind arith

@@ -1,12 +1,12 @@
 -- The cells of a slot, and the lines of a grid.
-use Rattle.std.proofs.Common.{◌≡◌, ℕ, ◌+◌, ◌<◌, ◌≤◌, ◌∙◌, [], length, take, drop, replicate, get_or, map, Option, None, sym, arith, zero-add, lit≤, lit<}
+use Rattle.std.proofs.Common.{◌≡◌, ℕ, ◌+◌, ◌<◌, ◌≤◌, [], length, take, drop, replicate, get_or, map, Option, None, arith, zero-add, lit≤, lit<}
 use Rattle.std.proofs.lemmas.Bool.{cases_lt}
 use Rattle.std.specs.List.{AllByRecursion, range_with_len}
 use Rattle.std.proofs.lemmas.List.Elements.{All-from_recursion, recursion_from_All, All-get_or, All-take, All-drop}
 use Rattle.std.proofs.lemmas.List.{ext_get_or, get_or-take, get_or-drop, get_or-replicate, get_or_past, length-replicate, length-take-le, length-drop}
 use Rattle.std.proofs.lemmas.List.FromFn.{length-map-range_with_len, get_or-map-range_with_len}
 use mathlib.Core.Path.{fun_ext}
-use Rattle.cell.specs.Glyphs.{Glyph, blank, IsCell}
+use Rattle.cell.specs.Glyphs.{blank, IsCell}
 use Rattle.cell.specs.Pictures.{Sheet, Place, AreCells, HasSize, line_of, glyph_at, blank_sheet}
 use Rattle.cell.specs.declared.limits.TheConstants.{LARGEST_PAD}
 use Rattle.world.specs.Windows.{own_grid}
@@ -23,22 +23,13 @@ use Rattle.world.specs.declared.settings.Columns.{Columns}
 pub piece-of_line : (sheet : Sheet) (line left len : ℕ) → left + len ≤ length (line_of sheet line)
     → take len (drop left (line_of sheet line)) ≡ map (λ x. glyph_at sheet (line, left + x)) (range_with_len 0 len)
 piece-of_line sheet line left len fits =
-    let cells = line_of sheet line in
-    let shown : ℕ → Glyph = λ x. glyph_at sheet (line, left + x) in
-    let whole : length (take len (drop left cells)) ≡ len = length-take-le len (drop left cells) (omega (arith, length-drop left cells)) in
-    ext_get_or blank (take len (drop left cells)) (map shown (range_with_len 0 len))
-    (whole ∙ sym (length-map-range_with_len shown 0 len))
-    (λ x below.
-    let within : x < len = omega arith in
-    get_or-take len (drop left cells) x blank within
-    ∙ get_or-drop left cells x blank
-    ∙ sym (get_or-map-range_with_len shown 0 len x x blank within (zero-add x)))
+    ext_get_or blank _ _ (grind (arith, length-take-le, length-drop, length-map-range_with_len))
+    (λ x below. grind (arith, length-take-le, length-drop, get_or-take, get_or-drop, get_or-map-range_with_len, zero-add))
 
 pub cells-of_line : (sheet : Sheet) (line left len : ℕ) → AreCells sheet → line < length sheet → AllByRecursion IsCell (take len (drop left (line_of sheet line)))
 cells-of_line sheet line left len cells below =
     let row = All-get_or (AllByRecursion IsCell) sheet line [] below (All-from_recursion (AllByRecursion IsCell) sheet cells) in
-    recursion_from_All IsCell (take len (drop left (line_of sheet line)))
-    (All-take IsCell len (drop left (line_of sheet line)) (All-drop IsCell left (line_of sheet line) (All-from_recursion IsCell (line_of sheet line) row)))
+    recursion_from_All IsCell _ (All-take IsCell len _ (All-drop IsCell left _ (All-from_recursion IsCell (line_of sheet line) row)))
 
 -- a blank grid
 

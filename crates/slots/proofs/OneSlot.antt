@@ -28,9 +28,6 @@ KeepsShape None n = Unit {0}
 KeepsShape (Some k) (Some j) = SameShape k j
 KeepsShape (Some k) None = ⊥
 
-KeepsShape-refl : (o : Option Kept) → KeepsShape o o
-KeepsShape-refl o = grind arith
-
 -- one slot is filled, with a window whose parent is there
 pub chained_set : (old new : List (Option Kept)) (at : ℕ) (j : Kept) → IsChained old → SetAt old new at (Some j) → KeepsShape (slot_at old at) (Some j)
     → IsKept j → HasParentIn old j j.cells → IsChained new

@@ -2,7 +2,7 @@
 use Rattle.std.proofs.Common.{◌≡◌, ℕ, zero, suc, ◌<◌, ◌≤◌, List, [], ◌∷◌, ◌++◌, length, reverse, sym, ap, subst, ◌∙◌, arith}
 use mathlib.Core.List.{reverse_aux}
 use Rattle.std.specs.List.{AllByRecursion}
-use Rattle.std.proofs.lemmas.Bool.{ne_eqb}
+use Rattle.std.proofs.lemmas.Bool.{eq-eqb, ne_eqb}
 use Rattle.stack.specs.Nodes.{AreOnce, IsChain, IsOut, way}
 use Rattle.stack.proofs.DistinctNumbers.{out-back, out-prefix}
 
@@ -44,12 +44,10 @@ module _ (above below : ℕ → ℕ) where
   chain-reverse a [] z h = (h.1, h.0)
   chain-reverse a (x ∷ xs) z h = chain-reverse_aux x xs [] z a h.1 (h.0.1, h.0.0)
 
-way-end : (next : ℕ → ℕ) (n : ℕ) → way n next 0 ≡ []
-way-end next n = grind arith
-
 -- the way through a chain is the chain
 pub way-chain : (above below : ℕ → ℕ) (a : ℕ) (xs : List ℕ) (n : ℕ) → IsChain above below a xs 0 → AllByRecursion (λ q. 0 < q) xs → length xs ≤ n → way n above (above a) ≡ xs
-way-chain above below a [] n h each le = ap (way n above) h.0 ∙ way-end above n
+way-chain above below a [] zero h each le = grind arith
+way-chain above below a [] (suc n) h each le = grind (arith, eq-eqb)
 way-chain above below a (x ∷ xs) zero h each le = absurd (omega arith)
 way-chain above below a (x ∷ xs) (suc n) h each le = grind (arith, ne_eqb, (way-chain above below x xs n h.1 each.1 (omega arith)))
 
@@ -81,15 +79,14 @@ module _ (above below above' below' : ℕ → ℕ) where
   chain-removed p r a [] [] z h once oa oz = grind arith
   chain-removed p r a [] (y ∷ ys) z h once oa oz = grind (arith, chain-same, same-each)
   chain-removed p r a (x ∷ xs) ys z h once oa oz =
-      let prefix = chain-prefix above below x p xs ys z h.1 in
-      let back = chain-back above below x p xs ys z h.1 in
-      let oap = out-back a xs (p ∷ ys) oa.1 in
-      let oxp = out-back x xs (p ∷ ys) once.0 in (
-        (
-          r.aboves a oap.0 (not-last above below a x xs p prefix oa.0 (out-prefix a xs (p ∷ ys) oa.1)) ∙ h.0.0,
-          r.belows x oxp.0 (not-first above below x p ys z back (λ e. oz.0 (sym e)) oxp.1) ∙ h.0.1,
-        ),
-        chain-removed p r x xs ys z h.1 once.1 once.0 oz.1,
+      let prefix = chain-prefix above below x p xs ys z h.1 in let back = chain-back above below x p xs ys z h.1 in
+      grind (
+        arith,
+        (out-back a xs (p ∷ ys) oa.1),
+        (out-back x xs (p ∷ ys) once.0),
+        (chain-removed p r x xs ys z h.1 once.1 once.0 oz.1),
+        (not-last above below a x xs p prefix oa.0 (out-prefix a xs (p ∷ ys) oa.1)),
+        (not-first above below x p ys z back),
       )
 
   -- p is between lower and upper now

@@ -1,5 +1,5 @@
 -- Lists of numbers without duplicates.
-use Rattle.std.proofs.Common.{◌≡◌, ℕ, ◌<◌, ◌≤◌, Bool, true, false, ◌==◌, ◌||◌, List, [], ◌∷◌, ◌++◌, length, reverse, sym, ap, subst, ◌⊎◌, inl, inr, refl, eqb, arith}
+use Rattle.std.proofs.Common.{◌≡◌, ℕ, ◌<◌, ◌≤◌, true, false, ◌==◌, List, [], ◌∷◌, ◌++◌, length, reverse, sym, ap, subst, ◌⊎◌, inl, inr, refl, eqb, arith}
 use mathlib.Core.List.{reverse_aux}
 use Rattle.std.specs.List.{AllByRecursion, IsDistinct, list_any}
 use Rattle.std.proofs.lemmas.Bool.{cases_eq, eq-eqb, ne_eqb, or_cases, eqb-true}
@@ -52,8 +52,7 @@ once-after p xs ys h = (once-back xs (p ∷ ys) h).0
 
 pub once-without : (p : ℕ) (xs ys : List ℕ) → AreOnce (xs ++ p ∷ ys) → AreOnce (xs ++ ys)
 once-without p [] ys h = h.1
-once-without p (x ∷ xs) ys h =
-    (out-append x xs ys (out-prefix x xs (p ∷ ys) h.0) (out-back x xs (p ∷ ys) h.0).1, once-without p xs ys h.1)
+once-without p (x ∷ xs) ys h = grind (arith, out-append, (out-prefix x xs (p ∷ ys)), (out-back x xs (p ∷ ys)), (once-without p xs ys))
 
 pub once-push : (p : ℕ) (xs : List ℕ) → AreOnce xs → IsOut p xs → AreOnce (xs ++ p ∷ [])
 once-push p [] h out = (tt, tt)
@@ -111,10 +110,7 @@ distinct-once (x ∷ xs) h = (differs-each x xs h.0, distinct-once xs h.1)
 
 below-each : (m q : ℕ) (xs : List ℕ) → AllByRecursion (λ x. x < m) xs → list_any (eqb q) xs ≡ true → q < m
 below-each m q [] h any = cc
-below-each m q (x ∷ xs) h any = elim (or_cases (eqb q x) (list_any (eqb q) xs) any) [
-  | inl here ↦ subst (λ (k : ℕ). k < m) (sym (eqb-true q x here)) h.0
-  | inr there ↦ below-each m q xs h.1 there
-]
+below-each m q (x ∷ xs) h any = grind (arith, or_cases, eqb-true, (below-each m q xs))
 
 pub length-once : (m : ℕ) (xs : List ℕ) → AreOnce xs → AllByRecursion (λ x. x < m) xs → length xs ≤ m
 length-once m xs once below = length-le_from_distinct_below xs m (distinct-once xs once) (λ q any. below-each m q xs below any)
@@ -127,8 +123,7 @@ without-out p (x ∷ xs) h = rw (ne_eqb x p (λ e. h.0 (sym e))) (ap (λ l. x �
 
 pub without-split : (p : ℕ) (xs ys : List ℕ) → AreOnce (xs ++ p ∷ ys) → without p (xs ++ p ∷ ys) ≡ xs ++ ys
 without-split p [] ys h = rw (eq-eqb p p refl) (without-out p ys h.0)
-without-split p (x ∷ xs) ys h =
-    rw (ne_eqb x p (out-back x xs (p ∷ ys) h.0).0) (ap (λ l. x ∷ l) (without-split p xs ys h.1))
+without-split p (x ∷ xs) ys h = grind (arith, ne_eqb, (out-back x xs (p ∷ ys)), (without-split p xs ys))
 
 pub out-without : (p : ℕ) (xs : List ℕ) → IsOut p (without p xs)
 out-without p [] = tt
@@ -140,12 +135,9 @@ pub next_in-split : (p : ℕ) (xs ys : List ℕ) → IsOut p xs → next_in p (x
 next_in-split p [] ys h = rw (eq-eqb p p refl) refl
 next_in-split p (x ∷ xs) ys h = rw (ne_eqb x p (λ e. h.0 (sym e))) (next_in-split p xs ys h.1)
 
-or-true : (b : Bool) → (b || true) ≡ true
-or-true b = grind arith
-
 pub any-split : (p : ℕ) (xs ys : List ℕ) → list_any (λ q. q == p) (xs ++ p ∷ ys) ≡ true
 any-split p [] ys = rw (eq-eqb p p refl) refl
-any-split p (x ∷ xs) ys = rw (any-split p xs ys) (or-true (x == p))
+any-split p (x ∷ xs) ys = grind (arith, (any-split p xs ys))
 
 pub any_is-out : (p : ℕ) (xs : List ℕ) → IsOut p xs → list_any (λ q. q == p) xs ≡ false
 any_is-out p [] h = refl

@@ -1,7 +1,6 @@
 -- How the numbers that are taken and the panels of windows follow the nodes.
 use Rattle.std.proofs.Common.{◌≡◌, ℕ, zero, suc, ◌+◌, ◌-◌, ◌<◌, ◌≤◌, ◌==◌, if◌then◌else◌, Option, None, rules, []}
-use Rattle.std.proofs.Common.{Some, is_some, MatchOption, List, ◌∷◌, ◌++◌, length, set, take, replicate, slice_index_or}
-use Rattle.std.proofs.Common.{length-set, get_or-set_same, get_or-set_other, refl, arith}
+use Rattle.std.proofs.Common.{Some, is_some, MatchOption, List, ◌∷◌, ◌++◌, length, set, take, replicate, slice_index_or, length-set, get_or-set_same, get_or-set_other, refl, arith}
 use Rattle.std.proofs.lemmas.Bool.{cases_eq, eq-eqb, ne_eqb}
 use Rattle.std.proofs.lemmas.List.{length_push, take_all}
 use Rattle.cell.specs.declared.limits.TheConstants.{MOST_PANELS}

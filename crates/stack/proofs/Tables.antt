@@ -1,54 +1,37 @@
 -- Tables of panels: what is known of each, and each call's table.
-use Rattle.std.proofs.Common.{◌≡◌, ℕ, zero, suc, true, false, ◌<◌, ◌==◌, if◌then◌else◌, ◌⊎◌, Option, None, Some, IsSome, MatchOption, List, [], ◌∷◌, ◌++◌, length, slice_index_or, sym, ap, subst}
-use Rattle.std.proofs.Common.{◌∙◌, refl, inl, inr, arith, eqb, All, rules}
-use Rattle.std.specs.List.{AllByRecursion}
+use Rattle.std.proofs.Common.{◌≡◌, ℕ, true, false, ◌<◌, ◌⊎◌, Option, None, Some, IsSome, List, [], ◌∷◌, ◌++◌, length, sym, subst}
+use Rattle.std.proofs.Common.{◌∙◌, refl, inl, inr, arith, eqb, rules}
 use Rattle.std.specs.Option.{is_none, is_some}
 use Rattle.std.proofs.lemmas.Bool.{eqb-false, cases_eq}
 use Rattle.std.proofs.lemmas.List.{length_push}
+use Rattle.std.proofs.lemmas.List.Elements.{All-from_recursion}
 use Rattle.std.proofs.lemmas.Map.Keys.{apart_from_distinct}
 use Rattle.cell.specs.declared.refusal.Refusal.TheVariants.{Hidden}
 use Rattle.cell.specs.Refusals.{first_of}
 use Rattle.world.specs.Panels.{Panels, first_panels}
-use Rattle.world.specs.calls.Stacking.{after_del_panel, after_replace_panel, is_hidden, without, IsSoundEntry, IsSoundOrder, visible_tests}
+use Rattle.world.specs.calls.Stacking.{after_del_panel, after_replace_panel, is_hidden, without, IsSoundOrder, visible_tests}
 use Rattle.world.specs.Effects.{with_panel, with_entry}
 use Rattle.stack.specs.Nodes.{no_node, node_at, window_at, window_in, from_bottom, IsOut, IsPanel, IsThreaded}
 use Rattle.stack.specs.Tables.{panels, table_of, IsPanelTable, PanelTable}
 use Rattle.stack.specs.steps.Entries.{Entered, IsFree, NodeMade, Windowed}
 use Rattle.stack.specs.steps.Links.{Reordered}
 use Rattle.stack.specs.declared.nodes.Node.{Node}
-use Rattle.stack.proofs.DistinctNumbers.{distinct-once, out-each}
+use Rattle.stack.proofs.DistinctNumbers.{distinct-once, each-weaker, out-each}
 use Rattle.stack.proofs.Threads.{from_bottom-is, panel-below, panel-same}
 use Rattle.stack.proofs.Windows.{given-other, panels-are, threaded-windowed, window-is, threaded-pushed, window-free, given-same}
 
 -- ---- what is known of each
 
-each-at : (P : ℕ → Type 0) (xs : List ℕ) → AllByRecursion P xs → All P xs
-each-at P [] h k d lt = absurd (omega arith)
-each-at P (x ∷ xs) h zero d lt = h.0
-each-at P (x ∷ xs) h (suc k) d lt = each-at P xs h.1 k d (omega arith)
-
 module _ (nodes : List Node) (h : IsPanelTable nodes) where
-  window-some : (p : ℕ) → IsPanel nodes p → IsSome ((panels (table_of nodes)).window p)
-  window-some p panel = subst (λ (o : Option ℕ). IsSome o) (sym (window-is nodes p)) panel.1
-
-  all-some : (order : List ℕ) → AllByRecursion (IsPanel nodes) order → AllByRecursion (λ p. IsSome ((panels (table_of nodes)).window p)) order
-  all-some [] each = tt
-  all-some (p ∷ order) each = (window-some p each.0, all-some order each.1)
-
   -- what has a window is a panel
   pub is-panel : (p w : ℕ) → window_at nodes p ≡ Some w → IsPanel nodes p
   is-panel p w is = grind arith
 
-  sound-entry : (p : ℕ) (o : Option ℕ) → window_at nodes p ≡ o → MatchOption o (Unit {0}) (IsSoundEntry (panels (table_of nodes)) p)
-  sound-entry p o is = grind (arith, is-panel, panel-below, window-is)
-
   pub sound : IsSoundOrder (panels (table_of nodes))
   sound = record {
-    once = λ i j d lt within. eqb-false (slice_index_or (from_bottom nodes) i d) (slice_index_or (from_bottom nodes) j d)
-        (apart_from_distinct eqb (from_bottom nodes) i j d (distinct-once (from_bottom nodes) h.threaded.once) lt within);
-    visible = each-at (λ p. IsSome ((panels (table_of nodes)).window p)) (from_bottom nodes) (all-some (from_bottom nodes) h.threaded.panels);
-    each = λ p. subst (λ (o : Option ℕ). MatchOption o (Unit {0}) (IsSoundEntry (panels (table_of nodes)) p)) (sym (window-is nodes p))
-        (sound-entry p (window_at nodes p) refl);
+    once = λ i j d lt within. eqb-false _ _ (apart_from_distinct eqb (from_bottom nodes) i j d (distinct-once (from_bottom nodes) h.threaded.once) lt within);
+    visible = All-from_recursion _ _ (each-weaker _ (λ p. IsSome ((panels (table_of nodes)).window p)) (λ p panel. rw (window-is nodes p) panel.1) _ h.threaded.panels);
+    each = λ p. grind (arith, is-panel, panel-below, window-is);
   }
 
 -- of the table that a stack shows
@@ -57,20 +40,14 @@ sound_shown nodes t is h = subst (λ (t : PanelTable). IsSoundOrder (panels t)) 
 
 -- ---- a new stack
 
-first-window : (p : ℕ) → window_at (no_node ∷ []) p ≡ None
-first-window p = grind arith
-
-first-threaded : IsThreaded (no_node ∷ []) []
-first-threaded = grind arith
-
 pub first-is : from_bottom (no_node ∷ []) ≡ []
-first-is = from_bottom-is (no_node ∷ []) [] first-threaded
+first-is = from_bottom-is (no_node ∷ []) [] (grind arith)
 
 pub first-table : IsPanelTable (no_node ∷ [])
-first-table = grind (arith, first-window, first-is, first-threaded)
+first-table = grind (arith, first-is)
 
 pub first-panels : panels (table_of (no_node ∷ [])) ≡ first_panels
-first-panels = panels-are (no_node ∷ []) [] (λ p. None) first-is first-window
+first-panels = panels-are (no_node ∷ []) [] (λ p. None) first-is (λ p. grind arith)
 
 -- ---- the order changed
 
@@ -97,19 +74,13 @@ module _ (old new : List Node) (p : ℕ) (o : Option ℕ) (table : IsPanelTable 
 -- a panel is deleted
 module _ (old mid new : List Node) (p : ℕ) (table : IsPanelTable old) (panel : IsPanel old p) (order : Reordered old mid (without p (from_bottom old))) (out : IsOut p (from_bottom mid))
     (windowed : Windowed mid new p None) where
-  mid-table : IsPanelTable mid
-  mid-table = reordered-table old mid (without p (from_bottom old)) table order
-
-  mid-panel : IsPanel mid p
-  mid-panel = panel-same old mid order.windows p panel
-
   pub deleted-table : IsPanelTable new
-  deleted-table = windowed-table mid new p None mid-table mid-panel windowed (inr out) (λ q w none is. cc)
+  deleted-table = windowed-table mid new p None (reordered-table old mid _ table order) (panel-same old mid order.windows p panel) windowed (inr out) (λ q w none is. cc)
 
   pub deleted-panels : panels (table_of new) ≡ after_del_panel (panels (table_of old)) p
   deleted-panels =
-      windowed-panels mid new p None mid-table mid-panel windowed (inr out)
-      ∙ ap (λ (a : Panels). record { visible = a.visible; window = with_entry a.window p None }) (reordered-panels old mid (without p (from_bottom old)) order)
+      let given = windowed-panels mid new p None (reordered-table old mid _ table order) (panel-same old mid order.windows p panel) windowed (inr out) in
+      let before = reordered-panels old mid _ order in grind arith
 
 -- a panel's window is another
 module _ (old new : List Node) (p w : ℕ) (table : IsPanelTable old) (panel : IsPanel old p) (windowed : Windowed old new p (Some w)) where
@@ -137,56 +108,29 @@ module _ (old new : List Node) (p w : ℕ) (table : IsPanelTable old) (free : Is
 
   pub entered-windowed : p < length old → Windowed old new p (Some w) → Entered old new p w
   entered-windowed lt windowed =
-      let length = windowed.length in
-      let some = table.some_node in
-      let few = table.few_nodes in
       let threaded = threaded-windowed old new p (Some w) windowed (from_bottom old) (inl refl) table.threaded in
       let is = from_bottom-is new (from_bottom old) threaded in
-      record {
-        some = omega arith;
-        few = omega arith;
-        window = windowed.window;
-        threaded = subst (λ (l : List ℕ). IsThreaded new l) (sym is) threaded;
-        is = is;
-        out = subst (λ (l : List ℕ). IsOut p l) (sym is) free-out;
-      }
+      let out = free-out in grind arith
 
 -- its node was made before
 module _ (old mid new : List Node) (p w : ℕ) (free : IsFree old p) (made : NodeMade old mid p) where
-  made-free : IsFree mid p
-  made-free = grind arith
-
   pub entered-made : Windowed mid new p (Some w) → Entered old new p w
-  entered-made windowed =
-      let entered = entered-windowed mid new p w made.table made-free made.within windowed in
-      record {
-        some = entered.some;
-        few = entered.few;
-        window = λ q. entered.window q ∙ ap (λ (o : Option ℕ). if q == p then Some w else o) (made.window q);
-        threaded = entered.threaded;
-        is = entered.is ∙ made.is;
-        out = entered.out;
-      }
+  entered-made windowed = let entered = entered-windowed mid new p w made.table (grind arith) made.within windowed in grind arith
 
 module _ (old : List Node) (p : ℕ) (table : IsPanelTable old) (free : IsFree old p) where
   module _ (node : Node) (last : p ≡ length old) (window : window_in node ≡ None) (above : node.above ≡ p) (below : node.below ≡ p) where
-    pushed-threaded : IsThreaded (old ++ node ∷ []) (from_bottom old)
-    pushed-threaded = threaded-pushed old node (from_bottom old) table.some_node (above ∙ last) (below ∙ last)
-        (subst (λ (k : ℕ). IsOut k (from_bottom old)) last (free-out old old p 0 table free)) table.threaded
-
     pub made-pushed : NodeMade old (old ++ node ∷ []) p
-    made-pushed = grind (arith, length_push, from_bottom-is, pushed-threaded, window-free)
+    made-pushed =
+        let threaded = threaded-pushed old node (from_bottom old) table.some_node (above ∙ last) (below ∙ last) (rw last at (free-out old old p 0 table free)) table.threaded in
+        grind (arith, length_push, from_bottom-is, window-free)
 
 -- ---- tests
 
 pub panel-from : (nodes : List Node) (table : IsPanelTable nodes) (p : ℕ) (node : Node) → node ≡ node_at nodes p → is_some node.window ≡ true → IsPanel nodes p
 panel-from nodes table p node is has = grind arith
 
-is_none-some : (o : Option ℕ) → IsSome o → is_none o ≡ false
-is_none-some o h = grind arith
-
 pub taken : (nodes : List Node) (p : ℕ) → IsPanel nodes p → is_none ((panels (table_of nodes)).window p) ≡ false
-taken nodes p panel = is_none-some ((panels (table_of nodes)).window p) (subst (λ (o : Option ℕ). IsSome o) (sym (window-is nodes p)) panel.1)
+taken nodes p panel = grind (arith, window-is)
 
 pub refused-hidden : (a : Panels) (p : ℕ) → is_none (a.window p) ≡ false → is_hidden a p ≡ true → first_of (visible_tests a p) ≡ Some Hidden
 refused-hidden a p there hidden = rw there (rw hidden refl)

@@ -1,14 +1,13 @@
 -- The order through the nodes, before and after a panel leaves or enters it.
-use Rattle.std.proofs.Common.{◌≡◌, ℕ, ◌<◌, ◌≤◌, ◌==◌, if◌then◌else◌, Option, IsSome, List, [], ◌∷◌, ◌++◌, length, reverse, sym, ap, subst, ◌∙◌, refl, inl, inr, arith}
-use mathlib.Core.Path.{fun_ext}
+use Rattle.std.proofs.Common.{◌≡◌, ℕ, ◌<◌, ◌≤◌, ◌==◌, if◌then◌else◌, Option, IsSome, List, [], ◌∷◌, ◌++◌, length, reverse, sym, ap, subst, ◌∙◌, inl, inr, arith}
 use Rattle.std.specs.List.{AllByRecursion}
 use Rattle.std.proofs.lemmas.Bool.{cases_eq, eq-eqb, ne_eqb, cases_lt}
 use Rattle.std.proofs.lemmas.List.{get_or_past, length-reverse}
 use Rattle.world.specs.calls.Stacking.{without}
-use Rattle.stack.specs.Nodes.{node_at, above_at, below_at, IsAlone, IsChain, IsOut, IsPanel, IsThreaded, from_bottom, from_top}
+use Rattle.stack.specs.Nodes.{node_at, above_at, below_at, IsAlone, IsOut, IsPanel, IsThreaded, from_bottom, from_top}
 use Rattle.stack.specs.steps.Links.{Linked, Reordered, SameWindows}
 use Rattle.stack.specs.declared.nodes.Node.{Node}
-use Rattle.stack.proofs.Chains.{Inserted, Removed, chain-back, chain-prefix, chain-pushed, chain-put, chain-removed, chain-reverse, first-each, last-each, not-first, not-last, way-chain}
+use Rattle.stack.proofs.Chains.{Inserted, Removed, chain-back, chain-prefix, chain-pushed, chain-put, chain-removed, chain-reverse, chain-same, first-each, last-each, not-first, not-last, way-chain}
 use Rattle.stack.proofs.DistinctNumbers.{each-append, each-back, each-prefix, each-reverse, each-weaker, length-once, once-after, once-before, once-push, once-without, out-append, out-back, out-each}
 use Rattle.stack.proofs.DistinctNumbers.{out-prefix, out_or_in, without-out, without-split}
 
@@ -26,15 +25,15 @@ module _ (nodes : List Node) (order : List ℕ) (h : IsThreaded nodes order) whe
   pub out-end : IsOut 0 order
   out-end = out-each (λ q. 0 < q) 0 (λ lt. omega arith) order positive
 
+  each-node : AllByRecursion (λ q. q < length nodes) order
+  each-node = each-weaker (IsPanel nodes) (λ q. q < length nodes) (panel-below nodes) order h.panels
+
   -- no more than there are nodes after the end
   pub few : 0 < length nodes → length order < length nodes
-  few some =
-      let each = each-weaker (IsPanel nodes) (λ q. q < length nodes) (panel-below nodes) order h.panels in
-      let le = length-once (length nodes) (0 ∷ order) (out-end, h.once) (some, each) in
-      omega arith
+  few some = let le = length-once (length nodes) (0 ∷ order) (out-end, h.once) (some, each-node) in omega arith
 
   few-order : length order ≤ length nodes
-  few-order = length-once (length nodes) order h.once (each-weaker (IsPanel nodes) (λ q. q < length nodes) (panel-below nodes) order h.panels)
+  few-order = length-once (length nodes) order h.once each-node
 
   pub from_bottom-is : from_bottom nodes ≡ order
   unfolding from_bottom
@@ -43,38 +42,27 @@ module _ (nodes : List Node) (order : List ℕ) (h : IsThreaded nodes order) whe
   pub from_top-is : from_top nodes ≡ reverse order
   unfolding from_top
   from_top-is =
-      way-chain (below_at nodes) (above_at nodes) 0 (reverse order) (length nodes)
-      (chain-reverse (above_at nodes) (below_at nodes) 0 order 0 h.chain)
-      (each-reverse (λ q. 0 < q) order positive)
-      (let e : length (reverse order) ≡ length order = length-reverse order in let le = few-order in omega arith)
+      let e : length (reverse order) ≡ length order = length-reverse order in
+      let le = few-order in way-chain _ _ 0 _ _ (chain-reverse _ _ 0 order 0 h.chain) (each-reverse _ order positive) (omega arith)
 
 -- the neighbours of each are among the nodes
 module _ (nodes : List Node) (order : List ℕ) (h : IsThreaded nodes order) (some : 0 < length nodes) where
-  each-node : AllByRecursion (λ q. q < length nodes) order
-  each-node = each-weaker (IsPanel nodes) (λ q. q < length nodes) (panel-below nodes) order h.panels
-
   pub above-below : (p : ℕ) → IsPanel nodes p → above_at nodes p < length nodes
-  above-below p panel = grind (arith, out_or_in, panel-below, each-node, first-each, chain-back, each-back)
+  above-below p panel = grind (arith, out_or_in, panel-below, (each-node nodes order h), first-each, chain-back, each-back)
 
   pub below-below : (p : ℕ) → IsPanel nodes p → below_at nodes p < length nodes
-  below-below p panel = grind (arith, out_or_in, panel-below, each-node, last-each, chain-prefix, each-prefix)
+  below-below p panel = grind (arith, out_or_in, panel-below, (each-node nodes order h), last-each, chain-prefix, each-prefix)
 
   pub top-below : below_at nodes 0 < length nodes
-  top-below = last-each (above_at nodes) (below_at nodes) (λ q. q < length nodes) 0 order 0 h.chain each-node some
+  top-below = last-each (above_at nodes) (below_at nodes) (λ q. q < length nodes) 0 order 0 h.chain (each-node nodes order h) some
 
   pub bottom-below : above_at nodes 0 < length nodes
-  bottom-below = first-each (above_at nodes) (below_at nodes) (λ q. q < length nodes) 0 order 0 h.chain each-node some
+  bottom-below = first-each (above_at nodes) (below_at nodes) (λ q. q < length nodes) 0 order 0 h.chain (each-node nodes order h) some
 
 pub reordered : (old new : List Node) (order : List ℕ) → SameWindows old new → IsThreaded new order → Reordered old new order
 reordered old new order windows h = grind (arith, from_bottom-is)
 
 -- ---- two links
-
-if-same : (q u x y : ℕ) → q ≡ u → (if q == u then x else y) ≡ x
-if-same q u x y e = rw (eq-eqb q u e) refl
-
-if-other : (q u x y : ℕ) → (q ≡ u → ⊥) → (if q == u then x else y) ≡ y
-if-other q u x y e = rw (ne_eqb q u e) refl
 
 -- lower and upper became neighbours, and then v and w
 pub record Twice (above below above' below' : ℕ → ℕ) (lower upper v w : ℕ) : Type 0 where
@@ -88,35 +76,21 @@ pub twice-windows : (old mid new : List Node) → SameWindows old mid → SameWi
 twice-windows old mid new h k = record { length = k.length ∙ h.length; window = λ q. k.window q ∙ h.window q }
 
 module _ (above below above' below' : ℕ → ℕ) where
-  -- the neighbours of p became neighbours, and p alone
-  removed : (p : ℕ) → Twice above below above' below' (below p) (above p) p p → (p ≡ below p → ⊥) → (p ≡ above p → ⊥) → Removed above below above' below' p
-  removed p t nl nu = grind (arith, if-other, if-same)
-
   -- p is between lower and upper
   inserted : (lower p upper : ℕ) → Twice above below above' below' lower p p upper → (p ≡ lower → ⊥) → (p ≡ upper → ⊥) → Inserted above below above' below' lower p upper
-  inserted lower p upper t nl nu = grind (arith, if-other, if-same)
-
-  -- a panel that was alone, was alone already
-  kept-above : (p : ℕ) → Twice above below above' below' (below p) (above p) p p → above p ≡ p → below p ≡ p → (q : ℕ) → above' q ≡ above q
-  kept-above p t ap_is bp_is q = grind (arith, cases_eq, if-same, if-other)
-
-  kept-below : (p : ℕ) → Twice above below above' below' (below p) (above p) p p → above p ≡ p → below p ≡ p → (q : ℕ) → below' q ≡ below q
-  kept-below p t ap_is bp_is q = grind (arith, cases_eq, if-same, if-other)
+  inserted lower p upper t nl nu = grind (arith, eq-eqb, ne_eqb)
 
 -- ---- panels with the same windows
 
 -- the links are the same, and each of the order is a panel still
 pub threaded-kept : (old new : List Node) (order : List ℕ) → length new ≡ length old → ((q : ℕ) → above_at new q ≡ above_at old q) → ((q : ℕ) → below_at new q ≡ below_at old q) → IsThreaded old order
     → AllByRecursion (IsPanel new) order → IsThreaded new order
-threaded-kept old new order long aboves belows h panels =
-    let f : above_at old ≡ above_at new = fun_ext (λ q. sym (aboves q)) in
-    let g : below_at old ≡ below_at new = fun_ext (λ q. sym (belows q)) in
-    record {
-      chain = subst (λ (k : ℕ → ℕ). IsChain (above_at new) k 0 order 0) g (subst (λ (k : ℕ → ℕ). IsChain k (below_at old) 0 order 0) f h.chain);
-      once = h.once;
-      panels = panels;
-      others = λ q lt few out. let alone = h.others q lt (subst (λ (n : ℕ). q < n) long few) out in (aboves q ∙ alone.0, belows q ∙ alone.1);
-    }
+threaded-kept old new order long aboves belows h panels = record {
+  chain = chain-same _ _ _ _ 0 order 0 (aboves 0) (each-weaker _ _ (λ q k. aboves q) order panels) (each-weaker _ _ (λ q k. belows q) order panels) (belows 0) h.chain;
+  once = h.once;
+  panels = panels;
+  others = λ q lt few out. let alone = h.others q lt (rw (sym long) few) out in (aboves q ∙ alone.0, belows q ∙ alone.1);
+}
 
 module _ (old new : List Node) (same : SameWindows old new) where
   pub panel-same : (q : ℕ) → IsPanel old q → IsPanel new q
@@ -130,84 +104,59 @@ module _ (old new : List Node) (same : SameWindows old new) where
 module _ (old new : List Node) (p : ℕ) (windows : SameWindows old new) (t : Twice (above_at old) (below_at old) (above_at new) (below_at new) (below_at old p) (above_at old p) p p)
     (panel : IsPanel old p) where
   alone : IsAlone new p
-  alone = grind (arith, if-same)
-
-  not-end : p ≡ 0 → ⊥
-  not-end e = let lt = panel.0 in omega arith
+  alone = grind (arith, eq-eqb)
 
   left-split : (xs ys : List ℕ) → IsThreaded old (xs ++ p ∷ ys) → IsThreaded new (xs ++ ys)
   left-split xs ys h =
       let out_0 = out-end old (xs ++ p ∷ ys) h in
+      let not-end : p ≡ 0 → ⊥ = grind arith in
       let prefix = chain-prefix (above_at old) (below_at old) 0 p xs ys 0 h.chain in
       let back = chain-back (above_at old) (below_at old) 0 p xs ys 0 h.chain in
-      let r = removed (above_at old) (below_at old) (above_at new) (below_at new) p t
-      (not-last (above_at old) (below_at old) p 0 xs p prefix not-end (once-before p xs ys h.once))
-      (not-first (above_at old) (below_at old) p p ys 0 back not-end (once-after p xs ys h.once)) in
+      let last = not-last (above_at old) (below_at old) p 0 xs p prefix not-end (once-before p xs ys h.once) in
+      let first = not-first (above_at old) (below_at old) p p ys 0 back not-end (once-after p xs ys h.once) in
+      let r : Removed (above_at old) (below_at old) (above_at new) (below_at new) p = grind (arith, eq-eqb, ne_eqb) in
       record {
         chain = chain-removed (above_at old) (below_at old) (above_at new) (below_at new) p r 0 xs ys 0 h.chain h.once out_0 out_0;
         once = once-without p xs ys h.once;
-        panels = panels-same old new windows (xs ++ ys)
-            (each-append (IsPanel old) xs ys (each-prefix (IsPanel old) xs (p ∷ ys) h.panels) (each-back (IsPanel old) xs (p ∷ ys) h.panels).1);
-        others = λ q lt few out. elim (cases_eq q p) [
-          | inl same ↦ subst (λ (k : ℕ). IsAlone new k) (sym same) alone
-          | inr other ↦
-              let out_xs = out-prefix q xs ys out in
-              let out_ys = out-back q xs ys out in
-              let was = h.others q lt (subst (λ (n : ℕ). q < n) windows.length few) (out-append q xs (p ∷ ys) out_xs (other, out_ys)) in
-              let q_0 : q ≡ 0 → ⊥ = λ e. omega arith in (
-                r.aboves q other (not-last (above_at old) (below_at old) q 0 xs p prefix q_0 out_xs) ∙ was.0,
-                r.belows q other (not-first (above_at old) (below_at old) q p ys 0 back q_0 out_ys) ∙ was.1,
-              )
-        ];
+        panels = panels-same old new windows (xs ++ ys) (each-append _ xs ys (each-prefix _ xs (p ∷ ys) h.panels) (each-back _ xs (p ∷ ys) h.panels).1);
+        others = λ q lt few out.
+            let out_xs = out-prefix q xs ys out in let out_ys = out-back q xs ys out in let was = h.others q lt in let aboves = r.aboves q in let belows = r.belows q in
+            grind (arith, alone, (cases_eq q p), (out-append q xs (p ∷ ys) out_xs), (not-last _ _ q 0 xs p prefix), (not-first _ _ q p ys 0 back));
       }
 
   pub left : (order : List ℕ) → IsThreaded old order → IsThreaded new (without p order)
   left order h = elim (out_or_in p order) [
     | inl out ↦
         let is = h.others p panel.0 (panel-below old p panel) out in
-        subst (λ (l : List ℕ). IsThreaded new l) (sym (without-out p order out))
-        (threaded-kept old new order windows.length
-        (kept-above (above_at old) (below_at old) (above_at new) (below_at new) p t is.0 is.1)
-        (kept-below (above_at old) (below_at old) (above_at new) (below_at new) p t is.0 is.1) h (panels-same old new windows order h.panels))
-    | inr split ↦
-        let xs = split.before in
-        let ys = split.after in
-        let k : IsThreaded old (xs ++ p ∷ ys) = subst (λ (l : List ℕ). IsThreaded old l) split.is h in
-        subst (λ (l : List ℕ). IsThreaded new l) (sym (ap (without p) split.is ∙ without-split p xs ys k.once)) (left-split xs ys k)
+        let aboves : (q : ℕ) → above_at new q ≡ above_at old q = λ q. grind (arith, cases_eq, eq-eqb, ne_eqb) in
+        let belows : (q : ℕ) → below_at new q ≡ below_at old q = λ q. grind (arith, cases_eq, eq-eqb, ne_eqb) in
+        rw (without-out p order out) (threaded-kept old new order windows.length aboves belows h (panels-same old new windows order h.panels))
+    | inr split ↦ let k = rw split.is at h in rw (ap (without p) split.is ∙ without-split p _ _ k.once) (left-split split.before split.after k)
   ]
 
 -- ---- a panel enters
 
 module _ (old new : List Node) (p : ℕ) (windows : SameWindows old new) (panel : IsPanel old p) (order : List ℕ) (h : IsThreaded old order) (out : IsOut p order) where
-  not-0 : p ≡ 0 → ⊥
-  not-0 e = let lt = panel.0 in omega arith
-
   pub entered-top : Twice (above_at old) (below_at old) (above_at new) (below_at new) (below_at old 0) p p 0 → IsThreaded new (order ++ p ∷ [])
-  entered-top t = grind (arith, out-end, inserted, not-last, not-0, chain-pushed, once-push, panels-same, each-append, few, out-prefix, out-back)
+  entered-top t = grind (arith, out-end, inserted, not-last, chain-pushed, once-push, panels-same, each-append, few, out-prefix, out-back)
 
   pub entered-bottom : Twice (above_at old) (below_at old) (above_at new) (below_at new) 0 p p (above_at old 0) → IsThreaded new (p ∷ order)
-  entered-bottom t = grind (arith, out-end, inserted, not-0, not-first, chain-put, panels-same, few)
+  entered-bottom t = grind (arith, out-end, inserted, not-first, chain-put, panels-same, few)
 
 -- ---- by two links
 
 module _ (old mid new : List Node) (p : ℕ) (order : List ℕ) (h : IsThreaded old order) (panel : IsPanel old p) where
   pub taken_out : (node : Node) → node ≡ node_at old p → Linked old mid node.below node.above → Linked mid new p p → Reordered old new (without p order)
   taken_out node is first second =
-      let first_is : Linked old mid (below_at old p) (above_at old p) = subst (λ (n : Node). Linked old mid n.below n.above) is first in
-      let windows = twice-windows old mid new first_is.windows second.windows in
-      reordered old new (without p order) windows
-      (left old new p windows (twice old mid new (below_at old p) (above_at old p) p p first_is second) panel order h)
+      let first_is : Linked old mid (below_at old p) (above_at old p) = rw is at first in let windows = twice-windows old mid new first.windows second.windows in
+      reordered old new _ windows (left old new p windows (twice old mid new _ _ _ _ first_is second) panel order h)
 
   pub put_on_top : IsOut p order → (node : Node) → node ≡ node_at old 0 → Linked old mid node.below p → Linked mid new p 0 → Reordered old new (order ++ p ∷ [])
   put_on_top out node is first second =
-      let first_is : Linked old mid (below_at old 0) p = subst (λ (n : Node). Linked old mid n.below p) is first in
-      let windows = twice-windows old mid new first_is.windows second.windows in
-      reordered old new (order ++ p ∷ []) windows
-      (entered-top old new p windows panel order h out (twice old mid new (below_at old 0) p p 0 first_is second))
+      let first_is : Linked old mid (below_at old 0) p = rw is at first in let windows = twice-windows old mid new first.windows second.windows in
+      reordered old new _ windows (entered-top old new p windows panel order h out (twice old mid new _ _ _ _ first_is second))
 
   pub put_at_bottom : IsOut p order → (node : Node) → node ≡ node_at old 0 → Linked old mid 0 p → Linked mid new p node.above → Reordered old new (p ∷ order)
   put_at_bottom out node is first second =
-      let second_is : Linked mid new p (above_at old 0) = subst (λ (n : Node). Linked mid new p n.above) is second in
-      let windows = twice-windows old mid new first.windows second_is.windows in
-      reordered old new (p ∷ order) windows
-      (entered-bottom old new p windows panel order h out (twice old mid new 0 p p (above_at old 0) first second_is))
+      let second_is : Linked mid new p (above_at old 0) = rw is at second in let windows = twice-windows old mid new first.windows second.windows in
+      reordered old new _ windows (entered-bottom old new p windows panel order h out (twice old mid new _ _ _ _ first second_is))

@@ -41,9 +41,6 @@ Sends-then {a} {b} {c} {sent} {total} {s} {t} {r = Err fault} h k = record {
   flushes = k.flushes ∙ h.flushes;
 }
 
-pub Sends-prefix : {a b : Seen} {sent : ℕ} {s : List ℕ} {fault : WriteFault} (t : List ℕ) → Sends a b sent s (Err fault) → Sends a b sent (s ++ t) (Err fault)
-Sends-prefix {a} {b} {sent} {s} {fault} t h = search (arith, length-append, take-append-le)
-
 pub IsPartlySent-more : (old mid new : Seen) (sent : ℕ) (piece rest : List ℕ) (total n more : ℕ) → IsPartlySent old mid sent piece rest total → n ≤ length rest
     → Appends mid.taken new.taken (take n rest) → new.failures ≡ mid.failures → new.flushes ≡ mid.flushes → more ≡ total + n → IsPartlySent old new sent piece (drop n rest) more
 IsPartlySent-more old mid new sent piece rest total n more h short bytes failures flushes e = record {

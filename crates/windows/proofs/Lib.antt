@@ -1,4 +1,4 @@
--- the drawings of calls, made of writes of one line, for clear_all, clear_below, move_up and move_down
+-- the lines of a drawing above a line, and those from it on, for clear_all, clear_below, move_up and move_down
 pub mod LineDrawings
 -- the rectangles of the drawings, for the frames that calls answer
 pub mod Rectangles

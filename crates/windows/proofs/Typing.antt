@@ -1,7 +1,6 @@
 -- A character written at the cursor of a window of a known state.
-use Rattle.std.proofs.Common.{◌≡◌, ℕ, ◌+◌, ◌-◌, ◌<◌, ◌≤◌, Bool, true, false, if◌then◌else◌, ◌==◌, ◌&&◌, Option, Some, None, arith, refl, eq-eqb}
+use Rattle.std.proofs.Common.{◌≡◌, ℕ, ◌+◌, ◌-◌, ◌<◌, ◌≤◌, Bool, true, if◌then◌else◌, ◌==◌, Option, Some, None, arith, refl}
 use Rattle.std.specs.Int.RustNames.{bit_or}
-use Rattle.std.proofs.lemmas.Bool.{lt-ltb}
 use Rattle.std.proofs.lemmas.Bool.Decides.{nat_tests}
 use Rattle.cell.specs.Attributes.{bits_of, valid_attributes}
 use Rattle.cell.specs.Glyphs.{Glyph}
@@ -9,9 +8,8 @@ use Rattle.cell.specs.Pictures.{Place}
 use Rattle.world.specs.Windows.{Windows, put}
 use Rattle.world.specs.Settings.{set, with_cursor}
 use Rattle.world.specs.Drawings.{written_glyph, at_place, to_end_of_line, lines_up}
-use Rattle.world.specs.Frames.{frame_of_two, frame_of}
-use Rattle.world.specs.Typing.{scrolls, to_next_line, next_line_frame, character_printed, character_frame, line_ended, line_ended_frame, typed_in, typed_frame, after_character}
-use Rattle.world.specs.Typing.{frame_of_character}
+use Rattle.world.specs.Frames.{frame_of_two}
+use Rattle.world.specs.Typing.{to_next_line, next_line_frame, character_printed, character_frame, line_ended, line_ended_frame, typed_in, typed_frame, after_character, frame_of_character}
 use Rattle.cell.specs.declared.window.Rect.{Rect}
 use Rattle.world.specs.declared.settings.Settings.{Settings}
 use Rattle.windows.specs.steps.State.{IsStateOf, window_in_state}
@@ -20,59 +18,39 @@ use Rattle.windows.proofs.Rectangles.{frame-at_place, frame-to_end_of_line, fram
 use Rattle.windows.proofs.Calls.{call-is, frame-is}
 use Rattle.windows.proofs.States.{either-few, valid_attributes-small}
 
-pub if_true : {X : Type 0} (t : Bool) (a b : X) → t ≡ true → (if t then a else b) ≡ a
-if_true t a b h = grind arith
-
-pub if_false : {X : Type 0} (t : Bool) (a b : X) → t ≡ false → (if t then a else b) ≡ b
-if_false t a b h = grind arith
-
-both : (s t : Bool) → s ≡ true → t ≡ true → (s && t) ≡ true
-both s t h k = grind arith
-
--- attributes of the six are known
-pub valid_attributes-either : (a b : ℕ) → a < 64 → b < 64 → valid_attributes (bit_or a b) ≡ bit_or a b
-valid_attributes-either a b h k = grind (arith, valid_attributes-small, either-few)
-
 module _ (windows : Windows) (w : ℕ) (s : WindowState) (h : IsStateOf windows w s) where
   -- ---- the end of a line
-
-  scrolls-is : s.settings.scrolling ≡ true → s.settings.cursor.0 ≡ s.settings.region.1 → scrolls (window_in_state s) ≡ true
-  scrolls-is on last = grind (arith, both, eq-eqb)
 
   pub scrolled : (now new : Windows) (place : Place) → s.settings.scrolling ≡ true → s.settings.cursor.0 ≡ s.settings.region.1
       → now ≡ put windows w (lines_up windows.window w s.settings.region.0 s.settings.region.1 1 s.settings.background)
       → new ≡ set now w (with_cursor (s.settings.cursor.0, 0)) → new ≡ to_next_line windows w (window_in_state s) place
-  scrolled now new place on last drawn moved = grind (arith, if_true, scrolls-is)
+  scrolled now new place on last drawn moved = grind (arith, nat_tests)
 
   pub scrolled_frame : (r : Rect) → s.settings.scrolling ≡ true → s.settings.cursor.0 ≡ s.settings.region.1
       → r ≡ record { top = s.settings.region.0; left = 0; bottom = s.settings.region.1; right = s.columns - 1 } → Some r ≡ next_line_frame windows.window w (window_in_state s)
-  scrolled_frame r on last e = grind (arith, frame-lines_up, if_true, scrolls-is)
+  scrolled_frame r on last e = grind (arith, frame-lines_up, nat_tests)
 
   -- ---- a printed character
 
   module _ (character : ℕ) where
     pub printed_inside : (now new : Windows) → s.settings.cursor.1 + 1 < s.columns → now ≡ put windows w (at_place s.settings.cursor (written_glyph s.settings character))
         → new ≡ set now w (with_cursor (s.settings.cursor.0, s.settings.cursor.1 + 1)) → new ≡ character_printed windows w character (window_in_state s)
-    printed_inside now new inside drawn moved = grind (arith, if_true, lt-ltb)
+    printed_inside now new inside drawn moved = grind (arith, nat_tests)
 
     pub printed_at_end : (now new : Windows) → s.columns ≤ s.settings.cursor.1 + 1 → now ≡ put windows w (at_place s.settings.cursor (written_glyph s.settings character))
         → new ≡ to_next_line now w (window_in_state s) s.settings.cursor → new ≡ character_printed windows w character (window_in_state s)
-    printed_at_end now new past drawn moved = grind (arith, if_false, nat_tests)
-
-    one_place : (r : Rect) → r ≡ record { top = s.settings.cursor.0; left = s.settings.cursor.1; bottom = s.settings.cursor.0; right = s.settings.cursor.1 }
-        → Some r ≡ frame_of (window_in_state s) (at_place s.settings.cursor (written_glyph s.settings character))
-    one_place r e = grind (arith, frame-at_place)
+    printed_at_end now new past drawn moved = grind (arith, nat_tests)
 
     pub printed_inside_frame : (r : Rect) → s.settings.cursor.1 + 1 < s.columns
         → r ≡ record { top = s.settings.cursor.0; left = s.settings.cursor.1; bottom = s.settings.cursor.0; right = s.settings.cursor.1 }
         → Some r ≡ character_frame windows w character (window_in_state s)
-    printed_inside_frame r inside e = grind (arith, one_place, if_true, lt-ltb)
+    printed_inside_frame r inside e = grind (arith, frame-at_place, nat_tests)
 
     pub printed_at_end_frame : (now : Windows) (r : Rect) (below o : Option Rect) → s.columns ≤ s.settings.cursor.1 + 1
         → now ≡ put windows w (at_place s.settings.cursor (written_glyph s.settings character))
         → r ≡ record { top = s.settings.cursor.0; left = s.settings.cursor.1; bottom = s.settings.cursor.0; right = s.settings.cursor.1 }
         → below ≡ next_line_frame now.window w (window_in_state s) → o ≡ frame_of_two (Some r) below → o ≡ character_frame windows w character (window_in_state s)
-    printed_at_end_frame now r below o past drawn e next is = grind (arith, one_place, if_false, nat_tests)
+    printed_at_end_frame now r below o past drawn e next is = grind (arith, frame-at_place, nat_tests)
 
   -- ---- a newline
 
@@ -95,13 +73,9 @@ module _ (windows : Windows) (w : ℕ) (s : WindowState) (h : IsStateOf windows 
 
 -- ---- the cell of a character
 
-some-of : (t : Bool) (cell v : Glyph) → (let o : Option Glyph = if t then Some v else None in Some cell ≡ o) → cell ≡ v
-some-of true cell v e = cc
-some-of false cell v e = cc
-
 pub written-is : (settings : Settings) (character shown attributes pair : ℕ) (t : Bool) (cell : Glyph) → bits_of settings.attrs < 64 → settings.background.attributes < 64
     → shown ≡ (if character == 32 then settings.background.character else character) → attributes ≡ bit_or (bits_of settings.attrs) settings.background.attributes
     → pair ≡ (if settings.pair == 0 then settings.background.pair else settings.pair)
     → (let o : Option Glyph = if t then Some (record { character = shown; attributes = valid_attributes attributes; pair = 0 }) else None in Some cell ≡ o)
     → record cell { pair = pair } ≡ written_glyph settings character
-written-is settings character shown attributes pair t cell few small shown_is attributes_are pair_is e = grind (arith, valid_attributes-either, some-of)
+written-is settings character shown attributes pair t cell few small shown_is attributes_are pair_is e = grind (arith, valid_attributes-small, either-few)

@@ -1,5 +1,4 @@
-use Rattle.std.proofs.Common.{arith}
-use Rattle.std.proofs.Common.{w64}
+use Rattle.std.proofs.Common.{arith, w64}
 use Rattle.std.proofs.lemmas.Nat.Bits.{bit_at-trailing_zeros}
 use Rattle.small_set.proofs.bits.lowest_bit.Goals as goal
 

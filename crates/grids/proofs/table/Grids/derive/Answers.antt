@@ -19,11 +19,7 @@ use Rattle.grids.proofs.Sounds.{sound}
 use Rattle.grids.proofs.table.Grids.derive.Goals as goal
 
 pub overflow_add-depth : goal.overflow_add-depth
-overflow_add-depth c =
-    let t = the_view c.self.inside in
-    let p = c.in_ok-parent.parent.now in
-    let e : slot_at t.slots c.args.win.0 ≡ Some p = grind (arith, common_steps) in
-    omega (arith, depth_below t.slots c.self.invariant.chained c.args.win.0 p e, c.self.invariant.few_slots, c.depth-depth.ensures)
+overflow_add-depth c = grind (arith, common_steps, depth_below)
 
 pub invariant_of-self-2 : goal.invariant_of-self-2
 invariant_of-self-2 c =

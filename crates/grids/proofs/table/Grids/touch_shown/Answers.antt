@@ -1,12 +1,12 @@
 -- Each round touches what one line more shows, and leaves the lines before as they are.
-use Rattle.std.proofs.Common.{◌≡◌, ℕ, ◌+◌, ◌≤◌, false, Option, arith, ap, refl, sym, ◌∙◌}
+use Rattle.std.proofs.Common.{◌≡◌, ℕ, false, Option, arith, ap, refl, sym, ◌∙◌}
 use Rattle.std.specs.Option.{option_map_or}
-use Rattle.cell.specs.declared.limits.TheConstants.{LARGEST_PAD}
 use Rattle.world.specs.Windows.{Window}
 use Rattle.grids.specs.declared.table.Grids.{Grids}
 use Rattle.grids.specs.Tables.{windows}
 use Rattle.slots.specs.Slots.{depth_at}
 use Rattle.grids.specs.steps.Syncs.{shows_touched, touched_shown}
+use Rattle.std.proofs.lemmas.Grind.{common_steps}
 use Rattle.grids.proofs.Touches.{none-before, all-before, at-line, next-none, next-some}
 use Rattle.slots.proofs.Chain.{some_and}
 use Rattle.grids.proofs.table.Grids.touch_shown.Goals as goal
@@ -21,14 +21,12 @@ loop-y-init c =
 pub shown_columns-requires : goal.shown_columns-requires
 shown_columns-requires c =
     let l = at-line _ _ _ _ _ _ _ _ c.requires.other c.requires.window c.size-lines.ensures c.loop-y-test.true c.loop-y.invariant.touched in
-    let sound = rw l.there at (c.has_window.ensures.sound.each c.args.win) in
-    record { line = rw l.here (l.below, sound.has_column); window = rw l.here l.fits; source = rw l.same c.requires.source }
+    grind (arith, common_steps)
 
 pub touch_columns-requires-clause-there : goal.touch_columns-requires-clause-there
 touch_columns-requires-clause-there c =
     let l = at-line _ _ _ _ _ _ _ _ c.requires.other c.requires.window c.size-lines.ensures c.loop-y-test.true c.loop-y.invariant.touched in
-    let within = rw l.here at c.in-Some.ensures.within in
-    rw l.here (l.below, within.1)
+    grind (arith, common_steps)
 
 pub loop-y-preserved : goal.loop-y-preserved
 loop-y-preserved c =
@@ -60,9 +58,5 @@ loop-y-preserved c =
 
 pub returns-clause-touched : goal.returns-clause-touched
 returns-clause-touched c =
-    let a = c.args in
-    let w = windows a.self.now in
-    let test = touched_shown w.window a.source a.source_at a.at in
-    let b = some_and (w.window a.win) (λ b. (a.at.0 + b.lines ≤ LARGEST_PAD) × (a.at.1 + b.columns ≤ LARGEST_PAD)) c.requires.window in
-    let size = rw b.1 at c.size-lines.ensures in
-    c.loop-y.invariant.touched ∙ all-before w a.win test b.0 b.1 c.loop-y.y (omega (arith, c.loop-y-test.false, size.0))
+    let b = some_and _ _ c.requires.window in
+    c.loop-y.invariant.touched ∙ all-before _ c.args.win _ b.0 b.1 c.loop-y.y (grind (arith, common_steps))

@@ -10,7 +10,5 @@ pub returns : goal.returns
 returns c =
     let ws = windows c.args.self.now.table in
     let w = c.args.win.0 in
-    let s = c.in_ok-state.state in
-    let h = c.in_ok-state.ensures.state in
-    drew (search rules) (c.delete_cell.ensures.written ∙ sym (call-is ws w s h (λ a. put ws w (delch_drawing ws.window w a)) refl))
-    (character_deleted_frame ws w s h c.lines_from.result c.lines_from.ensures) (search rules)
+    drew (search rules) (c.delete_cell.ensures.written ∙ sym (call-is ws w _ c.in_ok-state.ensures.state (λ a. put ws w (delch_drawing ws.window w a)) refl))
+    (character_deleted_frame ws w _ c.in_ok-state.ensures.state _ c.lines_from.ensures) (search rules)

@@ -9,25 +9,16 @@ use Rattle.windows.proofs.writing.characters.type_first.Goals as goal
 pub returns-then-count-eq0-clause-typed : goal.returns-then-count-eq0-clause-typed
 returns-then-count-eq0-clause-typed c =
     let before = windows c.args.table.now in
-    let after = windows c.type_character.new.table in
     let text = c.args.text.now in
     record {
-      written = one_written before after c.args.win.0 text c.requires.some
-          (added before c.args.win.0 c.in-Ok.state c.in-Ok.ensures.state after (get_or text 0 0) c.type_character.ensures.written);
-      frame = one_covered before c.args.win.0 text c.type_character.result c.requires.some
-          (added_frame before c.args.win.0 c.in-Ok.state c.in-Ok.ensures.state c.type_character.result (get_or text 0 0) c.type_character.ensures.frame);
+      written = one_written before _ c.args.win.0 text c.requires.some (added before _ _ c.in-Ok.ensures.state _ (get_or text 0 0) c.type_character.ensures.written);
+      frame = one_covered before c.args.win.0 text _ c.requires.some (added_frame before _ _ c.in-Ok.ensures.state _ (get_or text 0 0) c.type_character.ensures.frame);
       sound = c.type_character.ensures.sound;
     }
 
 pub returns-then-count-eq0-clause-there : goal.returns-then-count-eq0-clause-there
 returns-then-count-eq0-clause-there c =
-    let before = windows c.args.table.now in
-    let after = windows c.type_character.new.table in
-    let text = c.args.text.now in
-    text_keeps before after c.args.win.0 (take 1 text) c.requires.there
-    (one_written before after c.args.win.0 text c.requires.some
-    (added before c.args.win.0 c.in-Ok.state c.in-Ok.ensures.state after (get_or text 0 0) c.type_character.ensures.written))
+    text_keeps (windows c.args.table.now) _ c.args.win.0 (take 1 c.args.text.now) c.requires.there (returns-then-count-eq0-clause-typed c).written
 
 pub returns-clause-there : goal.returns-clause-there
-returns-clause-there c =
-    text_keeps (windows c.args.table.now) (windows c.print_run.new.table) c.args.win.0 (take c.run_length-count.result c.args.text.now) c.requires.there c.print_run.ensures.written
+returns-clause-there c = text_keeps (windows c.args.table.now) _ c.args.win.0 (take c.run_length-count.result c.args.text.now) c.requires.there c.print_run.ensures.written

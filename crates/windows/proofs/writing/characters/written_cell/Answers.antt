@@ -1,9 +1,9 @@
 -- `written_cell`: a character written at the cursor of a window of a known state (`Typing`).
 use Rattle.std.proofs.Common.{arith}
 use Rattle.std.proofs.lemmas.Bool.{eq-eqb, ne_eqb}
-use Rattle.windows.proofs.Typing.{if_true, if_false, written-is}
+use Rattle.windows.proofs.Typing.{written-is}
 use Rattle.windows.proofs.writing.characters.written_cell.Goals as goal
 use Rattle.windows.proofs.writing.characters.written_cell.Goals.{then-ch-eq32, else-ch-eq32}
 
 pub returns : goal.returns
-returns c = grind (arith, then-ch-eq32, if_true, eq-eqb, else-ch-eq32, if_false, ne_eqb, written-is)
+returns c = grind (arith, then-ch-eq32, eq-eqb, else-ch-eq32, ne_eqb, written-is)
