@@ -19,7 +19,8 @@
    malloc, realloc and free are those of one allocator.
 
    Windows and pads are numbers, 0 the standard screen; panels are numbers from 1 on. A new one has the least that is free.
-   Lines and columns count from 0. A call that is refused changes nothing and sends nothing. */
+   Lines and columns count from 0. A call that is refused changes nothing and sends nothing. Its refusals are listed in
+   the order of its tests. */
 #ifndef CURSPAN_H
 #define CURSPAN_H
 
