@@ -14,9 +14,9 @@
        curspan_close(&screen);
 
    It is proved of each function here but curspan_text, which is C, that it does what the definitions of Curspan say of it, as
-   the manual explains them, is safe, and returns. The proof asks of the program: `screen` is a handle that began as
-   CURSPAN_INIT, and no other call uses it meanwhile; a text or a buffer has the length that is passed with it, and isn't NULL;
-   malloc, realloc and free are those of one allocator.
+   the manual explains them, is safe, and returns; that memory is given back is tested. The proof asks of the program: `screen`
+   is a handle that began as CURSPAN_INIT, and no other call uses it meanwhile; a text or a buffer has the length that is passed
+   with it, and isn't NULL; malloc, realloc and free are those of one allocator.
 
    Windows and pads are numbers, 0 the standard screen; panels are numbers from 1 on. A new one has the least that is free.
    Lines and columns count from 0. A call that is refused changes nothing and sends nothing. Its refusals are listed in
@@ -61,7 +61,7 @@ enum curspan_status {
     CURSPAN_STANDARD_SCREEN = 14, /* the call is not for the standard screen */
     CURSPAN_HIDDEN = 15,          /* the panel is hidden */
     CURSPAN_SCROLLING_OFF = 16,   /* the window doesn't scroll */
-    CURSPAN_TOO_MANY = 17,        /* there are 1000 windows and pads, or 1000 panels */
+    CURSPAN_TOO_MANY = 17,        /* there are 1000 windows and pads besides the standard screen, or 1000 panels */
     CURSPAN_NO_MEMORY = 18,       /* there is no memory for it */
     CURSPAN_BAD_RECTANGLE = 19,   /* a rectangle's first line or column is after its last */
     CURSPAN_BAD_PAIR = 20,        /* there is no such colour pair or colour */
@@ -69,8 +69,8 @@ enum curspan_status {
     CURSPAN_CLOSED = 22           /* the screen is closed */
 };
 
-/* What a call answers: a status, and where that is CURSPAN_OK one number, two, or none, which are 0 then. On a closed screen the status
-   of each but curspan_open is CURSPAN_CLOSED. */
+/* What a call answers: a status, and where that is CURSPAN_OK one number, two, or none, which are 0 then; only with CURSPAN_WRITE_FAILED
+   is there a number too. On a closed screen the status of each but curspan_open is CURSPAN_CLOSED. */
 typedef struct curspan_answer {
     uint32_t status, first, second;
 } curspan_answer;
