@@ -2,7 +2,7 @@
 use Rattle.std.proofs.Common.{◌≡◌, Bool, true, false, Option, None, [], ◌∷◌, ◌++◌, refl, Result, Ok, Err, List, arith}
 use Rattle.cell.specs.Refusals.{first_of}
 use Rattle.cell.specs.declared.refusal.Refusal.{Refusal}
-use Rattle.world.specs.Sound.{AreSoundPanels, AreSoundWindows}
+use Rattle.world.specs.Sound.{AreSoundPanels}
 use Rattle.world.specs.Effects.{windows_after}
 use Rattle.world.specs.calls.Stacking.{stacking_order, stacking_refusal}
 use Rattle.world.specs.declared.call.Call.TheVariants as calls
@@ -31,9 +31,9 @@ first-after ((false, e) ∷ tests) rest h = first-after tests rest h
 
 -- the windows stay as they are
 pub ordered : {T : Type 0} (table : WindowTable) (ps : PanelTable) (reply_of : T → Reply) (tests : List (Bool × Refusal)) (stacking : Stacking) (r : Result T Refusal) (new : PanelTable)
-    → AreSoundWindows (windows table) → Arranged reply_of tests ps stacking r new → first_of tests ≡ stacking_refusal (windows table) (panels ps) stacking
+    → Arranged reply_of tests ps stacking r new → first_of tests ≡ stacking_refusal (windows table) (panels ps) stacking
     → windows_after (windows table) (panels ps) (stacking_order (panels ps) stacking) ≡ windows table → Ordered reply_of table ps stacking r table new
-ordered table ps reply_of tests stacking r new sound a same still = grind arith
+ordered table ps reply_of tests stacking r new a same still = grind arith
 
 -- panels are sound after it
 pub panels-ordered : (old : WindowTable) (ps : PanelTable) (stacking : Stacking) (reply : Reply) (new : WindowTable) (new_ps : PanelTable) → AreSoundPanels (windows old).window (panels ps)

@@ -91,6 +91,7 @@ pub(crate) fn arrange_damaging(
     requires height { length damage.old ≡ table.old.lines }
     ensures { OrderedDamaging table.old stack.old stacking damage.old result table.new stack.new damage.new }
 {
+    prove!(table.has_window(WinId::STANDARD));
     let ordered = ordered_panel(stacking);
     let top = window_on_top(stack, ordered);
     let before = part_of(table, stack, named_panel(stacking));

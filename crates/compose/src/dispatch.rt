@@ -210,7 +210,6 @@ pub(crate) fn arrange(table: &mut Grids, stack: &mut Stack, stacking: Stacking) 
     requires { AreSoundPanels (windows_of table.old).window (panels stack.old) }
     ensures { Rearranges table.old stack.old stacking result table.new stack.new }
 {
-    prove!(table.has_window(WinId::STANDARD));
     match stacking {
         Stacking::NewPanel { win } => new_number(new_panel(table, stack, win)),
         Stacking::DelPanel { panel } => nothing(stack.del(panel)),

@@ -27,7 +27,6 @@ use world::PanelId;
 pub(crate) fn new_panel(table: &Grids, stack: &mut Stack, win: WinId) -> Result<PanelId, Refusal>
     ensures { Ordered its_panel table.now stack.old (Stacking.NewPanel win) result table.now stack.new }
 {
-    prove!(table.has_window(WinId::STANDARD));
     require_window(table, win)?;
     stack.new_panel(win)
 }
@@ -44,7 +43,6 @@ pub(crate) fn replace_panel(
 ) -> Result<(), Refusal>
     ensures { Ordered no_answer table.now stack.old (Stacking.ReplacePanel panel win) result table.now stack.new }
 {
-    prove!(table.has_window(WinId::STANDARD));
     stack.window(panel)?;
     require_window(table, win)?;
     stack.replace(panel, win)

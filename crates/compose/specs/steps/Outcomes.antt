@@ -5,7 +5,6 @@ use Rattle.cell.specs.declared.refusal.Refusal.{Refusal}
 use Rattle.world.specs.Effects.{Change, asks, changes, order_reply, order_takes_memory, windows_after}
 use Rattle.world.specs.Panels.{Panels}
 use Rattle.world.specs.Replies.{no_answer}
-use Rattle.world.specs.Sound.{AreSoundWindows}
 use Rattle.world.specs.calls.Affected.{change_shows_at, order_shows_at}
 use Rattle.world.specs.calls.Queries.{query_refusal, query_reply}
 use Rattle.world.specs.calls.Refused.{Refused}
@@ -44,7 +43,6 @@ pub record Ordered {T : Type 0} (reply_of : T → Reply) (old : WindowTable) (ol
   pub arranged : OnOk r (panels new_panels ≡ after_stacking (panels old_panels) stacking)
   pub unchanged : OnErr r (new ≡ old)
   pub unordered : OnErr r (new_panels ≡ old_panels)
-  pub sound : AreSoundWindows (windows new)
 
 -- It was, with this answer. Only the proofs of a kind of call, and of what is damaged, look into it.
 unfoldable pub Rearranges : WindowTable → PanelTable → Stacking → Result Reply Refusal → WindowTable → PanelTable → Type 0
@@ -63,14 +61,13 @@ AnswersCall reply_of r answer =
 -- of one that a stack of panels made alone
 abbrev pub AnswersOrder : Result (Unit {0}) Refusal → Result Reply Refusal → Type 0
 AnswersOrder r answer =
-    (table : WindowTable) (ps after : PanelTable) (stacking : Stacking) → AreSoundWindows (windows table)
-    → Arranged no_answer (stacking_tests (windows table) (panels ps) stacking) ps stacking r after
+    (table : WindowTable) (ps after : PanelTable) (stacking : Stacking) → Arranged no_answer (stacking_tests (windows table) (panels ps) stacking) ps stacking r after
     → windows_after (windows table) (panels ps) (stacking_order (panels ps) stacking) ≡ windows table → Rearranges table ps stacking answer table after
 
 -- of one that asks about panels
 abbrev pub AnswersQuery : {T : Type 0} → (T → Reply) → Result T Refusal → Result Reply Refusal → Type 0
 AnswersQuery reply_of r answer =
-    (table : WindowTable) (ps : PanelTable) (query : Stacking) → AreSoundWindows (windows table)
+    (table : WindowTable) (ps : PanelTable) (query : Stacking)
     → result_err r ≡ stacking_refusal (windows table) (panels ps) query → stacking_order (panels ps) query ≡ changes (asks (order_reply (stacking_order (panels ps) query)))
     → IfOk r (λ t. reply_of t ≡ order_reply (stacking_order (panels ps) query)) → Rearranges table ps query answer table ps
 

@@ -22,7 +22,7 @@ unfolding Rearranges
 damage_part-requires-2-clause-few c =
     let t = c.args.table.now in
     let damaged = c.damage_part.ensures.damaged t.columns (part-right t.lines t.columns c.part_of-before.result c.part_of-before.ensures.within) in
-    let few = c.arrange.ensures.sound.few_lines in grind (arith, damaged, few, size-ordered)
+    let few = c.has_window.ensures.sound.few_lines in grind (arith, damaged, few)
 
 pub damage_part-requires-2-clause-inside : goal.damage_part-requires-2-clause-inside
 unfolding Rearranges

@@ -7,6 +7,6 @@ use Rattle.compose.proofs.dispatch.nothing.Goals as goal
 
 pub returns-clause-reordered : goal.returns-clause-reordered
 unfolding Rearranges
-returns-clause-reordered c table ps after stacking sound arranged still =
-    let made : Ordered no_answer table ps stacking c.args.end table after = ordered table ps no_answer _ stacking c.args.end after sound arranged refl still in
+returns-clause-reordered c table ps after stacking arranged still =
+    let made : Ordered no_answer table ps stacking c.args.end table after = ordered table ps no_answer _ stacking c.args.end after arranged refl still in
     search rules

@@ -10,5 +10,4 @@ returns c = record {
   arranged = search rules;
   unchanged = search rules;
   unordered = search rules;
-  sound = c.mvwin.ensures.sound;
 }

@@ -12,5 +12,5 @@ returns c =
     let a = c.args in
     let tests = window_tests (windows a.table.now).window a.win.0 in
     let passed : first_of tests ≡ None = search rules in
-    ordered a.table.now a.stack.now _ _ _ c.new_panel.result c.new_panel.new.self c.has_window.ensures.sound c.new_panel.ensures
+    ordered a.table.now a.stack.now _ _ _ c.new_panel.result c.new_panel.new.self c.new_panel.ensures
     (sym (first-after tests (new_panel_tests (panels a.stack.now) a.win.0) passed)) refl

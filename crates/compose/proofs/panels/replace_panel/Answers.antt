@@ -16,5 +16,5 @@ returns c =
     let ps = panels a.stack.now in
     let tests = window_tests (windows a.table.now).window a.win.0 in
     let passed : first_of tests ≡ None = search rules in
-    ordered a.table.now a.stack.now _ _ _ c.replace.result c.replace.new.self c.has_window.ensures.sound c.replace.ensures
+    ordered a.table.now a.stack.now _ _ _ c.replace.result c.replace.new.self c.replace.ensures
     (ap (λ o. if is_none (ps.window a.panel.0) then Some NoSuchPanel else o) (sym (first-after tests ((is_in_panel ps a.win.0, InPanel) ∷ []) passed))) refl
