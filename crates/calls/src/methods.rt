@@ -5,13 +5,19 @@ ghost use Rattle.world.specs.World.{World};
 ghost use Rattle.world.specs.calls.Dispatch.{is_doupdate};
 ghost use Rattle.world.specs.declared.call.Call.{Call};
 ghost use Rattle.world.specs.declared.call.Reply.{Reply};
+ghost use Rattle.world.specs.declared.call.Making.{Making};
+ghost use Rattle.world.specs.declared.call.Writing.{Writing};
+ghost use Rattle.world.specs.declared.call.Copying.{Copying};
+ghost use Rattle.world.specs.declared.call.Query.{Query};
+ghost use Rattle.world.specs.declared.call.Stacking.{Stacking};
+ghost use Rattle.world.specs.declared.call.Refresh.{Refresh};
 ghost use Rattle.calls.specs.Kinds.{IsAnswerTo, kind_of};
 ghost use Rattle.world.specs.Replies.{its_panel, no_answer, two_numbers};
 ghost use Rattle.calls.specs.Methods.{as_reply};
 
 use crate::answer::Answer;
 use cell::{Attr, Cell, WinId};
-use world::{Call, Composed, Copying, Making, PanelId, Query, Refresh, Reply, Stacking, Writing};
+use world::{Call, Composed, PanelId, Reply};
 
 /// What makes calls: a method for each that sends nothing, which is any but `doupdate`. Each method lists why it may be
 /// refused.
@@ -50,7 +56,7 @@ pub trait Calls {
     final fn newwin(&mut self, lines: u16, columns: u16, y: u16, x: u16) -> Result<WinId, Self::Error>
         ensures { made self.old (Call.Making (Making.Newwin lines columns y x)) (as_reply Reply.Number result) self.new }
     {
-        self.ask(&Call::Making(Making::Newwin { lines, columns, y, x }))
+        self.ask(&Call::newwin(lines, columns, y, x))
     }
 
     /// Makes a window that shows the part of a window from a place of the screen on. A size of 0 reaches to the
@@ -62,7 +68,7 @@ pub trait Calls {
     final fn subwin(&mut self, win: WinId, lines: u16, columns: u16, y: u16, x: u16) -> Result<WinId, Self::Error>
         ensures { made self.old (Call.Making (Making.Subwin win lines columns y x)) (as_reply Reply.Number result) self.new }
     {
-        self.ask(&Call::Making(Making::Subwin { win, lines, columns, y, x }))
+        self.ask(&Call::subwin(win, lines, columns, y, x))
     }
 
     /// Makes a window that shows the part of a window from a line and a column of it on. A size of 0 reaches to its
@@ -74,7 +80,7 @@ pub trait Calls {
     final fn derwin(&mut self, win: WinId, lines: u16, columns: u16, y: u16, x: u16) -> Result<WinId, Self::Error>
         ensures { made self.old (Call.Making (Making.Derwin win lines columns y x)) (as_reply Reply.Number result) self.new }
     {
-        self.ask(&Call::Making(Making::Derwin { win, lines, columns, y, x }))
+        self.ask(&Call::derwin(win, lines, columns, y, x))
     }
 
     /// Makes a pad of 1 to 1000 lines and columns, with a blank grid of its own.
@@ -84,7 +90,7 @@ pub trait Calls {
     final fn newpad(&mut self, lines: u16, columns: u16) -> Result<WinId, Self::Error>
         ensures { made self.old (Call.Making (Making.Newpad lines columns)) (as_reply Reply.Number result) self.new }
     {
-        self.ask(&Call::Making(Making::Newpad { lines, columns }))
+        self.ask(&Call::newpad(lines, columns))
     }
 
     /// Makes a pad that shows the part of a pad from a line and a column of it on. A size of 0 reaches to its edge.
@@ -95,7 +101,7 @@ pub trait Calls {
     final fn subpad(&mut self, pad: WinId, lines: u16, columns: u16, y: u16, x: u16) -> Result<WinId, Self::Error>
         ensures { made self.old (Call.Making (Making.Subpad pad lines columns y x)) (as_reply Reply.Number result) self.new }
     {
-        self.ask(&Call::Making(Making::Subpad { pad, lines, columns, y, x }))
+        self.ask(&Call::subpad(pad, lines, columns, y, x))
     }
 
     /// Deletes a window or pad that is in no panel, and from which none derives. Its number is free then.
@@ -105,7 +111,7 @@ pub trait Calls {
     final fn delwin(&mut self, win: WinId) -> Result<(), Self::Error>
         ensures { made self.old (Call.Making (Making.Delwin win)) (as_reply no_answer result) self.new }
     {
-        self.ask(&Call::Making(Making::Delwin { win }))
+        self.ask(&Call::delwin(win))
     }
 
     /// Moves a window that is in no panel to a place of the screen. No other window moves.
@@ -115,7 +121,7 @@ pub trait Calls {
     final fn mvwin(&mut self, win: WinId, y: u16, x: u16) -> Result<(), Self::Error>
         ensures { made self.old (Call.Making (Making.Mvwin win y x)) (as_reply no_answer result) self.new }
     {
-        self.ask(&Call::Making(Making::Mvwin { win, y, x }))
+        self.ask(&Call::mvwin(win, y, x))
     }
 
     /// Lets a derived window or pad show the part of its parent from another line and column on. It stays where it is
@@ -126,7 +132,7 @@ pub trait Calls {
     final fn mvderwin(&mut self, win: WinId, y: u16, x: u16) -> Result<(), Self::Error>
         ensures { made self.old (Call.Making (Making.Mvderwin win y x)) (as_reply no_answer result) self.new }
     {
-        self.ask(&Call::Making(Making::Mvderwin { win, y, x }))
+        self.ask(&Call::mvderwin(win, y, x))
     }
 
     /// Moves the cursor to line `y` and column `x`.
@@ -136,7 +142,7 @@ pub trait Calls {
     final fn wmove(&mut self, win: WinId, y: u16, x: u16) -> Result<(), Self::Error>
         ensures { made self.old (Call.Writing (Writing.Move win y x)) (as_reply no_answer result) self.new }
     {
-        self.ask(&Call::Writing(Writing::Move { win, y, x }))
+        self.ask(&Call::wmove(win, y, x))
     }
 
     /// Writes a character at the cursor, which advances; a newline (10), carriage return (13) or backspace (8) moves it.
@@ -146,7 +152,7 @@ pub trait Calls {
     final fn waddch(&mut self, win: WinId, ch: u8) -> Result<(), Self::Error>
         ensures { made self.old (Call.Writing (Writing.Addch win ch)) (as_reply no_answer result) self.new }
     {
-        self.ask(&Call::Writing(Writing::Addch { win, ch }))
+        self.ask(&Call::waddch(win, ch))
     }
 
     /// Writes the characters of a text in order, each as `waddch` does. No character of a refused text is written.
@@ -156,7 +162,7 @@ pub trait Calls {
     final fn waddstr(&mut self, win: WinId, text: &[u8]) -> Result<(), Self::Error>
         ensures { made self.old (Call.Writing (Writing.Addstr win text.entry)) (as_reply no_answer result) self.new }
     {
-        self.ask(&Call::Writing(Writing::Addstr { win, text }))
+        self.ask(&Call::waddstr(win, text))
     }
 
     /// Inserts a character at the cursor, which stays: the cells from there on go one column right, and the last is
@@ -167,7 +173,7 @@ pub trait Calls {
     final fn winsch(&mut self, win: WinId, ch: u8) -> Result<(), Self::Error>
         ensures { made self.old (Call.Writing (Writing.Insch win ch)) (as_reply no_answer result) self.new }
     {
-        self.ask(&Call::Writing(Writing::Insch { win, ch }))
+        self.ask(&Call::winsch(win, ch))
     }
 
     /// Deletes the character at the cursor, which stays: the cells after it go one column left.
@@ -177,7 +183,7 @@ pub trait Calls {
     final fn wdelch(&mut self, win: WinId) -> Result<(), Self::Error>
         ensures { made self.old (Call.Writing (Writing.Delch win)) (as_reply no_answer result) self.new }
     {
-        self.ask(&Call::Writing(Writing::Delch { win }))
+        self.ask(&Call::wdelch(win))
     }
 
     /// Moves the cursor's line and those below down by one, and sets the cursor's line to the background.
@@ -187,7 +193,7 @@ pub trait Calls {
     final fn winsertln(&mut self, win: WinId) -> Result<(), Self::Error>
         ensures { made self.old (Call.Writing (Writing.Insertln win)) (as_reply no_answer result) self.new }
     {
-        self.ask(&Call::Writing(Writing::Insertln { win }))
+        self.ask(&Call::winsertln(win))
     }
 
     /// Moves the lines below the cursor's up by one, and sets the last line to the background.
@@ -197,7 +203,7 @@ pub trait Calls {
     final fn wdeleteln(&mut self, win: WinId) -> Result<(), Self::Error>
         ensures { made self.old (Call.Writing (Writing.Deleteln win)) (as_reply no_answer result) self.new }
     {
-        self.ask(&Call::Writing(Writing::Deleteln { win }))
+        self.ask(&Call::wdeleteln(win))
     }
 
     /// Sets all cells to the background, and the cursor to line 0 and column 0.
@@ -207,7 +213,7 @@ pub trait Calls {
     final fn werase(&mut self, win: WinId) -> Result<(), Self::Error>
         ensures { made self.old (Call.Writing (Writing.Erase win)) (as_reply no_answer result) self.new }
     {
-        self.ask(&Call::Writing(Writing::Erase { win }))
+        self.ask(&Call::werase(win))
     }
 
     /// Does as `werase`, and asks for a clear screen where the window is next taken into the virtual screen.
@@ -217,7 +223,7 @@ pub trait Calls {
     final fn wclear(&mut self, win: WinId) -> Result<(), Self::Error>
         ensures { made self.old (Call.Writing (Writing.Clear win)) (as_reply no_answer result) self.new }
     {
-        self.ask(&Call::Writing(Writing::Clear { win }))
+        self.ask(&Call::wclear(win))
     }
 
     /// Sets the cells from the cursor to the end of its line to the background.
@@ -227,7 +233,7 @@ pub trait Calls {
     final fn wclrtoeol(&mut self, win: WinId) -> Result<(), Self::Error>
         ensures { made self.old (Call.Writing (Writing.Clrtoeol win)) (as_reply no_answer result) self.new }
     {
-        self.ask(&Call::Writing(Writing::Clrtoeol { win }))
+        self.ask(&Call::wclrtoeol(win))
     }
 
     /// Sets the cells from the cursor to the end of its line, and all lines below, to the background.
@@ -237,7 +243,7 @@ pub trait Calls {
     final fn wclrtobot(&mut self, win: WinId) -> Result<(), Self::Error>
         ensures { made self.old (Call.Writing (Writing.Clrtobot win)) (as_reply no_answer result) self.new }
     {
-        self.ask(&Call::Writing(Writing::Clrtobot { win }))
+        self.ask(&Call::wclrtobot(win))
     }
 
     /// Moves the lines of the scroll region up by `n`, or down by `-n` for a negative one. The cursor stays.
@@ -247,7 +253,7 @@ pub trait Calls {
     final fn wscrl(&mut self, win: WinId, n: i16) -> Result<(), Self::Error>
         ensures { made self.old (Call.Writing (Writing.Scrl win n)) (as_reply no_answer result) self.new }
     {
-        self.ask(&Call::Writing(Writing::Scrl { win, n }))
+        self.ask(&Call::wscrl(win, n))
     }
 
     /// Sets the scroll region to the lines from `top` to `bottom`, both inclusive.
@@ -257,7 +263,7 @@ pub trait Calls {
     final fn wsetscrreg(&mut self, win: WinId, top: u16, bottom: u16) -> Result<(), Self::Error>
         ensures { made self.old (Call.Writing (Writing.Setscrreg win top bottom)) (as_reply no_answer result) self.new }
     {
-        self.ask(&Call::Writing(Writing::Setscrreg { win, top, bottom }))
+        self.ask(&Call::wsetscrreg(win, top, bottom))
     }
 
     /// Sets whether the window scrolls where the cursor leaves the last line of its region.
@@ -267,7 +273,7 @@ pub trait Calls {
     final fn scrollok(&mut self, win: WinId, flag: bool) -> Result<(), Self::Error>
         ensures { made self.old (Call.Writing (Writing.Scrollok win flag)) (as_reply no_answer result) self.new }
     {
-        self.ask(&Call::Writing(Writing::Scrollok { win, flag }))
+        self.ask(&Call::scrollok(win, flag))
     }
 
     /// Sets whether the window asks for a clear screen where it is next taken into the virtual screen.
@@ -277,7 +283,7 @@ pub trait Calls {
     final fn clearok(&mut self, win: WinId, flag: bool) -> Result<(), Self::Error>
         ensures { made self.old (Call.Writing (Writing.Clearok win flag)) (as_reply no_answer result) self.new }
     {
-        self.ask(&Call::Writing(Writing::Clearok { win, flag }))
+        self.ask(&Call::clearok(win, flag))
     }
 
     /// Sets the window's attributes.
@@ -287,7 +293,7 @@ pub trait Calls {
     final fn wattrset(&mut self, win: WinId, attrs: Attr) -> Result<(), Self::Error>
         ensures { made self.old (Call.Writing (Writing.Attrset win attrs)) (as_reply no_answer result) self.new }
     {
-        self.ask(&Call::Writing(Writing::Attrset { win, attrs }))
+        self.ask(&Call::wattrset(win, attrs))
     }
 
     /// Adds attributes to the window's.
@@ -297,7 +303,7 @@ pub trait Calls {
     final fn wattron(&mut self, win: WinId, attrs: Attr) -> Result<(), Self::Error>
         ensures { made self.old (Call.Writing (Writing.Attron win attrs)) (as_reply no_answer result) self.new }
     {
-        self.ask(&Call::Writing(Writing::Attron { win, attrs }))
+        self.ask(&Call::wattron(win, attrs))
     }
 
     /// Takes attributes from the window's.
@@ -307,7 +313,7 @@ pub trait Calls {
     final fn wattroff(&mut self, win: WinId, attrs: Attr) -> Result<(), Self::Error>
         ensures { made self.old (Call.Writing (Writing.Attroff win attrs)) (as_reply no_answer result) self.new }
     {
-        self.ask(&Call::Writing(Writing::Attroff { win, attrs }))
+        self.ask(&Call::wattroff(win, attrs))
     }
 
     /// Sets the window's background to a character with attributes, of pair 0.
@@ -317,7 +323,7 @@ pub trait Calls {
     final fn wbkgdset(&mut self, win: WinId, attrs: Attr, ch: u8) -> Result<(), Self::Error>
         ensures { made self.old (Call.Writing (Writing.Bkgdset win attrs ch)) (as_reply no_answer result) self.new }
     {
-        self.ask(&Call::Writing(Writing::Bkgdset { win, attrs, ch }))
+        self.ask(&Call::wbkgdset(win, attrs, ch))
     }
 
     /// Sets the window's colour pair.
@@ -327,7 +333,7 @@ pub trait Calls {
     final fn wcolor_set(&mut self, win: WinId, pair: u16) -> Result<(), Self::Error>
         ensures { made self.old (Call.Writing (Writing.ColorSet win pair)) (as_reply no_answer result) self.new }
     {
-        self.ask(&Call::Writing(Writing::ColorSet { win, pair }))
+        self.ask(&Call::wcolor_set(win, pair))
     }
 
     /// Sets the colour pair of the window's background.
@@ -337,7 +343,7 @@ pub trait Calls {
     final fn wbkgdpair(&mut self, win: WinId, pair: u16) -> Result<(), Self::Error>
         ensures { made self.old (Call.Writing (Writing.Bkgdpair win pair)) (as_reply no_answer result) self.new }
     {
-        self.ask(&Call::Writing(Writing::Bkgdpair { win, pair }))
+        self.ask(&Call::wbkgdpair(win, pair))
     }
 
     /// Copies the cells of `src` that aren't spaces to `dst`, at the places of the screen that both cover.
@@ -347,7 +353,7 @@ pub trait Calls {
     final fn overlay(&mut self, src: WinId, dst: WinId) -> Result<(), Self::Error>
         ensures { made self.old (Call.Copying (Copying.Overlay src dst)) (as_reply no_answer result) self.new }
     {
-        self.ask(&Call::Copying(Copying::Overlay { src, dst }))
+        self.ask(&Call::overlay(src, dst))
     }
 
     /// Copies all cells of `src` to `dst`, at the places of the screen that both cover.
@@ -357,7 +363,7 @@ pub trait Calls {
     final fn overwrite(&mut self, src: WinId, dst: WinId) -> Result<(), Self::Error>
         ensures { made self.old (Call.Copying (Copying.Overwrite src dst)) (as_reply no_answer result) self.new }
     {
-        self.ask(&Call::Copying(Copying::Overwrite { src, dst }))
+        self.ask(&Call::overwrite(src, dst))
     }
 
     /// Copies the cells of `src` from line `sminrow` and column `smincol` on to the lines from `dminrow` to `dmaxrow`
@@ -381,17 +387,9 @@ pub trait Calls {
         ensures { made self.old (Call.Copying (Copying.Copywin src dst sminrow smincol dminrow dmincol dmaxrow dmaxcol overlay))
             (as_reply no_answer result) self.new }
     {
-        self.ask(&Call::Copying(Copying::Copywin {
-            src,
-            dst,
-            sminrow,
-            smincol,
-            dminrow,
-            dmincol,
-            dmaxrow,
-            dmaxcol,
-            overlay,
-        }))
+        self.ask(&Call::copywin(
+            src, dst, sminrow, smincol, dminrow, dmincol, dmaxrow, dmaxcol, overlay,
+        ))
     }
 
     /// Touches all of a window.
@@ -401,7 +399,7 @@ pub trait Calls {
     final fn touchwin(&mut self, win: WinId) -> Result<(), Self::Error>
         ensures { made self.old (Call.Copying (Copying.Touchwin win)) (as_reply no_answer result) self.new }
     {
-        self.ask(&Call::Copying(Copying::Touchwin { win }))
+        self.ask(&Call::touchwin(win))
     }
 
     /// Untouches all of a window.
@@ -411,7 +409,7 @@ pub trait Calls {
     final fn untouchwin(&mut self, win: WinId) -> Result<(), Self::Error>
         ensures { made self.old (Call.Copying (Copying.Untouchwin win)) (as_reply no_answer result) self.new }
     {
-        self.ask(&Call::Copying(Copying::Untouchwin { win }))
+        self.ask(&Call::untouchwin(win))
     }
 
     /// Touches all of `n` lines from line `y` on.
@@ -421,7 +419,7 @@ pub trait Calls {
     final fn touchline(&mut self, win: WinId, y: u16, n: u16) -> Result<(), Self::Error>
         ensures { made self.old (Call.Copying (Copying.Touchline win y n)) (as_reply no_answer result) self.new }
     {
-        self.ask(&Call::Copying(Copying::Touchline { win, y, n }))
+        self.ask(&Call::touchline(win, y, n))
     }
 
     /// Touches all of `n` lines from line `y` on, or without the flag untouches them.
@@ -431,7 +429,7 @@ pub trait Calls {
     final fn wtouchln(&mut self, win: WinId, y: u16, n: u16, flag: bool) -> Result<(), Self::Error>
         ensures { made self.old (Call.Copying (Copying.Touchln win y n flag)) (as_reply no_answer result) self.new }
     {
-        self.ask(&Call::Copying(Copying::Touchln { win, y, n, flag }))
+        self.ask(&Call::wtouchln(win, y, n, flag))
     }
 
     /// Touches each ancestor of a window where it shows what is touched of the window.
@@ -441,7 +439,7 @@ pub trait Calls {
     final fn wsyncup(&mut self, win: WinId) -> Result<(), Self::Error>
         ensures { made self.old (Call.Copying (Copying.Syncup win)) (as_reply no_answer result) self.new }
     {
-        self.ask(&Call::Copying(Copying::Syncup { win }))
+        self.ask(&Call::wsyncup(win))
     }
 
     /// Touches a window where it shows what is touched of an ancestor.
@@ -451,7 +449,7 @@ pub trait Calls {
     final fn wsyncdown(&mut self, win: WinId) -> Result<(), Self::Error>
         ensures { made self.old (Call.Copying (Copying.Syncdown win)) (as_reply no_answer result) self.new }
     {
-        self.ask(&Call::Copying(Copying::Syncdown { win }))
+        self.ask(&Call::wsyncdown(win))
     }
 
     /// Whether line `y` of a window is touched.
@@ -461,7 +459,7 @@ pub trait Calls {
     final fn is_linetouched(&mut self, win: WinId, y: u16) -> Result<bool, Self::Error>
         ensures { made self.old (Call.Copying (Copying.IsLinetouched win y)) (as_reply Reply.Flag result) self.new }
     {
-        self.ask(&Call::Copying(Copying::IsLinetouched { win, y }))
+        self.ask(&Call::is_linetouched(win, y))
     }
 
     /// Whether some line of a window is touched.
@@ -471,7 +469,7 @@ pub trait Calls {
     final fn is_wintouched(&mut self, win: WinId) -> Result<bool, Self::Error>
         ensures { made self.old (Call.Copying (Copying.IsWintouched win)) (as_reply Reply.Flag result) self.new }
     {
-        self.ask(&Call::Copying(Copying::IsWintouched { win }))
+        self.ask(&Call::is_wintouched(win))
     }
 
     /// The line and the column of the cursor.
@@ -481,7 +479,7 @@ pub trait Calls {
     final fn getyx(&mut self, win: WinId) -> Result<(u16, u16), Self::Error>
         ensures { made self.old (Call.Query (Query.Getyx win)) (as_reply two_numbers result) self.new }
     {
-        self.ask(&Call::Query(Query::Getyx { win }))
+        self.ask(&Call::getyx(win))
     }
 
     /// The line and the column of the screen where the window begins.
@@ -491,7 +489,7 @@ pub trait Calls {
     final fn getbegyx(&mut self, win: WinId) -> Result<(u16, u16), Self::Error>
         ensures { made self.old (Call.Query (Query.Getbegyx win)) (as_reply two_numbers result) self.new }
     {
-        self.ask(&Call::Query(Query::Getbegyx { win }))
+        self.ask(&Call::getbegyx(win))
     }
 
     /// The number of lines, and the number of columns.
@@ -501,7 +499,7 @@ pub trait Calls {
     final fn getmaxyx(&mut self, win: WinId) -> Result<(u16, u16), Self::Error>
         ensures { made self.old (Call.Query (Query.Getmaxyx win)) (as_reply two_numbers result) self.new }
     {
-        self.ask(&Call::Query(Query::Getmaxyx { win }))
+        self.ask(&Call::getmaxyx(win))
     }
 
     /// The line and the column of the parent where a derived window begins.
@@ -511,7 +509,7 @@ pub trait Calls {
     final fn getparyx(&mut self, win: WinId) -> Result<(u16, u16), Self::Error>
         ensures { made self.old (Call.Query (Query.Getparyx win)) (as_reply two_numbers result) self.new }
     {
-        self.ask(&Call::Query(Query::Getparyx { win }))
+        self.ask(&Call::getparyx(win))
     }
 
     /// The cell at the cursor.
@@ -521,7 +519,7 @@ pub trait Calls {
     final fn winch(&mut self, win: WinId) -> Result<Cell, Self::Error>
         ensures { made self.old (Call.Query (Query.Inch win)) (as_reply Reply.Cell result) self.new }
     {
-        self.ask(&Call::Query(Query::Inch { win }))
+        self.ask(&Call::winch(win))
     }
 
     /// Puts a window into a new panel, visible on top. The number is the least free one from 1 on.
@@ -531,7 +529,7 @@ pub trait Calls {
     final fn new_panel(&mut self, win: WinId) -> Result<PanelId, Self::Error>
         ensures { made self.old (Call.Stacking (Stacking.NewPanel win)) (as_reply its_panel result) self.new }
     {
-        self.ask(&Call::Stacking(Stacking::NewPanel { win }))
+        self.ask(&Call::new_panel(win))
     }
 
     /// Deletes a panel. Its window stays, and is in no panel any more.
@@ -541,7 +539,7 @@ pub trait Calls {
     final fn del_panel(&mut self, panel: PanelId) -> Result<(), Self::Error>
         ensures { made self.old (Call.Stacking (Stacking.DelPanel panel)) (as_reply no_answer result) self.new }
     {
-        self.ask(&Call::Stacking(Stacking::DelPanel { panel }))
+        self.ask(&Call::del_panel(panel))
     }
 
     /// Puts a panel on top, whether it was hidden or visible.
@@ -551,7 +549,7 @@ pub trait Calls {
     final fn show_panel(&mut self, panel: PanelId) -> Result<(), Self::Error>
         ensures { made self.old (Call.Stacking (Stacking.ShowPanel panel)) (as_reply no_answer result) self.new }
     {
-        self.ask(&Call::Stacking(Stacking::ShowPanel { panel }))
+        self.ask(&Call::show_panel(panel))
     }
 
     /// Takes a visible panel out of the order.
@@ -561,7 +559,7 @@ pub trait Calls {
     final fn hide_panel(&mut self, panel: PanelId) -> Result<(), Self::Error>
         ensures { made self.old (Call.Stacking (Stacking.HidePanel panel)) (as_reply no_answer result) self.new }
     {
-        self.ask(&Call::Stacking(Stacking::HidePanel { panel }))
+        self.ask(&Call::hide_panel(panel))
     }
 
     /// Moves a visible panel to the top.
@@ -571,7 +569,7 @@ pub trait Calls {
     final fn top_panel(&mut self, panel: PanelId) -> Result<(), Self::Error>
         ensures { made self.old (Call.Stacking (Stacking.TopPanel panel)) (as_reply no_answer result) self.new }
     {
-        self.ask(&Call::Stacking(Stacking::TopPanel { panel }))
+        self.ask(&Call::top_panel(panel))
     }
 
     /// Moves a visible panel to the bottom.
@@ -581,7 +579,7 @@ pub trait Calls {
     final fn bottom_panel(&mut self, panel: PanelId) -> Result<(), Self::Error>
         ensures { made self.old (Call.Stacking (Stacking.BottomPanel panel)) (as_reply no_answer result) self.new }
     {
-        self.ask(&Call::Stacking(Stacking::BottomPanel { panel }))
+        self.ask(&Call::bottom_panel(panel))
     }
 
     /// Moves the window of a panel, visible or hidden, to a place of the screen.
@@ -591,7 +589,7 @@ pub trait Calls {
     final fn move_panel(&mut self, panel: PanelId, y: u16, x: u16) -> Result<(), Self::Error>
         ensures { made self.old (Call.Stacking (Stacking.MovePanel panel y x)) (as_reply no_answer result) self.new }
     {
-        self.ask(&Call::Stacking(Stacking::MovePanel { panel, y, x }))
+        self.ask(&Call::move_panel(panel, y, x))
     }
 
     /// Gives a panel another window. The panel keeps its depth, or stays hidden.
@@ -601,7 +599,7 @@ pub trait Calls {
     final fn replace_panel(&mut self, panel: PanelId, win: WinId) -> Result<(), Self::Error>
         ensures { made self.old (Call.Stacking (Stacking.ReplacePanel panel win)) (as_reply no_answer result) self.new }
     {
-        self.ask(&Call::Stacking(Stacking::ReplacePanel { panel, win }))
+        self.ask(&Call::replace_panel(panel, win))
     }
 
     /// The panel right above a visible one, or without a panel the bottom one.
@@ -611,7 +609,7 @@ pub trait Calls {
     final fn panel_above(&mut self, panel: Option<PanelId>) -> Result<Option<PanelId>, Self::Error>
         ensures { made self.old (Call.Stacking (Stacking.PanelAbove panel)) (as_reply Reply.Panel result) self.new }
     {
-        self.ask(&Call::Stacking(Stacking::PanelAbove { panel }))
+        self.ask(&Call::panel_above(panel))
     }
 
     /// The panel right below a visible one, or without a panel the top one.
@@ -621,7 +619,7 @@ pub trait Calls {
     final fn panel_below(&mut self, panel: Option<PanelId>) -> Result<Option<PanelId>, Self::Error>
         ensures { made self.old (Call.Stacking (Stacking.PanelBelow panel)) (as_reply Reply.Panel result) self.new }
     {
-        self.ask(&Call::Stacking(Stacking::PanelBelow { panel }))
+        self.ask(&Call::panel_below(panel))
     }
 
     /// The window of a panel.
@@ -631,7 +629,7 @@ pub trait Calls {
     final fn panel_window(&mut self, panel: PanelId) -> Result<WinId, Self::Error>
         ensures { made self.old (Call.Stacking (Stacking.PanelWindow panel)) (as_reply Reply.Number result) self.new }
     {
-        self.ask(&Call::Stacking(Stacking::PanelWindow { panel }))
+        self.ask(&Call::panel_window(panel))
     }
 
     /// Whether a panel is hidden.
@@ -641,7 +639,7 @@ pub trait Calls {
     final fn panel_hidden(&mut self, panel: PanelId) -> Result<bool, Self::Error>
         ensures { made self.old (Call.Stacking (Stacking.PanelHidden panel)) (as_reply Reply.Flag result) self.new }
     {
-        self.ask(&Call::Stacking(Stacking::PanelHidden { panel }))
+        self.ask(&Call::panel_hidden(panel))
     }
 
     /// Takes what is touched of a window into the virtual screen, at the window's place, with its cursor. Then no place
@@ -652,7 +650,7 @@ pub trait Calls {
     final fn wnoutrefresh(&mut self, win: WinId) -> Result<(), Self::Error>
         ensures { made self.old (Call.Refresh (Refresh.Noutrefresh win)) (as_reply no_answer result) self.new }
     {
-        self.ask(&Call::Refresh(Refresh::Noutrefresh { win }))
+        self.ask(&Call::wnoutrefresh(win))
     }
 
     /// Takes the cells of a pad from line `pminrow` and column `pmincol` on into the lines from `sminrow` to `smaxrow`
@@ -675,15 +673,7 @@ pub trait Calls {
         ensures { made self.old (Call.Refresh (Refresh.Pnoutrefresh pad pminrow pmincol sminrow smincol smaxrow smaxcol))
             (as_reply no_answer result) self.new }
     {
-        self.ask(&Call::Refresh(Refresh::Pnoutrefresh {
-            pad,
-            pminrow,
-            pmincol,
-            sminrow,
-            smincol,
-            smaxrow,
-            smaxcol,
-        }))
+        self.ask(&Call::pnoutrefresh(pad, pminrow, pmincol, sminrow, smincol, smaxrow, smaxcol))
     }
 
     /// Takes the picture of windows and panels, and the topmost's cursor, into the virtual screen. It answers how many
@@ -691,7 +681,7 @@ pub trait Calls {
     final fn update_panels(&mut self) -> Result<Composed, Self::Error>
         ensures { made self.old (Call.Refresh Refresh.UpdatePanels) (as_reply Reply.Composed result) self.new }
     {
-        self.ask(&Call::Refresh(Refresh::UpdatePanels))
+        self.ask(&Call::update_panels())
     }
 
     /// Gives a colour pair a foreground and a background. What is shown already stays.
@@ -706,10 +696,6 @@ pub trait Calls {
     ) -> Result<(), Self::Error>
         ensures { made self.old (Call.Refresh (Refresh.InitPair pair foreground background)) (as_reply no_answer result) self.new }
     {
-        self.ask(&Call::Refresh(Refresh::InitPair {
-            pair,
-            foreground,
-            background,
-        }))
+        self.ask(&Call::init_pair(pair, foreground, background))
     }
 }

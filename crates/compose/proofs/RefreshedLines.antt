@@ -8,8 +8,8 @@ use Rattle.world.specs.Windows.{Window, Windows, cell_at}
 use Rattle.world.specs.Sound.{AreSoundWindows}
 use Rattle.world.specs.calls.Copying.{copywin_drawing}
 use Rattle.world.specs.calls.Queries.{touched_columns}
-use Rattle.world.specs.calls.Refresh.{refresh_refusal, touched_cells}
-use Rattle.world.specs.declared.call.Refresh.TheVariants.{Pnoutrefresh}
+use Rattle.cell.specs.Refusals.{first_of}
+use Rattle.world.specs.calls.Refresh.{pnoutrefresh_tests, touched_cells}
 use Rattle.world.specs.declared.settings.Columns.{Columns}
 use Rattle.picture.proofs.Placement.{IsPlacedAt}
 use Rattle.compose.proofs.Laying.{HasPiece, IsBare}
@@ -52,7 +52,7 @@ pub record IsOfPad (windows : Windows) (w py px top left bottom right : ℕ) : T
   pub few_lines : (window.lines ≤ LARGEST_PAD) × (windows.lines ≤ LARGEST_SCREEN)
   pub few_columns : (window.columns ≤ LARGEST_PAD) × (windows.columns ≤ LARGEST_SCREEN)
 
-pub of-pad : (windows : Windows) (w py px top left bottom right : ℕ) → AreSoundWindows windows → refresh_refusal windows (Pnoutrefresh (record { 0 = w }) py px top left bottom right) ≡ None
+pub of-pad : (windows : Windows) (w py px top left bottom right : ℕ) → AreSoundWindows windows → first_of (pnoutrefresh_tests windows w py px top left bottom right) ≡ None
     → IsOfPad windows w py px top left bottom right
 of-pad windows w py px top left bottom right sound h = grind (arith, passed, nat_tests)
 

@@ -7,7 +7,8 @@ ghost use Rattle.cell.specs.Shown.{shown};
 ghost use Rattle.world.specs.Sound.{AreSoundWindows};
 ghost use Rattle.world.specs.calls.Copying.{copywin_drawing};
 ghost use Rattle.world.specs.calls.Queries.{place_on_screen};
-ghost use Rattle.world.specs.calls.Refresh.{touched_cells, among_lines, refresh_refusal};
+ghost use Rattle.cell.specs.Refusals.{first_of};
+ghost use Rattle.world.specs.calls.Refresh.{touched_cells, among_lines, pnoutrefresh_tests};
 ghost use Rattle.world.specs.Effects.{shown_over, unmarked_lines};
 ghost use Rattle.world.specs.Windows.{with_change};
 ghost use Rattle.grids.specs.Tables.{windows as windows_of};
@@ -142,7 +143,7 @@ fn show_rectangle(
     picture: &mut Grid<Shown>,
 )
     requires windows { AreSoundWindows (windows_of table.now) }
-    requires accepted { refresh_refusal (windows_of table.now) (Refresh.Pnoutrefresh source.win source.line source.column frame.top frame.left frame.bottom
+    requires accepted { first_of (pnoutrefresh_tests (windows_of table.now) source.win.0 source.line source.column frame.top frame.left frame.bottom
         frame.right) ≡ None }
     requires size { HasSize table.now.lines table.now.columns picture.old }
     ensures { picture.new ≡ picture_of table.now.lines table.now.columns (shown_over pairs.now picture.old
@@ -169,7 +170,7 @@ fn show_rectangle(
 /// Tests that a rectangle of a pad may be copied to these lines and columns of the screen.
 fn require_rectangle(table: &Grids, source: Place, frame: Rect) -> Result<(), Refusal>
     requires { AreSoundWindows (windows_of table.now) }
-    ensures { result_err result ≡ refresh_refusal (windows_of table.now) (Refresh.Pnoutrefresh source.win source.line source.column frame.top frame.left
+    ensures { result_err result ≡ first_of (pnoutrefresh_tests (windows_of table.now) source.win.0 source.line source.column frame.top frame.left
         frame.bottom frame.right) }
 {
     let (lines, columns) = table.getmaxyx(source.win)?;

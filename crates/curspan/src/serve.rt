@@ -23,8 +23,7 @@ use commands::{
     status_of, usage,
 };
 use desk::{
-    Call, Calls, Desk, Refresh, Refusal, Screen, ScriptEnd, ScriptFault, Sink, Source,
-    VirtualScreen,
+    Call, Calls, Desk, Refusal, Screen, ScriptEnd, ScriptFault, Sink, Source, VirtualScreen,
 };
 use std::alloc::Global;
 use std::convert::AsStr;
@@ -85,7 +84,7 @@ fn run<'a, R: Source, O: Sink, L: Sink>(
 fn take_picture<W: Sink>(screen: &mut Screen<W>)
     ensures { world screen.new.desk ≡ world_after (world screen.old.desk) (Call.Refresh Refresh.UpdatePanels) }
 {
-    match screen.call(&Call::Refresh(Refresh::UpdatePanels)) {
+    match screen.call(&Call::update_panels()) {
         Ok(_) => {}
         Err(_) => unreachable!(),
     }

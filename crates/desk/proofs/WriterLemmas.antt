@@ -27,7 +27,7 @@ use Rattle.desk.specs.Ends.{CallEnds, Writes}
 use Rattle.desk.specs.declared.screen.Fault.TheVariants.{Refused, Write}
 
 -- a call that has no test and takes no memory is never refused
-pub never-refused : (w : World) (refresh : Refresh) (e : Refusal) → refresh_refusal w.windows refresh ≡ None → takes_memory w (calls.Refresh refresh) ≡ false → MayRefuse w (calls.Refresh refresh) e
+pub never-refused : (w : World) (refresh : Refresh) (e : Refusal) → refresh_refusal w refresh ≡ None → takes_memory w (calls.Refresh refresh) ≡ false → MayRefuse w (calls.Refresh refresh) e
     → ⊥
 never-refused w refresh e none no_memory refused = grind arith
 

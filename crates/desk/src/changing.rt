@@ -5,7 +5,8 @@ ghost use Rattle.cell.specs.Pictures.{shown_at};
 ghost use Rattle.cell.specs.declared.limits.TheConstants.{LARGEST_SCREEN};
 ghost use Rattle.world.specs.World.{picture};
 ghost use Rattle.world.specs.calls.Dispatch.{refusal, world_after};
-ghost use Rattle.world.specs.calls.Refresh.{among, refresh_refusal, touched_cells};
+ghost use Rattle.cell.specs.Refusals.{first_of};
+ghost use Rattle.world.specs.calls.Refresh.{among, noutrefresh_tests, touched_cells};
 ghost use Rattle.grids.specs.Tables.{windows as windows_of};
 ghost use Rattle.world.specs.declared.call.Call.{Call};
 ghost use Rattle.world.specs.declared.call.Refresh.{Refresh};
@@ -87,7 +88,7 @@ fn widen_damaged(changes: &mut Changes, desk: &Desk, lines: u16)
 fn widen_touched(changes: &mut Changes, table: &Grids, win: WinId)
     ensures height { length changes.new ≡ length changes.old }
     ensures keeps { (y x : ℕ) → may_change changes.new y x ≡ false → may_change changes.old y x ≡ false }
-    ensures none { refresh_refusal (windows_of table.now) (Refresh.Noutrefresh win) ≡ None → (y x : ℕ) → y < length changes.old → y < 65535 → x < 65535
+    ensures none { first_of (noutrefresh_tests (windows_of table.now) win.0) ≡ None → (y x : ℕ) → y < length changes.old → y < 65535 → x < 65535
         → may_change changes.new y x ≡ false
         → touched_cells (windows_of table.now).window win.0 y x ≡ None }
 {

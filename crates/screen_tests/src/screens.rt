@@ -1,7 +1,7 @@
 //! Screens for tests. What is known of a call would be carried along through the proof of each test: so helpers without a contract make
 //! them, and whoever owns a screen does little else, since each way out of a function that owns one adds to its proof.
 
-use desk::{Call, Calls, Counted, Fault, Refresh, Refusal, Reply, RunEnd, Screen, WinId, Writing};
+use desk::{Call, Calls, Counted, Fault, Refresh, Refusal, Reply, RunEnd, Screen, WinId};
 use faulty::Halting;
 use std::alloc::Global;
 
@@ -43,5 +43,5 @@ pub(crate) const HI: &[u8] = b"\x1b[0m\x1b[2J\x1b[1;1Hhi";
 /// Writes a text on the standard screen.
 pub(crate) fn addstr(text: &[u8]) -> Call<'_> {
     let win = WinId::STANDARD;
-    Call::Writing(Writing::Addstr { win, text })
+    Call::waddstr(win, text)
 }

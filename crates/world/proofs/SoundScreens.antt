@@ -79,6 +79,6 @@ sound-virtual world effect h fits = grind arith
 cell-if : (here touched : Bool) (glyph : Glyph) → (here ≡ true → IsCell glyph) → MatchOption (if here && touched then Some glyph else None) ⊤ IsCell
 cell-if here touched glyph h = grind arith
 
-pub fits-refresh : (world : World) (refresh : Refresh) → IsSound world → refresh_refusal world.windows refresh ≡ None → FitsEffect world (refresh_effect world refresh)
+pub fits-refresh : (world : World) (refresh : Refresh) → IsSound world → refresh_refusal world refresh ≡ None → FitsEffect world (refresh_effect world refresh)
 fits-refresh world (Pnoutrefresh pad y x top left bottom right) h accepted = grind (arith, nat_tests, (copied-cells world.windows pad.0 y x top left bottom right false))
 fits-refresh world refresh h accepted = grind (arith, nat_tests, cursor-in, cell-if, held-cell, length-set, each-set)

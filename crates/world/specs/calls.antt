@@ -1,4 +1,4 @@
-pub mod Missing
+pub mod Rule
 pub mod Refused
 pub mod Making
 pub mod Writing

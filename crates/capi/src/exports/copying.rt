@@ -1,11 +1,12 @@
 //! The calls that copy cells from window to window, and those on what is touched of a window.
 
+ghost use Rattle.world.specs.declared.call.Copying.{Copying};
 ghost use Rattle.capi.specs.Called.{Called};
 
 use crate::answer::Answer;
 use crate::handle::Handle;
 use crate::surface::Outlet;
-use desk::{Call, Copying, Sink, WinId};
+use desk::{Call, Sink, WinId};
 use std::alloc::Global;
 
 /// Copies the cells that aren't spaces, where both windows cover the screen.
@@ -13,13 +14,7 @@ use std::alloc::Global;
 pub extern "C" fn curspan_overlay(alloc: Global, screen: &mut Handle, src: u16, dst: u16) -> Answer
     ensures { Called ⟦<Outlet as Sink>⟧ screen.old.value (Call.Copying (Copying.Overlay (record { 0 = src }) (record { 0 = dst }))) result screen.new.value }
 {
-    screen.call(
-        alloc,
-        &Call::Copying(Copying::Overlay {
-            src: WinId(src),
-            dst: WinId(dst),
-        }),
-    )
+    screen.call(alloc, &Call::overlay(WinId(src), WinId(dst)))
 }
 
 /// Copies all cells, where both windows cover the screen.
@@ -32,13 +27,7 @@ pub extern "C" fn curspan_overwrite(
 ) -> Answer
     ensures { Called ⟦<Outlet as Sink>⟧ screen.old.value (Call.Copying (Copying.Overwrite (record { 0 = src }) (record { 0 = dst }))) result screen.new.value }
 {
-    screen.call(
-        alloc,
-        &Call::Copying(Copying::Overwrite {
-            src: WinId(src),
-            dst: WinId(dst),
-        }),
-    )
+    screen.call(alloc, &Call::overwrite(WinId(src), WinId(dst)))
 }
 
 /// Copies the cells from a line and a column of the source on to a rectangle, both ends inclusive; with the flag, all but
@@ -62,9 +51,9 @@ pub extern "C" fn curspan_copywin(
 {
     screen.call(
         alloc,
-        &Call::Copying(Copying::Copywin {
-            src: WinId(src),
-            dst: WinId(dst),
+        &Call::copywin(
+            WinId(src),
+            WinId(dst),
             sminrow,
             smincol,
             dminrow,
@@ -72,7 +61,7 @@ pub extern "C" fn curspan_copywin(
             dmaxrow,
             dmaxcol,
             overlay,
-        }),
+        ),
     )
 }
 
@@ -81,7 +70,7 @@ pub extern "C" fn curspan_copywin(
 pub extern "C" fn curspan_touchwin(alloc: Global, screen: &mut Handle, win: u16) -> Answer
     ensures { Called ⟦<Outlet as Sink>⟧ screen.old.value (Call.Copying (Copying.Touchwin (record { 0 = win }))) result screen.new.value }
 {
-    screen.call(alloc, &Call::Copying(Copying::Touchwin { win: WinId(win) }))
+    screen.call(alloc, &Call::touchwin(WinId(win)))
 }
 
 /// Untouches all lines.
@@ -89,10 +78,7 @@ pub extern "C" fn curspan_touchwin(alloc: Global, screen: &mut Handle, win: u16)
 pub extern "C" fn curspan_untouchwin(alloc: Global, screen: &mut Handle, win: u16) -> Answer
     ensures { Called ⟦<Outlet as Sink>⟧ screen.old.value (Call.Copying (Copying.Untouchwin (record { 0 = win }))) result screen.new.value }
 {
-    screen.call(
-        alloc,
-        &Call::Copying(Copying::Untouchwin { win: WinId(win) }),
-    )
+    screen.call(alloc, &Call::untouchwin(WinId(win)))
 }
 
 /// Touches lines, from one on.
@@ -106,14 +92,7 @@ pub extern "C" fn curspan_touchline(
 ) -> Answer
     ensures { Called ⟦<Outlet as Sink>⟧ screen.old.value (Call.Copying (Copying.Touchline (record { 0 = win }) y n)) result screen.new.value }
 {
-    screen.call(
-        alloc,
-        &Call::Copying(Copying::Touchline {
-            win: WinId(win),
-            y,
-            n,
-        }),
-    )
+    screen.call(alloc, &Call::touchline(WinId(win), y, n))
 }
 
 /// Touches lines, from one on, or untouches them.
@@ -128,15 +107,7 @@ pub extern "C" fn curspan_wtouchln(
 ) -> Answer
     ensures { Called ⟦<Outlet as Sink>⟧ screen.old.value (Call.Copying (Copying.Touchln (record { 0 = win }) y n flag)) result screen.new.value }
 {
-    screen.call(
-        alloc,
-        &Call::Copying(Copying::Touchln {
-            win: WinId(win),
-            y,
-            n,
-            flag,
-        }),
-    )
+    screen.call(alloc, &Call::wtouchln(WinId(win), y, n, flag))
 }
 
 /// Touches each ancestor where it shows what is touched of the window.
@@ -144,7 +115,7 @@ pub extern "C" fn curspan_wtouchln(
 pub extern "C" fn curspan_wsyncup(alloc: Global, screen: &mut Handle, win: u16) -> Answer
     ensures { Called ⟦<Outlet as Sink>⟧ screen.old.value (Call.Copying (Copying.Syncup (record { 0 = win }))) result screen.new.value }
 {
-    screen.call(alloc, &Call::Copying(Copying::Syncup { win: WinId(win) }))
+    screen.call(alloc, &Call::wsyncup(WinId(win)))
 }
 
 /// Touches the window where it shows what is touched of an ancestor.
@@ -152,7 +123,7 @@ pub extern "C" fn curspan_wsyncup(alloc: Global, screen: &mut Handle, win: u16) 
 pub extern "C" fn curspan_wsyncdown(alloc: Global, screen: &mut Handle, win: u16) -> Answer
     ensures { Called ⟦<Outlet as Sink>⟧ screen.old.value (Call.Copying (Copying.Syncdown (record { 0 = win }))) result screen.new.value }
 {
-    screen.call(alloc, &Call::Copying(Copying::Syncdown { win: WinId(win) }))
+    screen.call(alloc, &Call::wsyncdown(WinId(win)))
 }
 
 /// Answers whether a line is touched.
@@ -165,10 +136,7 @@ pub extern "C" fn curspan_is_linetouched(
 ) -> Answer
     ensures { Called ⟦<Outlet as Sink>⟧ screen.old.value (Call.Copying (Copying.IsLinetouched (record { 0 = win }) y)) result screen.new.value }
 {
-    screen.call(
-        alloc,
-        &Call::Copying(Copying::IsLinetouched { win: WinId(win), y }),
-    )
+    screen.call(alloc, &Call::is_linetouched(WinId(win), y))
 }
 
 /// Answers whether some line is touched.
@@ -176,8 +144,5 @@ pub extern "C" fn curspan_is_linetouched(
 pub extern "C" fn curspan_is_wintouched(alloc: Global, screen: &mut Handle, win: u16) -> Answer
     ensures { Called ⟦<Outlet as Sink>⟧ screen.old.value (Call.Copying (Copying.IsWintouched (record { 0 = win }))) result screen.new.value }
 {
-    screen.call(
-        alloc,
-        &Call::Copying(Copying::IsWintouched { win: WinId(win) }),
-    )
+    screen.call(alloc, &Call::is_wintouched(WinId(win)))
 }

@@ -1,11 +1,12 @@
 //! The calls that make windows and pads, delete them, and place them.
 
+ghost use Rattle.world.specs.declared.call.Making.{Making};
 ghost use Rattle.capi.specs.Called.{Called};
 
 use crate::answer::Answer;
 use crate::handle::Handle;
 use crate::surface::Outlet;
-use desk::{Call, Making, Sink, WinId};
+use desk::{Call, Sink, WinId};
 use std::alloc::Global;
 
 /// Makes a window of so many lines and columns at a line and a column of the screen. It answers its number.
@@ -20,15 +21,7 @@ pub extern "C" fn curspan_newwin(
 ) -> Answer
     ensures { Called ⟦<Outlet as Sink>⟧ screen.old.value (Call.Making (Making.Newwin lines columns y x)) result screen.new.value }
 {
-    screen.call(
-        alloc,
-        &Call::Making(Making::Newwin {
-            lines,
-            columns,
-            y,
-            x,
-        }),
-    )
+    screen.call(alloc, &Call::newwin(lines, columns, y, x))
 }
 
 /// Makes a window that shows a part of another, from a line and a column of the screen on. It answers its number.
@@ -44,16 +37,7 @@ pub extern "C" fn curspan_subwin(
 ) -> Answer
     ensures { Called ⟦<Outlet as Sink>⟧ screen.old.value (Call.Making (Making.Subwin (record { 0 = win }) lines columns y x)) result screen.new.value }
 {
-    screen.call(
-        alloc,
-        &Call::Making(Making::Subwin {
-            win: WinId(win),
-            lines,
-            columns,
-            y,
-            x,
-        }),
-    )
+    screen.call(alloc, &Call::subwin(WinId(win), lines, columns, y, x))
 }
 
 /// Makes a window that shows a part of another, from a line and a column of it on. It answers its number.
@@ -69,16 +53,7 @@ pub extern "C" fn curspan_derwin(
 ) -> Answer
     ensures { Called ⟦<Outlet as Sink>⟧ screen.old.value (Call.Making (Making.Derwin (record { 0 = win }) lines columns y x)) result screen.new.value }
 {
-    screen.call(
-        alloc,
-        &Call::Making(Making::Derwin {
-            win: WinId(win),
-            lines,
-            columns,
-            y,
-            x,
-        }),
-    )
+    screen.call(alloc, &Call::derwin(WinId(win), lines, columns, y, x))
 }
 
 /// Makes a pad of so many lines and columns. It answers its number.
@@ -91,7 +66,7 @@ pub extern "C" fn curspan_newpad(
 ) -> Answer
     ensures { Called ⟦<Outlet as Sink>⟧ screen.old.value (Call.Making (Making.Newpad lines columns)) result screen.new.value }
 {
-    screen.call(alloc, &Call::Making(Making::Newpad { lines, columns }))
+    screen.call(alloc, &Call::newpad(lines, columns))
 }
 
 /// Makes a pad that shows a part of another, from a line and a column of it on. It answers its number.
@@ -107,16 +82,7 @@ pub extern "C" fn curspan_subpad(
 ) -> Answer
     ensures { Called ⟦<Outlet as Sink>⟧ screen.old.value (Call.Making (Making.Subpad (record { 0 = pad }) lines columns y x)) result screen.new.value }
 {
-    screen.call(
-        alloc,
-        &Call::Making(Making::Subpad {
-            pad: WinId(pad),
-            lines,
-            columns,
-            y,
-            x,
-        }),
-    )
+    screen.call(alloc, &Call::subpad(WinId(pad), lines, columns, y, x))
 }
 
 /// Deletes a window or pad.
@@ -124,7 +90,7 @@ pub extern "C" fn curspan_subpad(
 pub extern "C" fn curspan_delwin(alloc: Global, screen: &mut Handle, win: u16) -> Answer
     ensures { Called ⟦<Outlet as Sink>⟧ screen.old.value (Call.Making (Making.Delwin (record { 0 = win }))) result screen.new.value }
 {
-    screen.call(alloc, &Call::Making(Making::Delwin { win: WinId(win) }))
+    screen.call(alloc, &Call::delwin(WinId(win)))
 }
 
 /// Moves a window to a line and a column of the screen.
@@ -138,14 +104,7 @@ pub extern "C" fn curspan_mvwin(
 ) -> Answer
     ensures { Called ⟦<Outlet as Sink>⟧ screen.old.value (Call.Making (Making.Mvwin (record { 0 = win }) y x)) result screen.new.value }
 {
-    screen.call(
-        alloc,
-        &Call::Making(Making::Mvwin {
-            win: WinId(win),
-            y,
-            x,
-        }),
-    )
+    screen.call(alloc, &Call::mvwin(WinId(win), y, x))
 }
 
 /// Lets a derived window or pad show its parent from another line and column on.
@@ -159,12 +118,5 @@ pub extern "C" fn curspan_mvderwin(
 ) -> Answer
     ensures { Called ⟦<Outlet as Sink>⟧ screen.old.value (Call.Making (Making.Mvderwin (record { 0 = win }) y x)) result screen.new.value }
 {
-    screen.call(
-        alloc,
-        &Call::Making(Making::Mvderwin {
-            win: WinId(win),
-            y,
-            x,
-        }),
-    )
+    screen.call(alloc, &Call::mvderwin(WinId(win), y, x))
 }

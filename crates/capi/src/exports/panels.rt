@@ -1,12 +1,13 @@
 //! The calls that make panels, delete them, order them and move them, and those that ask about them.
 
+ghost use Rattle.world.specs.declared.call.Stacking.{Stacking};
 ghost use Rattle.capi.specs.Called.{Called};
 ghost use Rattle.capi.specs.Answers.{panel_of};
 
 use crate::answer::{Answer, panel_of};
 use crate::handle::Handle;
 use crate::surface::Outlet;
-use desk::{Call, PanelId, Sink, Stacking, WinId};
+use desk::{Call, PanelId, Sink, WinId};
 use std::alloc::Global;
 
 /// Puts a window into a new panel, visible on top. It answers its number.
@@ -14,10 +15,7 @@ use std::alloc::Global;
 pub extern "C" fn curspan_new_panel(alloc: Global, screen: &mut Handle, win: u16) -> Answer
     ensures { Called ⟦<Outlet as Sink>⟧ screen.old.value (Call.Stacking (Stacking.NewPanel (record { 0 = win }))) result screen.new.value }
 {
-    screen.call(
-        alloc,
-        &Call::Stacking(Stacking::NewPanel { win: WinId(win) }),
-    )
+    screen.call(alloc, &Call::new_panel(WinId(win)))
 }
 
 /// Deletes a panel. Its window stays.
@@ -25,12 +23,7 @@ pub extern "C" fn curspan_new_panel(alloc: Global, screen: &mut Handle, win: u16
 pub extern "C" fn curspan_del_panel(alloc: Global, screen: &mut Handle, panel: u16) -> Answer
     ensures { Called ⟦<Outlet as Sink>⟧ screen.old.value (Call.Stacking (Stacking.DelPanel (record { 0 = panel }))) result screen.new.value }
 {
-    screen.call(
-        alloc,
-        &Call::Stacking(Stacking::DelPanel {
-            panel: PanelId(panel),
-        }),
-    )
+    screen.call(alloc, &Call::del_panel(PanelId(panel)))
 }
 
 /// Puts a panel on top, whether it was hidden or visible.
@@ -38,12 +31,7 @@ pub extern "C" fn curspan_del_panel(alloc: Global, screen: &mut Handle, panel: u
 pub extern "C" fn curspan_show_panel(alloc: Global, screen: &mut Handle, panel: u16) -> Answer
     ensures { Called ⟦<Outlet as Sink>⟧ screen.old.value (Call.Stacking (Stacking.ShowPanel (record { 0 = panel }))) result screen.new.value }
 {
-    screen.call(
-        alloc,
-        &Call::Stacking(Stacking::ShowPanel {
-            panel: PanelId(panel),
-        }),
-    )
+    screen.call(alloc, &Call::show_panel(PanelId(panel)))
 }
 
 /// Takes a visible panel out of the order.
@@ -51,12 +39,7 @@ pub extern "C" fn curspan_show_panel(alloc: Global, screen: &mut Handle, panel: 
 pub extern "C" fn curspan_hide_panel(alloc: Global, screen: &mut Handle, panel: u16) -> Answer
     ensures { Called ⟦<Outlet as Sink>⟧ screen.old.value (Call.Stacking (Stacking.HidePanel (record { 0 = panel }))) result screen.new.value }
 {
-    screen.call(
-        alloc,
-        &Call::Stacking(Stacking::HidePanel {
-            panel: PanelId(panel),
-        }),
-    )
+    screen.call(alloc, &Call::hide_panel(PanelId(panel)))
 }
 
 /// Moves a visible panel to the top.
@@ -64,12 +47,7 @@ pub extern "C" fn curspan_hide_panel(alloc: Global, screen: &mut Handle, panel: 
 pub extern "C" fn curspan_top_panel(alloc: Global, screen: &mut Handle, panel: u16) -> Answer
     ensures { Called ⟦<Outlet as Sink>⟧ screen.old.value (Call.Stacking (Stacking.TopPanel (record { 0 = panel }))) result screen.new.value }
 {
-    screen.call(
-        alloc,
-        &Call::Stacking(Stacking::TopPanel {
-            panel: PanelId(panel),
-        }),
-    )
+    screen.call(alloc, &Call::top_panel(PanelId(panel)))
 }
 
 /// Moves a visible panel to the bottom.
@@ -77,12 +55,7 @@ pub extern "C" fn curspan_top_panel(alloc: Global, screen: &mut Handle, panel: u
 pub extern "C" fn curspan_bottom_panel(alloc: Global, screen: &mut Handle, panel: u16) -> Answer
     ensures { Called ⟦<Outlet as Sink>⟧ screen.old.value (Call.Stacking (Stacking.BottomPanel (record { 0 = panel }))) result screen.new.value }
 {
-    screen.call(
-        alloc,
-        &Call::Stacking(Stacking::BottomPanel {
-            panel: PanelId(panel),
-        }),
-    )
+    screen.call(alloc, &Call::bottom_panel(PanelId(panel)))
 }
 
 /// Moves the window of a panel, visible or hidden, to a line and a column of the screen.
@@ -96,14 +69,7 @@ pub extern "C" fn curspan_move_panel(
 ) -> Answer
     ensures { Called ⟦<Outlet as Sink>⟧ screen.old.value (Call.Stacking (Stacking.MovePanel (record { 0 = panel }) y x)) result screen.new.value }
 {
-    screen.call(
-        alloc,
-        &Call::Stacking(Stacking::MovePanel {
-            panel: PanelId(panel),
-            y,
-            x,
-        }),
-    )
+    screen.call(alloc, &Call::move_panel(PanelId(panel), y, x))
 }
 
 /// Gives a panel another window. The panel keeps its depth, or stays hidden.
@@ -117,13 +83,7 @@ pub extern "C" fn curspan_replace_panel(
     ensures { Called ⟦<Outlet as Sink>⟧ screen.old.value (Call.Stacking (Stacking.ReplacePanel (record { 0 = panel }) (record { 0 = win }))) result
         screen.new.value }
 {
-    screen.call(
-        alloc,
-        &Call::Stacking(Stacking::ReplacePanel {
-            panel: PanelId(panel),
-            win: WinId(win),
-        }),
-    )
+    screen.call(alloc, &Call::replace_panel(PanelId(panel), WinId(win)))
 }
 
 /// Answers the panel right above a visible one, or of 0 the bottom one; 0 is none.
@@ -131,12 +91,7 @@ pub extern "C" fn curspan_replace_panel(
 pub extern "C" fn curspan_panel_above(alloc: Global, screen: &mut Handle, panel: u16) -> Answer
     ensures { Called ⟦<Outlet as Sink>⟧ screen.old.value (Call.Stacking (Stacking.PanelAbove (panel_of panel))) result screen.new.value }
 {
-    screen.call(
-        alloc,
-        &Call::Stacking(Stacking::PanelAbove {
-            panel: panel_of(panel),
-        }),
-    )
+    screen.call(alloc, &Call::panel_above(panel_of(panel)))
 }
 
 /// Answers the panel right below a visible one, or of 0 the top one; 0 is none.
@@ -144,12 +99,7 @@ pub extern "C" fn curspan_panel_above(alloc: Global, screen: &mut Handle, panel:
 pub extern "C" fn curspan_panel_below(alloc: Global, screen: &mut Handle, panel: u16) -> Answer
     ensures { Called ⟦<Outlet as Sink>⟧ screen.old.value (Call.Stacking (Stacking.PanelBelow (panel_of panel))) result screen.new.value }
 {
-    screen.call(
-        alloc,
-        &Call::Stacking(Stacking::PanelBelow {
-            panel: panel_of(panel),
-        }),
-    )
+    screen.call(alloc, &Call::panel_below(panel_of(panel)))
 }
 
 /// Answers the number of the window of a panel.
@@ -157,12 +107,7 @@ pub extern "C" fn curspan_panel_below(alloc: Global, screen: &mut Handle, panel:
 pub extern "C" fn curspan_panel_window(alloc: Global, screen: &mut Handle, panel: u16) -> Answer
     ensures { Called ⟦<Outlet as Sink>⟧ screen.old.value (Call.Stacking (Stacking.PanelWindow (record { 0 = panel }))) result screen.new.value }
 {
-    screen.call(
-        alloc,
-        &Call::Stacking(Stacking::PanelWindow {
-            panel: PanelId(panel),
-        }),
-    )
+    screen.call(alloc, &Call::panel_window(PanelId(panel)))
 }
 
 /// Answers whether a panel is hidden.
@@ -170,10 +115,5 @@ pub extern "C" fn curspan_panel_window(alloc: Global, screen: &mut Handle, panel
 pub extern "C" fn curspan_panel_hidden(alloc: Global, screen: &mut Handle, panel: u16) -> Answer
     ensures { Called ⟦<Outlet as Sink>⟧ screen.old.value (Call.Stacking (Stacking.PanelHidden (record { 0 = panel }))) result screen.new.value }
 {
-    screen.call(
-        alloc,
-        &Call::Stacking(Stacking::PanelHidden {
-            panel: PanelId(panel),
-        }),
-    )
+    screen.call(alloc, &Call::panel_hidden(PanelId(panel)))
 }

@@ -1,11 +1,12 @@
 //! The calls that ask about a window or pad.
 
+ghost use Rattle.world.specs.declared.call.Query.{Query};
 ghost use Rattle.capi.specs.Called.{Called};
 
 use crate::answer::Answer;
 use crate::handle::Handle;
 use crate::surface::Outlet;
-use desk::{Call, Query, Sink, WinId};
+use desk::{Call, Sink, WinId};
 use std::alloc::Global;
 
 /// Answers the line and the column of the cursor.
@@ -13,7 +14,7 @@ use std::alloc::Global;
 pub extern "C" fn curspan_getyx(alloc: Global, screen: &mut Handle, win: u16) -> Answer
     ensures { Called ⟦<Outlet as Sink>⟧ screen.old.value (Call.Query (Query.Getyx (record { 0 = win }))) result screen.new.value }
 {
-    screen.call(alloc, &Call::Query(Query::Getyx { win: WinId(win) }))
+    screen.call(alloc, &Call::getyx(WinId(win)))
 }
 
 /// Answers the line and the column of the screen where the window begins.
@@ -21,7 +22,7 @@ pub extern "C" fn curspan_getyx(alloc: Global, screen: &mut Handle, win: u16) ->
 pub extern "C" fn curspan_getbegyx(alloc: Global, screen: &mut Handle, win: u16) -> Answer
     ensures { Called ⟦<Outlet as Sink>⟧ screen.old.value (Call.Query (Query.Getbegyx (record { 0 = win }))) result screen.new.value }
 {
-    screen.call(alloc, &Call::Query(Query::Getbegyx { win: WinId(win) }))
+    screen.call(alloc, &Call::getbegyx(WinId(win)))
 }
 
 /// Answers the number of lines and of columns.
@@ -29,7 +30,7 @@ pub extern "C" fn curspan_getbegyx(alloc: Global, screen: &mut Handle, win: u16)
 pub extern "C" fn curspan_getmaxyx(alloc: Global, screen: &mut Handle, win: u16) -> Answer
     ensures { Called ⟦<Outlet as Sink>⟧ screen.old.value (Call.Query (Query.Getmaxyx (record { 0 = win }))) result screen.new.value }
 {
-    screen.call(alloc, &Call::Query(Query::Getmaxyx { win: WinId(win) }))
+    screen.call(alloc, &Call::getmaxyx(WinId(win)))
 }
 
 /// Answers the line and the column of its parent where a derived window begins.
@@ -37,7 +38,7 @@ pub extern "C" fn curspan_getmaxyx(alloc: Global, screen: &mut Handle, win: u16)
 pub extern "C" fn curspan_getparyx(alloc: Global, screen: &mut Handle, win: u16) -> Answer
     ensures { Called ⟦<Outlet as Sink>⟧ screen.old.value (Call.Query (Query.Getparyx (record { 0 = win }))) result screen.new.value }
 {
-    screen.call(alloc, &Call::Query(Query::Getparyx { win: WinId(win) }))
+    screen.call(alloc, &Call::getparyx(WinId(win)))
 }
 
 /// Answers the cell at the cursor.
@@ -45,5 +46,5 @@ pub extern "C" fn curspan_getparyx(alloc: Global, screen: &mut Handle, win: u16)
 pub extern "C" fn curspan_winch(alloc: Global, screen: &mut Handle, win: u16) -> Answer
     ensures { Called ⟦<Outlet as Sink>⟧ screen.old.value (Call.Query (Query.Inch (record { 0 = win }))) result screen.new.value }
 {
-    screen.call(alloc, &Call::Query(Query::Inch { win: WinId(win) }))
+    screen.call(alloc, &Call::winch(WinId(win)))
 }

@@ -1,11 +1,12 @@
 //! The calls that refresh, and the one that sets the colours of a pair.
 
+ghost use Rattle.world.specs.declared.call.Refresh.{Refresh};
 ghost use Rattle.capi.specs.Called.{Called};
 
 use crate::answer::Answer;
 use crate::handle::Handle;
 use crate::surface::Outlet;
-use desk::{Call, Refresh, Sink, WinId};
+use desk::{Call, Sink, WinId};
 use std::alloc::Global;
 
 /// Takes what is touched of a window, and its cursor, into the virtual screen.
@@ -13,10 +14,7 @@ use std::alloc::Global;
 pub extern "C" fn curspan_wnoutrefresh(alloc: Global, screen: &mut Handle, win: u16) -> Answer
     ensures { Called ⟦<Outlet as Sink>⟧ screen.old.value (Call.Refresh (Refresh.Noutrefresh (record { 0 = win }))) result screen.new.value }
 {
-    screen.call(
-        alloc,
-        &Call::Refresh(Refresh::Noutrefresh { win: WinId(win) }),
-    )
+    screen.call(alloc, &Call::wnoutrefresh(WinId(win)))
 }
 
 /// Takes the cells from a line and a column of a pad on into a rectangle of the virtual screen, both ends inclusive.
@@ -37,15 +35,15 @@ pub extern "C" fn curspan_pnoutrefresh(
 {
     screen.call(
         alloc,
-        &Call::Refresh(Refresh::Pnoutrefresh {
-            pad: WinId(pad),
+        &Call::pnoutrefresh(
+            WinId(pad),
             pminrow,
             pmincol,
             sminrow,
             smincol,
             smaxrow,
             smaxcol,
-        }),
+        ),
     )
 }
 
@@ -54,7 +52,7 @@ pub extern "C" fn curspan_pnoutrefresh(
 pub extern "C" fn curspan_update_panels(alloc: Global, screen: &mut Handle) -> Answer
     ensures { Called ⟦<Outlet as Sink>⟧ screen.old.value (Call.Refresh Refresh.UpdatePanels) result screen.new.value }
 {
-    screen.call(alloc, &Call::Refresh(Refresh::UpdatePanels))
+    screen.call(alloc, &Call::update_panels())
 }
 
 /// Sends what shows the virtual screen on the terminal. It answers how many bytes that are.
@@ -62,7 +60,7 @@ pub extern "C" fn curspan_update_panels(alloc: Global, screen: &mut Handle) -> A
 pub extern "C" fn curspan_doupdate(alloc: Global, screen: &mut Handle) -> Answer
     ensures { Called ⟦<Outlet as Sink>⟧ screen.old.value (Call.Refresh Refresh.Doupdate) result screen.new.value }
 {
-    screen.call(alloc, &Call::Refresh(Refresh::Doupdate))
+    screen.call(alloc, &Call::doupdate())
 }
 
 /// Gives a colour pair a foreground and a background, each by its number.
@@ -76,12 +74,5 @@ pub extern "C" fn curspan_init_pair(
 ) -> Answer
     ensures { Called ⟦<Outlet as Sink>⟧ screen.old.value (Call.Refresh (Refresh.InitPair pair foreground background)) result screen.new.value }
 {
-    screen.call(
-        alloc,
-        &Call::Refresh(Refresh::InitPair {
-            pair,
-            foreground,
-            background,
-        }),
-    )
+    screen.call(alloc, &Call::init_pair(pair, foreground, background))
 }

@@ -1,12 +1,13 @@
 //! The calls that write in a window or pad, or set how it is written in.
 
+ghost use Rattle.world.specs.declared.call.Writing.{Writing};
 ghost use Rattle.capi.specs.Called.{Called};
 ghost use Rattle.capi.specs.Answers.{attrs_of};
 
 use crate::answer::{Answer, attrs_of};
 use crate::handle::Handle;
 use crate::surface::Outlet;
-use desk::{Call, Sink, WinId, Writing};
+use desk::{Call, Sink, WinId};
 use std::alloc::Global;
 
 /// Moves the cursor to a line and a column.
@@ -20,14 +21,7 @@ pub extern "C" fn curspan_wmove(
 ) -> Answer
     ensures { Called ⟦<Outlet as Sink>⟧ screen.old.value (Call.Writing (Writing.Move (record { 0 = win }) y x)) result screen.new.value }
 {
-    screen.call(
-        alloc,
-        &Call::Writing(Writing::Move {
-            win: WinId(win),
-            y,
-            x,
-        }),
-    )
+    screen.call(alloc, &Call::wmove(WinId(win), y, x))
 }
 
 /// Writes a character at the cursor.
@@ -35,13 +29,7 @@ pub extern "C" fn curspan_wmove(
 pub extern "C" fn curspan_waddch(alloc: Global, screen: &mut Handle, win: u16, ch: u8) -> Answer
     ensures { Called ⟦<Outlet as Sink>⟧ screen.old.value (Call.Writing (Writing.Addch (record { 0 = win }) ch)) result screen.new.value }
 {
-    screen.call(
-        alloc,
-        &Call::Writing(Writing::Addch {
-            win: WinId(win),
-            ch,
-        }),
-    )
+    screen.call(alloc, &Call::waddch(WinId(win), ch))
 }
 
 /// Writes the characters of a text at the cursor.
@@ -54,13 +42,7 @@ pub extern "C" fn curspan_waddstr(
 ) -> Answer
     ensures { Called ⟦<Outlet as Sink>⟧ screen.old.value (Call.Writing (Writing.Addstr (record { 0 = win }) text.entry)) result screen.new.value }
 {
-    screen.call(
-        alloc,
-        &Call::Writing(Writing::Addstr {
-            win: WinId(win),
-            text,
-        }),
-    )
+    screen.call(alloc, &Call::waddstr(WinId(win), text))
 }
 
 /// Inserts a character at the cursor.
@@ -68,13 +50,7 @@ pub extern "C" fn curspan_waddstr(
 pub extern "C" fn curspan_winsch(alloc: Global, screen: &mut Handle, win: u16, ch: u8) -> Answer
     ensures { Called ⟦<Outlet as Sink>⟧ screen.old.value (Call.Writing (Writing.Insch (record { 0 = win }) ch)) result screen.new.value }
 {
-    screen.call(
-        alloc,
-        &Call::Writing(Writing::Insch {
-            win: WinId(win),
-            ch,
-        }),
-    )
+    screen.call(alloc, &Call::winsch(WinId(win), ch))
 }
 
 /// Deletes the character at the cursor.
@@ -82,7 +58,7 @@ pub extern "C" fn curspan_winsch(alloc: Global, screen: &mut Handle, win: u16, c
 pub extern "C" fn curspan_wdelch(alloc: Global, screen: &mut Handle, win: u16) -> Answer
     ensures { Called ⟦<Outlet as Sink>⟧ screen.old.value (Call.Writing (Writing.Delch (record { 0 = win }))) result screen.new.value }
 {
-    screen.call(alloc, &Call::Writing(Writing::Delch { win: WinId(win) }))
+    screen.call(alloc, &Call::wdelch(WinId(win)))
 }
 
 /// Inserts a line at the cursor's.
@@ -90,7 +66,7 @@ pub extern "C" fn curspan_wdelch(alloc: Global, screen: &mut Handle, win: u16) -
 pub extern "C" fn curspan_winsertln(alloc: Global, screen: &mut Handle, win: u16) -> Answer
     ensures { Called ⟦<Outlet as Sink>⟧ screen.old.value (Call.Writing (Writing.Insertln (record { 0 = win }))) result screen.new.value }
 {
-    screen.call(alloc, &Call::Writing(Writing::Insertln { win: WinId(win) }))
+    screen.call(alloc, &Call::winsertln(WinId(win)))
 }
 
 /// Deletes the cursor's line.
@@ -98,7 +74,7 @@ pub extern "C" fn curspan_winsertln(alloc: Global, screen: &mut Handle, win: u16
 pub extern "C" fn curspan_wdeleteln(alloc: Global, screen: &mut Handle, win: u16) -> Answer
     ensures { Called ⟦<Outlet as Sink>⟧ screen.old.value (Call.Writing (Writing.Deleteln (record { 0 = win }))) result screen.new.value }
 {
-    screen.call(alloc, &Call::Writing(Writing::Deleteln { win: WinId(win) }))
+    screen.call(alloc, &Call::wdeleteln(WinId(win)))
 }
 
 /// Clears the window, and moves the cursor to its first place.
@@ -106,7 +82,7 @@ pub extern "C" fn curspan_wdeleteln(alloc: Global, screen: &mut Handle, win: u16
 pub extern "C" fn curspan_werase(alloc: Global, screen: &mut Handle, win: u16) -> Answer
     ensures { Called ⟦<Outlet as Sink>⟧ screen.old.value (Call.Writing (Writing.Erase (record { 0 = win }))) result screen.new.value }
 {
-    screen.call(alloc, &Call::Writing(Writing::Erase { win: WinId(win) }))
+    screen.call(alloc, &Call::werase(WinId(win)))
 }
 
 /// Clears the window, moves the cursor to its first place, and asks for a clear screen.
@@ -114,7 +90,7 @@ pub extern "C" fn curspan_werase(alloc: Global, screen: &mut Handle, win: u16) -
 pub extern "C" fn curspan_wclear(alloc: Global, screen: &mut Handle, win: u16) -> Answer
     ensures { Called ⟦<Outlet as Sink>⟧ screen.old.value (Call.Writing (Writing.Clear (record { 0 = win }))) result screen.new.value }
 {
-    screen.call(alloc, &Call::Writing(Writing::Clear { win: WinId(win) }))
+    screen.call(alloc, &Call::wclear(WinId(win)))
 }
 
 /// Clears from the cursor to the end of the line.
@@ -122,7 +98,7 @@ pub extern "C" fn curspan_wclear(alloc: Global, screen: &mut Handle, win: u16) -
 pub extern "C" fn curspan_wclrtoeol(alloc: Global, screen: &mut Handle, win: u16) -> Answer
     ensures { Called ⟦<Outlet as Sink>⟧ screen.old.value (Call.Writing (Writing.Clrtoeol (record { 0 = win }))) result screen.new.value }
 {
-    screen.call(alloc, &Call::Writing(Writing::Clrtoeol { win: WinId(win) }))
+    screen.call(alloc, &Call::wclrtoeol(WinId(win)))
 }
 
 /// Clears from the cursor to the end of the window.
@@ -130,7 +106,7 @@ pub extern "C" fn curspan_wclrtoeol(alloc: Global, screen: &mut Handle, win: u16
 pub extern "C" fn curspan_wclrtobot(alloc: Global, screen: &mut Handle, win: u16) -> Answer
     ensures { Called ⟦<Outlet as Sink>⟧ screen.old.value (Call.Writing (Writing.Clrtobot (record { 0 = win }))) result screen.new.value }
 {
-    screen.call(alloc, &Call::Writing(Writing::Clrtobot { win: WinId(win) }))
+    screen.call(alloc, &Call::wclrtobot(WinId(win)))
 }
 
 /// Scrolls the region up by a number of lines, or down by a negative one.
@@ -138,7 +114,7 @@ pub extern "C" fn curspan_wclrtobot(alloc: Global, screen: &mut Handle, win: u16
 pub extern "C" fn curspan_wscrl(alloc: Global, screen: &mut Handle, win: u16, n: i16) -> Answer
     ensures { Called ⟦<Outlet as Sink>⟧ screen.old.value (Call.Writing (Writing.Scrl (record { 0 = win }) n)) result screen.new.value }
 {
-    screen.call(alloc, &Call::Writing(Writing::Scrl { win: WinId(win), n }))
+    screen.call(alloc, &Call::wscrl(WinId(win), n))
 }
 
 /// Sets the region that scrolls, from a first line to a last.
@@ -152,14 +128,7 @@ pub extern "C" fn curspan_wsetscrreg(
 ) -> Answer
     ensures { Called ⟦<Outlet as Sink>⟧ screen.old.value (Call.Writing (Writing.Setscrreg (record { 0 = win }) top bottom)) result screen.new.value }
 {
-    screen.call(
-        alloc,
-        &Call::Writing(Writing::Setscrreg {
-            win: WinId(win),
-            top,
-            bottom,
-        }),
-    )
+    screen.call(alloc, &Call::wsetscrreg(WinId(win), top, bottom))
 }
 
 /// Sets whether the window scrolls.
@@ -172,13 +141,7 @@ pub extern "C" fn curspan_scrollok(
 ) -> Answer
     ensures { Called ⟦<Outlet as Sink>⟧ screen.old.value (Call.Writing (Writing.Scrollok (record { 0 = win }) flag)) result screen.new.value }
 {
-    screen.call(
-        alloc,
-        &Call::Writing(Writing::Scrollok {
-            win: WinId(win),
-            flag,
-        }),
-    )
+    screen.call(alloc, &Call::scrollok(WinId(win), flag))
 }
 
 /// Sets whether the window asks for a clear screen where it is next taken into the virtual screen.
@@ -191,13 +154,7 @@ pub extern "C" fn curspan_clearok(
 ) -> Answer
     ensures { Called ⟦<Outlet as Sink>⟧ screen.old.value (Call.Writing (Writing.Clearok (record { 0 = win }) flag)) result screen.new.value }
 {
-    screen.call(
-        alloc,
-        &Call::Writing(Writing::Clearok {
-            win: WinId(win),
-            flag,
-        }),
-    )
+    screen.call(alloc, &Call::clearok(WinId(win), flag))
 }
 
 /// Sets the attributes.
@@ -210,13 +167,7 @@ pub extern "C" fn curspan_wattrset(
 ) -> Answer
     ensures { Called ⟦<Outlet as Sink>⟧ screen.old.value (Call.Writing (Writing.Attrset (record { 0 = win }) (attrs_of attrs))) result screen.new.value }
 {
-    screen.call(
-        alloc,
-        &Call::Writing(Writing::Attrset {
-            win: WinId(win),
-            attrs: attrs_of(attrs),
-        }),
-    )
+    screen.call(alloc, &Call::wattrset(WinId(win), attrs_of(attrs)))
 }
 
 /// Adds attributes.
@@ -224,13 +175,7 @@ pub extern "C" fn curspan_wattrset(
 pub extern "C" fn curspan_wattron(alloc: Global, screen: &mut Handle, win: u16, attrs: u8) -> Answer
     ensures { Called ⟦<Outlet as Sink>⟧ screen.old.value (Call.Writing (Writing.Attron (record { 0 = win }) (attrs_of attrs))) result screen.new.value }
 {
-    screen.call(
-        alloc,
-        &Call::Writing(Writing::Attron {
-            win: WinId(win),
-            attrs: attrs_of(attrs),
-        }),
-    )
+    screen.call(alloc, &Call::wattron(WinId(win), attrs_of(attrs)))
 }
 
 /// Takes attributes away.
@@ -243,13 +188,7 @@ pub extern "C" fn curspan_wattroff(
 ) -> Answer
     ensures { Called ⟦<Outlet as Sink>⟧ screen.old.value (Call.Writing (Writing.Attroff (record { 0 = win }) (attrs_of attrs))) result screen.new.value }
 {
-    screen.call(
-        alloc,
-        &Call::Writing(Writing::Attroff {
-            win: WinId(win),
-            attrs: attrs_of(attrs),
-        }),
-    )
+    screen.call(alloc, &Call::wattroff(WinId(win), attrs_of(attrs)))
 }
 
 /// Sets the background to a character with attributes, of pair 0.
@@ -263,14 +202,7 @@ pub extern "C" fn curspan_wbkgdset(
 ) -> Answer
     ensures { Called ⟦<Outlet as Sink>⟧ screen.old.value (Call.Writing (Writing.Bkgdset (record { 0 = win }) (attrs_of attrs) ch)) result screen.new.value }
 {
-    screen.call(
-        alloc,
-        &Call::Writing(Writing::Bkgdset {
-            win: WinId(win),
-            attrs: attrs_of(attrs),
-            ch,
-        }),
-    )
+    screen.call(alloc, &Call::wbkgdset(WinId(win), attrs_of(attrs), ch))
 }
 
 /// Sets the colour pair.
@@ -283,13 +215,7 @@ pub extern "C" fn curspan_wcolor_set(
 ) -> Answer
     ensures { Called ⟦<Outlet as Sink>⟧ screen.old.value (Call.Writing (Writing.ColorSet (record { 0 = win }) pair)) result screen.new.value }
 {
-    screen.call(
-        alloc,
-        &Call::Writing(Writing::ColorSet {
-            win: WinId(win),
-            pair,
-        }),
-    )
+    screen.call(alloc, &Call::wcolor_set(WinId(win), pair))
 }
 
 /// Sets the background's colour pair.
@@ -302,11 +228,5 @@ pub extern "C" fn curspan_wbkgdpair(
 ) -> Answer
     ensures { Called ⟦<Outlet as Sink>⟧ screen.old.value (Call.Writing (Writing.Bkgdpair (record { 0 = win }) pair)) result screen.new.value }
 {
-    screen.call(
-        alloc,
-        &Call::Writing(Writing::Bkgdpair {
-            win: WinId(win),
-            pair,
-        }),
-    )
+    screen.call(alloc, &Call::wbkgdpair(WinId(win), pair))
 }

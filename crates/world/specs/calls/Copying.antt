@@ -12,7 +12,7 @@ use Rattle.world.specs.Rows.{overlaid_cell}
 use Rattle.world.specs.Sharing.{shows_part_of}
 use Rattle.world.specs.Effects.{Change, asks, edits, draws, marks, after_change}
 use Rattle.world.specs.calls.Making.{is_pad}
-use Rattle.world.specs.calls.Missing.{missing_window}
+use Rattle.world.specs.calls.Rule.{Rule, missing_window}
 use Rattle.world.specs.calls.Writing.{lacks_place}
 use Rattle.cell.specs.declared.window.Rect.{Rect}
 use Rattle.cell.specs.declared.refusal.Refusal.{Refusal}
@@ -96,36 +96,54 @@ copywin_tests windows src dst sy sx top left bottom right =
     ∷ (lacks_place windows.window dst bottom right || lacks_place windows.window src (sy + (bottom - top)) (sx + (right - left)), OutsideWindow)
     ∷ []
 
-abbrev pub copying_tests : Windows → Copying → List (Bool × Refusal)
-copying_tests windows (Overlay src dst) = overlay_tests windows src.0 dst.0
-copying_tests windows (Overwrite src dst) = overlay_tests windows src.0 dst.0
-copying_tests windows (Copywin src dst sminrow smincol dminrow dmincol dmaxrow dmaxcol overlay) =
-    copywin_tests windows src.0 dst.0 sminrow smincol dminrow dmincol dmaxrow dmaxcol
-copying_tests windows (Touchwin win) = missing_window windows win.0 ∷ []
-copying_tests windows (Untouchwin win) = missing_window windows win.0 ∷ []
-copying_tests windows (Touchline win y n) = missing_window windows win.0 ∷ (lacks_lines windows.window win.0 y n, OutsideWindow) ∷ []
-copying_tests windows (Touchln win y n flag) = missing_window windows win.0 ∷ (lacks_lines windows.window win.0 y n, OutsideWindow) ∷ []
-copying_tests windows (Syncup win) = missing_window windows win.0 ∷ []
-copying_tests windows (Syncdown win) = missing_window windows win.0 ∷ []
-copying_tests windows (IsLinetouched win y) = missing_window windows win.0 ∷ (lacks_lines windows.window win.0 y 0, OutsideWindow) ∷ []
-copying_tests windows (IsWintouched win) = missing_window windows win.0 ∷ []
-
--- ---- effects
+-- ---- calls
 
 -- a copy is a drawing in its destination
+abbrev pub copying_rule : Windows → Copying → Rule Change
+copying_rule windows (Overlay src dst) = record {
+  tests = overlay_tests windows src.0 dst.0;
+  effect = edits (draws dst.0 (λ a. common_cells windows.window src.0 dst.0 true) None);
+}
+copying_rule windows (Overwrite src dst) = record {
+  tests = overlay_tests windows src.0 dst.0;
+  effect = edits (draws dst.0 (λ a. common_cells windows.window src.0 dst.0 false) None);
+}
+copying_rule windows (Copywin src dst sminrow smincol dminrow dmincol dmaxrow dmaxcol overlay) = record {
+  tests = copywin_tests windows src.0 dst.0 sminrow smincol dminrow dmincol dmaxrow dmaxcol;
+  effect = edits (draws dst.0 (λ a. copywin_drawing windows.window src.0 sminrow smincol dminrow dmincol dmaxrow dmaxcol overlay) None);
+}
+copying_rule windows (Touchwin win) = record { tests = missing_window windows win.0 ∷ []; effect = marks (λ u. u == win.0) (λ u. all_marked true) }
+copying_rule windows (Untouchwin win) = record { tests = missing_window windows win.0 ∷ []; effect = marks (λ u. u == win.0) (λ u. all_marked false) }
+copying_rule windows (Touchline win y n) = record {
+  tests = missing_window windows win.0 ∷ (lacks_lines windows.window win.0 y n, OutsideWindow) ∷ [];
+  effect = marks (λ u. u == win.0) (λ u. lines_marked y n true);
+}
+copying_rule windows (Touchln win y n flag) = record {
+  tests = missing_window windows win.0 ∷ (lacks_lines windows.window win.0 y n, OutsideWindow) ∷ [];
+  effect = marks (λ u. u == win.0) (λ u. lines_marked y n flag);
+}
+copying_rule windows (Syncup win) = record {
+  tests = missing_window windows win.0 ∷ [];
+  effect = marks (λ u. derives windows.window u win.0) (λ u. with_touches (shows_touched_of windows.window win.0 u));
+}
+copying_rule windows (Syncdown win) = record {
+  tests = missing_window windows win.0 ∷ [];
+  effect = marks (λ u. u == win.0) (λ u. with_touches (shows_touched_of_ancestor windows.window win.0));
+}
+copying_rule windows (IsLinetouched win y) = record {
+  tests = missing_window windows win.0 ∷ (lacks_lines windows.window win.0 y 0, OutsideWindow) ∷ [];
+  effect = asks (Flag (is_linetouched windows.window win.0 y));
+}
+copying_rule windows (IsWintouched win) = record {
+  tests = missing_window windows win.0 ∷ [];
+  effect = asks (Flag (is_wintouched windows.window win.0));
+}
+
+abbrev pub copying_tests : Windows → Copying → List (Bool × Refusal)
+copying_tests windows copying = (copying_rule windows copying).tests
+
 abbrev pub copying_change : Windows → Copying → Change
-copying_change windows (Overlay src dst) = edits (draws dst.0 (λ a. common_cells windows.window src.0 dst.0 true) None)
-copying_change windows (Overwrite src dst) = edits (draws dst.0 (λ a. common_cells windows.window src.0 dst.0 false) None)
-copying_change windows (Copywin src dst sminrow smincol dminrow dmincol dmaxrow dmaxcol overlay) =
-    edits (draws dst.0 (λ a. copywin_drawing windows.window src.0 sminrow smincol dminrow dmincol dmaxrow dmaxcol overlay) None)
-copying_change windows (Touchwin win) = marks (λ u. u == win.0) (λ u. all_marked true)
-copying_change windows (Untouchwin win) = marks (λ u. u == win.0) (λ u. all_marked false)
-copying_change windows (Touchline win y n) = marks (λ u. u == win.0) (λ u. lines_marked y n true)
-copying_change windows (Touchln win y n flag) = marks (λ u. u == win.0) (λ u. lines_marked y n flag)
-copying_change windows (Syncup win) = marks (λ u. derives windows.window u win.0) (λ u. with_touches (shows_touched_of windows.window win.0 u))
-copying_change windows (Syncdown win) = marks (λ u. u == win.0) (λ u. with_touches (shows_touched_of_ancestor windows.window win.0))
-copying_change windows (IsLinetouched win y) = asks (Flag (is_linetouched windows.window win.0 y))
-copying_change windows (IsWintouched win) = asks (Flag (is_wintouched windows.window win.0))
+copying_change windows copying = (copying_rule windows copying).effect
 
 abbrev pub copying_refusal : Windows → Copying → Option Refusal
 copying_refusal windows copying = first_of (copying_tests windows copying)

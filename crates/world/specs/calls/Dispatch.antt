@@ -26,7 +26,7 @@ tests_of world (calls.Writing writing) = writing_tests world.windows writing
 tests_of world (calls.Copying copying) = copying_tests world.windows copying
 tests_of world (calls.Query query) = query_tests world.windows query
 tests_of world (calls.Stacking stacking) = stacking_tests world.windows world.panels stacking
-tests_of world (calls.Refresh refresh) = refresh_tests world.windows refresh
+tests_of world (calls.Refresh refresh) = refresh_tests world refresh
 
 abbrev pub effect_of : World → Call → Effect
 effect_of world (calls.Making making) = arranges (changes (making_change world.windows making))

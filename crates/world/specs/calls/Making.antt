@@ -11,7 +11,7 @@ use Rattle.world.specs.Windows.{Backing, own_grid, part_of, Window, WindowMap, W
 use Rattle.world.specs.Panels.{standard_screen, place_of}
 use Rattle.world.specs.World.{new_window, blank_grid}
 use Rattle.world.specs.Effects.{Change, makes, deletes, moves, shifts, after_change}
-use Rattle.world.specs.calls.Missing.{missing_window}
+use Rattle.world.specs.calls.Rule.{Rule, missing_window}
 use Rattle.cell.specs.declared.refusal.Refusal.{Refusal}
 use Rattle.cell.specs.declared.refusal.Refusal.TheVariants.{OffScreen, OutsideParent, HasDerived, InPanel, IsPad, NotPad, NotDerived, BadSize, StandardScreen, TooMany}
 use Rattle.world.specs.declared.call.Making.{Making}
@@ -136,60 +136,81 @@ leaves_parent window w y x = option_map_or (λ a. option_map_or (reaches_past y 
 abbrev pub in_no_panel : ℕ → Bool
 in_no_panel w = false
 
+-- ---- calls
+
 -- in_panel says of each window whether it is in a panel: then only its panel moves it, and it isn't deleted
+abbrev pub making_rule : Windows → (ℕ → Bool) → Making → Rule Change
+making_rule windows in_panel (Newwin nlines ncols y x) = record {
+  tests =
+      (not (is_inside nlines windows.lines y && is_inside ncols windows.columns x), OffScreen)
+      ∷ (is_full windows.window, TooMany)
+      ∷ [];
+  effect = makes (next_window windows) (Some (window_on_screen windows nlines ncols y x));
+}
+making_rule windows in_panel (Subwin win nlines ncols y x) = record {
+  tests =
+      missing_window windows win.0
+      ∷ (is_pad windows.window win.0, IsPad)
+      ∷ (is_before windows.window win.0 y x, OutsideParent)
+      ∷ part_tests windows win.0 nlines ncols (lines_from windows.window win.0 y) (columns_from windows.window win.0 x);
+  effect = makes (next_window windows) (derived_from windows win.0 nlines ncols (lines_from windows.window win.0 y)
+      (columns_from windows.window win.0 x));
+}
+making_rule windows in_panel (Derwin win nlines ncols y x) = record {
+  tests =
+      missing_window windows win.0
+      ∷ (is_pad windows.window win.0, IsPad)
+      ∷ part_tests windows win.0 nlines ncols y x;
+  effect = makes (next_window windows) (derived_from windows win.0 nlines ncols y x);
+}
+making_rule windows in_panel (Newpad nlines ncols) = record {
+  tests =
+      (is_no_size LARGEST_PAD nlines || is_no_size LARGEST_PAD ncols, BadSize)
+      ∷ (is_full windows.window, TooMany)
+      ∷ [];
+  effect = makes (next_window windows) (Some (new_window nlines ncols None blank_grid));
+}
+making_rule windows in_panel (Subpad pad nlines ncols y x) = record {
+  tests =
+      missing_window windows pad.0
+      ∷ (is_no_pad windows.window pad.0, NotPad)
+      ∷ part_tests windows pad.0 nlines ncols y x;
+  effect = makes (next_window windows) (derived_from windows pad.0 nlines ncols y x);
+}
+making_rule windows in_panel (Delwin win) = record {
+  tests =
+      missing_window windows win.0
+      ∷ (win.0 == standard_screen, StandardScreen)
+      ∷ (in_panel win.0, InPanel)
+      ∷ (has_derived windows.window win.0, HasDerived)
+      ∷ [];
+  effect = deletes win.0;
+}
+making_rule windows in_panel (Mvwin win y x) = record {
+  tests =
+      missing_window windows win.0
+      ∷ (win.0 == standard_screen, StandardScreen)
+      ∷ (is_pad windows.window win.0, IsPad)
+      ∷ (in_panel win.0, InPanel)
+      ∷ (is_off_screen windows win.0 y x, OffScreen)
+      ∷ [];
+  effect = moves win.0 (y, x);
+}
+making_rule windows in_panel (Mvderwin win y x) = record {
+  tests =
+      missing_window windows win.0
+      ∷ (has_no_parent windows.window win.0, NotDerived)
+      ∷ (leaves_parent windows.window win.0 y x, OutsideParent)
+      ∷ [];
+  effect = shifts win.0 (y, x);
+}
+
 abbrev pub making_tests : Windows → (ℕ → Bool) → Making → List (Bool × Refusal)
-making_tests windows in_panel (Newwin nlines ncols y x) =
-    (not (is_inside nlines windows.lines y && is_inside ncols windows.columns x), OffScreen)
-    ∷ (is_full windows.window, TooMany)
-    ∷ []
-making_tests windows in_panel (Subwin win nlines ncols y x) =
-    missing_window windows win.0
-    ∷ (is_pad windows.window win.0, IsPad)
-    ∷ (is_before windows.window win.0 y x, OutsideParent)
-    ∷ part_tests windows win.0 nlines ncols (lines_from windows.window win.0 y) (columns_from windows.window win.0 x)
-making_tests windows in_panel (Derwin win nlines ncols y x) =
-    missing_window windows win.0
-    ∷ (is_pad windows.window win.0, IsPad)
-    ∷ part_tests windows win.0 nlines ncols y x
-making_tests windows in_panel (Newpad nlines ncols) =
-    (is_no_size LARGEST_PAD nlines || is_no_size LARGEST_PAD ncols, BadSize)
-    ∷ (is_full windows.window, TooMany)
-    ∷ []
-making_tests windows in_panel (Subpad pad nlines ncols y x) =
-    missing_window windows pad.0
-    ∷ (is_no_pad windows.window pad.0, NotPad)
-    ∷ part_tests windows pad.0 nlines ncols y x
-making_tests windows in_panel (Delwin win) =
-    missing_window windows win.0
-    ∷ (win.0 == standard_screen, StandardScreen)
-    ∷ (in_panel win.0, InPanel)
-    ∷ (has_derived windows.window win.0, HasDerived)
-    ∷ []
-making_tests windows in_panel (Mvwin win y x) =
-    missing_window windows win.0
-    ∷ (win.0 == standard_screen, StandardScreen)
-    ∷ (is_pad windows.window win.0, IsPad)
-    ∷ (in_panel win.0, InPanel)
-    ∷ (is_off_screen windows win.0 y x, OffScreen)
-    ∷ []
-making_tests windows in_panel (Mvderwin win y x) =
-    missing_window windows win.0
-    ∷ (has_no_parent windows.window win.0, NotDerived)
-    ∷ (leaves_parent windows.window win.0 y x, OutsideParent)
-    ∷ []
+making_tests windows in_panel making = (making_rule windows in_panel making).tests
 
--- ---- effects
-
+-- it is the same whatever windows are in panels
 abbrev pub making_change : Windows → Making → Change
-making_change windows (Newwin nlines ncols y x) = makes (next_window windows) (Some (window_on_screen windows nlines ncols y x))
-making_change windows (Subwin win nlines ncols y x) =
-    makes (next_window windows) (derived_from windows win.0 nlines ncols (lines_from windows.window win.0 y) (columns_from windows.window win.0 x))
-making_change windows (Derwin win nlines ncols y x) = makes (next_window windows) (derived_from windows win.0 nlines ncols y x)
-making_change windows (Newpad nlines ncols) = makes (next_window windows) (Some (new_window nlines ncols None blank_grid))
-making_change windows (Subpad pad nlines ncols y x) = makes (next_window windows) (derived_from windows pad.0 nlines ncols y x)
-making_change windows (Delwin win) = deletes win.0
-making_change windows (Mvwin win y x) = moves win.0 (y, x)
-making_change windows (Mvderwin win y x) = shifts win.0 (y, x)
+making_change windows making = (making_rule windows in_no_panel making).effect
 
 abbrev pub making_refusal : Windows → (ℕ → Bool) → Making → Option Refusal
 making_refusal windows in_panel making = first_of (making_tests windows in_panel making)

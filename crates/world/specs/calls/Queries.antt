@@ -7,7 +7,7 @@ use Rattle.cell.specs.Pictures.{Place}
 use Rattle.cell.specs.Refusals.{first_of}
 use Rattle.world.specs.Windows.{Backing, own_grid, part_of, WindowMap, Windows, cell_at}
 use Rattle.world.specs.calls.Making.{is_pad, has_no_parent}
-use Rattle.world.specs.calls.Missing.{missing_window}
+use Rattle.world.specs.calls.Rule.{Rule, missing_window}
 use Rattle.cell.specs.declared.refusal.Refusal.{Refusal}
 use Rattle.cell.specs.declared.refusal.Refusal.TheVariants.{IsPad, NotDerived}
 use Rattle.world.specs.declared.call.Query.{Query}
@@ -38,24 +38,32 @@ cell_at_cursor window w = option_map (λ a. cell_at window w a.settings.cursor.0
 abbrev pub touched_columns : WindowMap → ℕ → ℕ → Option Columns
 touched_columns window w y = option_and_then (λ a. a.touched y) (window w)
 
--- ---- calls
-
-abbrev pub query_tests : Windows → Query → List (Bool × Refusal)
-query_tests windows (Getyx win) = missing_window windows win.0 ∷ []
-query_tests windows (Getbegyx win) = missing_window windows win.0 ∷ (is_pad windows.window win.0, IsPad) ∷ []
-query_tests windows (Getmaxyx win) = missing_window windows win.0 ∷ []
-query_tests windows (Getparyx win) = missing_window windows win.0 ∷ (has_no_parent windows.window win.0, NotDerived) ∷ []
-query_tests windows (Inch win) = missing_window windows win.0 ∷ []
-
 abbrev pub pair : Option Place → Reply
 pair place = option_map_or (λ p. Pair p.0 p.1) place Nothing
 
+-- ---- calls
+
+abbrev pub query_rule : Windows → Query → Rule Reply
+query_rule windows (Getyx win) = record { tests = missing_window windows win.0 ∷ []; effect = pair (cursor_of windows.window win.0) }
+query_rule windows (Getbegyx win) = record {
+  tests = missing_window windows win.0 ∷ (is_pad windows.window win.0, IsPad) ∷ [];
+  effect = pair (place_on_screen windows.window win.0);
+}
+query_rule windows (Getmaxyx win) = record { tests = missing_window windows win.0 ∷ []; effect = pair (window_size windows.window win.0) }
+query_rule windows (Getparyx win) = record {
+  tests = missing_window windows win.0 ∷ (has_no_parent windows.window win.0, NotDerived) ∷ [];
+  effect = pair (offset_in_parent windows.window win.0);
+}
+query_rule windows (Inch win) = record {
+  tests = missing_window windows win.0 ∷ [];
+  effect = option_map_or (λ shown. Cell shown) (cell_at_cursor windows.window win.0) Nothing;
+}
+
+abbrev pub query_tests : Windows → Query → List (Bool × Refusal)
+query_tests windows query = (query_rule windows query).tests
+
 abbrev pub query_reply : Windows → Query → Reply
-query_reply windows (Getyx win) = pair (cursor_of windows.window win.0)
-query_reply windows (Getbegyx win) = pair (place_on_screen windows.window win.0)
-query_reply windows (Getmaxyx win) = pair (window_size windows.window win.0)
-query_reply windows (Getparyx win) = pair (offset_in_parent windows.window win.0)
-query_reply windows (Inch win) = option_map_or (λ shown. Cell shown) (cell_at_cursor windows.window win.0) Nothing
+query_reply windows query = (query_rule windows query).effect
 
 abbrev pub query_refusal : Windows → Query → Option Refusal
 query_refusal windows query = first_of (query_tests windows query)

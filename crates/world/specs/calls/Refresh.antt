@@ -14,7 +14,7 @@ use Rattle.world.specs.World.{World}
 use Rattle.world.specs.Effects.{Effect, refreshes, composes, shows, colours}
 use Rattle.world.specs.calls.Copying.{copywin_drawing}
 use Rattle.world.specs.calls.Making.{is_pad}
-use Rattle.world.specs.calls.Missing.{missing_window}
+use Rattle.world.specs.calls.Rule.{Rule, missing_window}
 use Rattle.world.specs.calls.Writing.{is_no_pair, lacks_place}
 use Rattle.world.specs.declared.call.Refresh.{Refresh}
 use Rattle.world.specs.declared.call.Refresh.TheVariants.{Noutrefresh, Pnoutrefresh, UpdatePanels, Doupdate, InitPair}
@@ -48,35 +48,47 @@ is_no_colour colour = not (nat_le colour LAST_COLOUR)
 abbrev pub colour_tests : ℕ → ℕ → ℕ → List (Bool × Refusal)
 colour_tests pair foreground background = (pair == 0 || (is_no_pair pair || (is_no_colour foreground || is_no_colour background)), BadPair) ∷ []
 
-abbrev pub refresh_tests : Windows → Refresh → List (Bool × Refusal)
-refresh_tests windows (Noutrefresh win) = missing_window windows win.0 ∷ (is_pad windows.window win.0, IsPad) ∷ []
-refresh_tests windows (Pnoutrefresh pad pminrow pmincol sminrow smincol smaxrow smaxcol) =
-    missing_window windows pad.0
-    ∷ (not (is_pad windows.window pad.0), NotPad)
-    ∷ (nat_lt smaxrow sminrow || nat_lt smaxcol smincol, BadRectangle)
-    ∷ (lacks_place windows.window pad.0 (pminrow + (smaxrow - sminrow)) (pmincol + (smaxcol - smincol)), OutsideWindow)
-    ∷ (is_beyond windows smaxrow smaxcol, OffScreen)
+abbrev pub pnoutrefresh_tests : Windows → ℕ → ℕ → ℕ → ℕ → ℕ → ℕ → ℕ → List (Bool × Refusal)
+pnoutrefresh_tests windows w py px top left bottom right =
+    missing_window windows w
+    ∷ (not (is_pad windows.window w), NotPad)
+    ∷ (nat_lt bottom top || nat_lt right left, BadRectangle)
+    ∷ (lacks_place windows.window w (py + (bottom - top)) (px + (right - left)), OutsideWindow)
+    ∷ (is_beyond windows bottom right, OffScreen)
     ∷ []
-refresh_tests windows UpdatePanels = []
-refresh_tests windows Doupdate = []
-refresh_tests windows (InitPair pair foreground background) = colour_tests pair foreground background
 
--- ---- effects
+abbrev pub noutrefresh_tests : Windows → ℕ → List (Bool × Refusal)
+noutrefresh_tests windows w = missing_window windows w ∷ (is_pad windows.window w, IsPad) ∷ []
+
+-- ---- calls
 
 -- n lines from a first one on
 abbrev pub among_lines : ℕ → ℕ → ℕ → Bool
 among_lines first n y = nat_le first y && nat_lt y (first + n)
 
 -- pnoutrefresh: a rectangle of the pad, touched or not, for one of the screen, both ends inclusive; the wanted cursor stays
-abbrev pub refresh_effect : World → Refresh → Effect
-refresh_effect world (Noutrefresh win) =
-    refreshes win.0 (λ y. true) (touched_cells world.windows.window win.0) (cursor_on_screen world.windows.window win.0)
-refresh_effect world (Pnoutrefresh pad pminrow pmincol sminrow smincol smaxrow smaxcol) =
-    refreshes pad.0 (among_lines pminrow (smaxrow - sminrow + 1))
-    (copywin_drawing world.windows.window pad.0 pminrow pmincol sminrow smincol smaxrow smaxcol false) world.virtual.cursor
-refresh_effect world UpdatePanels = composes
-refresh_effect world Doupdate = shows
-refresh_effect world (InitPair pair foreground background) = colours pair foreground background
+abbrev pub refresh_rule : World → Refresh → Rule Effect
+refresh_rule world (Noutrefresh win) = record {
+  tests = noutrefresh_tests world.windows win.0;
+  effect = refreshes win.0 (λ y. true) (touched_cells world.windows.window win.0) (cursor_on_screen world.windows.window win.0);
+}
+refresh_rule world (Pnoutrefresh pad pminrow pmincol sminrow smincol smaxrow smaxcol) = record {
+  tests = pnoutrefresh_tests world.windows pad.0 pminrow pmincol sminrow smincol smaxrow smaxcol;
+  effect = refreshes pad.0 (among_lines pminrow (smaxrow - sminrow + 1))
+      (copywin_drawing world.windows.window pad.0 pminrow pmincol sminrow smincol smaxrow smaxcol false) world.virtual.cursor;
+}
+refresh_rule world UpdatePanels = record { tests = []; effect = composes }
+refresh_rule world Doupdate = record { tests = []; effect = shows }
+refresh_rule world (InitPair pair foreground background) = record {
+  tests = colour_tests pair foreground background;
+  effect = colours pair foreground background;
+}
 
-abbrev pub refresh_refusal : Windows → Refresh → Option Refusal
-refresh_refusal windows refresh = first_of (refresh_tests windows refresh)
+abbrev pub refresh_tests : World → Refresh → List (Bool × Refusal)
+refresh_tests world refresh = (refresh_rule world refresh).tests
+
+abbrev pub refresh_effect : World → Refresh → Effect
+refresh_effect world refresh = (refresh_rule world refresh).effect
+
+abbrev pub refresh_refusal : World → Refresh → Option Refusal
+refresh_refusal world refresh = first_of (refresh_tests world refresh)

@@ -15,7 +15,7 @@ use Rattle.world.specs.Settings.{with_cursor}
 use Rattle.world.specs.Drawings.{written_glyph, character_inserted, character_deleted, to_end_of_line, to_bottom, everywhere, lines_up, lines_down}
 use Rattle.world.specs.Typing.{backspace, carriage_return, newline}
 use Rattle.world.specs.Effects.{Edit, sets, draws, types, after_edit, edit_window}
-use Rattle.world.specs.calls.Missing.{missing_window}
+use Rattle.world.specs.calls.Rule.{missing_window}
 use Rattle.cell.specs.declared.refusal.Refusal.{Refusal}
 use Rattle.cell.specs.declared.refusal.Refusal.TheVariants.{OutsideWindow, BadRegion, BadCharacter, BadPair, ScrollingOff}
 use Rattle.world.specs.declared.call.Writing.{Writing}

@@ -9,7 +9,7 @@ use Rattle.world.specs.declared.call.Reply.TheVariants.{Nothing}
 use Rattle.grids.specs.Tables.{windows}
 use Rattle.compose.specs.Calling.{Called}
 use Rattle.compose.specs.Covers.{IsDesk}
-use Rattle.compose.specs.Desks.{DeskTable}
+use Rattle.compose.specs.Desks.{DeskTable, world}
 use Rattle.compose.specs.contracts.desk.Desk.{the_view}
 use Rattle.compose.proofs.DamageCovers.{call-accepted}
 use Rattle.compose.proofs.Padding.{pad-damages}
@@ -30,7 +30,7 @@ made : (c : goal.After-unmark_lines) → IsDesk (new c) × Called (the_view c.se
 made c =
     let a = c.args in let h = c.self.invariant in let ws = windows c.self.inside.windows.table in
     let frame : Rect = record { top = a.sminrow; left = a.smincol; bottom = a.smaxrow; right = a.smaxcol } in
-    let accepted : refresh_refusal ws (refresh c) ≡ None = search rules in
+    let accepted : refresh_refusal (world (the_view c.self.inside)) (refresh c) ≡ None = search rules in
     let of = of-pad ws a.pad.0 a.pminrow a.pmincol a.sminrow a.smincol a.smaxrow a.smaxcol h.sound.windows accepted in
     let damaged = c.damage_part.ensures.damaged ws.columns of.on_column in
     call-accepted (the_view c.self.inside) (new c) (calls.Refresh (refresh c)) h accepted refl (search rules)
