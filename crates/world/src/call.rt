@@ -260,7 +260,7 @@ pub enum Refresh {
     },
 }
 
-/// The calls by their names in X/Open Curses and in panel(3), with their arguments in the order that they have there.
+/// Makes each call as data, under the name of its method. Its variant says what it does.
 impl<'a> Call<'a> {
     pub fn newwin(lines: u16, columns: u16, y: u16, x: u16) -> Call<'a>
         ensures { result ≡ Call.Making (Making.Newwin lines columns y x) }
