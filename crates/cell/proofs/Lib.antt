@@ -11,3 +11,5 @@ pub mod Fills
 pub mod PieceWrites
 -- A grid with one cell everywhere; for `clear`, `fill_cells`
 pub mod Clearing
+-- Cells as numbers, one in each lane, and where no lane differs; for `lanes`, `same_lanes`
+pub mod Lanes

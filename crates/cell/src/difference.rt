@@ -1,10 +1,12 @@
 //! Where two lines of shown cells differ.
 
-ghost use Rattle.std.specs.Prelude.{◌≡◌, ◌≤◌, ◌↔◌, length, take, drop, true};
+ghost use Rattle.std.specs.Prelude.{◌≡◌, ◌≤◌, ◌↔◌, length, map, take, drop, true};
 ghost use Rattle.cell.specs.Differences.{IsFirstDifference, IsLastDifference};
+ghost use Rattle.cell.specs.Packing.{shown_bits, shown_of};
 ghost use Rattle.cell.specs.declared.difference.TheConstants.{LANES};
 
 use crate::shown::Shown;
+use std::simd::prelude::*;
 
 /// How many cells are compared at once.
 const LANES: usize = 16;
@@ -35,17 +37,26 @@ pub fn last_diff(old: &[Shown], new: &[Shown]) -> Option<usize>
     last_diff_before(old, new, end)
 }
 
-/// Whether so many cells are the same, by a loop with one exit, which the compiler vectorizes.
+/// Whether so many cells are the same.
 fn same_lanes(old: &[Shown], new: &[Shown]) -> bool
     requires old { length old.now ≡ LANES }
     requires new { length new.now ≡ LANES }
     ensures { (result ≡ true) ↔ (old.now ≡ new.now) }
 {
-    let mut same = true;
+    lanes(old).simd_ne(lanes(new)).to_bitmask() == 0
+}
+
+/// So many cells as numbers, one in each lane.
+fn lanes(cells: &[Shown]) -> u32x16
+    requires { length cells.now ≡ LANES }
+    ensures bits { result ≡ map shown_bits cells.now }
+    ensures held { cells.now ≡ map shown_of result }
+{
+    let mut numbers = [0; LANES];
     for x in 0..LANES {
-        same &= old[x] == new[x];
+        numbers[x] = cells[x].bits();
     }
-    same
+    u32x16::from_array(numbers)
 }
 
 /// The first column in which two lines differ that are the same before a column.

@@ -5,6 +5,7 @@ ghost use Rattle.cell.specs.Attributes.{bits_of, valid_attributes};
 ghost use Rattle.cell.specs.Glyphs.{is_printable};
 ghost use Rattle.cell.specs.Shown.{IsRendition, IsShown, rendition_with};
 ghost use Rattle.cell.specs.Differences.{same_rendition, same_shown};
+ghost use Rattle.cell.specs.Packing.{shown_bits, shown_of};
 ghost use Rattle.std.specs.Cmp.{partial_equiv_from_equiv};
 
 use crate::attr::Attr;
@@ -153,6 +154,14 @@ impl Shown {
         Shown {
             bits: cell.bits() % 65_536 + colours.bits(),
         }
+    }
+
+    /// The cell as one number.
+    pub(crate) fn bits(self) -> u32
+        ensures value { result ≡ shown_bits self }
+        ensures held { self ≡ shown_of result }
+    {
+        self.bits
     }
 
     /// The character.
