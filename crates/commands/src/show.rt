@@ -32,7 +32,8 @@ fn read_stream<R: Source>(input: &mut R, terminal: &mut Terminal) -> bool
         match input.read(&mut piece) {
             Ok(0) => return true,
             Ok(count) => {
-                terminal.feed(&piece[..count]);
+                // what leaves the profile is told once all is read
+                let _ = terminal.feed(&piece[..count]);
             }
             Err(_) => return false,
         }

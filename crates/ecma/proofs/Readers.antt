@@ -9,8 +9,8 @@ use Rattle.std.proofs.lemmas.List.{append-nil, length-map, map_push}
 use Rattle.std.proofs.lemmas.Int.Digits.{digits_value_push}
 use Rattle.std.proofs.lemmas.Str.{digit_value_digit}
 use Rattle.cell.specs.Glyphs.{is_printable}
-use Rattle.ecma.specs.declared.terminal.State.{State}
-use Rattle.ecma.specs.declared.terminal.State.TheVariants.{Text, Escape, Parameters, Failed}
+use Rattle.ecma.specs.declared.reader.State.{State}
+use Rattle.ecma.specs.declared.reader.State.TheVariants.{Text, Escape, Parameters, Failed}
 use Rattle.ecma.specs.Items.{Function, SGR, Printable, Control, Unfinished, IsDigit, AreParameters, IsBeginning, EndsOrEscapes, final_byte, control_sequence, escape, introducer, separator}
 use Rattle.ecma.specs.Terminals.{Terminal, print, effect}
 use Rattle.ecma.specs.Streams.{FailsAt, IsInProfile, Leads}

@@ -6,8 +6,8 @@ use Rattle.ecma.specs.Items.{AreParameters, escape, introducer, separator}
 use Rattle.ecma.specs.Parameters.{Parameter, parameter_of}
 use Rattle.ecma.specs.Terminals.{Terminal}
 use Rattle.ecma.specs.Streams.{FailsAt, IsInProfile, LeadsWithBreaks, showing}
-use Rattle.ecma.specs.declared.terminal.State.{State}
-use Rattle.ecma.specs.declared.terminal.State.TheVariants.{Text, Escape, Parameters, Failed}
+use Rattle.ecma.specs.declared.reader.State.{State}
+use Rattle.ecma.specs.declared.reader.State.TheVariants.{Text, Escape, Parameters, Failed}
 
 -- A terminal, and what is kept of the stream: whether it ends in text, after an escape, within parameters, or has failed; of the
 -- parameters those that a separator ended, and the one that goes on; the number of bytes, and the offset of the unfinished item or
@@ -62,10 +62,17 @@ HasReadIn Failed stream first reader = HasFailed stream first reader.terminal re
 abbrev pub HasRead : List ℕ → Terminal → Reader → Type 0
 HasRead stream first reader = HasReadIn reader.state stream first reader
 
--- whatever stream the first has read, the second has read that stream and then these bytes
-abbrev pub Follows : List ℕ → Reader → Reader → Type 0
-Follows bytes old new = (stream : List ℕ) (first : Terminal) → HasRead stream first old → HasRead (stream ++ bytes) first new
-
 -- a blank terminal of that size, its cursor at the origin, with the empty rendition
 abbrev pub blank_terminal : ℕ → ℕ → Terminal
 blank_terminal lines columns = showing (blank_picture lines columns) origin
+
+-- There is a stream that the reader has read, from a blank terminal on.
+pub record HasReadSome (reader : Reader) : Type 0 where
+  pub stream : List ℕ
+  pub lines : ℕ
+  pub columns : ℕ
+  pub read : HasRead stream (blank_terminal lines columns) reader
+
+-- whatever stream the first has read, the second has read that stream and then these bytes
+abbrev pub Follows : List ℕ → Reader → Reader → Type 0
+Follows bytes old new = (stream : List ℕ) (first : Terminal) → HasRead stream first old → HasRead (stream ++ bytes) first new

@@ -3,6 +3,7 @@
 //! - `laws`: laws of streams
 //! - `page`: what control functions do to the picture
 //! - `parameter`: parameters of a control sequence
+//! - `reader`: what is kept of a stream that is read byte by byte
 //! - `selection`: SGR
 //! - `spelling`: the bytes of a token
 //! - `terminal`: a terminal that reads bytes
@@ -12,11 +13,13 @@
 pub mod laws;
 mod page;
 mod parameter;
+mod reader;
 mod selection;
 mod spelling;
 mod terminal;
 mod token;
 
+pub use reader::NotInProfile;
 pub use spelling::{LONGEST_SPELLING, spell};
-pub use terminal::{NotInProfile, Terminal};
+pub use terminal::Terminal;
 pub use token::{Erase, Token};

@@ -69,7 +69,7 @@ fn a_run_goes_on_after_one_that_a_failed_write_ended(rt: HostRuntime) -> Result<
 
 /// Whether a terminal that reads a stream shows a text in its corner, nothing else, and the cursor after it.
 fn shows(terminal: &mut Terminal, stream: &[u8], text: &[u8]) -> bool {
-    terminal.feed(stream);
+    let fed = terminal.feed(stream);
     let mut rest = text;
     for y in 0..terminal.lines() {
         for cell in terminal.row(y) {
@@ -80,7 +80,7 @@ fn shows(terminal: &mut Terminal, stream: &[u8], text: &[u8]) -> bool {
             }
         }
     }
-    terminal.fault().is_none()
+    fed.is_ok()
         && is_after(text, terminal.cursor())
         && terminal.rendition() == Rendition::NONE
 }

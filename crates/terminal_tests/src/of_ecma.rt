@@ -106,7 +106,7 @@ fn tokens_have_their_bytes(rt: HostRuntime) {
 /// A terminal that has read a stream.
 fn read(alloc: Global, stream: &[u8]) -> Result<Terminal, Fail> {
     let mut terminal = Terminal::new(alloc, 4, 10)?;
-    terminal.feed(stream);
+    let _ = terminal.feed(stream);
     Ok(terminal)
 }
 
@@ -130,7 +130,7 @@ fn cell_and_pen(terminal: &Terminal, y: u16, x: u16) -> Seen {
 /// What is seen after two pieces of a stream.
 fn seen_after(alloc: Global, pieces: [&[u8]; 2], y: u16, x: u16) -> Result<Seen, Fail> {
     let mut terminal = read(alloc, pieces[0])?;
-    terminal.feed(pieces[1]);
+    let _ = terminal.feed(pieces[1]);
     Ok(cell_and_pen(&terminal, y, x))
 }
 
@@ -200,17 +200,17 @@ fn is_same(one: &Terminal, other: &Terminal) -> bool {
 fn is_cut_at(alloc: Global, stream: &[u8], cut: usize, whole: &Terminal) -> Result<bool, Fail> {
     let (first, second) = stream.split_at_checked(cut).ok_or("no such cut")?;
     let mut terminal = read(alloc, first)?;
-    terminal.feed(second);
-    Ok(is_same(&terminal, whole))
+    let fed = terminal.feed(second);
+    Ok(fed.err() == whole.fault() && is_same(&terminal, whole))
 }
 
-/// Feeds a stream byte by byte, and says whether each fault on the way is the last one.
+/// Feeds a stream byte by byte, and says whether each fault on the way is the last one, and what is answered.
 fn feed_bytes(terminal: &mut Terminal, stream: &[u8], last: Option<NotInProfile>) -> bool {
     let mut is_last = true;
     for byte in stream {
-        terminal.feed(&[*byte]);
+        let fed = terminal.feed(&[*byte]);
         let fault = terminal.fault();
-        is_last = is_last && (fault.is_none() || fault == last);
+        is_last = is_last && fed.err() == fault && (fault.is_none() || fault == last);
     }
     is_last
 }

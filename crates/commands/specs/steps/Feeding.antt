@@ -1,7 +1,7 @@
 -- What reading a stream into a terminal does: definitions for the contracts of single steps.
 use Rattle.std.specs.Prelude.{◌≡◌, ◌⊎◌, ℕ, Bool, List, Option, Some, None}
 use Rattle.ecma.specs.Readers.{Follows, Reader}
-use Rattle.ecma.specs.declared.terminal.NotInProfile.{NotInProfile}
+use Rattle.ecma.specs.declared.reader.NotInProfile.{NotInProfile}
 use Rattle.streams.specs.Sinks.{Seen}
 use Rattle.streams.specs.Sources.{SourceSeen}
 use Rattle.commands.specs.Shows.{ReadsStream, offset_line}

@@ -2,7 +2,7 @@
 use Rattle.std.proofs.Common.{arith}
 use Rattle.std.proofs.lemmas.Bool.{ltb-true, ltb-false}
 use Rattle.ecma.proofs.Readers.{reader_of, digit-follows, full-follows, Follows-from}
-use Rattle.ecma.proofs.terminal.Terminal.read_digit.Goals as goal
+use Rattle.ecma.proofs.reader.Reader.read_digit.Goals as goal
 
 pub returns-in-Some : goal.returns-in-Some
 returns-in-Some c = grind (arith, ltb-true, Follows-from, reader_of, digit-follows)

@@ -1,7 +1,7 @@
 -- `read_escaped`: what a reader has after one more byte (`Readers`).
 use Rattle.std.proofs.Common.{arith}
 use Rattle.ecma.proofs.Readers.{reader_of, escape-follows, bracket-follows, other-follows, Follows-from}
-use Rattle.ecma.proofs.terminal.Terminal.read_escaped.Goals as goal
+use Rattle.ecma.proofs.reader.Reader.read_escaped.Goals as goal
 
 pub returns-then-byte-eq-ESCAPE : goal.returns-then-byte-eq-ESCAPE
 returns-then-byte-eq-ESCAPE c = grind (arith, Follows-from, reader_of, escape-follows)

@@ -3,9 +3,9 @@ use Rattle.std.proofs.Common.{◌∙◌, None, ap, refl, take}
 use Rattle.std.specs.Prelude.{if◌then◌else◌}
 use Rattle.cell.specs.Glyphs.{is_printable}
 use Rattle.ecma.specs.Terminals.{print}
-use Rattle.ecma.specs.declared.terminal.State.TheVariants.{Text, Failed}
+use Rattle.ecma.specs.declared.reader.State.TheVariants.{Text, Failed}
 use Rattle.ecma.proofs.Readers.{reader_of, printed-follows, unprinted-follows, Follows-from, when-true, when-false}
-use Rattle.ecma.proofs.terminal.Terminal.read_text.Goals as goal
+use Rattle.ecma.proofs.reader.Reader.read_text.Goals as goal
 
 pub returns-then-not-print : goal.returns-then-not-print
 returns-then-not-print c =

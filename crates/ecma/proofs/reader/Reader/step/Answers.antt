@@ -1,6 +1,6 @@
 use Rattle.std.proofs.Common.{arith}
 use Rattle.ecma.proofs.Readers.{failed-follows}
-use Rattle.ecma.proofs.terminal.Terminal.step.Goals as goal
+use Rattle.ecma.proofs.reader.Reader.step.Goals as goal
 
 pub returns-in-Failed : goal.returns-in-Failed
 returns-in-Failed c = grind (arith, failed-follows)

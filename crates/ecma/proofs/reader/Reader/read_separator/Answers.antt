@@ -2,7 +2,7 @@
 use Rattle.std.proofs.Common.{arith}
 use Rattle.std.proofs.lemmas.List.{take_more_set, length-take}
 use Rattle.ecma.proofs.Readers.{reader_of, separator-follows, too_many-follows, Follows-from}
-use Rattle.ecma.proofs.terminal.Terminal.read_separator.Goals as goal
+use Rattle.ecma.proofs.reader.Reader.read_separator.Goals as goal
 
 pub returns-then-self-lt-MOST_ENDED : goal.returns-then-self-lt-MOST_ENDED
 returns-then-self-lt-MOST_ENDED c = grind (arith, length-take, Follows-from, reader_of, take_more_set, separator-follows)
