@@ -7,8 +7,7 @@ use Rattle.streams.specs.Sinks.{Seen}
 use Rattle.streams.specs.Sending.{Sends}
 use Rattle.streams.specs.declared.sending.WriteFault.{WriteFault}
 use Rattle.streams.proofs.Sends.{Sends-nothing, Sends-then}
-use Rattle.paint.specs.declared.outbox.Outbox.{Outbox}
-use Rattle.paint.specs.steps.Gathering.{GoesOut, IsGathered, holds_all}
+use Rattle.paint.specs.steps.Gathering.{GoesOut, IsGathered, Outbox, holds_all}
 
 -- once a write failed the room is of no account
 pub goes_out-failed : (start now : Seen) (sent : ℕ) (text : List ℕ) → GoesOut true start now [] sent text → GoesOut true start now [] sent (text ++ [])

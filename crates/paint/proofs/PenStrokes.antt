@@ -19,9 +19,8 @@ use Rattle.ecma.proofs.Lengths.{length-spelling}
 use Rattle.ecma.proofs.Printing.{printable}
 use Rattle.cell.specs.declared.limits.TheConstants.{LARGEST_SCREEN}
 use Rattle.streams.specs.Sinks.{Seen}
-use Rattle.paint.specs.declared.outbox.Outbox.{Outbox}
 use Rattle.paint.specs.declared.pen.Pen.{Pen}
-use Rattle.paint.specs.steps.Gathering.{Gathers}
+use Rattle.paint.specs.steps.Gathering.{Gathers, Outbox}
 use Rattle.paint.specs.steps.Strokes.{cursor_after, all_have, change, is_at, is_printed_again, move_from, under}
 use Rattle.paint.specs.steps.Strokes.{ArePrinted, Draws, IsPlainAt, Strokes, again_bytes, approach_bytes, most_approach, moved_bytes, reach_bytes}
 

@@ -5,12 +5,11 @@
 //! - `gap`: what is printed again between changed cells
 //! - `laws`: laws of agreement
 //! - `line`: the walk over cells
-//! - `outbox`: bytes on their way to the sink
+//! - `outbox`: the buffer in which bytes are gathered on their way to the sink
 //! - `page`: the walk over lines
 //! - `painter`: the `Painter`
 //! - `passes`: drawing rendition by rendition
 //! - `pen`: strokes: move, select, print, erase
-//! - `room`: the buffer in which they are gathered
 //! - `tail`: what is erased at the end of a line
 #![tactic(auto)]
 
@@ -24,7 +23,6 @@ mod page;
 mod painter;
 mod passes;
 mod pen;
-mod room;
 mod tail;
 
 pub use changes::{Changes, Stretch};

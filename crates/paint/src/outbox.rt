@@ -1,23 +1,37 @@
 //! Gathers a text in a buffer of fixed size, from which it goes out in pieces.
 
-ghost use Rattle.std.specs.Prelude.{◌≡◌, ◌≤◌, ◌+◌, ◌<◌, ◌^◌, ℕ, IfOk, List, [], false, length, slice_index_or};
+ghost use Rattle.std.specs.Prelude.{◌≡◌, ◌≤◌, ◌+◌, ◌<◌, ◌++◌, ◌^◌, ℕ, IfOk, List, [], false, length, slice_index_or};
+ghost use Rattle.arrayvec.specs.ArrayVec.{array_vec_len};
 ghost use Rattle.cell.specs.Shown.{IsShown, shown_blank};
 ghost use Rattle.streams.specs.Sending.{Sends};
 ghost use Rattle.streams.specs.Sinks.{Seen};
-ghost use Rattle.paint.specs.steps.Gathering.{Gathers, IsGathered, empty_outbox, gathered_bytes, holds_all, saturating_u32};
+ghost use Rattle.paint.specs.steps.Gathering.{Gathers, GoesOut, IsGathered, empty_outbox, gathered_bytes, holds_all, saturating_u32};
 ghost use Rattle.paint.specs.steps.Strokes.{characters};
 
-use crate::room::{ROOM, Room};
+use arrayvec::ArrayVec;
 use cell::Shown;
 use std::alloc::{AllocError, Global};
+use std::marker::Model;
 use streams::{Sink, WriteFault, send};
 
-/// The next piece of a text, and how many bytes went out before it. Once a write failed nothing more is sent.
+/// How many bytes are gathered before they are sent.
+pub const ROOM: usize = 4096;
+
+/// The next piece of a text, and how many bytes went out before it. Once a write failed nothing more is sent. The piece is in memory that
+/// is allocated once: so an outbox is moved in a few words.
 #[derive(Drop)]
 pub struct Outbox {
-    room: Room,
+    room: Box<ArrayVec<u8, ROOM>>,
     sent: u32,
     failed: bool,
+}
+
+impl Model for Outbox {
+    ghost use Rattle.paint.specs.steps.Gathering.{Outbox};
+
+    ghost Value = { Outbox };
+
+    ghost view = { λ outbox. record { room = outbox.room.value.items; sent = outbox.sent; failed = outbox.failed } };
 }
 
 impl Outbox {
@@ -26,7 +40,7 @@ impl Outbox {
         ensures { IfOk result (λ outbox. outbox ≡ empty_outbox) }
     {
         Ok(Outbox {
-            room: Room::new(alloc)?,
+            room: Box::new(alloc, ArrayVec::new())?,
             sent: 0,
             failed: false,
         })
@@ -47,7 +61,7 @@ impl Outbox {
         ensures text { (start now : Seen) (text : List ℕ) → self.now.failed ≡ false → IsGathered start now self.now text
             → result ≡ saturating_u32 (length text) }
     {
-        self.sent.saturating_add(self.room.bytes().len() as u32)
+        self.sent.saturating_add(self.room.len() as u32)
     }
 
     /// Whether nothing of what was gathered went out, so that all of it may still go to any sink.
@@ -64,7 +78,7 @@ impl Outbox {
         ensures same { W.name sink.new ≡ W.name sink.old }
     {
         self.make_room(sink, piece.len());
-        self.room.append(piece);
+        append(&mut self.room, piece);
     }
 
     /// Puts the characters of cells after what was gathered.
@@ -75,7 +89,7 @@ impl Outbox {
         ensures same { W.name sink.new ≡ W.name sink.old }
     {
         self.make_room(sink, cells.len());
-        self.room.append_characters(cells);
+        append_characters(&mut self.room, cells);
     }
 
     /// Sends what was gathered, unless so many more bytes fit.
@@ -85,7 +99,7 @@ impl Outbox {
         ensures room { length self.new.room + more ≤ ROOM }
         ensures same { W.name sink.new ≡ W.name sink.old }
     {
-        if !self.room.fits(more) {
+        if self.room.remaining_capacity() < more {
             self.hand_on(sink);
         }
     }
@@ -96,15 +110,7 @@ impl Outbox {
         ensures empty { self.new.room ≡ [] }
         ensures same { W.name sink.new ≡ W.name sink.old }
     {
-        if !self.failed {
-            match send(sink, 0, self.room.bytes()) {
-                Ok(sent) => self.sent = self.sent.saturating_add(sent),
-                Err(fault) => {
-                    self.sent = self.sent.saturating_add(fault.sent);
-                    self.failed = true;
-                }
-            }
-        }
+        (self.sent, self.failed) = send_on(sink, self.room.as_slice(), self.sent, self.failed);
         self.room.clear();
     }
 
@@ -120,5 +126,43 @@ impl Outbox {
         } else {
             Ok(self.sent)
         }
+    }
+}
+
+/// Sends the next piece of a text, of which so many bytes went out, unless a write failed before. It answers how many bytes went out
+/// then, and whether a write failed.
+fn send_on<W: Sink>(sink: &mut W, piece: &[u8], sent: u32, failed: bool) -> (u32, bool)
+    requires { length piece.now ≤ ROOM }
+    ensures goes_out { (start : Seen) (text : List ℕ) → GoesOut failed start (W.seen sink.old) piece.now sent text
+        → GoesOut result.1 start (W.seen sink.new) [] result.0 (text ++ []) }
+    ensures same { W.name sink.new ≡ W.name sink.old }
+{
+    if failed {
+        return (sent, true);
+    }
+    match send(sink, 0, piece) {
+        Ok(more) => (sent.saturating_add(more), false),
+        Err(fault) => (sent.saturating_add(fault.sent), true),
+    }
+}
+
+/// Appends a piece.
+fn append(bytes: &mut ArrayVec<u8, ROOM>, piece: &[u8])
+    requires { array_vec_len bytes.old + length piece.now ≤ ROOM }
+    ensures { bytes.new.items ≡ bytes.old.items ++ piece.now }
+{
+    if bytes.try_extend_from_slice(piece).is_err() {
+        unreachable!();
+    }
+}
+
+/// Appends the characters of cells.
+fn append_characters(bytes: &mut ArrayVec<u8, ROOM>, cells: &[Shown])
+    requires { array_vec_len bytes.old + length cells.now ≤ ROOM }
+    ensures appended { bytes.new.items ≡ bytes.old.items ++ characters cells.now }
+    ensures sound { (k : ℕ) → k < length cells.now → IsShown (slice_index_or cells.now k shown_blank) }
+{
+    for cell in cells {
+        bytes.push(cell.ch());
     }
 }

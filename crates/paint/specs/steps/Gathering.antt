@@ -2,7 +2,12 @@
 use Rattle.std.specs.Prelude.{◌≡◌, ℕ, ◌+◌, ◌-◌, ◌^◌, ◌==◌, ◌&&◌, min, not, Bool, true, false, List, [], ◌++◌, length, Ok, Err}
 use Rattle.streams.specs.Sinks.{Seen}
 use Rattle.streams.specs.Sending.{Sends}
-use Rattle.paint.specs.declared.outbox.Outbox.{Outbox}
+
+-- What is kept of a text: the bytes in the buffer, how many went out before them, and whether a write failed.
+pub record Outbox : Type 0 where
+  pub room : List ℕ
+  pub sent : ℕ
+  pub failed : Bool
 
 -- a number of bytes as it is kept: it stays at the greatest number of 32 bits
 abbrev pub saturating_u32 : ℕ → ℕ

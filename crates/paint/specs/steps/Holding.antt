@@ -4,10 +4,9 @@ use Rattle.std.specs.Option.{option_map}
 use Rattle.cell.specs.Pictures.{Picture, Place}
 use Rattle.streams.specs.Sinks.{Seen}
 use Rattle.paint.specs.declared.changes.Frame.{Frame}
-use Rattle.paint.specs.declared.outbox.Outbox.{Outbox}
 use Rattle.paint.specs.declared.pen.Pen.{Pen}
 use Rattle.paint.specs.Updates.{PainterState, ShownPicture, IsUpdateText, known_picture}
-use Rattle.paint.specs.steps.Gathering.{IsGathered}
+use Rattle.paint.specs.steps.Gathering.{IsGathered, Outbox}
 
 -- the picture with its cursor, where that is known
 abbrev pub last_shown : Picture → Option Place → Option ShownPicture
