@@ -322,7 +322,135 @@ def log(script, frames):
         script.frame()
 
 
-WORKLOADS = {each.__name__: each for each in (edit, mail, monitor, windows, repaint, sparse, colours, log)}
+def pager(script, frames):
+    """A page of a manual: titles in bold, names underlined, and a bar in reverse; it turns by a page or half of one, and finds words."""
+    lines, columns, chance = script.lines - 1, script.columns, script.chance
+    page = script.pad(1000, columns)
+    for y in range(1000):
+        if y % 12 == 0:
+            script.attributes(page, BOLD)
+            script.text(page, y, 0, chance.one_of(WORDS).upper())
+            script.attributes(page, 0)
+            continue
+        x = 7
+        for word in script.sentence(columns - 8).split():
+            script.attributes(page, chance.one_of((0, 0, 0, 0, 0, 0, BOLD, UNDERLINE)))
+            if x + len(word) < columns:
+                script.text(page, y, x, word)
+            x += len(word) + 1
+        script.attributes(page, 0)
+    view = script.window(lines, columns, 0, 0)
+    status = script.window(1, columns, lines, 0)
+    script.panel(view)
+    script.panel(status)
+    top = 0
+    for _ in range(frames):
+        top = (top + chance.one_of((1, lines // 2, lines - 1, lines - 1))) % (1000 - lines)
+        script.call('copywin', page, view, top, 0, 0, 0, lines - 1, columns - 1, 'off')
+        if chance.below(6) == 0:
+            script.attributes(view, REVERSE)
+            script.text(view, chance.below(lines), 7 + chance.below(columns // 2), chance.one_of(WORDS)[:columns // 2 - 8])
+            script.attributes(view, 0)
+        script.bar(status, 0, columns, f' curses(3)  line {top + 1} of 1000')
+        script.frame()
+
+
+def levels(script, frames):
+    """A log whose lines have a level in colour, and which scrolls by some lines; now and then the newest are marked."""
+    lines, columns, chance = script.lines, script.columns, script.chance
+    kinds = [('DEBUG', 1), ('INFO ', 2), ('INFO ', 2), ('WARN ', 3), ('ERROR', 4)]
+    for pair, colour in ((1, 6), (2, 2), (3, 3), (4, 1), (5, 4)):
+        script.call('init_pair', pair, colour, 0)
+    view = script.window(lines - 1, columns, 1, 0)
+    script.call('scrollok', view, 'on')
+    script.bar(0, 0, columns, ' log of a server')
+    script.panel(view)
+    for number in range(frames):
+        for _ in range(1 + chance.below(4)):
+            level, pair = chance.one_of(kinds)
+            script.call('scrl', view, 1)
+            script.call('color_set', view, 5)
+            script.text(view, lines - 2, 0, f'{number // 60 % 24:02}:{number % 60:02}:{chance.below(60):02} ')
+            script.call('color_set', view, pair)
+            script.attributes(view, BOLD if pair > 2 else 0)
+            script.call('addstr', view, level)
+            script.attributes(view, 0)
+            script.call('color_set', view, 0)
+            script.call('addstr', view, ' ' + script.sentence(columns - 16))
+        script.frame()
+
+
+def processes(script, frames):
+    """A table of processes, sorted by load: its rows change places, the chosen one is in reverse, and gauges are in colours."""
+    lines, columns, chance = script.lines, script.columns, script.chance
+    for pair, colour in ((1, 2), (2, 3), (3, 1), (4, 6)):
+        script.call('init_pair', pair, colour, 0)
+    rows = [[100 + i * 7, chance.one_of(NAMES).lower(), chance.below(1000), script.sentence(columns - 40)] for i in range(lines * 2)]
+    script.call('color_set', 0, 4)
+    script.attributes(0, BOLD)
+    script.text(0, 3, 0, f'{"PID":>6} {"USER":10} {"LOAD":>6}  COMMAND')
+    script.attributes(0, 0)
+    script.call('color_set', 0, 0)
+    chosen = 0
+    for number in range(frames):
+        for gauge in range(3):
+            value = chance.below(columns // 2 - 4)
+            script.text(0, gauge, 0, f'{gauge} [')
+            for part, pair in ((value // 2, 1), (value - value // 2, 2)):
+                script.call('color_set', 0, pair)
+                script.call('addstr', 0, '|' * part)
+            script.call('color_set', 0, 0)
+            script.call('addstr', 0, ' ' * (columns // 2 - 4 - value) + ']')
+        for row in rows:
+            row[2] = max(0, row[2] + chance.below(41) - 20)
+        rows.sort(key=lambda row: -row[2])
+        chosen = (chosen + chance.below(2)) % (lines - 4)
+        for y, (number_of, user, load, command) in enumerate(rows[:lines - 4]):
+            script.attributes(0, REVERSE if y == chosen else 0)
+            script.text(0, 4 + y, 0, f'{number_of:6} {user:10} '.ljust(18))
+            script.call('color_set', 0, 3 if load > 900 and y != chosen else 0)
+            script.call('addstr', 0, f'{load / 10:6.1f}')
+            script.call('color_set', 0, 0)
+            script.call('addstr', 0, f'  {command}'[:columns - 26].ljust(columns - 26))
+        script.attributes(0, 0)
+        script.call('move', 0, 4 + chosen, 0)
+        script.frame()
+
+
+def keywords(script, frames):
+    """A program whose words are in colours by their kind: its pages turn, it scrolls by a line, and a word is typed."""
+    lines, columns, chance = script.lines - 1, script.columns, script.chance
+    for pair, colour in ((1, 5), (2, 2), (3, 6), (4, 3)):
+        script.call('init_pair', pair, colour, 0)
+    kinds = {'let': (1, BOLD), 'if': (1, BOLD), 'fn': (1, BOLD), '//': (3, 0)}
+    page = script.pad(1000, columns)
+    for y in range(1000):
+        line = script.code(columns - 1)
+        x = len(line) - len(line.lstrip())
+        for word in line.split():
+            pair, bits = kinds.get(word, (2 if word.startswith('self') else 4 if word.endswith(',') else 0, 0))
+            script.call('color_set', page, pair)
+            script.attributes(page, bits)
+            script.text(page, y, x, word)
+            x += len(word) + 1
+    view = script.window(lines, columns, 0, 0)
+    status = script.window(1, columns, lines, 0)
+    script.panel(view)
+    script.panel(status)
+    top = 0
+    for _ in range(frames):
+        act = chance.below(8)
+        if act < 5:
+            top = (top + (1 if act < 3 else lines - 2)) % (1000 - lines)
+            script.call('copywin', page, view, top, 0, 0, 0, lines - 1, columns - 1, 'off')
+        else:
+            script.call('color_set', view, act - 4)
+            script.text(view, chance.below(lines), 4 + chance.below(columns // 2), chance.one_of(WORDS)[:columns // 2 - 5])
+        script.bar(status, 0, columns, f' paint.rt   line {top + 1}')
+        script.frame()
+
+
+WORKLOADS = {each.__name__: each for each in (edit, mail, monitor, windows, repaint, sparse, colours, log, pager, levels, processes, keywords)}
 
 
 def script_of(name, lines, columns, frames):
