@@ -14,7 +14,7 @@ border 0 5 22 clock
 ask derwin 0 1 8 2 7 || exit
 face=$answer
 call attrset "$face" 01
-for ((left = seconds; left > 0; left--)); do
+for ((left = 10#$seconds; left > 0; left--)); do
     printf -v time '%(%H:%M:%S)T' -1
     call move "$face" 0 0
     write_text "$face" "$time"

@@ -1,5 +1,5 @@
 #!/usr/bin/env bash
-# A menu: the up and down keys (or k and j) move, Enter chooses, q leaves. What was chosen goes to standard output, with status 0;
+# A menu: the up and down keys (or k and j) move, Home and End go to its ends, Enter chooses, q leaves. What was chosen goes to standard output, with status 0;
 # where nothing was, the status is 1. The keys are read by the shell: choice=$(examples/menu.sh red green blue)
 set -uo pipefail
 . "$(dirname "$(readlink -f "${BASH_SOURCE[0]}")")/screen.bash"
@@ -41,6 +41,8 @@ while read_key; do
     case $key in
         up | k) at=$(((at + count - 1) % count)) ;;
         down | j) at=$(((at + 1) % count)) ;;
+        home | pageup) at=0 ;;
+        end | pagedown) at=$((count - 1)) ;;
         enter) chosen=$at; break ;;
         q | escape) break ;;
     esac

@@ -1,69 +1,164 @@
-# A terminal for scripts of bash: `curspan run` is a co-process that takes calls on a pipe, draws on the terminal, and answers on
-# another pipe, its standard error. Another script takes this one in with `.` and calls:
+# A terminal for scripts of bash: `curspan run` is a co-process that takes calls on a pipe, draws on the terminal, and
+# answers on another pipe, its standard error. Another script takes this one in with `.` and calls:
 #
-#   open_screen LINES COLUMNS  the terminal becomes a screen of this size; it is given back when the script ends, also by Ctrl-C
-#                              (Ctrl-\ ends nothing, as bash has it)
-#   call WORD..                a call, as in `call move 0 2 3`
+#   open_screen LINES COLUMNS  the terminal becomes a screen of this size; it is given back when the script ends, also
+#                              by Ctrl-C or another signal (Ctrl-\ ends nothing, as bash has it)
+#   call WORD..                a call, as in `call move 0 2 3`; status 1, and no call, where a word has a newline
 #   write_text WINDOW TEXT     addstr of any text, of any length: what can't be shown becomes a question mark
-#   ask WORD..                 a call that answers: the answer is in `answer`; status 1 where it was refused
+#   ask WORD..                 a call that answers: the answer is in `answer`; status 1 where it was refused, or has none
 #   show                       what was drawn is on the terminal
-#   read_key [SECONDS]         a key, or its name, is in `key`; status 1 where none came in that time
+#   read_key [SECONDS]         a key is in `key`: its character, its name (up, down, left, right, home, end, pageup,
+#                              pagedown, insert, delete, backspace, enter, escape), or all that it sends; status 1 where
+#                              none came in that time. At Ctrl-Z the terminal is given back and the script stops; when it
+#                              goes on, the picture is there again
 #   close_screen               the terminal is given back, and standard error has the calls that were refused
 #
-# CURSPAN is the program, or else the `curspan` of this repository, or else the one on the path.
-curspan=${CURSPAN:-$(readlink -f "${BASH_SOURCE[0]}" | sed 's|/examples/[^/]*$|/curspan|')}
-[ -x "$curspan" ] || curspan=curspan
+# CURSPAN is the program, or else the `curspan` of this repository, or that installed with this file, or the one on the
+# path.
+here=$(dirname "$(readlink -f "${BASH_SOURCE[0]}")")
+for curspan in "${CURSPAN:-}" "$here/../curspan" "$here/../../../../bin/curspan" curspan; do
+    if [ -f "$curspan" ] && [ -x "$curspan" ]; then break; fi
+done
+unset here
+
+# What would end the script, but for what bash ignores.
+deadly=(HUP INT TERM USR1 USR2 ALRM VTALRM PROF XCPU XFSZ ABRT SYS TRAP)
+
+# How many calls are made before their answers are read: so many fit into the smallest pipe, and no one waits for ever.
+most_unread=50
 
 # Becomes the program, whose name among its words is in UTF-8 whatever its folder's is.
 run_program() { exec -a curspan "$curspan" "$@"; }
 
-open_screen() {
+# Ends the script by a signal, and gives the terminal back before; where that is just being changed it ends right after.
+end_by() {
+    trap '' "${deadly[@]}"
+    ended=$((128 + $(kill -l "$1")))
+    if [ -z "$changing" ]; then
+        close_screen
+        exit "$ended"
+    fi
+}
+
+# Ends the script where that was noted while the terminal was changed.
+conclude_change() {
+    changing=
+    [ -z "$ended" ] || exit "$ended"
+}
+
+# Keys come as they are pressed and aren't shown, Ctrl-Z and Ctrl-\ among them; Ctrl-C drops nothing that is on its way
+# to the terminal.
+take_terminal() {
+    tty_before=$(stty -g < /dev/tty) && stty -echo -icanon noflsh susp undef quit undef < /dev/tty || exit
+    printf %s "$enter_page" > /dev/tty
+    page=taken
+}
+
+give_terminal_back() {
+    if [ -n "$page" ]; then printf %s "$leave_page" > /dev/tty; fi
+    page=
+    if [ -n "$tty_before" ]; then stty "$tty_before" < /dev/tty; fi
+}
+
+# Wants a terminal of so many lines and columns. One that doesn't know its size has the usual one of its kind.
+want_terminal() {
     local lines columns
     if ! { : < /dev/tty; } 2> /dev/null; then
         echo 'There is no terminal to draw on.' >&2
         exit 1
     fi
     read -r lines columns < <(stty size < /dev/tty)
+    if [ "${lines:-0}" = 0 ]; then lines=$(tput lines) columns=$(tput cols); fi
     if [ "$lines" -lt "$1" ] || [ "$columns" -lt "$2" ]; then
         echo "The terminal has $lines lines of $columns columns, and $1 of $2 are needed." >&2
         exit 1
     fi
-    (run_program --help) > /dev/null || exit
-    tty_before=$(stty -g < /dev/tty)
-    told=()
-    sent=0
+}
+
+open_screen() {
+    local signal
+    told=() sent=0 unread=0 program='' page='' tty_before='' ended='' changing=''
     trap close_screen EXIT
-    trap 'exit 129' HUP
-    trap 'exit 130' INT
-    trap 'exit 143' TERM
-    stty -echo -icanon < /dev/tty
-    { tput smcup; tput civis; } > /dev/tty
-    # What ends the script doesn't end the program: the end of its input does. Where it ended by itself, `call` meets a closed pipe.
+    # shellcheck disable=SC2064 # the name is that of the signal
+    for signal in "${deadly[@]}"; do trap "end_by $signal" "$signal"; done
+    want_terminal "$@"
+    (run_program --help) > /dev/null || exit
+    enter_page=$(tput smcup; tput civis)
+    leave_page=$(tput sgr0; tput cnorm; tput rmcup)
+    changing=yes
+    take_terminal
+    # What ends the script doesn't end the program: the end of its input does. Where it ended by itself, `call` meets a
+    # closed pipe.
     trap '' PIPE
     # shellcheck disable=SC2069 # answers go to the pipe, and what is drawn to the terminal
-    coproc screen { trap '' HUP INT QUIT TERM; run_program run --lines "$1" --cols "$2" 2>&1 > /dev/tty; }
+    coproc screen { trap '' HUP INT QUIT TERM TSTP; run_program run --lines "$1" --cols "$2" 2>&1 > /dev/tty; }
     # shellcheck disable=SC2154 # coproc sets it
     program=$screen_PID
     exec {answers}<&"${screen[0]}" {calls}>&"${screen[1]}"
     eval "exec ${screen[0]}<&- ${screen[1]}>&-"
+    conclude_change
 }
 
+# It may begin again where it was broken off: what is done is done once.
 close_screen() {
     local line status=0
-    trap - EXIT
-    trap '' HUP INT QUIT TERM
-    exec {calls}>&-
-    while read -r -u "$answers" line; do told+=("$line"); done
-    wait "$program" || status=$?
-    { tput sgr0; tput cnorm; tput rmcup; } > /dev/tty
-    stty "$tty_before" < /dev/tty
+    trap '' "${deadly[@]}"
+    if [ -n "$program" ]; then
+        exec {calls}>&-
+        while read -r -u "$answers" line; do note "$line"; done
+        exec {answers}<&-
+        wait "$program" || status=$?
+        program=
+    fi
+    give_terminal_back
     [ "${#told[@]}" = 0 ] || printf 'curspan: %s\n' "${told[@]}" >&2
+    told=()
+    trap - EXIT PIPE "${deadly[@]}"
     return "$status"
 }
 
-call() {
+# Keeps a line that the program said for the end of the script, but for an answer.
+note() {
+    case ${1#line *: } in
+        [0-9]* | true | false | none) ;;
+        *) told+=("$1") ;;
+    esac
+}
+
+# Has the program make a call.
+send() {
     sent=$((sent + 1))
     { printf '%s\n' "$*" >&"$calls"; } 2> /dev/null || exit
+}
+
+# Waits until all calls are made, and reads what they answered, with that of a line of the script in `answer`. The last
+# one always answers.
+catch_up() {
+    local asked=${1:-} line
+    answer=
+    send getyx 0
+    while read -r -u "$answers" line; do
+        case $line in
+            "line $sent: "*) unread=0; return ;;
+            "line $asked: "*) answer=${line#line *: } ;;
+        esac
+        note "$line"
+    done
+    exit 1
+}
+
+# Whether words are one line of a script; else that is noted.
+is_line() {
+    case $* in
+        *$'\n'*) told+=("not called, since it has a newline: ${*//$'\n'/ }"); return 1 ;;
+    esac
+}
+
+call() {
+    is_line "$@" || return
+    send "$@"
+    unread=$((unread + 1))
+    if [ "$unread" -ge "$most_unread" ]; then catch_up; fi
 }
 
 # A line of a script has 512 bytes at most, and a backslash takes two of them.
@@ -76,36 +171,69 @@ write_text() {
 }
 
 ask() {
-    local line
-    call "$@"
-    while read -r -u "$answers" line; do
-        answer=${line#"line $sent: "}
-        case $answer in
-            "$line") ;;
-            [0-9]* | true | false | none) return 0 ;;
-        esac
-        told+=("$line")
-        [ "$answer" = "$line" ] || return 1
-    done
-    return 1
+    answer=
+    is_line "$@" || return
+    send "$@"
+    catch_up "$sent"
+    case $answer in '' | E*) return 1 ;; esac
 }
 
 show() {
     call update_panels
     call doupdate
+    catch_up
+}
+
+# Stops the script as Ctrl-Z does any other, with the terminal given back. When it goes on, the terminal is its own
+# again.
+stop_script() {
+    catch_up
+    changing=yes
+    give_terminal_back
+    kill -TSTP 0
+    take_terminal
+    conclude_change
+    call clearok 0 on
+    show
+}
+
+# Reads what a key sends after an escape: what comes at once, up to the end of a control sequence.
+read_rest() {
+    local more
+    rest=
+    while IFS= read -r -s -N 1 -t 0.1 more < /dev/tty; do
+        rest+=$more
+        case $rest in
+            '[' | '[[' | O | '['*[0-9\;:\<=\>?\ !-/]) ;;
+            *) break ;;
+        esac
+    done
 }
 
 read_key() {
-    local rest=
-    key=
-    IFS= read -r -s -n 1 ${1:+-t "$1"} key < /dev/tty || return 1
+    local rest
+    while
+        key=
+        IFS= read -r -s -N 1 ${1:+-t "$1"} key < /dev/tty || return 1
+        [ "$key" = $'\cZ' ]
+    do stop_script; done
     case $key in
-        '') key=enter ;;
-        $'\e') IFS= read -r -s -n 2 -t 0.1 rest < /dev/tty || true
+        $'\n' | $'\r') key=enter ;;
+        $'\b' | $'\x7f') key=backspace ;;
+        $'\e') read_rest
             case $rest in
+                '') key=escape ;;
                 '[A' | OA) key=up ;;
                 '[B' | OB) key=down ;;
-                *) key=escape ;;
+                '[C' | OC) key=right ;;
+                '[D' | OD) key=left ;;
+                '[H' | OH | '[1~' | '[7~') key=home ;;
+                '[F' | OF | '[4~' | '[8~') key=end ;;
+                '[2~') key=insert ;;
+                '[3~') key=delete ;;
+                '[5~') key=pageup ;;
+                '[6~') key=pagedown ;;
+                *) key+=$rest ;;
             esac ;;
     esac
 }
