@@ -141,3 +141,38 @@ int mvinchnstr(int y, int x, chtype *row, int n) { return mvwinchnstr(stdscr, y,
 int mvinchstr(int y, int x, chtype *row) { return mvwinchnstr(stdscr, y, x, row, -1); }
 
 int refresh(void) { return wrefresh(stdscr); }
+
+/* ---- keys */
+
+int getch(void) { return wgetch(stdscr); }
+int mvwgetch(WINDOW *win, int y, int x) { return AT(win, y, x, wgetch(win)); }
+int mvgetch(int y, int x) { return mvwgetch(stdscr, y, x); }
+int wgetstr(WINDOW *win, char *text) { return wgetnstr(win, text, -1); }
+int getstr(char *text) { return wgetnstr(stdscr, text, -1); }
+int getnstr(char *text, int n) { return wgetnstr(stdscr, text, n); }
+int mvwgetnstr(WINDOW *win, int y, int x, char *text, int n) { return AT(win, y, x, wgetnstr(win, text, n)); }
+int mvwgetstr(WINDOW *win, int y, int x, char *text) { return mvwgetnstr(win, y, x, text, -1); }
+int mvgetnstr(int y, int x, char *text, int n) { return mvwgetnstr(stdscr, y, x, text, n); }
+int mvgetstr(int y, int x, char *text) { return mvwgetnstr(stdscr, y, x, text, -1); }
+
+int vwscanw(WINDOW *win, const char *format, va_list arguments) { return vw_scanw(win, format, arguments); }
+
+#define SCAN(win)                                  \
+    va_list arguments;                             \
+    va_start(arguments, format);                   \
+    int answer = vw_scanw(win, format, arguments); \
+    va_end(arguments);                             \
+    return answer
+
+int scanw(const char *format, ...) { SCAN(stdscr); }
+int wscanw(WINDOW *win, const char *format, ...) { SCAN(win); }
+
+int mvscanw(int y, int x, const char *format, ...) {
+    if (wmove(stdscr, y, x) == ERR) return ERR;
+    SCAN(stdscr);
+}
+
+int mvwscanw(WINDOW *win, int y, int x, const char *format, ...) {
+    if (wmove(win, y, x) == ERR) return ERR;
+    SCAN(win);
+}

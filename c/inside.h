@@ -15,6 +15,9 @@ enum {
 struct curspan_window {
     uint16_t number; /* its own, and NUMBER where it isn't there */
     bool is_pad, scrolls;
+    bool moved;              /* the cursor was moved since the last refresh, as getch wants to know */
+    bool keypad, no_timeout; /* how getch reads */
+    int delay;               /* for how many milliseconds it waits, without end where that is negative */
     attr_t attrs; /* the attributes and the pair that the window has */
     attr_t given;  /* those that Curspan got last */
     chtype background;

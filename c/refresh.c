@@ -40,7 +40,10 @@ void wcursyncup(WINDOW *win) {
 /* ---- refresh */
 
 int wnoutrefresh(WINDOW *win) {
-    return is_terminal(win) ? clearok(curscr, TRUE) : done(curspan_wnoutrefresh(SCREEN_AND(win)));
+    if (is_terminal(win)) return clearok(curscr, TRUE);
+    if (done(curspan_wnoutrefresh(SCREEN_AND(win))) == ERR) return ERR;
+    win->moved = false;
+    return OK;
 }
 
 int wrefresh(WINDOW *win) { return wnoutrefresh(win) == ERR ? ERR : doupdate(); }

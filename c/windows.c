@@ -10,7 +10,7 @@ struct curspan_window curspan_windows[MOST];
 static struct curspan_window the_terminal = {.number = NUMBER}; /* it is no window of Curspan */
 
 static void forget(WINDOW *win) {
-    const struct curspan_window none = {.number = NUMBER, .background = ' '};
+    const struct curspan_window none = {.number = NUMBER, .background = ' ', .delay = -1};
     *win = none;
 }
 
@@ -81,6 +81,9 @@ WINDOW *dupwin(WINDOW *win) {
     copywin(win, copy, 0, 0, 0, 0, lines - 1, columns - 1, FALSE);
     wbkgdset(copy, win->background);
     copy->attrs = win->attrs;
+    copy->keypad = win->keypad;
+    copy->no_timeout = win->no_timeout;
+    copy->delay = win->delay;
     scrollok(copy, win->scrolls);
     wsetscrreg(copy, win->top, win->bottom);
     wmove(copy, getcury(win), getcurx(win));

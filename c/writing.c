@@ -12,6 +12,7 @@ static inline bool is_ready(const WINDOW *win) { return win && win->given == win
 
 int wmove(WINDOW *win, int y, int x) {
     if (!win || !are_numbers(y, x, 0, 0)) return ERR;
+    win->moved = true;
     return curspan_wmove_end(win->number, (uint16_t)y, (uint16_t)x, &curspan_the_screen);
 }
 

@@ -22,8 +22,10 @@ extern "C" {
 
 #ifdef __GNUC__
 #define CURSPAN_PRINTS(text, first) __attribute__((format(printf, text, first)))
+#define CURSPAN_SCANS(text, first) __attribute__((format(scanf, text, first)))
 #else
 #define CURSPAN_PRINTS(text, first)
+#define CURSPAN_SCANS(text, first)
 #endif
 
 /* ---- types and constants */
@@ -100,10 +102,107 @@ typedef chtype attr_t;
 #define ACS_LANTERN ((chtype)'#')
 #define ACS_BLOCK ((chtype)'#')
 
+/* Keys that are no characters, for keypad(win, TRUE). Their numbers are those of ncurses. */
+#define KEY_BREAK 0401
+#define KEY_MIN 0401
+#define KEY_DOWN 0402
+#define KEY_UP 0403
+#define KEY_LEFT 0404
+#define KEY_RIGHT 0405
+#define KEY_HOME 0406
+#define KEY_BACKSPACE 0407
+#define KEY_F0 0410
+#define KEY_F(n) (KEY_F0 + (n))
+#define KEY_DL 0510
+#define KEY_IL 0511
+#define KEY_DC 0512
+#define KEY_IC 0513
+#define KEY_EIC 0514
+#define KEY_CLEAR 0515
+#define KEY_EOS 0516
+#define KEY_EOL 0517
+#define KEY_SF 0520
+#define KEY_SR 0521
+#define KEY_NPAGE 0522
+#define KEY_PPAGE 0523
+#define KEY_STAB 0524
+#define KEY_CTAB 0525
+#define KEY_CATAB 0526
+#define KEY_ENTER 0527
+#define KEY_SRESET 0530
+#define KEY_RESET 0531
+#define KEY_PRINT 0532
+#define KEY_LL 0533
+#define KEY_A1 0534
+#define KEY_A3 0535
+#define KEY_B2 0536
+#define KEY_C1 0537
+#define KEY_C3 0540
+#define KEY_BTAB 0541
+#define KEY_BEG 0542
+#define KEY_CANCEL 0543
+#define KEY_CLOSE 0544
+#define KEY_COMMAND 0545
+#define KEY_COPY 0546
+#define KEY_CREATE 0547
+#define KEY_END 0550
+#define KEY_EXIT 0551
+#define KEY_FIND 0552
+#define KEY_HELP 0553
+#define KEY_MARK 0554
+#define KEY_MESSAGE 0555
+#define KEY_MOVE 0556
+#define KEY_NEXT 0557
+#define KEY_OPEN 0560
+#define KEY_OPTIONS 0561
+#define KEY_PREVIOUS 0562
+#define KEY_REDO 0563
+#define KEY_REFERENCE 0564
+#define KEY_REFRESH 0565
+#define KEY_REPLACE 0566
+#define KEY_RESTART 0567
+#define KEY_RESUME 0570
+#define KEY_SAVE 0571
+#define KEY_SBEG 0572
+#define KEY_SCANCEL 0573
+#define KEY_SCOMMAND 0574
+#define KEY_SCOPY 0575
+#define KEY_SCREATE 0576
+#define KEY_SDC 0577
+#define KEY_SDL 0600
+#define KEY_SELECT 0601
+#define KEY_SEND 0602
+#define KEY_SEOL 0603
+#define KEY_SEXIT 0604
+#define KEY_SFIND 0605
+#define KEY_SHELP 0606
+#define KEY_SHOME 0607
+#define KEY_SIC 0610
+#define KEY_SLEFT 0611
+#define KEY_SMESSAGE 0612
+#define KEY_SMOVE 0613
+#define KEY_SNEXT 0614
+#define KEY_SOPTIONS 0615
+#define KEY_SPREVIOUS 0616
+#define KEY_SPRINT 0617
+#define KEY_SREDO 0620
+#define KEY_SREPLACE 0621
+#define KEY_SRIGHT 0622
+#define KEY_SRSUME 0623
+#define KEY_SSAVE 0624
+#define KEY_SSUSPEND 0625
+#define KEY_SUNDO 0626
+#define KEY_SUSPEND 0627
+#define KEY_UNDO 0630
+#define KEY_MOUSE 0631
+#define KEY_RESIZE 0632
+#define KEY_MAX 0777
+
 extern WINDOW *stdscr; /* the standard screen, from initscr on */
 extern WINDOW *curscr; /* what the terminal shows: for refresh, clearok, touchwin and redrawwin alone, which draw all anew */
 extern int LINES, COLS;
 extern int COLORS, COLOR_PAIRS;
+extern int ESCDELAY; /* for how many milliseconds getch waits for the rest of a key that begins with an escape */
 
 /* ---- the screen */
 
@@ -116,6 +215,9 @@ int curs_set(int visibility);
 int beep(void);
 int flash(void);
 int napms(int milliseconds);
+int delay_output(int milliseconds);
+char *termname(void); /* the type that newterm was given, or TERM */
+char *longname(void); /* the same */
 
 int start_color(void);
 bool has_colors(void);
@@ -300,6 +402,76 @@ int mvinchstr(int y, int x, chtype *row);
 int mvinchnstr(int y, int x, chtype *row, int n);
 int mvwinchstr(WINDOW *win, int y, int x, chtype *row);
 int mvwinchnstr(WINDOW *win, int y, int x, chtype *row, int n);
+
+/* ---- keys */
+
+int getch(void);
+int wgetch(WINDOW *win);
+int mvgetch(int y, int x);
+int mvwgetch(WINDOW *win, int y, int x);
+int ungetch(int key);
+int flushinp(void);
+
+/* They read n characters at most, and write a 0 after them. */
+int getstr(char *text);
+int getnstr(char *text, int n);
+int wgetstr(WINDOW *win, char *text);
+int wgetnstr(WINDOW *win, char *text, int n);
+int mvgetstr(int y, int x, char *text);
+int mvgetnstr(int y, int x, char *text, int n);
+int mvwgetstr(WINDOW *win, int y, int x, char *text);
+int mvwgetnstr(WINDOW *win, int y, int x, char *text, int n);
+
+int scanw(const char *format, ...) CURSPAN_SCANS(1, 2);
+int wscanw(WINDOW *win, const char *format, ...) CURSPAN_SCANS(2, 3);
+int mvscanw(int y, int x, const char *format, ...) CURSPAN_SCANS(3, 4);
+int mvwscanw(WINDOW *win, int y, int x, const char *format, ...) CURSPAN_SCANS(4, 5);
+int vw_scanw(WINDOW *win, const char *format, va_list arguments) CURSPAN_SCANS(2, 0);
+int vwscanw(WINDOW *win, const char *format, va_list arguments) CURSPAN_SCANS(2, 0);
+
+int keypad(WINDOW *win, bool flag);
+int nodelay(WINDOW *win, bool flag);
+int notimeout(WINDOW *win, bool flag);
+void timeout(int milliseconds);
+void wtimeout(WINDOW *win, int milliseconds);
+bool is_keypad(const WINDOW *win);
+bool is_nodelay(const WINDOW *win);
+bool is_notimeout(const WINDOW *win);
+int wgetdelay(const WINDOW *win);
+int set_escdelay(int milliseconds);
+
+const char *keyname(int key);
+const char *unctrl(chtype ch);
+int has_key(int key);
+int define_key(const char *sequence, int key);
+int key_defined(const char *sequence);
+
+/* ---- modes of the terminal */
+
+int cbreak(void);
+int nocbreak(void);
+int raw(void);
+int noraw(void);
+int halfdelay(int tenths);
+int echo(void);
+int noecho(void);
+int nl(void);
+int nonl(void);
+int meta(WINDOW *win, bool flag);
+int intrflush(WINDOW *win, bool flag);
+void qiflush(void);
+void noqiflush(void);
+int typeahead(int descriptor); /* a hint, which changes nothing */
+
+int def_prog_mode(void);
+int def_shell_mode(void);
+int reset_prog_mode(void);
+int reset_shell_mode(void);
+int savetty(void);
+int resetty(void);
+char erasechar(void);
+char killchar(void);
+int baudrate(void);
 
 /* ---- copies and marks */
 

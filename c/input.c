@@ -1,0 +1,225 @@
+/* Keys as getch answers them: what was typed and not read, how long getch waits, and what it shows. Nothing here is proved. */
+#define _XOPEN_SOURCE 700
+#include "inside.h"
+#include "terminal.h"
+
+#include <errno.h>
+#include <poll.h>
+#include <stdlib.h>
+#include <string.h>
+#include <time.h>
+#include <unistd.h>
+
+int ESCDELAY = 1000;
+
+enum { ROOM = 256, LINE_ROOM = 135 };
+
+/* What waits to be read. The first of it are keys, and the others bytes that may be the sequence of one. */
+static struct {
+    int items[ROOM];
+    size_t first, count, keys;
+    bool is_reading_line;
+} queue;
+
+static int item(size_t i) { return queue.items[(queue.first + i) % ROOM]; }
+
+/* Takes the first item. */
+static int pull(void) {
+    if (queue.count == 0) return ERR;
+    int key = item(0);
+    queue.first = (queue.first + 1) % ROOM;
+    queue.count--;
+    if (queue.keys > 0) queue.keys--;
+    return key;
+}
+
+void curspan_forget_input(void) {
+    const char *delay = getenv("ESCDELAY");
+    memset(&queue, 0, sizeof queue);
+    if (delay && *delay >= '0' && *delay <= '9') set_escdelay(atoi(delay));
+}
+
+int ungetch(int key) {
+    if (!stdscr || queue.count == ROOM) return ERR;
+    queue.first = (queue.first + ROOM - 1) % ROOM;
+    queue.items[queue.first] = key;
+    queue.count++;
+    queue.keys++;
+    return OK;
+}
+
+int flushinp(void) {
+    if (!stdscr) return ERR;
+    if (curspan_terminal.line >= 0) tcflush(curspan_terminal.line, TCIFLUSH);
+    queue.count = queue.keys = 0;
+    return OK;
+}
+
+int set_escdelay(int milliseconds) {
+    if (milliseconds < 0) return ERR;
+    ESCDELAY = milliseconds;
+    return OK;
+}
+
+/* ---- bytes */
+
+/* Draws all again where the program was stopped and goes on, and answers whether it was. */
+static bool redraw_after_stop(void) {
+    if (!curspan_was_stopped()) return false;
+    doupdate();
+    return true;
+}
+
+/* How many milliseconds have passed since some time. */
+static long since(const struct timespec *then) {
+    struct timespec now;
+    clock_gettime(CLOCK_MONOTONIC, &now);
+    return (long)(now.tv_sec - then->tv_sec) * 1000 + (now.tv_nsec - then->tv_nsec) / 1000000;
+}
+
+/* Waits until there is something to read, without end where the time is negative, and answers whether there is. A signal ends it. */
+static bool wait_for_input(int milliseconds) {
+    struct pollfd input = {curspan_terminal.in, POLLIN, 0};
+    struct timespec begun;
+    int left = milliseconds, found;
+    clock_gettime(CLOCK_MONOTONIC, &begun);
+    while ((found = poll(&input, 1, left)) < 0 && errno == EINTR && redraw_after_stop())
+        if (milliseconds >= 0) left = since(&begun) < milliseconds ? milliseconds - (int)since(&begun) : 0;
+    return found > 0;
+}
+
+/* A byte of the input: ERR where there is none, or a signal came first. */
+static int read_byte(void) {
+    unsigned char byte;
+    ssize_t count;
+    while ((count = read(curspan_terminal.in, &byte, 1)) < 0 && errno == EINTR && redraw_after_stop()) continue;
+    return count == 1 ? byte : ERR;
+}
+
+/* Reads a byte behind all that waits. */
+static bool push_byte(void) {
+    int byte = queue.count < ROOM ? read_byte() : ERR;
+    if (byte == ERR) return false;
+    queue.items[(queue.first + queue.count++) % ROOM] = byte;
+    return true;
+}
+
+/* ---- keys */
+
+/* The key whose sequence the first bytes are that wait, reading on while they begin one; else the first byte. */
+static int pull_key(bool is_patient) {
+    unsigned char bytes[ROOM];
+    size_t length = 0;
+    int key = ERR;
+    while (key == ERR && length < ROOM) {
+        if (length == queue.count) {
+            if (length > 0 && !wait_for_input(is_patient ? -1 : ESCDELAY)) break;
+            if (!push_byte()) break;
+        }
+        bytes[length] = (unsigned char)item(length);
+        key = curspan_key_of(bytes, ++length);
+    }
+    if (key <= 0) return pull();
+    while (length-- > 0) pull();
+    return key;
+}
+
+/* Shows a window that was changed or whose cursor was moved since it was last shown. */
+static void show(WINDOW *win) {
+    if (!win->is_pad && (win->moved || is_wintouched(win))) wrefresh(win);
+}
+
+/* Reads a whole line, as it is edited, and answers its first key: the others wait. */
+static int key_of_line(WINDOW *win) {
+    char text[LINE_ROOM + 1] = "";
+    queue.is_reading_line = true;
+    int answer = wgetnstr(win, text, LINE_ROOM);
+    queue.is_reading_line = false;
+    if (answer != ERR) ungetch('\n');
+    for (size_t i = strlen(text); i > 0; i--) ungetch((unsigned char)text[i - 1]);
+    return pull();
+}
+
+/* Whether getch waits for a whole line, which is edited meanwhile. */
+static bool wants_line(void) {
+    return queue.count == 0 && curspan_terminal.line >= 0 && !curspan_modes.raw && !curspan_modes.cbreak && !queue.is_reading_line;
+}
+
+/* The key that comes next, or ERR where none comes in time. */
+static int next_key(const WINDOW *win) {
+    bool is_timed = win->no_timeout || win->delay >= 0 || curspan_modes.half_delay > 0;
+    if (is_timed && queue.count == 0 && !wait_for_input(curspan_modes.half_delay > 0 ? curspan_modes.half_delay * 100 : win->delay))
+        return ERR;
+    if (win->keypad) return pull_key(win->no_timeout);
+    if (queue.count == 0) push_byte();
+    return pull();
+}
+
+/* Takes a new size of the terminal over. */
+static void look_at_size(void) {
+    if (curspan_was_resized()) curspan_resize_to_terminal();
+}
+
+/* Writes a key into the window that reads it, where keys are echoed. */
+static void echo_key(WINDOW *win, int key) {
+    int shown = key == KEY_BACKSPACE ? '\b' : key;
+    if (curspan_modes.echo && !win->is_pad && shown < KEY_MIN) wechochar(win, (chtype)shown);
+}
+
+/* A byte as the program gets it. */
+static int translated(int key) {
+    if (key == '\r' && curspan_modes.newline) return '\n';
+    return !curspan_modes.meta && key < KEY_MIN ? key & 0x7f : key;
+}
+
+int wgetch(WINDOW *win) {
+    if (is_there(win) == ERR) return ERR;
+    redraw_after_stop();
+    look_at_size();
+    if (queue.keys > 0) {
+        show(win);
+        return pull();
+    }
+    if (wants_line()) return key_of_line(win);
+    if (win->keypad != (curspan_terminal.is_keypad != 0)) curspan_switch_keypad(win->keypad);
+    show(win);
+    int key = next_key(win);
+    if (key == ERR) {
+        look_at_size();
+        return queue.keys > 0 ? pull() : ERR;
+    }
+    echo_key(win, key);
+    return translated(key);
+}
+
+/* ---- how a window reads */
+
+int keypad(WINDOW *win, bool flag) {
+    if (is_there(win) == ERR) return ERR;
+    win->keypad = flag;
+    curspan_switch_keypad(flag);
+    return OK;
+}
+
+int nodelay(WINDOW *win, bool flag) {
+    if (is_there(win) == ERR) return ERR;
+    win->delay = flag ? 0 : -1;
+    return OK;
+}
+
+int notimeout(WINDOW *win, bool flag) {
+    if (is_there(win) == ERR) return ERR;
+    win->no_timeout = flag;
+    return OK;
+}
+
+void wtimeout(WINDOW *win, int milliseconds) {
+    if (is_there(win) == OK) win->delay = milliseconds;
+}
+
+void timeout(int milliseconds) { wtimeout(stdscr, milliseconds); }
+
+bool is_keypad(const WINDOW *win) { return is_there(win) == OK && win->keypad; }
+bool is_nodelay(const WINDOW *win) { return is_there(win) == OK && win->delay == 0; }
+bool is_notimeout(const WINDOW *win) { return is_there(win) == OK && win->no_timeout; }
+int wgetdelay(const WINDOW *win) { return is_there(win) == OK ? win->delay : 0; }

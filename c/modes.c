@@ -1,0 +1,229 @@
+/* The modes of the terminal's line, and how keys are read. Each call leaves the flags of termios as ncurses does. Nothing here is proved. */
+#define _XOPEN_SOURCE 700
+#define _DEFAULT_SOURCE
+#include "inside.h"
+#include "terminal.h"
+
+#include <errno.h>
+#include <stddef.h>
+#include <string.h>
+#include <unistd.h>
+
+enum { INPUT_FLAGS = BRKINT | IXON | PARMRK };
+
+struct curspan_modes curspan_modes;
+
+static struct termios saved; /* what savetty kept */
+
+static int get(struct termios *modes) {
+    if (curspan_terminal.line >= 0 && tcgetattr(curspan_terminal.line, modes) == 0) return OK;
+    return ERR;
+}
+
+static int set(const struct termios *modes) {
+    if (curspan_terminal.line < 0) return ERR;
+    while (tcsetattr(curspan_terminal.line, TCSADRAIN, modes) != 0)
+        if (errno != EINTR) return ERR;
+    return OK;
+}
+
+/* Makes modes those of the program. */
+static int change(const struct termios *modes) {
+    if (set(modes) == ERR) return ERR;
+    curspan_terminal.program = *modes;
+    return OK;
+}
+
+static void read_at_once(struct termios *modes) {
+    modes->c_cc[VMIN] = 1;
+    modes->c_cc[VTIME] = 0;
+}
+
+static void make_raw(struct termios *modes) {
+    modes->c_lflag &= ~(tcflag_t)(ICANON | ISIG | IEXTEN);
+    modes->c_iflag &= ~(tcflag_t)INPUT_FLAGS;
+    read_at_once(modes);
+}
+
+/* Of both descriptors the input's terminal is taken. */
+static int line_of(int in, int out) { return in >= 0 && isatty(in) ? in : isatty(out) ? out : -1; }
+
+void curspan_begin_modes(void) {
+    const struct curspan_modes first = {.echo = true, .newline = true, .meta = true};
+    struct curspan_terminal *terminal = &curspan_terminal;
+    terminal->line = line_of(terminal->in, terminal->out);
+    curspan_modes = first;
+    if (def_shell_mode() == ERR) {
+        terminal->line = -1;
+        return;
+    }
+    terminal->program = terminal->shell;
+    curspan_modes.meta = (terminal->shell.c_cflag & CSIZE) == CS8 && !(terminal->shell.c_iflag & ISTRIP);
+    cbreak();
+    struct termios modes = terminal->program;
+    modes.c_lflag &= ~(tcflag_t)(ECHO | ECHONL);
+    modes.c_iflag &= ~(tcflag_t)(ICRNL | INLCR | IGNCR);
+    modes.c_oflag &= ~(tcflag_t)ONLCR;
+    change(&modes);
+}
+
+int curspan_resume_modes(void) { return set(&curspan_terminal.program); }
+
+void curspan_begin_raw(struct curspan_modes *modes, struct termios *line) {
+    struct termios raw = curspan_terminal.program;
+    *modes = curspan_modes;
+    if (get(line) == ERR) memset(line, 0, sizeof *line);
+    curspan_modes.raw = curspan_modes.cbreak = curspan_modes.newline = true;
+    curspan_modes.echo = false;
+    curspan_modes.half_delay = 0;
+    make_raw(&raw);
+    set(&raw);
+}
+
+void curspan_end_raw(const struct curspan_modes *modes, const struct termios *line) {
+    curspan_modes = *modes;
+    set(line);
+}
+
+/* ---- the modes of X/Open */
+
+int cbreak(void) {
+    struct termios modes = curspan_terminal.program;
+    modes.c_lflag &= ~(tcflag_t)ICANON;
+    modes.c_lflag |= ISIG;
+    modes.c_iflag &= ~(tcflag_t)ICRNL;
+    read_at_once(&modes);
+    if (change(&modes) == ERR) return ERR;
+    curspan_modes.cbreak = true;
+    curspan_modes.half_delay = 0;
+    return OK;
+}
+
+int nocbreak(void) {
+    struct termios modes = curspan_terminal.program;
+    modes.c_lflag |= ICANON;
+    modes.c_iflag |= ICRNL;
+    if (change(&modes) == ERR) return ERR;
+    curspan_modes.cbreak = false;
+    curspan_modes.half_delay = 0;
+    return OK;
+}
+
+int raw(void) {
+    struct termios modes = curspan_terminal.program;
+    make_raw(&modes);
+    if (change(&modes) == ERR) return ERR;
+    curspan_modes.raw = curspan_modes.cbreak = true;
+    curspan_modes.half_delay = 0;
+    return OK;
+}
+
+int noraw(void) {
+    struct termios modes = curspan_terminal.program;
+    modes.c_lflag |= ISIG | ICANON | (curspan_terminal.shell.c_lflag & IEXTEN);
+    modes.c_iflag |= INPUT_FLAGS;
+    if (change(&modes) == ERR) return ERR;
+    curspan_modes.raw = curspan_modes.cbreak = false;
+    curspan_modes.half_delay = 0;
+    return OK;
+}
+
+int halfdelay(int tenths) {
+    if (tenths < 1 || tenths > 255 || !stdscr) return ERR;
+    cbreak();
+    curspan_modes.cbreak = true;
+    curspan_modes.half_delay = tenths;
+    return OK;
+}
+
+static int set_mode(bool *mode, bool flag) {
+    if (!stdscr) return ERR;
+    *mode = flag;
+    return OK;
+}
+
+int echo(void) { return set_mode(&curspan_modes.echo, true); }
+int noecho(void) { return set_mode(&curspan_modes.echo, false); }
+int nl(void) { return set_mode(&curspan_modes.newline, true); }
+int nonl(void) { return set_mode(&curspan_modes.newline, false); }
+
+int meta(WINDOW *win, bool flag) {
+    (void)win;
+    return set_mode(&curspan_modes.meta, flag);
+}
+
+int intrflush(WINDOW *win, bool flag) {
+    struct termios modes = curspan_terminal.program;
+    (void)win;
+    modes.c_lflag = flag ? modes.c_lflag & ~(tcflag_t)NOFLSH : modes.c_lflag | NOFLSH;
+    return stdscr ? change(&modes) : ERR;
+}
+
+void qiflush(void) { (void)intrflush(NULL, true); }
+void noqiflush(void) { (void)intrflush(NULL, false); }
+
+int typeahead(int descriptor) {
+    (void)descriptor;
+    return stdscr ? OK : ERR;
+}
+
+/* ---- modes of the program and of the shell */
+
+int def_prog_mode(void) {
+    struct termios modes;
+    if (get(&modes) == ERR) return ERR;
+    curspan_terminal.program = modes;
+    return OK;
+}
+
+int def_shell_mode(void) {
+    struct termios modes;
+    if (get(&modes) == ERR) return ERR;
+    curspan_terminal.shell = modes;
+    return OK;
+}
+
+int reset_prog_mode(void) {
+    if (set(&curspan_terminal.program) == ERR) return ERR;
+    return curspan_terminal.is_keypad ? curspan_switch_keypad(true) : OK;
+}
+
+int reset_shell_mode(void) {
+    if (curspan_terminal.is_keypad) curspan_switch_keypad(false);
+    return set(&curspan_terminal.shell);
+}
+
+int savetty(void) { return get(&saved); }
+int resetty(void) { return set(&saved); }
+
+/* ---- what the line has */
+
+/* A character of the line that edits it, or ERR where that is off. */
+static char editing_character(int which) {
+    cc_t off = (cc_t)fpathconf(curspan_terminal.line, _PC_VDISABLE), character = curspan_terminal.shell.c_cc[which];
+    return curspan_terminal.line < 0 || character == off ? (char)ERR : (char)character;
+}
+
+char erasechar(void) { return editing_character(VERASE); }
+char killchar(void) { return editing_character(VKILL); }
+
+int baudrate(void) {
+    static const struct {
+        speed_t code;
+        int bits;
+    } rates[] = {
+        {B50, 50}, {B75, 75}, {B110, 110}, {B134, 134}, {B150, 150}, {B200, 200}, {B300, 300}, {B600, 600}, {B1200, 1200},
+        {B1800, 1800}, {B2400, 2400}, {B4800, 4800}, {B9600, 9600}, {B19200, 19200}, {B38400, 38400},
+#ifdef B57600
+        {B57600, 57600},
+#endif
+#ifdef B115200
+        {B115200, 115200},
+#endif
+    };
+    if (curspan_terminal.line < 0) return ERR;
+    speed_t speed = cfgetospeed(&curspan_terminal.shell);
+    for (size_t i = 0; i < sizeof rates / sizeof rates[0]; i++)
+        if (rates[i].code == speed) return rates[i].bits;
+    return ERR;
+}
