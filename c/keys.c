@@ -68,9 +68,13 @@ int has_key(int key) {
     return FALSE;
 }
 
+/* The key that getch answers as soon as it has read some bytes, 0 where they begin none, and ERR where it would read on. */
 int key_defined(const char *sequence) {
+    int key = 0;
     if (!stdscr || !sequence) return ERR;
-    return *sequence ? curspan_key_of((const unsigned char *)sequence, strlen(sequence)) : 0;
+    for (size_t length = 1; length <= strlen(sequence); length++)
+        if ((key = curspan_key_of((const unsigned char *)sequence, length)) != ERR) break;
+    return key;
 }
 
 /* Takes away all sequences of a key, or one whatever its key is, and answers whether there was one. */
@@ -96,7 +100,7 @@ static bool take_away(const char *sequence, int key) {
 
 static int define(const char *sequence, int key) {
     size_t length = strlen(sequence);
-    if (length == 0 || curspan_key_of((const unsigned char *)sequence, length) != 0) return ERR;
+    if (length == 0 || key_defined(sequence) != 0) return ERR;
     struct defined *it = malloc(sizeof *it + length + 1);
     if (!it) return ERR;
     memcpy(it->bytes, sequence, length + 1);
@@ -121,9 +125,9 @@ char *termname(void) { return stdscr ? type_of_terminal : NULL; }
 /* There is no database of types: the long name is the short one. */
 char *longname(void) { return termname(); }
 
-/* How a byte is spelled where it isn't printed as it is. */
-static void spell(char *name, int byte, bool is_meta, bool is_high) {
-    if (byte >= 128 && is_meta) {
+/* Spells a byte: a control character as a caret and a letter, and one of eight bits with M- and the others, where it is wanted so. */
+static void spell(char *name, int byte, bool with_meta) {
+    if (byte >= 128 && with_meta) {
         *name++ = 'M';
         *name++ = '-';
         byte -= 128;
@@ -131,9 +135,6 @@ static void spell(char *name, int byte, bool is_meta, bool is_high) {
     if (byte < ' ' || byte == 127) {
         *name++ = '^';
         byte ^= 64;
-    } else if (byte >= 128 && byte < 160 && is_high) {
-        *name++ = '~';
-        byte -= 64;
     }
     *name++ = (char)byte;
     *name = 0;
@@ -141,8 +142,13 @@ static void spell(char *name, int byte, bool is_meta, bool is_high) {
 
 const char *unctrl(chtype ch) {
     static char names[256][6];
-    int byte = (int)(ch & A_CHARTEXT);
-    spell(names[byte], byte, byte >= 160, true);
+    int byte = (int)(ch & A_CHARTEXT), low = byte & 127;
+    spell(names[byte], byte, true);
+    if (byte >= 128 && (low < ' ' || low == 127)) {
+        names[byte][0] = '~';
+        names[byte][1] = (char)(low ^ 64);
+        names[byte][2] = 0;
+    }
     return names[byte];
 }
 
@@ -173,7 +179,7 @@ const char *keyname(int key) {
     static char bytes[256][6], functions[64][12];
     if (key == ERR) return "-1";
     if (key >= 0 && key < 256) {
-        spell(bytes[key], key, curspan_modes.meta || !stdscr, false);
+        spell(bytes[key], key, curspan_modes.meta || !stdscr);
         return bytes[key];
     }
     if (key >= KEY_F0 && key < KEY_F0 + 64) {

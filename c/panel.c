@@ -66,4 +66,8 @@ int set_panel_userptr(PANEL *panel, const void *pointer) {
 
 const void *panel_userptr(const PANEL *panel) { return panel_hidden(panel) == ERR ? NULL : panel->pointer; }
 
-void update_panels(void) { curspan_update_panels(&curspan_the_screen); }
+void update_panels(void) {
+    curspan_update_panels(&curspan_the_screen);
+    if (stdscr) stdscr->moved = false;
+    for (PANEL *panel = panel_above(NULL); panel; panel = panel_above(panel)) panel_window(panel)->moved = false;
+}

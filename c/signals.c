@@ -46,7 +46,7 @@ static void stop_now(void);
 static void stop(int number) {
     struct curspan_terminal *terminal = &curspan_terminal;
     int before = errno;
-    bool is_owed = has_terminal() && curspan_is_owed();
+    bool is_owed = has_terminal() && curspan_is_owed(), is_keypad = terminal->is_keypad;
     (void)number;
     if (is_owed) {
         if (is_in_front()) tcgetattr(terminal->line, &terminal->program);
@@ -56,6 +56,7 @@ static void stop(int number) {
     if (is_owed) {
         if (is_in_front()) tcgetattr(terminal->line, &terminal->shell);
         if (terminal->line >= 0) tcsetattr(terminal->line, TCSADRAIN, &terminal->program);
+        if (is_keypad) curspan_switch_keypad(true);
         terminal->is_ended = false;
         was_stopped = true;
     }

@@ -1,7 +1,7 @@
-/* curses.h: the output half of X/Open Curses over Curspan (curspan.h), in C99 or C++.
+/* curses.h: X/Open Curses over Curspan (curspan.h), in C99 or C++.
 
-   A program that draws by these names compiles unchanged. What isn't here is absent: input (getch and its modes), wide
-   and complex characters, soft labels, terminfo, several screens. A program that needs it doesn't compile.
+   A program that draws and reads keys by these names compiles unchanged. What isn't here is absent: wide and complex
+   characters, soft labels, terminfo, several screens. A program that needs it doesn't compile.
    curspan(3) has a table of all of X/Open's windowing names, with what takes the place of each.
 
    One screen. It is proved what the functions of curspan.h do. What is C here is not proved: it turns these names and types
@@ -207,7 +207,7 @@ extern int ESCDELAY; /* for how many milliseconds getch waits for the rest of a 
 /* ---- the screen */
 
 WINDOW *initscr(void);                                   /* ends the program where there is no screen */
-SCREEN *newterm(const char *type, FILE *out, FILE *in);  /* the type and the input are not looked at */
+SCREEN *newterm(const char *type, FILE *out, FILE *in);
 int endwin(void);                                        /* the next refresh brings the picture back */
 bool isendwin(void);
 void delscreen(SCREEN *screen);

@@ -4,8 +4,6 @@
 #include <stdio.h>
 #include <string.h>
 
-#include "keys.h"
-
 #define CONTROL(letter) ((letter) - 'A' + 1)
 
 static WINDOW *page, *status;
@@ -56,12 +54,13 @@ static void move_by(int down, int right) { wmove(page, getcury(page) + down, get
 /* Does what a key says, and answers whether the editor goes on. */
 static bool obey(int key, const char *name) {
     switch (key) {
-    case ARROW_UP: move_by(-1, 0); break;
-    case ARROW_DOWN: move_by(1, 0); break;
-    case ARROW_RIGHT: move_by(0, 1); break;
-    case ARROW_LEFT: move_by(0, -1); break;
-    case '\r': wmove(page, getcury(page) + 1, 0); break;
-    case 127:
+    case KEY_UP: move_by(-1, 0); break;
+    case KEY_DOWN: move_by(1, 0); break;
+    case KEY_RIGHT: move_by(0, 1); break;
+    case KEY_LEFT: move_by(0, -1); break;
+    case '\n':
+    case KEY_ENTER: wmove(page, getcury(page) + 1, 0); break;
+    case KEY_BACKSPACE:
     case '\b':
         if (getcurx(page) > 0) {
             move_by(0, -1);
@@ -72,7 +71,7 @@ static bool obey(int key, const char *name) {
     case CONTROL('K'): wdeleteln(page); break;
     case CONTROL('S'): tell(write_page(name) ? "written:" : "not written:", name); break;
     case CONTROL('Q'):
-    case NO_MORE_KEYS: return false;
+    case ERR: return false;
     default:
         if (key >= ' ' && key <= '~' && getcurx(page) < getmaxx(page) - 1) waddch(page, (chtype)key);
     }
@@ -85,6 +84,8 @@ int main(int count, char **words) {
         return 2;
     }
     initscr();
+    raw();
+    noecho();
     page = newwin(LINES - 1, COLS, 0, 0);
     status = newwin(1, COLS, LINES - 1, 0);
     if (!page || !status) {
@@ -95,13 +96,12 @@ int main(int count, char **words) {
     wbkgd(status, A_REVERSE | ' ');
     tell("one page of", words[1]);
     read_page(words[1]);
-    keys_begin();
+    keypad(page, TRUE);
     do {
         wnoutrefresh(status);
         wnoutrefresh(page);
         doupdate();
-    } while (obey(next_key(-1), words[1]));
-    keys_end();
+    } while (obey(wgetch(page), words[1]));
     endwin();
     return 0;
 }

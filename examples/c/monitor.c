@@ -4,8 +4,6 @@
 #include <string.h>
 #include <time.h>
 
-#include "keys.h"
-
 enum { HISTORY = 60 };
 
 static double history[HISTORY];
@@ -86,8 +84,9 @@ int main(void) {
         return 1;
     }
     mvaddstr(LINES - 1, 0, "q ends");
-    keys_begin();
-    for (int key = NO_KEY; key != 'q' && key != 3 && key != NO_MORE_KEYS; key = next_key(1000)) {
+    noecho();
+    timeout(1000);
+    for (int key = ERR; key != 'q'; key = getch()) {
         time_t now = time(NULL);
         keep(load_now());
         attron(A_BOLD);
@@ -100,7 +99,6 @@ int main(void) {
         wnoutrefresh(below);
         doupdate();
     }
-    keys_end();
     endwin();
     return 0;
 }

@@ -3,8 +3,6 @@
 #include <panel.h>
 #include <stdio.h>
 
-#include "keys.h"
-
 enum { COUNT = 4 };
 
 static PANEL *panels[COUNT];
@@ -43,14 +41,14 @@ static void move_top(int down, int right) {
 static bool obey(int key) {
     PANEL *top = panel_below(NULL), *lowest = panel_above(NULL);
     switch (key) {
-    case ARROW_UP: move_top(-1, 0); break;
-    case ARROW_DOWN: move_top(1, 0); break;
-    case ARROW_RIGHT: move_top(0, 1); break;
-    case ARROW_LEFT: move_top(0, -1); break;
+    case KEY_UP: move_top(-1, 0); break;
+    case KEY_DOWN: move_top(1, 0); break;
+    case KEY_RIGHT: move_top(0, 1); break;
+    case KEY_LEFT: move_top(0, -1); break;
     case '\t': if (lowest) top_panel(lowest); break;
     case 'h': if (top) hide_panel(top); break;
     case 's': for (int i = 0; i < COUNT; i++) show_panel(panels[i]); break;
-    default: return key != 'q' && key != 3 && key != NO_MORE_KEYS;
+    default: return key != 'q' && key != ERR;
     }
     return true;
 }
@@ -67,12 +65,12 @@ int main(void) {
     init_pair(2, COLOR_WHITE, COLOR_RED);
     init_pair(3, COLOR_BLACK, COLOR_CYAN);
     make_panels();
-    keys_begin();
+    noecho();
+    keypad(stdscr, TRUE);
     do {
         update_panels();
         doupdate();
-    } while (obey(next_key(-1)));
-    keys_end();
+    } while (obey(getch()));
     endwin();
     return 0;
 }

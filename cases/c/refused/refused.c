@@ -42,6 +42,7 @@ static SCREEN *work(FILE *out) {
     made(copy);
     made(below);
     answered(printw("%s", long_text));
+    answered(define_key("\033xy", KEY_MAX));
     if (win) answered(box(win, 0, 0));
     if (win) answered(wbkgd(win, A_REVERSE | ' '));
     if (copy) made(new_panel(copy));

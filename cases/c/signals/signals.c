@@ -1,0 +1,312 @@
+/* Whatever ends or stops a program gives the terminal back: its modes are as before, and its page is left. It is shell and terminal itself: a
+   program runs in a pseudoterminal, keys are typed and signals sent, and it looks at what the program wrote and left. */
+#include <curses.h>
+#include <errno.h>
+#include <fcntl.h>
+#include <poll.h>
+#include <signal.h>
+#include <stdlib.h>
+#include <string.h>
+#include <sys/ioctl.h>
+#include <sys/wait.h>
+#include <termios.h>
+#include <unistd.h>
+
+static int wrong;
+
+static void want(bool holds, const char *name, const char *what) {
+    if (holds) return;
+    printf("signals: %s: not so: %s\n", name, what);
+    wrong++;
+}
+
+/* ---- the terminal and the shell */
+
+static int master, slave, statuses;         /* the terminal's ends, and where the shell tells how its program stopped or ended */
+static struct termios before;               /* the modes before the program began */
+static char bytes[200000];                  /* what the program wrote */
+static size_t length;
+
+/* Starts a program in a terminal of its own, below a shell that waits for it and continues it. */
+static pid_t start(void (*program)(void)) {
+    int ends[2];
+    master = posix_openpt(O_RDWR | O_NOCTTY);
+    if (master < 0 || grantpt(master) != 0 || unlockpt(master) != 0 || pipe(ends) != 0) exit(3);
+    slave = open(ptsname(master), O_RDWR | O_NOCTTY);
+    struct winsize size = {.ws_row = 24, .ws_col = 80};
+    ioctl(slave, TIOCSWINSZ, &size);
+    tcgetattr(slave, &before);
+    length = 0;
+    statuses = ends[0];
+    pid_t shell = fork();
+    if (shell != 0) {
+        close(ends[1]);
+        return shell;
+    }
+    setsid();
+    int terminal = open(ptsname(master), O_RDWR);
+    signal(SIGTTOU, SIG_IGN);
+    close(master);
+    close(slave);
+    pid_t job = fork();
+    if (job == 0) {
+        setpgid(0, 0);
+        tcsetpgrp(terminal, getpid());
+        signal(SIGTTOU, SIG_DFL);
+        for (int i = 0; i < 3; i++) dup2(terminal, i);
+        program();
+        _exit(0);
+    }
+    setpgid(job, job);
+    for (int status; waitpid(job, &status, WUNTRACED) == job;) {
+        tcsetpgrp(terminal, getpgrp());
+        if (write(ends[1], &status, sizeof status) < 0 || !WIFSTOPPED(status)) break;
+        raise(SIGSTOP);
+        tcsetpgrp(terminal, job);
+        kill(-job, SIGCONT);
+    }
+    _exit(0);
+}
+
+/* Reads some of what the program writes, if it comes in time. */
+static bool read_some(int milliseconds) {
+    struct pollfd ready = {master, POLLIN, 0};
+    if (poll(&ready, 1, milliseconds) <= 0) return false;
+    ssize_t count = read(master, bytes + length, sizeof bytes - 1 - length);
+    if (count > 0) length += (size_t)count;
+    bytes[length] = 0;
+    return count > 0;
+}
+
+/* Reads what the program writes until a text comes after some byte. */
+static bool comes(size_t from, const char *text) {
+    while (from > length || !memmem(bytes + from, length - from, text, strlen(text)))
+        if (!read_some(3000)) return false;
+    return true;
+}
+
+static void type(const char *keys) {
+    if (write(master, keys, strlen(keys)) < 0) wrong++;
+}
+
+/* How the program stopped or ended. */
+static int status_of_program(void) {
+    int status = -1;
+    struct pollfd ready = {statuses, POLLIN, 0};
+    if (poll(&ready, 1, 5000) <= 0 || read(statuses, &status, sizeof status) != sizeof status) return -1;
+    while (read_some(20)) continue;
+    return status;
+}
+
+/* Whether the terminal has the modes again that it had before. */
+static bool has_modes_again(void) {
+    struct termios now;
+    tcgetattr(slave, &now);
+    return now.c_iflag == before.c_iflag && now.c_oflag == before.c_oflag && now.c_lflag == before.c_lflag && now.c_cflag == before.c_cflag &&
+           memcmp(now.c_cc, before.c_cc, sizeof now.c_cc) == 0;
+}
+
+/* Whether what was written ends on the page where it began, with the keypad off. */
+static bool left_page(size_t from) {
+    const char *entered = NULL, *left = NULL;
+    for (const char *at = bytes + from; (at = strstr(at, "\033[?1049")); at++) *(at[7] == 'h' ? &entered : &left) = at;
+    return !entered || (left && left > entered);
+}
+
+static void finish(pid_t shell) {
+    kill(shell, SIGKILL);
+    waitpid(shell, NULL, 0);
+    close(master);
+    close(slave);
+    close(statuses);
+}
+
+/* ---- the programs */
+
+static void begin(void) {
+    initscr();
+    noecho();
+    keypad(stdscr, TRUE);
+    mvaddstr(3, 4, "the picture");
+    refresh();
+}
+
+static void read_keys(void) {
+    begin();
+    for (int key; (key = getch()) != 'q';) {
+        mvprintw(5, 4, "key %d.", key);
+        refresh();
+    }
+    endwin();
+}
+
+static void note(int number) {
+    (void)number;
+    mvaddstr(7, 4, "noted");
+    refresh();
+}
+
+static void read_with_own_handlers(void) {
+    signal(SIGINT, note);
+    signal(SIGTERM, SIG_IGN);
+    read_keys();
+}
+
+static void read_with_later_handlers(void) {
+    initscr();
+    signal(SIGINT, note);
+    delscreen(NULL);
+    read_keys();
+}
+
+static void exit_early(void) {
+    begin();
+    exit(5);
+}
+
+static void fork_and_exit(void) {
+    begin();
+    if (fork() == 0) exit(0);
+    wait(NULL);
+    mvaddstr(5, 4, "the parent goes on");
+    refresh();
+    getch();
+    endwin();
+}
+
+static void delete_screen(void) {
+    SCREEN *screen = newterm(NULL, stdout, stdin);
+    raw();
+    refresh();
+    delscreen(screen);
+}
+
+/* The output takes nothing: no page is entered, and the modes are those of the input's terminal. */
+static void fail_at_once(void) {
+    SCREEN *screen = newterm(NULL, fopen("/dev/full", "w"), stdin);
+    raw();
+    if (refresh() != ERR) _exit(1);
+    endwin();
+    delscreen(screen);
+}
+
+static void call_shell(void) {
+    begin();
+    getch();
+    def_prog_mode();
+    endwin();
+    if (system("stty -a | grep -q ' icanon.* echo ' && echo as outside") != 0) exit(1);
+    refresh();
+    read_keys();
+}
+
+/* ---- what ends them */
+
+static void end_by(const char *name, void (*program)(void), const char *keys, int number) {
+    pid_t shell = start(program);
+    want(comes(0, "the picture"), name, "it draws");
+    if (keys) type(keys);
+    else kill(-tcgetpgrp(master), number);
+    int status = status_of_program();
+    want(number ? WIFSIGNALED(status) && WTERMSIG(status) == number : WIFEXITED(status), name, "it ends by the signal");
+    want(has_modes_again(), name, "the modes are as before");
+    want(left_page(0), name, "the page is left");
+    want(comes(0, "\033[?1l\033>"), name, "the keypad is off");
+    finish(shell);
+}
+
+static void end_without_picture(const char *name, void (*program)(void)) {
+    pid_t shell = start(program);
+    int status = status_of_program();
+    want(WIFEXITED(status) && (WEXITSTATUS(status) == 0 || WEXITSTATUS(status) == 5), name, "it ends well");
+    want(has_modes_again(), name, "the modes are as before");
+    want(left_page(0), name, "the page is left");
+    finish(shell);
+}
+
+/* A program is stopped by a key, and continued. */
+static void stop_and_continue(void) {
+    const char *name = "Ctrl-Z";
+    pid_t shell = start(read_keys);
+    want(comes(0, "the picture"), name, "it draws");
+    type("a");
+    want(comes(0, "key 97."), name, "it answers a key");
+    type("\032");
+    int status = status_of_program();
+    want(WIFSTOPPED(status) && WSTOPSIG(status) == SIGTSTP, name, "it stops");
+    want(has_modes_again(), name, "the modes are as before");
+    want(left_page(0), name, "the page is left");
+    size_t continued = length;
+    kill(shell, SIGCONT);
+    want(comes(continued, "\033[?1049h"), name, "it comes back to its page");
+    want(comes(continued, "the picture") && comes(continued, "key 97."), name, "the whole picture comes again");
+    want(comes(continued, "\033[?1h\033="), name, "the keypad is on again");
+    type("\033OA");
+    want(comes(continued, "259."), name, "it answers keys again");
+    type("\032");
+    want(WIFSTOPPED(status_of_program()), name, "it stops again");
+    kill(shell, SIGCONT);
+    want(comes(length, "key 259."), name, "and comes again");
+    type("q");
+    want(WIFEXITED(status_of_program()), name, "it ends");
+    want(has_modes_again() && left_page(0), name, "the terminal is as before");
+    finish(shell);
+}
+
+/* A program's own handlers are left alone. */
+static void own_handlers(void (*program)(void), const char *name) {
+    pid_t shell = start(program);
+    want(comes(0, "the picture"), name, "it draws");
+    type("\003");
+    want(comes(0, "noted"), name, "its own handler is called");
+    type("q");
+    want(WIFEXITED(status_of_program()), name, "it ends by itself");
+    want(has_modes_again() && left_page(0), name, "the terminal is as before");
+    finish(shell);
+}
+
+static void shell_between(void) {
+    const char *name = "system";
+    pid_t shell = start(call_shell);
+    want(comes(0, "the picture"), name, "it draws");
+    type("x");
+    want(comes(0, "as outside"), name, "the shell has the terminal as it was");
+    if (!strstr(bytes, "as outside")) return finish(shell);
+    size_t returned = (size_t)(strstr(bytes, "as outside") - bytes);
+    want(comes(returned, "the picture"), name, "a refresh brings the picture back");
+    type("\033OB");
+    want(comes(returned, "key 258."), name, "and the keys");
+    type("q");
+    want(WIFEXITED(status_of_program()), name, "it ends");
+    want(has_modes_again() && left_page(0), name, "the terminal is as before");
+    finish(shell);
+}
+
+static void fork_between(void) {
+    const char *name = "a child that exits";
+    pid_t shell = start(fork_and_exit);
+    want(comes(0, "the parent goes on"), name, "the parent goes on");
+    want(!left_page(0), name, "the child leaves the page to its parent");
+    type("x");
+    want(WIFEXITED(status_of_program()) && has_modes_again(), name, "the parent gives the terminal back");
+    finish(shell);
+}
+
+int main(void) {
+    unsetenv("LINES");
+    unsetenv("COLUMNS");
+    end_by("SIGINT", read_keys, "\003", SIGINT);
+    end_by("SIGTERM", read_keys, NULL, SIGTERM);
+    end_by("SIGQUIT", read_keys, "\034", SIGQUIT);
+    end_by("q", read_keys, "q", 0);
+    end_without_picture("exit", exit_early);
+    end_without_picture("delscreen", delete_screen);
+    end_without_picture("a first write that fails", fail_at_once);
+    stop_and_continue();
+    own_handlers(read_with_own_handlers, "handlers from before");
+    own_handlers(read_with_later_handlers, "handlers from later");
+    shell_between();
+    fork_between();
+    printf("signals: %d times wrong\n", wrong);
+    return wrong > 0;
+}
