@@ -34,9 +34,9 @@ static int pull(void) {
 }
 
 void curspan_forget_input(void) {
-    const char *delay = getenv("ESCDELAY");
+    int delay = curspan_number_in("ESCDELAY");
     memset(&queue, 0, sizeof queue);
-    if (delay && *delay >= '0' && *delay <= '9') set_escdelay(atoi(delay));
+    if (delay >= 0) set_escdelay(delay);
 }
 
 int ungetch(int key) {
@@ -63,13 +63,6 @@ int set_escdelay(int milliseconds) {
 
 /* ---- bytes */
 
-/* Draws all again where the program was stopped and goes on, and answers whether it was. */
-static bool redraw_after_stop(void) {
-    if (!curspan_was_stopped()) return false;
-    doupdate();
-    return true;
-}
-
 /* How many milliseconds have passed since some time. */
 static long since(const struct timespec *then) {
     struct timespec now;
@@ -83,7 +76,7 @@ static bool wait_for_input(int milliseconds) {
     struct timespec begun;
     int left = milliseconds, found;
     clock_gettime(CLOCK_MONOTONIC, &begun);
-    while ((found = poll(&input, 1, left)) < 0 && errno == EINTR && redraw_after_stop())
+    while ((found = poll(&input, 1, left)) < 0 && errno == EINTR && curspan_redraw_after_stop())
         if (milliseconds >= 0) left = since(&begun) < milliseconds ? milliseconds - (int)since(&begun) : 0;
     return found > 0;
 }
@@ -92,7 +85,7 @@ static bool wait_for_input(int milliseconds) {
 static int read_byte(void) {
     unsigned char byte;
     ssize_t count;
-    while ((count = read(curspan_terminal.in, &byte, 1)) < 0 && errno == EINTR && redraw_after_stop()) continue;
+    while ((count = read(curspan_terminal.in, &byte, 1)) < 0 && errno == EINTR && curspan_redraw_after_stop()) continue;
     return count == 1 ? byte : ERR;
 }
 
@@ -174,7 +167,7 @@ static int translated(int key) {
 
 int wgetch(WINDOW *win) {
     if (is_there(win) == ERR) return ERR;
-    redraw_after_stop();
+    curspan_redraw_after_stop();
     look_at_size();
     if (queue.keys > 0) {
         show(win);

@@ -16,10 +16,14 @@ struct line {
     bool echo;
 };
 
-/* Takes the last character away, and writes spaces over it, however many columns it has. */
+/* Whether a byte of UTF-8 goes on with a character. */
+static bool goes_on(char byte) { return (byte & 0xc0) == 0x80; }
+
+/* Takes the last character away, all its bytes, and writes spaces over it, however many columns it has. */
 static void rub_out(struct line *line) {
     if (line->length == 0) return;
-    line->text[--line->length] = 0;
+    while (--line->length > 0 && goes_on(line->text[line->length])) continue;
+    line->text[line->length] = 0;
     if (!line->echo) return;
     int y = getcury(line->win), x = getcurx(line->win);
     wmove(line->win, line->y, line->x);

@@ -102,6 +102,12 @@ int doupdate(void) {
     return answer;
 }
 
+bool curspan_redraw_after_stop(void) {
+    if (!curspan_was_stopped()) return false;
+    doupdate();
+    return true;
+}
+
 int curs_set(int visibility) {
     int before = curspan_visibility;
     if (!stdscr || visibility < 0 || visibility > 2) return ERR;

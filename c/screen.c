@@ -15,13 +15,18 @@ int LINES, COLS;
 int COLORS = 8, COLOR_PAIRS = LAST_PAIR + 1;
 curspan curspan_the_screen = CURSPAN_INIT;
 
-/* The size in a variable of the environment, or 0 where that is none. */
-static int size_in(const char *variable) {
+int curspan_number_in(const char *variable) {
     const char *text = getenv(variable);
     char *end;
-    if (!text || *text < '0' || *text > '9') return 0;
-    long size = strtol(text, &end, 10);
-    return *end == 0 && size <= CURSPAN_LARGEST_SCREEN ? (int)size : 0;
+    if (!text || *text < '0' || *text > '9') return ERR;
+    long number = strtol(text, &end, 10);
+    return *end == 0 && number <= 32767 ? (int)number : ERR;
+}
+
+/* The size in a variable of the environment, or 0 where that is none. */
+static int size_in(const char *variable) {
+    int size = curspan_number_in(variable);
+    return size == ERR || size > CURSPAN_LARGEST_SCREEN ? 0 : size;
 }
 
 /* The first of three sizes that is one. */
@@ -93,7 +98,7 @@ void delscreen(SCREEN *screen) {
 int napms(int milliseconds) {
     struct timespec rest = {milliseconds / 1000, milliseconds % 1000 * 1000000L};
     if (milliseconds < 0) return ERR;
-    while (nanosleep(&rest, &rest) != 0 && errno == EINTR) continue;
+    while (nanosleep(&rest, &rest) != 0 && errno == EINTR) curspan_redraw_after_stop();
     return OK;
 }
 

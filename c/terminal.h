@@ -28,6 +28,8 @@ extern struct curspan_terminal curspan_terminal;
 
 /* Writes all of a text. A handler of signals may call it. */
 int curspan_put_text(const char *text);
+/* Draws all again where the program was stopped and goes on, and answers whether it was. */
+bool curspan_redraw_after_stop(void);
 /* Switches the sequences of the keypad on or off. */
 int curspan_switch_keypad(bool flag);
 /* Leaves the terminal's other page and its keypad, with the modes as they were before. A handler of signals may call it. */
@@ -79,6 +81,8 @@ void curspan_resize_to_terminal(void);
 
 /* ---- screen.c */
 
+/* The number in a variable of the environment, or ERR where there is none, or one past 32767. */
+int curspan_number_in(const char *variable);
 /* The size that the environment asks for, else that of the terminal, else 24 by 80. */
 void curspan_find_size(int *lines, int *columns);
 /* Takes a new size over into what endwin writes. */

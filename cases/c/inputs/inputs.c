@@ -170,6 +170,15 @@ static void size_is(const char *lines, const char *columns, int wanted_lines, in
     delscreen(screen);
 }
 
+static void delay_is(const char *delay, int wanted) {
+    ESCDELAY = 1000;
+    setenv("ESCDELAY", delay, 1);
+    SCREEN *screen = newterm("xterm", fopen("/dev/null", "w"), stdin);
+    want(screen && ESCDELAY == wanted, "the time for an escape is that of the environment, or 1000");
+    delscreen(screen);
+    unsetenv("ESCDELAY");
+}
+
 int main(void) {
     read_pipe();
     read_file();
@@ -183,6 +192,11 @@ int main(void) {
     size_is("7x", "", 24, 80);
     size_is(" 9", "+9", 24, 80);
     size_is("999", "1000", 999, 80);
+    delay_is("25", 25);
+    delay_is("0", 0);
+    delay_is("-1", 1000);
+    delay_is("9999999999999", 1000);
+    want(set_escdelay(-1) == ERR && set_escdelay(7) == OK && ESCDELAY == 7, "a time is not negative");
     printf("inputs: %d times wrong\n", wrong);
     return wrong > 0;
 }
