@@ -40,10 +40,10 @@ use Rattle.desk.specs.declared.screen.RunEnd.{RunEnd}
 use Rattle.desk.specs.declared.screen.Fault.{Fault}
 use Rattle.desk.specs.declared.screen.Fault.TheVariants.{Refused, Write}
 
-abbrev after_update_panels : World → World
+abbrev pub after_update_panels : World → World
 after_update_panels w = world_after w (calls.Refresh UpdatePanels)
 
-abbrev after_doupdate : World → World
+abbrev pub after_doupdate : World → World
 after_doupdate w = world_after w (calls.Refresh Doupdate)
 
 -- ---- sizes
@@ -186,6 +186,11 @@ shows-world w = record {
   rendition = refl;
 }
 
+-- and so it is where these two calls were the last
+pub shows-shown : (s : State) (e : EndsShown s) → ShowsWorld s.world (showing (wanted (after_update_panels e.before)).picture (wanted (after_update_panels e.before)).cursor)
+shows-shown s e =
+    subst (λ w. ShowsWorld w (showing (wanted (after_update_panels e.before)).picture (wanted (after_update_panels e.before)).cursor)) (sym e.world_is) (shows-world e.before)
+
 -- ---- the theorem of the screen
 
 pub screen-size : {W : Type 0} (s : ScreenOver W) → HasOneSize s.desk s.painter → HasScreenSize s.desk.windows.lines s.desk.windows.columns (state_of s)
@@ -212,10 +217,6 @@ module _ {W : Type 0} (seen : W → Seen) (old at_stop new : ScreenOver W) (cs m
       (subst (λ l. VirtualIsKnown (state_at_end (state_of old) l outcomes)) (sym ends.1)
       (virtual-known (state_of old) ends.0 outcomes (subst (λ l. Run (state_of old) l outcomes) ends.1 makes.run)))
 
-  shows-after : (e : EndsShown (state_of at_stop)) → ShowsWorld (world at_stop.desk) (showing (wanted (after_update_panels e.before)).picture (wanted (after_update_panels e.before)).cursor)
-  shows-after e =
-      subst (λ w. ShowsWorld w (showing (wanted (after_update_panels e.before)).picture (wanted (after_update_panels e.before)).cursor)) (sym e.world_is) (shows-world e.before)
-
   leads-stop : old.painter.last ≡ None → (t : Terminal) → HasSize old.desk.windows.lines old.desk.windows.columns t.picture
       → LeadsOn old.desk.windows.lines old.desk.windows.columns at_stop.painter (all_sent outcomes) t
   leads-stop nothing t fits = grind (arith, leads-run, screen-size)
@@ -237,14 +238,14 @@ module _ {W : Type 0} (seen : W → Seen) (old at_stop new : ScreenOver W) (cs m
   shows-whole ends stream t fits h =
       let e = ended ends in
       let shown = wanted (after_update_panels e.before) in
-      (showing shown.picture shown.cursor, shows-last shown e.last_is stream t fits h, shows-after e)
+      (showing shown.picture shown.cursor, shows-last shown e.last_is stream t fits h, shows-shown (state_of at_stop) e)
 
   shows-whole_on_any : EndsInUpdate made → old.painter.last ≡ None → (t : Terminal) → HasSize old.desk.windows.lines old.desk.windows.columns t.picture
       → (u : Terminal) × Leads (all_sent outcomes) t u × ShowsWorld (world at_stop.desk) u
   shows-whole_on_any ends nothing t fits =
       let e = ended ends in
       let shown = wanted (after_update_panels e.before) in
-      (showing shown.picture shown.cursor, shows-last_on_any shown e.last_is nothing t fits, shows-after e)
+      (showing shown.picture shown.cursor, shows-last_on_any shown e.last_is nothing t fits, shows-shown (state_of at_stop) e)
 
   pub shows-unbroken : cs ≡ made → new ≡ at_stop → RunShows seen old new cs None
   shows-unbroken whole same = subst (λ s. RunShows seen old s cs None) (sym same) (record {

@@ -4,5 +4,6 @@ pub mod Reads
 pub mod Ends
 pub mod Showing
 pub mod Methods
+pub mod Histories
 pub mod ScriptEnds
 pub mod steps

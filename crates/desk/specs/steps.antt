@@ -1,3 +1,4 @@
 pub mod Answers
 pub mod Quiet
 pub mod AnswerLaws
+pub mod Counting

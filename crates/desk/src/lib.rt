@@ -2,17 +2,20 @@
 //! send and log.
 //!
 //! - `changing`: in which columns a call may change the virtual screen
+//! - `history`: a list of calls that are all made, whatever becomes of the writes
 //! - `run_script`: the calls of a script, with their log
 //! - `screen`: the `Screen`: calls and runs
 #![tactic(auto)]
 
 mod changing;
+mod history;
 mod run_script;
 mod screen;
 
 pub use calls::{Answer, Calls};
 pub use cell::{Attr, Cell, Refusal, VirtualScreen, WinId};
 pub use compose::Desk;
+pub use history::RunAllEnd;
 pub use screen::{Fault, RunEnd, Screen};
 pub use script::{ScriptEnd, ScriptFault, TextFault};
 pub use streams::{Counted, CountedReader, Sent, Sink, Source, WriteFault};

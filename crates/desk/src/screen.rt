@@ -241,7 +241,7 @@ impl<W: Sink> Calls for Screen<W> {
 }
 
 /// How many cells an answer says were read.
-fn cells_of(reply: Reply) -> u32
+pub(crate) fn cells_of(reply: Reply) -> u32
     ensures { result ≡ cells_of_reply reply }
 {
     match reply {

@@ -27,13 +27,14 @@ impl Read for Pieces<'_> {
 }
 
 /// A writer that takes at most `step` bytes a call. Once, where it has taken `stop` bytes, its next write fails or takes none, or its
-/// next flush fails. One that is stuck can't be flushed. It counts its writes.
+/// next flush fails; and once more `again` bytes after that. One that is stuck can't be flushed. It counts its writes.
 #[derive(Drop)]
 pub struct Halting {
     pub taken: Vec<u8>,
     pub writes: u32,
     step: usize,
     stop: Option<usize>,
+    again: Option<usize>,
     fails: bool,
     is_stuck: bool,
 }
@@ -46,6 +47,7 @@ impl Halting {
             writes: 0,
             step,
             stop: None,
+            again: None,
             fails: false,
             is_stuck,
         }
@@ -58,9 +60,26 @@ impl Halting {
             writes: 0,
             step: usize::MAX,
             stop: Some(stop),
+            again: None,
             fails,
             is_stuck: false,
         }
+    }
+
+    /// A writer that fails where it has taken so many bytes, and once more so many after that.
+    pub fn twice(alloc: Global, stop: usize, again: usize) -> Halting {
+        let mut writer = Halting::until(alloc, stop, true);
+        writer.again = Some(again);
+        writer
+    }
+
+    /// It has stopped.
+    fn go_on(&mut self) {
+        self.stop = match self.again {
+            Some(again) => Some(self.taken.len().saturating_add(again)),
+            None => None,
+        };
+        self.again = None;
     }
 }
 
@@ -71,7 +90,7 @@ impl Write for Halting {
         if let Some(stop) = self.stop {
             let room = stop.saturating_sub(self.taken.len());
             if room == 0 {
-                self.stop = None;
+                self.go_on();
                 if self.fails {
                     return Err(io::Error::from(ErrorKind::Other));
                 }
@@ -85,7 +104,7 @@ impl Write for Halting {
 
     fn flush(&mut self) -> io::Result<()> {
         if self.is_stuck || (self.fails && self.stop == Some(self.taken.len())) {
-            self.stop = None;
+            self.go_on();
             return Err(io::Error::from(ErrorKind::Other));
         }
         Ok(())

@@ -1,11 +1,10 @@
 //! Runs of calls, methods, and writers that fail.
 
-use crate::screens::{HI, SHOW, Tried, UPDATE, addstr, call, run, screen, stream};
-use cell::{Attr, Rendition};
+use crate::screens::{HI, SHOW, Tried, UPDATE, addstr, call, is_shown, run, screen, stream};
+use cell::Attr;
 use desk::{
     Call, Calls, Counted, Fault, PanelId, Refusal, RunEnd, Screen, VirtualScreen, WinId, WriteFault,
 };
-use ecma::Terminal;
 use faulty::Halting;
 use std::alloc::Global;
 use std::test::Fail;
@@ -65,37 +64,6 @@ fn a_run_goes_on_after_one_that_a_failed_write_ended(rt: HostRuntime) -> Result<
     assert!(rt; (second.done, second.refused, second.fault) == (3, 0, None));
     assert_eq!(rt; stream.len(), 5 + 17);
     Ok(())
-}
-
-/// Whether a terminal that reads a stream shows a text in its corner, nothing else, and the cursor after it.
-fn shows(terminal: &mut Terminal, stream: &[u8], text: &[u8]) -> bool {
-    let fed = terminal.feed(stream);
-    let mut rest = text;
-    for y in 0..terminal.lines() {
-        for cell in terminal.row(y) {
-            match rest.split_first() {
-                Some((ch, left)) if cell.ch() == *ch => rest = left,
-                None if cell.ch() == b' ' => {}
-                _ => return false,
-            }
-        }
-    }
-    fed.is_ok()
-        && is_after(text, terminal.cursor())
-        && terminal.rendition() == Rendition::NONE
-}
-
-/// Whether the cursor is known to be after a text in the first line.
-fn is_after(text: &[u8], cursor: Option<(u16, u16)>) -> bool {
-    match cursor {
-        Some((y, x)) => y == 0 && usize::from(x) == text.len(),
-        None => false,
-    }
-}
-
-fn is_shown(alloc: Global, stream: &[u8], text: &[u8]) -> Result<bool, Refusal> {
-    let mut terminal = Terminal::new(alloc, 4, 10)?;
-    Ok(shows(&mut terminal, stream, text))
 }
 
 /// Whether a run ends at a write that fails after so many bytes of its last text, once the writer has taken `stop`, and the next

@@ -1,0 +1,258 @@
+-- Histories: what terminals show after one, and how one goes on by a call.
+use Rattle.std.proofs.Common.{arith, ◌≡◌, ◌<◌, ℕ, ◌+◌, List, [], ◌∷◌, ◌++◌, Option, None, Some, Result, Ok}
+use Rattle.std.proofs.Common.{Err, length, take, get_or, cond, is_ok, is_some, refl, sym, ap, ◌∙◌, subst, append_assoc, append-nil}
+use Rattle.std.specs.Prelude.{⊤, MatchOption, if◌then◌else◌}
+use Rattle.std.proofs.KnownBytes.{Appends-nil, Appends-trans}
+use Rattle.std.proofs.lemmas.List.{take_more}
+use Rattle.std.proofs.lemmas.List.Sums.{sum_by_push}
+use Rattle.std.specs.Io.KnownBytes.{Appends}
+use Rattle.cell.specs.Pictures.{HasSize}
+use Rattle.ecma.specs.Terminals.{Terminal}
+use Rattle.ecma.specs.Streams.{LeadsWithBreaks, showing}
+use Rattle.streams.specs.Sinks.{Seen}
+use Rattle.streams.specs.declared.sending.WriteFault.{WriteFault}
+use Rattle.paint.specs.Updates.{Agrees, ShownPicture}
+use Rattle.paint.proofs.Repair.{Agrees-unknown, nothing-in_profile}
+use Rattle.world.specs.calls.Dispatch.{is_doupdate}
+use Rattle.world.specs.declared.call.Call.{Call}
+use Rattle.world.specs.declared.call.Call.TheVariants.{Refresh}
+use Rattle.world.specs.declared.call.Refresh.TheVariants.{Doupdate, UpdatePanels}
+use Rattle.world.specs.declared.call.Reply.{Reply}
+use Rattle.compose.specs.Desks.{world}
+use Rattle.desk.specs.States.{KeepsSize, ScreenOver, state_of, wanted}
+use Rattle.desk.specs.Ends.{CallEnds, cut_of}
+use Rattle.desk.specs.Methods.{CallMade}
+use Rattle.desk.specs.Showing.{EndsInDoupdate, EndsInUpdate, ShowsWorld}
+use Rattle.desk.specs.Histories.{AreMade, HistoryEnds, HistoryShows, RunsAll, Step, calls_in, cells_in}
+use Rattle.desk.specs.Histories.{fault_after, is_cut, is_done, is_refused, last_fault, refuses, screen_after}
+use Rattle.desk.specs.steps.Counting.{counted}
+use Rattle.desk.specs.declared.screen.Fault.{Fault}
+use Rattle.desk.specs.declared.screen.Fault.TheVariants.{Refused, Write}
+use Rattle.desk.specs.declared.history.RunAllEnd.{RunAllEnd}
+use Rattle.desk.proofs.ShowingLemmas.{EndsShown, VirtualIsKnown, after_update_panels, shows-shown, then-keeps_size}
+use Rattle.desk.proofs.WriterLemmas.{never-refused}
+
+-- ---- the last calls of a history
+
+-- a history that ends in one more call
+pub record SplitsLast {W : Type 0} (steps : List (Step W)) (calls : List Call) (call : Call) : Type 0 where
+  pub front : List (Step W)
+  pub last : Step W
+  pub parts : steps ≡ front ++ last ∷ []
+  pub calls_are : calls_in front ≡ calls
+  pub call_is : last.call ≡ call
+
+split-last : {W : Type 0} (steps : List (Step W)) (calls : List Call) (call : Call) → calls_in steps ≡ calls ++ call ∷ [] → SplitsLast steps calls call
+split-last [] [] call h = cc
+split-last [] (c ∷ cs) call h = cc
+split-last (step ∷ []) [] call h = record { front = []; last = step; parts = refl; calls_are = refl; call_is = cc }
+split-last (step ∷ next ∷ steps) [] call h = cc
+split-last (step ∷ steps) (c ∷ cs) call h =
+    let tail : calls_in steps ≡ cs ++ call ∷ [] = cc in
+    let head : step.call ≡ c = cc in
+    let rest = split-last steps cs call tail in
+    record {
+      front = step ∷ rest.front;
+      last = rest.last;
+      parts = ap (λ s. step ∷ s) rest.parts;
+      calls_are = λ i.
+          head i ∷ rest.calls_are i;
+      call_is = rest.call_is;
+    }
+
+fault-after_one : {W : Type 0} (fault : Option WriteFault) (steps : List (Step W)) (step : Step W)
+    → fault_after fault (steps ++ step ∷ []) ≡ (if is_doupdate step.call then cut_of step.end else fault_after fault steps)
+fault-after_one fault [] step = refl
+fault-after_one fault (s ∷ ss) step = fault-after_one (if is_doupdate s.call then cut_of s.end else fault) ss step
+
+screen-after_one : {W : Type 0} (screen : ScreenOver W) (steps : List (Step W)) (step : Step W) → screen_after screen (steps ++ step ∷ []) ≡ step.screen
+screen-after_one screen [] step = refl
+screen-after_one screen (s ∷ ss) step = screen-after_one s.screen ss step
+
+calls-with_one : {W : Type 0} (steps : List (Step W)) (step : Step W) → calls_in (steps ++ step ∷ []) ≡ calls_in steps ++ step.call ∷ []
+calls-with_one [] step = refl
+calls-with_one (s ∷ ss) step = ap (λ cs. s.call ∷ cs) (calls-with_one ss step)
+
+module _ {W : Type 0} (seen : W → Seen) (name : W → ℕ) where
+  made-front : (screen : ScreenOver W) (steps rest : List (Step W)) → AreMade seen name screen (steps ++ rest) → AreMade seen name screen steps
+  made-front screen [] rest made = tt
+  made-front screen (s ∷ ss) rest made = (made.0, made-front s.screen ss rest made.1)
+
+  made-last : (screen : ScreenOver W) (steps : List (Step W)) (step : Step W) → AreMade seen name screen (steps ++ step ∷ [])
+      → CallMade seen name (screen_after screen steps) step.call step.end step.screen
+  made-last screen [] step made = made.0
+  made-last screen (s ∷ ss) step made = made-last s.screen ss step made.1
+
+  made-with_one : (screen : ScreenOver W) (steps : List (Step W)) (step : Step W) → AreMade seen name screen steps
+      → CallMade seen name (screen_after screen steps) step.call step.end step.screen → AreMade seen name screen (steps ++ step ∷ [])
+  made-with_one screen [] step made last = (last, tt)
+  made-with_one screen (s ∷ ss) step made last = (made.0, made-with_one s.screen ss step made.1 last)
+
+  -- ---- all that was sent agrees with the painter
+
+  pub record Agreed (old new : ScreenOver W) : Type 0 where
+    pub bytes : List ℕ
+    pub taken : Appends (seen old.writer).taken (seen new.writer).taken bytes
+    pub agrees : (stream : List ℕ) (t : Terminal) → HasSize old.desk.windows.lines old.desk.windows.columns t.picture
+        → Agrees old.painter stream t → Agrees new.painter (stream ++ bytes) t
+    pub size : KeepsSize old.desk new.desk
+
+  agreed-nothing : (old : ScreenOver W) → Agreed old old
+  agreed-nothing old = record {
+    bytes = [];
+    taken = Appends-nil _;
+    agrees = λ stream t fits h. rw append-nil h;
+    size = record { lines = refl; columns = refl };
+  }
+
+  agreed-call : (old new : ScreenOver W) (call : Call) (end : Result Reply Fault) → CallMade seen name old call end new → Agreed old new
+  agreed-call old new call end made = record { bytes = made.shown.bytes; taken = made.shown.taken; agrees = made.shown.agrees; size = made.size }
+
+  agreed-then : (old mid new : ScreenOver W) → Agreed old mid → Agreed mid new → Agreed old new
+  agreed-then old mid new first next = record {
+    bytes = first.bytes ++ next.bytes;
+    taken = Appends-trans _ _ _ _ _ first.taken next.taken;
+    agrees = λ stream t fits h.
+        subst (λ bytes. Agrees new.painter bytes t) (append_assoc stream first.bytes next.bytes)
+        (next.agrees (stream ++ first.bytes) t (rw (first.size.lines, first.size.columns) fits) (first.agrees stream t fits h));
+    size = then-keeps_size old.desk mid.desk new.desk first.size next.size;
+  }
+
+  agreed : (old : ScreenOver W) (steps : List (Step W)) → AreMade seen name old steps → Agreed old (screen_after old steps)
+  agreed old [] made = agreed-nothing old
+  agreed old (step ∷ steps) made =
+      agreed-then old step.screen (screen_after step.screen steps) (agreed-call old step.screen step.call step.end made.0) (agreed step.screen steps made.1)
+
+  -- ---- a doupdate that succeeded
+
+  known-after : (mid new : ScreenOver W) (end : Result Reply Fault) → CallEnds seen mid (Refresh Doupdate) end new → cut_of end ≡ None
+      → VirtualIsKnown (state_of new)
+  known-after mid new (Ok reply) h whole = grind arith
+  known-after mid new (Err (Refused e)) h whole = absurd (never-refused (world mid.desk) Doupdate e refl refl h.0)
+  known-after mid new (Err (Write fault)) h whole = cc
+
+  shown-after : (first mid new : ScreenOver W) (one other : Result Reply Fault) → CallEnds seen first (Refresh UpdatePanels) one mid
+      → CallEnds seen mid (Refresh Doupdate) other new
+      → cut_of other ≡ None → EndsShown (state_of new)
+  shown-after first mid new (Ok one) (Ok other) h k whole = record { before = world first.desk; world_is = grind arith; last_is = grind arith }
+  shown-after first mid new (Err (Refused e)) other h k whole = absurd (never-refused (world first.desk) UpdatePanels e refl refl h.0)
+  shown-after first mid new (Err (Write fault)) other h k whole = cc
+  shown-after first mid new one (Err (Refused e)) h k whole = absurd (never-refused (world mid.desk) Doupdate e refl refl k.0)
+  shown-after first mid new one (Err (Write fault)) h k whole = cc
+
+  known-split : (old : ScreenOver W) (front : List (Step W)) (last : Step W) → AreMade seen name old (front ++ last ∷ []) → last.call ≡ Refresh Doupdate
+      → last_fault (front ++ last ∷ []) ≡ None → VirtualIsKnown (state_of (screen_after old (front ++ last ∷ [])))
+  known-split old front last made is none =
+      let ends = made-last old front last made in
+      subst (λ s. VirtualIsKnown (state_of s)) (sym (screen-after_one old front last))
+      (known-after (screen_after old front) last.screen last.end (subst (λ c. CallEnds seen (screen_after old front) c last.end last.screen) is ends.ends)
+      (sym (fault-after_one None front last ∙ ap (λ c. if is_doupdate c then cut_of last.end else last_fault front) is) ∙ none))
+
+  known : (old : ScreenOver W) (steps : List (Step W)) → AreMade seen name old steps → EndsInDoupdate (calls_in steps) → last_fault steps ≡ None
+      → VirtualIsKnown (state_of (screen_after old steps))
+  known old steps made ends none =
+      let split = split-last steps ends.0 (Refresh Doupdate) ends.1 in
+      subst (λ s. AreMade seen name old s → last_fault s ≡ None → VirtualIsKnown (state_of (screen_after old s))) (sym split.parts)
+      (λ made none. known-split old split.front split.last made split.call_is none) made none
+
+  shown-split : (old : ScreenOver W) (front : List (Step W)) (one last : Step W) → AreMade seen name old ((front ++ one ∷ []) ++ last ∷ [])
+      → one.call ≡ Refresh UpdatePanels
+      → last.call ≡ Refresh Doupdate → last_fault ((front ++ one ∷ []) ++ last ∷ []) ≡ None
+      → EndsShown (state_of (screen_after old ((front ++ one ∷ []) ++ last ∷ [])))
+  shown-split old front one last made is_one is none =
+      let before = front ++ one ∷ [] in
+      let first = made-last old front one (made-front old before (last ∷ []) made) in
+      let second = made-last old before last made in
+      subst (λ s. EndsShown (state_of s)) (sym (screen-after_one old before last))
+      (shown-after (screen_after old front) one.screen last.screen one.end last.end
+      (subst (λ c. CallEnds seen (screen_after old front) c one.end one.screen) is_one first.ends)
+      (subst (λ s. CallEnds seen s (Refresh Doupdate) last.end last.screen) (screen-after_one old front one)
+      (subst (λ c. CallEnds seen (screen_after old before) c last.end last.screen) is second.ends))
+      (sym (fault-after_one None before last ∙ ap (λ c. if is_doupdate c then cut_of last.end else last_fault before) is) ∙ none))
+
+  shown : (old : ScreenOver W) (steps : List (Step W)) → AreMade seen name old steps → EndsInUpdate (calls_in steps) → last_fault steps ≡ None
+      → EndsShown (state_of (screen_after old steps))
+  shown old steps made ends none =
+      let split = split-last steps (ends.0 ++ Refresh UpdatePanels ∷ []) (Refresh Doupdate) (ends.1
+      ∙ sym (append_assoc ends.0 (Refresh UpdatePanels ∷ []) (Refresh Doupdate ∷ []))) in
+      let before = split-last split.front ends.0 (Refresh UpdatePanels) split.calls_are in
+      subst (λ s. AreMade seen name old s → last_fault s ≡ None → EndsShown (state_of (screen_after old s)))
+      (sym (split.parts ∙ ap (λ s. s ++ split.last ∷ []) before.parts))
+      (λ made none. shown-split old before.front before.last split.last made before.call_is split.call_is none) made none
+
+  -- ---- the theorem
+
+  shows-last : (new : ScreenOver W) (shown : ShownPicture) → new.painter.last ≡ Some shown → (stream : List ℕ) (t : Terminal) → Agrees new.painter stream t
+      → LeadsWithBreaks stream t (showing shown.picture shown.cursor)
+  shows-last new shown last stream t h =
+      subst (λ o. MatchOption o ⊤ (λ shown. LeadsWithBreaks stream t (showing shown.picture shown.cursor))) last h.leads
+
+  shows-whole : (new : ScreenOver W) → EndsShown (state_of new) → (stream : List ℕ) (t : Terminal) → Agrees new.painter stream t
+      → (u : Terminal) × LeadsWithBreaks stream t u × ShowsWorld (world new.desk) u
+  shows-whole new e stream t h =
+      let wanted = wanted (after_update_panels e.before) in
+      (showing wanted.picture wanted.cursor, shows-last new wanted e.last_is stream t h, shows-shown (state_of new) e)
+
+  pub history-shows : (old : ScreenOver W) (steps : List (Step W)) → AreMade seen name old steps
+      → HistoryShows seen old (screen_after old steps) (calls_in steps) (last_fault steps)
+  history-shows old steps made =
+      let new = screen_after old steps in
+      let a = agreed old steps made in
+      let from_nothing : old.painter.last ≡ None → (t : Terminal) → HasSize old.desk.windows.lines old.desk.windows.columns t.picture
+      → Agrees new.painter a.bytes t =
+      λ nothing t fits. a.agrees [] t fits (Agrees-unknown old.painter nothing [] t t (nothing-in_profile t)) in
+      record {
+        bytes = a.bytes;
+        taken = a.taken;
+        agrees = a.agrees;
+        shows_virtual = λ ends none stream t fits h.
+            shows-last new (wanted (world new.desk)) (known old steps made ends none) (stream ++ a.bytes) t (a.agrees stream t fits h);
+        shows_virtual_on_any = λ ends none nothing t fits.
+            shows-last new (wanted (world new.desk)) (known old steps made ends none) a.bytes t (from_nothing nothing t fits);
+        shows = λ ends none stream t fits h. shows-whole new (shown old steps made ends none) (stream ++ a.bytes) t (a.agrees stream t fits h);
+        shows_on_any = λ ends none nothing t fits. shows-whole new (shown old steps made ends none) a.bytes t (from_nothing nothing t fits);
+      }
+
+  -- ---- a list of calls that are all made
+
+  pub all-shown : {old new : ScreenOver W} {calls : List Call} {end : RunAllEnd} → RunsAll seen name old calls end new
+      → HistoryShows seen old new calls end.fault
+  all-shown {old} run =
+      subst (λ (p : ScreenOver W × List Call × Option WriteFault). HistoryShows seen old p.0 p.1 p.2) (λ i. (run.left i, run.calls_are i, sym run.fault i))
+      (history-shows old run.steps run.made)
+
+  pub history-ends : {old new : ScreenOver W} {calls : List Call} {end : RunAllEnd} → RunsAll seen name old calls end new
+      → HistoryEnds seen name old calls end new
+  history-ends {old} run = record {
+    run = run;
+    shown = λ first rest parts. history-shows old first (made-front old first rest (subst (AreMade seen name old) parts run.made));
+  }
+
+  -- the size stays
+  pub history-keeps_size : {old new : ScreenOver W} {calls : List Call} {end : RunAllEnd} → RunsAll seen name old calls end new → KeepsSize old.desk new.desk
+  history-keeps_size {old} run = subst (λ (s : ScreenOver W). KeepsSize old.desk s.desk) run.left (agreed old run.steps run.made).size
+
+  pub one-more : (old mid new : ScreenOver W) (calls : List Call) (i : ℕ) (call : Call) (end : Result Reply Fault) (before : RunAllEnd)
+      → RunsAll seen name old (take i calls) before mid
+      → i < length calls → CallMade seen name mid (get_or calls i call) end new
+      → RunsAll seen name old (take (i + 1) calls) (counted before (get_or calls i call) end) new
+  one-more old mid new calls i call end before run h made =
+      let step : Step W = record { call = get_or calls i call; end = end; screen = new } in
+      record {
+        steps = run.steps ++ step ∷ [];
+        calls_are = calls-with_one run.steps step ∙ ap (λ cs. cs ++ step.call ∷ []) run.calls_are ∙ sym (take_more calls i call h);
+        made = made-with_one old run.steps step run.made (subst (λ s. CallMade seen name s step.call end new) (sym run.left) made);
+        left = screen-after_one old run.steps step;
+        done = ap (λ n. n + cond (is_ok end) 1 0) run.done ∙ sym (sum_by_push (λ (s : Step W). cond (is_done s) 1 0) run.steps step);
+        refused = ap (λ n. n + cond (is_refused step) 1 0) run.refused ∙ sym (sum_by_push (λ (s : Step W). cond (is_refused s) 1 0) run.steps step);
+        failed = ap (λ n. n + cond (is_cut step) 1 0) run.failed ∙ sym (sum_by_push (λ (s : Step W). cond (is_cut s) 1 0) run.steps step);
+        composed = ap (λ n. n + cells_in step) run.composed ∙ sym (sum_by_push cells_in run.steps step);
+        fault = ap (λ f. if is_doupdate step.call then cut_of end else f) run.fault ∙ sym (fault-after_one None run.steps step);
+      }
+
+-- a call is accepted or refused, or it is cut short
+pub counted-once : (done refused failed i : ℕ) (end : Result Reply Fault) → done + refused + failed ≡ i
+    → done + cond (is_ok end) 1 0 + (refused + cond (refuses end) 1 0) + (failed + cond (is_some (cut_of end)) 1 0) ≡ i + 1
+counted-once done refused failed i (Ok reply) h = omega arith
+counted-once done refused failed i (Err (Refused e)) h = omega arith
+counted-once done refused failed i (Err (Write fault)) h = omega arith
