@@ -1,12 +1,7 @@
-/* Attributes, colours and backgrounds. Nothing here is proved. */
+/* Attributes and backgrounds. Nothing here is proved. */
 #include "inside.h"
 
 #include <stddef.h>
-#include <string.h>
-
-static short colours[LAST_PAIR + 1][2];
-
-void curspan_forget_colours(void) { memset(colours, 0, sizeof colours); }
 
 static uint8_t bits_of(chtype ch) { return (uint8_t)(ch >> 8 & 0xff); }
 
@@ -14,6 +9,7 @@ int wattrset(WINDOW *win, int attrs) {
     attr_t wanted = (attr_t)attrs & A_ATTRIBUTES;
     if (is_there(win) == ERR || PAIR_NUMBER(wanted) > LAST_PAIR) return ERR;
     win->attrs = wanted;
+    curspan_set_limit(win);
     return OK;
 }
 
@@ -42,25 +38,37 @@ int wattr_get(WINDOW *win, attr_t *attrs, short *pair, void *none) {
 
 int wcolor_set(WINDOW *win, short pair, void *none) { return is_there(win) == ERR ? ERR : wattr_set(win, win->attrs, pair, none); }
 
+static int set_pair(WINDOW *win, int pair) {
+    curspan_use_pair(pair);
+    return done(curspan_wcolor_set(SCREEN_AND(win), (uint16_t)pair));
+}
+
 int curspan_tell_other(WINDOW *win, attr_t attrs) {
     attr_t changed = win->given ^ attrs;
     if (changed & ~A_COLOR && done(curspan_wattrset(SCREEN_AND(win), bits_of(attrs))) == ERR) return ERR;
-    if (changed & A_COLOR && done(curspan_wcolor_set(SCREEN_AND(win), (uint16_t)PAIR_NUMBER(attrs))) == ERR) return ERR;
+    if (changed & A_COLOR && set_pair(win, PAIR_NUMBER(attrs)) == ERR) return ERR;
     win->given = attrs;
+    curspan_set_limit(win);
     return OK;
 }
 
+/* ---- backgrounds */
+
 int curspan_set_background(WINDOW *win, chtype ch) {
     if (done(curspan_wbkgdset(SCREEN_AND(win), bits_of(ch), (uint8_t)(ch & A_CHARTEXT))) == ERR) return ERR;
+    curspan_use_pair(PAIR_NUMBER(ch));
     return done(curspan_wbkgdpair(SCREEN_AND(win), (uint16_t)PAIR_NUMBER(ch)));
 }
 
+/* A background's character, where it has one, and else the space. */
+static chtype with_character(chtype ch) { return ch & A_CHARTEXT ? ch : ch | ' '; }
+
 int curspan_change_background(WINDOW *win, chtype ch) {
-    if (is_there(win) == ERR || PAIR_NUMBER(ch) > LAST_PAIR) return ERR;
-    if (!(ch & A_CHARTEXT)) ch |= ' ';
-    if (curspan_set_background(win, ch) == ERR) return ERR;
+    chtype background = with_character(ch);
+    if (is_there(win) == ERR || PAIR_NUMBER(ch) > LAST_PAIR || curspan_set_background(win, background) == ERR) return ERR;
     win->attrs = curspan_with(without(win->attrs, win->background & A_ATTRIBUTES), ch & A_ATTRIBUTES);
-    win->background = ch;
+    win->background = background;
+    curspan_set_limit(win);
     return OK;
 }
 
@@ -68,21 +76,23 @@ void wbkgdset(WINDOW *win, chtype ch) { (void)curspan_change_background(win, ch)
 
 chtype getbkgd(WINDOW *win) { return is_there(win) == ERR ? (chtype)ERR : win->background; }
 
-int start_color(void) { return stdscr ? OK : ERR; }
-bool has_colors(void) { return stdscr != NULL; }
-bool can_change_color(void) { return false; }
-
-int init_pair(short pair, short foreground, short background) {
-    if (!are_numbers(pair, foreground, background, 0)) return ERR;
-    if (done(curspan_init_pair(&curspan_the_screen, (uint16_t)pair, (uint16_t)foreground, (uint16_t)background)) == ERR) return ERR;
-    colours[pair][0] = foreground;
-    colours[pair][1] = background;
-    return OK;
+/* A cell under another background. One of a pair of its own, that isn't the former background's, keeps it. */
+static chtype on_other(chtype cell, chtype old, chtype new) {
+    chtype text = (cell & A_CHARTEXT) == (old & A_CHARTEXT) ? new & A_CHARTEXT : cell & A_CHARTEXT;
+    bool keeps_pair = cell & A_COLOR && (cell & A_COLOR) != (old & A_COLOR);
+    return text | ((keeps_pair ? cell : new) & A_COLOR) | (((cell & ~old) | new) & A_ATTRIBUTES & ~A_COLOR);
 }
 
-int pair_content(short pair, short *foreground, short *background) {
-    if (!stdscr || pair < 1 || pair > LAST_PAIR || !foreground || !background) return ERR;
-    *foreground = colours[pair][0];
-    *background = colours[pair][1];
+int wbkgd(WINDOW *win, chtype ch) {
+    chtype cells[LONGEST];
+    if (is_there(win) == ERR) return ERR;
+    chtype old = win->background;
+    if (with_character(ch) == old) return OK;
+    if (curspan_change_background(win, ch) == ERR || wattrset(win, (int)(ch & A_ATTRIBUTES)) == ERR) return ERR;
+    for (int y = 0; y < (int)win->lines; y++) {
+        int count = curspan_read_cells(win, y, 0, cells, -1);
+        for (int i = 0; i < count; i++) cells[i] = on_other(cells[i], old, win->background);
+        if (curspan_put_cells(win, y, 0, cells, count) == ERR) return ERR;
+    }
     return OK;
 }

@@ -18,12 +18,12 @@ static int draw(WINDOW *win, int y, int x, int n, chtype ch, bool down) {
 
 int whline(WINDOW *win, chtype ch, int n) {
     int y = getcury(win), x = getcurx(win);
-    return y == ERR || n < 0 ? ERR : draw(win, y, x, least(n, getmaxx(win) - x), ch ? ch : ACS_HLINE, false);
+    return y == ERR ? ERR : draw(win, y, x, least(n, getmaxx(win) - x), ch ? ch : ACS_HLINE, false);
 }
 
 int wvline(WINDOW *win, chtype ch, int n) {
     int y = getcury(win), x = getcurx(win);
-    return y == ERR || n < 0 ? ERR : draw(win, y, x, least(n, getmaxy(win) - y), ch ? ch : ACS_VLINE, true);
+    return y == ERR ? ERR : draw(win, y, x, least(n, getmaxy(win) - y), ch ? ch : ACS_VLINE, true);
 }
 
 int wborder(WINDOW *win, chtype left, chtype right, chtype top, chtype bottom, chtype top_left, chtype top_right,
@@ -44,25 +44,7 @@ int wchgat(WINDOW *win, int n, attr_t attrs, short pair, const void *none) {
     chtype cells[LONGEST];
     int y = getcury(win), x = getcurx(win);
     if (y == ERR || none || pair < 0 || pair > LAST_PAIR) return ERR;
-    int count = curspan_read_cells(win, y, x, cells, n);
+    int count = n < -1 ? 0 : curspan_read_cells(win, y, x, cells, n);
     for (int i = 0; i < count; i++) cells[i] = (cells[i] & A_CHARTEXT) | (attrs & A_ATTRIBUTES & ~A_COLOR) | COLOR_PAIR(pair);
     return curspan_put_cells(win, y, x, cells, count);
-}
-
-int wbkgd(WINDOW *win, chtype ch) {
-    chtype cells[LONGEST];
-    if (is_there(win) == ERR) return ERR;
-    chtype old = win->background;
-    if (curspan_change_background(win, ch) == ERR) return ERR;
-    for (int y = 0; y < getmaxy(win); y++) {
-        int count = curspan_read_cells(win, y, 0, cells, -1);
-        for (int i = 0; i < count; i++) {
-            chtype text = (cells[i] & A_CHARTEXT) == (old & A_CHARTEXT) ? win->background & A_CHARTEXT : cells[i] & A_CHARTEXT;
-            chtype pair = (cells[i] & A_COLOR) == (old & A_COLOR) ? win->background & A_COLOR : cells[i] & A_COLOR;
-            chtype attrs = (cells[i] & ~old) | win->background;
-            cells[i] = text | pair | (attrs & A_ATTRIBUTES & ~A_COLOR);
-        }
-        if (curspan_put_cells(win, y, 0, cells, count) == ERR) return ERR;
-    }
-    return OK;
 }

@@ -4,12 +4,28 @@
 
 #include "curses.h"
 
+#include <limits.h>
+
 enum {
     MOST = 1001,     /* windows with the standard screen, and panels with none */
     NUMBER = 65535,  /* the greatest number that crosses to curspan.h */
     LAST_PAIR = 63,
     LONGEST = 1000   /* the longest line of a window or pad */
 };
+
+/* How far a window's cursor is known to be from its end; see `reach`. */
+enum {
+    NOT_READY = INT_MIN, /* a limit that nothing is under */
+    UNKNOWN = 1 << 28,
+    ENDLESS = 1 << 29,   /* the limit of a window that scrolls */
+    ENDED = 1 << 30      /* a character was written in the last place, and the cursor wasn't moved since */
+};
+
+/* The bytes of a character of which some are still to come, and where the cursor was. */
+typedef struct {
+    uint8_t bytes[6];
+    int count, y, x;
+} curspan_unfinished;
 
 /* What curspan.h doesn't tell back of a window, by its number. */
 struct curspan_window {
@@ -21,8 +37,15 @@ struct curspan_window {
     attr_t attrs; /* the attributes and the pair that the window has */
     attr_t given;  /* those that Curspan got last */
     chtype background;
+    unsigned lines, columns; /* 0 where it isn't there */
+    /* While `reach` is under `limit`, what is written next has the window's attributes, and at least a line less one of characters, and
+       `limit - reach` more, fit before the last place of a window that doesn't scroll. So a character adds one to it, and a move sets it to
+       the cursor's line. */
+    int reach, limit;
     int top, bottom; /* the scroll region */
+    curspan_unfinished begun;
     WINDOW *parent;
+    int begin_y, begin_x; /* of a pad, where on the screen copies take it to be */
     int part[6]; /* of a pad, which part of it was refreshed last, and to where */
 };
 
@@ -53,15 +76,44 @@ int curspan_tell_other(WINDOW *win, attr_t attrs);
 /* Says to Curspan with which attributes a window writes next. */
 static inline int curspan_tell(WINDOW *win, attr_t attrs) { return win->given == attrs ? OK : curspan_tell_other(win, attrs); }
 
+/* Sets the limit, after what it comes from has changed. */
+void curspan_set_limit(WINDOW *win);
+
+/* The same, and `reach` is known no more: the size, the scroll region or whether the window scrolls has changed. */
+static inline void curspan_set_end(WINDOW *win) {
+    if (win->reach != ENDED) win->reach = UNKNOWN;
+    curspan_set_limit(win);
+}
+
+/* Notes the size that a window has. */
+void curspan_measure(WINDOW *win);
+
+/* What a byte is drawn as, after those before it that begin a character: nothing where that isn't finished or has no width, the character
+   in ASCII, or how a byte that belongs to none is spelled. */
+typedef struct {
+    uint8_t text[3];
+    int count;
+    bool is_wide; /* the two stay on one line */
+} curspan_spelling;
+
+curspan_spelling curspan_spell_part(curspan_unfinished *begun, uint8_t byte);
+/* Says that a character is begun at the cursor, or that it was finished there. */
+void curspan_keep_begun(WINDOW *win, int y, int x);
+/* Forgets the character that is begun where the cursor was moved since. */
+void curspan_check_begun(WINDOW *win);
+
 /* One set of attributes with another added, whose pair goes before where it has one. */
 static inline attr_t curspan_with(attr_t attrs, attr_t more) {
     if (more & A_COLOR) attrs &= ~A_COLOR;
     return attrs | (more & A_ATTRIBUTES);
 }
 
-/* Writes a character as waddch does, whatever attributes it has, and however it is spelled. It is a function of its own, so that waddch keeps
-   no registers for it. */
+/* Writes a character as waddch does, whatever attributes it has, however it is spelled, and wherever the window ends. It is a function of
+   its own, so that waddch keeps no registers for it. */
 int curspan_add_any(WINDOW *win, chtype ch);
+
+/* Whether so many characters fit before the last place of a window that is ready. A function of its own for the same reason. */
+bool curspan_fits_at_end(const WINDOW *win, size_t length);
 
 /* Sets the background, that of the window in `win` or another. */
 int curspan_set_background(WINDOW *win, chtype ch);
@@ -74,10 +126,21 @@ int curspan_put_cells(WINDOW *win, int y, int x, const chtype *cells, int n);
 int curspan_put_column(WINDOW *win, int y, int x, int n, chtype cell);
 /* Reads up to n cells from a place on, or all where n is negative, and leaves the cursor where it is. It answers how many they are. */
 int curspan_read_cells(WINDOW *win, int y, int x, chtype *cells, int n);
-/* Forgets the pad in which rows are made. */
-void curspan_forget_rows(void);
+/* Moves the cursor without a look at where it comes to. */
+static inline int curspan_put_cursor(const WINDOW *win, int y, int x) {
+    return curspan_wmove_end(win->number, (uint16_t)y, (uint16_t)x, &curspan_the_screen);
+}
+
+/* Gives each pair of a screen colours of its own, by which curspan_recolour knows it. */
+void curspan_number_pairs(curspan *screen);
 /* Forgets the colours of pairs. */
 void curspan_forget_colours(void);
+/* Notes that cells may have a pair. */
+void curspan_use_pair(int pair);
+/* Puts the colours that pairs have now into bytes for the terminal. */
+void curspan_recolour(uint8_t *bytes, size_t length);
+/* The terminal's own colours are in pairs too, as the colour -1. */
+extern bool curspan_has_default_colours;
 
 static inline bool is_number(int n) { return n >= 0 && n <= NUMBER; }
 

@@ -68,6 +68,7 @@ static int hand_on(void) {
         bytes = more;
         room = length;
     }
+    curspan_recolour(bytes, length);
     if (put(bytes, length) == OK) return OK;
     curspan_invalidate(&curspan_the_screen);
     return ERR;

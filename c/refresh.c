@@ -1,19 +1,9 @@
-/* Copies and marks, and how windows come into the virtual screen. Nothing here is proved. */
+/* How windows come into the virtual screen, and what is touched of them. Nothing here is proved. */
 #include "inside.h"
 
 #include <string.h>
 
-/* ---- copies and marks */
-
-int overlay(const WINDOW *from, WINDOW *to) { return done(curspan_overlay(SCREEN_AND(from), curspan_number(to))); }
-int overwrite(const WINDOW *from, WINDOW *to) { return done(curspan_overwrite(SCREEN_AND(from), curspan_number(to))); }
-
-int copywin(const WINDOW *from, WINDOW *to, int from_y, int from_x, int to_top, int to_left, int to_bottom, int to_right,
-            int overlays) {
-    if (!are_numbers(from_y, from_x, to_top, to_left) || !are_numbers(to_bottom, to_right, 0, 0)) return ERR;
-    return done(curspan_copywin(SCREEN_AND(from), curspan_number(to), (uint16_t)from_y, (uint16_t)from_x, (uint16_t)to_top,
-                                (uint16_t)to_left, (uint16_t)to_bottom, (uint16_t)to_right, overlays != 0));
-}
+/* ---- marks */
 
 int touchwin(WINDOW *win) { return is_terminal(win) ? clearok(curscr, TRUE) : done(curspan_touchwin(SCREEN_AND(win))); }
 int untouchwin(WINDOW *win) { return done(curspan_untouchwin(SCREEN_AND(win))); }
@@ -61,6 +51,8 @@ int pnoutrefresh(WINDOW *pad, int pad_y, int pad_x, int top, int left, int botto
                                   (uint16_t)bottom, (uint16_t)right)) == ERR)
         return ERR;
     memcpy(pad->part, part, sizeof part);
+    pad->begin_y = part[2];
+    pad->begin_x = part[3];
     return OK;
 }
 
@@ -68,10 +60,12 @@ int prefresh(WINDOW *pad, int pad_y, int pad_x, int top, int left, int bottom, i
     return pnoutrefresh(pad, pad_y, pad_x, top, left, bottom, right) == ERR ? ERR : doupdate();
 }
 
+/* As over ncurses, where the character ends the pad, or no part of it was shown yet, that is well. */
 int pechochar(WINDOW *pad, const chtype ch) {
-    if (waddch(pad, ch) == ERR) return ERR;
+    if (is_there(pad) == ERR || !pad->is_pad) return wechochar(pad, ch);
+    (void)waddch(pad, ch);
     const int *part = pad->part;
-    return prefresh(pad, part[0], part[1], part[2], part[3], part[4], part[5]);
+    return part[4] < 0 ? OK : prefresh(pad, part[0], part[1], part[2], part[3], part[4], part[5]);
 }
 
 int wredrawln(WINDOW *win, int y, int n) {

@@ -3,54 +3,56 @@
 
 #include <stddef.h>
 
-static WINDOW *row_pad; /* a pad of one line, in which rows are made that are then copied as they are */
-
-void curspan_forget_rows(void) { row_pad = NULL; }
-
 static bool is_printable(chtype ch) { return (ch & A_CHARTEXT) >= ' ' && (ch & A_CHARTEXT) <= '~'; }
 
-static int make_row_pad(void) {
-    if (!row_pad) row_pad = newpad(1, LONGEST);
-    return row_pad ? OK : ERR;
+static bool are_cells(const chtype *cells, int n) {
+    for (int i = 0; i < n; i++)
+        if (!is_printable(cells[i]) || PAIR_NUMBER(cells[i]) > LAST_PAIR) return false;
+    return true;
 }
 
-/* Writes cells into the pad of one line. */
-static int make_row(const chtype *cells, int n) {
+static bool is_plain(const WINDOW *win) { return win->background == ' '; }
+
+/* Takes away what else than its attributes has a part in how a window writes, or gives it back. */
+static void write_plainly(WINDOW *win, bool plainly) {
+    if (win->scrolls) curspan_scrollok(SCREEN_AND(win), !plainly);
+    if (!is_plain(win)) curspan_set_background(win, plainly ? ' ' : win->background);
+}
+
+/* Writes cells of one line, those with the same attributes together. */
+static int put_runs(WINDOW *win, const chtype *cells, int n) {
     uint8_t text[LONGEST];
-    if (make_row_pad() == ERR || wmove(row_pad, 0, 0) == ERR) return ERR;
     for (int from = 0, to; from < n; from = to) {
-        for (to = from; to < n && (cells[to] & A_ATTRIBUTES) == (cells[from] & A_ATTRIBUTES); to++) {
-            if (!is_printable(cells[to])) return ERR;
+        for (to = from; to < n && (cells[to] & A_ATTRIBUTES) == (cells[from] & A_ATTRIBUTES); to++)
             text[to] = (uint8_t)(cells[to] & A_CHARTEXT);
-        }
-        if (PAIR_NUMBER(cells[from]) > LAST_PAIR || curspan_tell(row_pad, cells[from] & A_ATTRIBUTES) == ERR) return ERR;
-        if (done(curspan_waddstr(SCREEN_AND(row_pad), text + from, (size_t)(to - from))) == ERR) return ERR;
+        if (curspan_tell(win, cells[from] & A_ATTRIBUTES) == ERR) return ERR;
+        if (done(curspan_waddstr(SCREEN_AND(win), text + from, (size_t)(to - from))) == ERR) return ERR;
     }
     return OK;
 }
 
-/* Sets cells of a window to the first of the pad of one line. */
-static int put_row(WINDOW *win, int y, int x, int n) {
-    return n < 1 ? OK : copywin(row_pad, win, 0, 0, y, x, y, x + n - 1, FALSE);
+/* Sets n cells of each of some lines. */
+static int put_rows(WINDOW *win, int y, int x, int lines, const chtype *cells, int n) {
+    int old_y = getcury(win), old_x = getcurx(win), answer = OK;
+    if (old_y == ERR || !are_cells(cells, n)) return ERR;
+    write_plainly(win, true);
+    for (int i = 0; i < lines && answer == OK; i++) {
+        answer = curspan_put_cursor(win, y + i, x);
+        if (answer == OK) answer = put_runs(win, cells, n);
+    }
+    write_plainly(win, false);
+    return curspan_put_cursor(win, old_y, old_x) == OK ? answer : ERR;
 }
 
-int curspan_put_cells(WINDOW *win, int y, int x, const chtype *cells, int n) {
-    return make_row(cells, n) == ERR ? ERR : put_row(win, y, x, n);
-}
+int curspan_put_cells(WINDOW *win, int y, int x, const chtype *cells, int n) { return put_rows(win, y, x, 1, cells, n); }
 
-int curspan_put_column(WINDOW *win, int y, int x, int n, chtype cell) {
-    if (n > 0 && make_row(&cell, 1) == ERR) return ERR;
-    for (int i = 0; i < n; i++)
-        if (put_row(win, y + i, x, 1) == ERR) return ERR;
-    return OK;
-}
-
-static chtype cell_at(WINDOW *win, int y, int x) { return wmove(win, y, x) == ERR ? (chtype)ERR : winch(win); }
+int curspan_put_column(WINDOW *win, int y, int x, int n, chtype cell) { return put_rows(win, y, x, n, &cell, 1); }
 
 int curspan_read_cells(WINDOW *win, int y, int x, chtype *cells, int n) {
     int old_y = getcury(win), old_x = getcurx(win), columns = getmaxx(win), count;
-    for (count = 0; x + count < columns && (n < 0 || count < n); count++) cells[count] = cell_at(win, y, x + count);
-    wmove(win, old_y, old_x);
+    for (count = 0; x + count < columns && (n < 0 || count < n); count++)
+        cells[count] = curspan_put_cursor(win, y, x + count) == ERR ? (chtype)ERR : winch(win);
+    if (columns != ERR) curspan_put_cursor(win, old_y, old_x);
     return count;
 }
 

@@ -7,22 +7,35 @@
 WINDOW *stdscr, *curscr;
 
 struct curspan_window curspan_windows[MOST];
-static struct curspan_window the_terminal = {.number = NUMBER}; /* it is no window of Curspan */
+static struct curspan_window the_terminal = {.number = NUMBER, .limit = NOT_READY}; /* it is no window of Curspan */
 
 static void forget(WINDOW *win) {
-    const struct curspan_window none = {.number = NUMBER, .background = ' ', .delay = -1};
+    const struct curspan_window none = {
+        .number = NUMBER, .background = ' ', .delay = -1, .limit = NOT_READY, .part = {0, 0, 0, 0, -1, -1}};
     *win = none;
 }
 
 void curspan_forget_all(void) {
     for (int i = 0; i < MOST; i++) forget(&curspan_windows[i]);
-    curspan_forget_rows();
     curspan_forget_colours();
     stdscr = curscr = NULL;
 }
 
 WINDOW *curspan_window_of(curspan_answer answer) {
     return answer.status == CURSPAN_OK ? &curspan_windows[answer.first] : NULL;
+}
+
+void curspan_measure(WINDOW *win) {
+    win->lines = (unsigned)getmaxy(win);
+    win->columns = (unsigned)getmaxx(win);
+    curspan_set_end(win);
+}
+
+/* Where a window begins, or where copies take a pad to be: at the first place of the screen until a part of it is shown. */
+static void set_begin(WINDOW *win) {
+    if (!win->is_pad || !win->parent) return;
+    win->begin_y = win->parent->begin_y + getpary(win);
+    win->begin_x = win->parent->begin_x + getparx(win);
 }
 
 /* A window that was made by an answer, with its size. A derived one begins with its parent's attributes and background. */
@@ -33,10 +46,13 @@ static WINDOW *made(curspan_answer answer, bool is_pad, WINDOW *parent) {
     win->number = (uint16_t)answer.first;
     win->is_pad = is_pad;
     win->parent = parent;
-    win->bottom = getmaxy(win) - 1;
+    curspan_measure(win);
+    win->bottom = (int)win->lines - 1;
+    curspan_set_end(win);
+    set_begin(win);
     if (parent) {
         wbkgdset(win, parent->background);
-        win->attrs = parent->attrs;
+        wattrset(win, (int)parent->attrs);
     }
     touchwin(win); /* as in System V: a new window covers what is below it */
     return win;
@@ -44,6 +60,7 @@ static WINDOW *made(curspan_answer answer, bool is_pad, WINDOW *parent) {
 
 void curspan_begin(curspan_answer answer) {
     curspan_forget_all();
+    curspan_number_pairs(&curspan_the_screen);
     stdscr = made(answer, false, NULL);
     curscr = &the_terminal;
 }
@@ -80,18 +97,25 @@ WINDOW *dupwin(WINDOW *win) {
     if (!copy) return NULL;
     copywin(win, copy, 0, 0, 0, 0, lines - 1, columns - 1, FALSE);
     wbkgdset(copy, win->background);
-    copy->attrs = win->attrs;
+    wattrset(copy, (int)win->attrs);
     copy->keypad = win->keypad;
     copy->no_timeout = win->no_timeout;
     copy->delay = win->delay;
     scrollok(copy, win->scrolls);
     wsetscrreg(copy, win->top, win->bottom);
     wmove(copy, getcury(win), getcurx(win));
+    if (win->reach == ENDED) copy->reach = ENDED;
+    copy->begin_y = win->begin_y;
+    copy->begin_x = win->begin_x;
+    for (int y = 0; y < lines; y++)
+        if (!is_linetouched(win, y)) wtouchln(copy, y, 1, FALSE);
     return copy;
 }
 
+/* What a derived window covered of its parent is shown anew. */
 int delwin(WINDOW *win) {
     if (done(curspan_delwin(SCREEN_AND(win))) == ERR) return ERR;
+    if (win->parent && !win->is_pad) touchwin(win->parent);
     forget(win);
     return OK;
 }
@@ -102,8 +126,10 @@ int mvwin(WINDOW *win, int y, int x) {
     return touchwin(win);
 }
 
+/* What is touched of it is so in its ancestors, before it shows another part. */
 int mvderwin(WINDOW *win, int y, int x) {
     if (!are_numbers(y, x, 0, 0)) return ERR;
+    if (win && y + (int)win->lines <= getmaxy(win->parent) && x + (int)win->columns <= getmaxx(win->parent)) wsyncup(win);
     return done(curspan_mvderwin(SCREEN_AND(win), (uint16_t)y, (uint16_t)x));
 }
 
@@ -111,8 +137,8 @@ static int second_of(curspan_answer answer) { return answer.status == CURSPAN_OK
 
 int getcury(const WINDOW *win) { return first_of(curspan_getyx(SCREEN_AND(win))); }
 int getcurx(const WINDOW *win) { return second_of(curspan_getyx(SCREEN_AND(win))); }
-int getbegy(const WINDOW *win) { return first_of(curspan_getbegyx(SCREEN_AND(win))); }
-int getbegx(const WINDOW *win) { return second_of(curspan_getbegyx(SCREEN_AND(win))); }
+int getbegy(const WINDOW *win) { return win && win->is_pad ? win->begin_y : first_of(curspan_getbegyx(SCREEN_AND(win))); }
+int getbegx(const WINDOW *win) { return win && win->is_pad ? win->begin_x : second_of(curspan_getbegyx(SCREEN_AND(win))); }
 int getmaxy(const WINDOW *win) { return first_of(curspan_getmaxyx(SCREEN_AND(win))); }
 int getmaxx(const WINDOW *win) { return second_of(curspan_getmaxyx(SCREEN_AND(win))); }
 int getpary(const WINDOW *win) { return first_of(curspan_getparyx(SCREEN_AND(win))); }
@@ -131,6 +157,7 @@ int clearok(WINDOW *win, bool flag) {
 int scrollok(WINDOW *win, bool flag) {
     if (done(curspan_scrollok(SCREEN_AND(win), flag)) == ERR) return ERR;
     win->scrolls = flag;
+    curspan_set_end(win);
     return OK;
 }
 
@@ -139,6 +166,7 @@ int wsetscrreg(WINDOW *win, int top, int bottom) {
     if (done(curspan_wsetscrreg(SCREEN_AND(win), (uint16_t)top, (uint16_t)bottom)) == ERR) return ERR;
     win->top = top;
     win->bottom = bottom;
+    curspan_set_end(win);
     return OK;
 }
 

@@ -1,92 +1,222 @@
-/* Writing in windows: characters, texts, and what is inserted, deleted and cleared. Nothing here is proved. */
+/* Writing in windows: characters and texts, up to where the window ends. Nothing here is proved. */
+#define _GNU_SOURCE
 #include "inside.h"
 
 #include <stdlib.h>
 #include <string.h>
 
-/* Makes a window ready to be written in with its own attributes. */
-static int ready(WINDOW *win) { return is_there(win) == ERR ? ERR : curspan_tell(win, win->attrs); }
-
-/* Whether a window is ready so already, if it is there. */
-static inline bool is_ready(const WINDOW *win) { return win && win->given == win->attrs; }
-
 int wmove(WINDOW *win, int y, int x) {
-    if (!win || !are_numbers(y, x, 0, 0)) return ERR;
+    if (!win || (unsigned)y >= win->lines || (unsigned)x >= win->columns) return ERR;
+    win->reach = y;
     win->moved = true;
-    return curspan_wmove_end(win->number, (uint16_t)y, (uint16_t)x, &curspan_the_screen);
+    return curspan_put_cursor(win, y, x);
 }
 
-/* How a character is spelled at a column: a tab as spaces, another control character as a caret and a letter, and others as they are. It
-   answers how many characters that takes. */
-static int spell(uint8_t ch, int x, uint8_t spelled[8]) {
-    if (ch == '\t') {
-        memset(spelled, ' ', 8);
-        return 8 - x % 8;
+/* ---- the end of a window */
+
+enum { MANY = 1 << 20 }; /* more than a text has at once */
+
+/* The limit of a window that is ready. */
+static int limit_of(const WINDOW *win) {
+    return win->scrolls && win->bottom == (int)win->lines - 1 ? ENDLESS : win->bottom;
+}
+
+void curspan_set_limit(WINDOW *win) {
+    win->limit = win->given == win->attrs && win->begun.count == 0 ? limit_of(win) : NOT_READY;
+}
+
+/* How many characters fit before the last place, where writing stops: that of the window, or of the scroll region where the cursor is above
+   its end. A region that scrolls has none. */
+static int room_of(const WINDOW *win, int y, int x) {
+    int columns = (int)win->columns;
+    if (win->scrolls && y <= win->bottom) return MANY;
+    return ((y <= win->bottom ? win->bottom : (int)win->lines - 1) - y) * columns + columns - 1 - x;
+}
+
+static void set_reach(WINDOW *win, int room) { win->reach = limit_of(win) - 1 + (int)win->columns - room; }
+
+/* Writes printable characters, of which one in the last place is written and ends them. */
+static int add_run(WINDOW *win, const uint8_t *text, size_t length) {
+    while (length > 0) {
+        int room = room_of(win, getcury(win), getcurx(win)), count = length > (size_t)room ? room + 1 : (int)length;
+        if (done(curspan_waddstr(SCREEN_AND(win), text, (size_t)count)) == ERR) return ERR;
+        set_reach(win, room - count);
+        if (count > room && room < MANY) {
+            win->reach = ENDED;
+            return ERR;
+        }
+        text += count;
+        length -= (size_t)count;
     }
-    spelled[0] = ch;
-    if (ch >= ' ' && ch != 127) return 1;
-    spelled[0] = '^';
-    spelled[1] = ch ^ 64;
-    return 2;
+    return OK;
 }
 
-static int add_spelled(WINDOW *win, uint8_t ch) {
-    uint8_t spelled[8];
-    return done(curspan_waddstr(SCREEN_AND(win), spelled, (size_t)spell(ch, getcurx(win), spelled)));
+/* Writes n blanks, which are the background's or, with attributes of their own, spaces. */
+static int add_blanks(WINDOW *win, int n, bool are_spaces) {
+    bool are_other = are_spaces && (win->background & A_CHARTEXT) != ' ';
+    int answer = OK;
+    if (are_other) curspan_set_background(win, (win->background & A_ATTRIBUTES) | ' ');
+    while (n-- > 0 && answer == OK) answer = add_run(win, (const uint8_t *)" ", 1);
+    if (are_other) curspan_set_background(win, win->background);
+    return answer;
 }
 
-/* Writes a character with the attributes that Curspan got last. */
-static inline int add_character(WINDOW *win, uint8_t ch) {
-    curspan_answer answer = curspan_waddch(SCREEN_AND(win), ch);
-    return answer.status == CURSPAN_BAD_CHARACTER ? add_spelled(win, ch) : done(answer);
+/* Goes to the next line without clearing the rest of this one. */
+static int leave_line(WINDOW *win, int y) {
+    if (y == win->bottom) return wscrl(win, 1) == ERR ? ERR : wmove(win, y, 0);
+    return wmove(win, least(y + 1, (int)win->lines - 1), 0);
 }
+
+/* Clears the rest of the line, but not what has ended it, and goes to the next one. On the last line of a window that doesn't scroll the
+   cursor stays. */
+static int end_line(WINDOW *win) {
+    int y = getcury(win);
+    bool has_ended = win->reach == ENDED, stays = y == win->bottom && !win->scrolls;
+    if (stays && !has_ended) wclrtoeol(win);
+    if (stays) return ERR;
+    if (has_ended) return leave_line(win, y);
+    win->reach = UNKNOWN;
+    return done(curspan_waddch(SCREEN_AND(win), '\n'));
+}
+
+static int add_tab(WINDOW *win, bool has_attributes) {
+    int y = getcury(win), x = getcurx(win), stop = x + 8 - x % 8;
+    bool ends_here = y == win->bottom && !win->scrolls;
+    return stop < (int)win->columns || ends_here ? add_blanks(win, stop - x, has_attributes) : end_line(win);
+}
+
+static int move_back(WINDOW *win, uint8_t ch) {
+    win->reach = UNKNOWN;
+    return done(curspan_waddch(SCREEN_AND(win), ch));
+}
+
+/* Writes a character of two columns, on the next line where one is left on this. */
+static int add_wide(WINDOW *win, const uint8_t text[2]) {
+    if (win->columns < 2) return ERR;
+    if (getcurx(win) == (int)win->columns - 1 && add_blanks(win, 1, false) == ERR) return ERR;
+    return add_run(win, text, 1) == ERR ? ERR : add_blanks(win, 1, text[1] == ' ');
+}
+
+void curspan_keep_begun(WINDOW *win, int y, int x) {
+    win->begun.y = y;
+    win->begun.x = x;
+    curspan_set_limit(win);
+}
+
+void curspan_check_begun(WINDOW *win) {
+    if (win->begun.count == 0 || (win->begun.y == getcury(win) && win->begun.x == getcurx(win))) return;
+    win->begun.count = 0;
+    curspan_set_limit(win);
+}
+
+/* Writes a byte of UTF-8, once its character is whole. */
+static int add_part(WINDOW *win, uint8_t byte) {
+    curspan_spelling spelling = curspan_spell_part(&win->begun, byte);
+    curspan_keep_begun(win, getcury(win), getcurx(win));
+    if (spelling.is_wide) return add_wide(win, spelling.text);
+    return add_run(win, spelling.text, (size_t)spelling.count);
+}
+
+/* Writes a character that isn't printable, or one after a part of another, with the attributes that Curspan got last. */
+static int add_spelled(WINDOW *win, uint8_t ch, bool has_attributes) {
+    const uint8_t control[2] = {'^', ch ^ 64};
+    if (win->begun.count > 0 || ch > 127) return add_part(win, ch);
+    switch (ch) {
+    case '\n': return end_line(win);
+    case '\t': return add_tab(win, has_attributes);
+    case '\r':
+    case '\b': return move_back(win, ch);
+    default: return add_run(win, control, sizeof control);
+    }
+}
+
+static bool is_printable(uint8_t ch) { return ch >= ' ' && ch <= '~'; }
+
+/* ---- characters and texts */
 
 int curspan_add_any(WINDOW *win, chtype ch) {
-    int answer;
+    uint8_t character = ch & A_CHARTEXT;
+    bool has_attributes = (ch & A_ATTRIBUTES) != 0;
     if (is_there(win) == ERR || PAIR_NUMBER(ch) > LAST_PAIR) return ERR;
     if (curspan_tell(win, curspan_with(win->attrs, ch)) == ERR) return ERR;
-    if (!(ch & A_ATTRIBUTES) || (ch & A_CHARTEXT) != ' ' || (win->background & A_CHARTEXT) == ' ')
-        return add_character(win, (uint8_t)(ch & A_CHARTEXT));
-    /* A space with attributes is one, and isn't the background's character. */
-    curspan_set_background(win, (win->background & A_ATTRIBUTES) | ' ');
-    answer = add_character(win, ' ');
-    curspan_set_background(win, win->background);
-    return answer;
+    curspan_check_begun(win);
+    if (!is_printable(character) || win->begun.count > 0) return add_spelled(win, character, has_attributes);
+    return character == ' ' ? add_blanks(win, 1, has_attributes) : add_run(win, &character, 1);
 }
 
 int waddch(WINDOW *win, const chtype ch) {
     bool is_plain = ch >= ' ' && ch <= '~'; /* it has no attributes of its own, and is not spelled */
-    if (!is_plain || !is_ready(win)) return curspan_add_any(win, ch);
+    if (!is_plain || !win || win->reach >= win->limit) return curspan_add_any(win, ch);
+    win->reach++;
     return curspan_waddch_end(win->number, (uint8_t)ch, &curspan_the_screen);
 }
 
-/* How many bytes of a text are written, of which at most n where that isn't negative. */
-static size_t length_of(const char *text, int n) {
-    const char *end = n < 0 ? NULL : memchr(text, 0, (size_t)n);
-    return n < 0 ? strlen(text) : end ? (size_t)(end - text) : (size_t)n;
+/* How many printable characters a text begins with. */
+static size_t run_of(const char *text, size_t length) {
+    size_t count = 0;
+    while (count < length && is_printable((uint8_t)text[count])) count++;
+    return count;
 }
 
-static int add_characters(WINDOW *win, const char *text, size_t length) {
-    for (size_t i = 0; i < length; i++)
-        if (add_character(win, (uint8_t)text[i]) == ERR) return ERR;
+/* Writes a text piece by piece. */
+static int add_pieces(WINDOW *win, const char *text, size_t length) {
+    if (is_there(win) == ERR || curspan_tell(win, win->attrs) == ERR) return ERR;
+    curspan_check_begun(win);
+    for (size_t from = 0, run; from < length; from += run) {
+        run = win->begun.count > 0 ? 0 : run_of(text + from, length - from);
+        if (run > 0 && add_run(win, (const uint8_t *)text + from, run) == ERR) return ERR;
+        if (run == 0 && add_spelled(win, (uint8_t)text[from], false) == ERR) return ERR;
+        if (run == 0) run = 1;
+    }
     return OK;
 }
 
-/* Writes a text with the attributes that Curspan got last: at once, or where a character of it is spelled each by itself. */
-static inline int add_text(WINDOW *win, const char *text, size_t length) {
-    curspan_answer answer = curspan_waddstr(SCREEN_AND(win), (const uint8_t *)text, length);
-    return answer.status == CURSPAN_BAD_CHARACTER ? add_characters(win, text, length) : done(answer);
+bool curspan_fits_at_end(const WINDOW *win, size_t length) {
+    if (!win || win->limit == NOT_READY || win->reach == ENDED) return false;
+    curspan_answer place = curspan_getyx(SCREEN_AND(win));
+    return length <= (size_t)room_of(win, (int)place.first, (int)place.second);
+}
+
+/* Writes a text of one line at once, where it fits before the last place of a window that is ready, and all its characters are printable. */
+static inline bool is_written(WINDOW *win, const char *text, size_t length) {
+    bool surely_fits = win && win->reach < win->limit && length <= win->columns;
+    if (!surely_fits && !curspan_fits_at_end(win, length)) return false;
+    win->reach += (int)length;
+    return curspan_waddstr(SCREEN_AND(win), (const uint8_t *)text, length).status == CURSPAN_OK;
+}
+
+/* How many bytes the first line of a text has. */
+static inline size_t line_of(const char *text) {
+#ifdef __GLIBC__
+    return (size_t)(strchrnul(text, '\n') - text);
+#else
+    return strcspn(text, "\n");
+#endif
+}
+
+int waddstr(WINDOW *win, const char *text) {
+    if (!text) return ERR;
+    size_t line = line_of(text);
+    return !text[line] && is_written(win, text, line) ? OK : add_pieces(win, text, line + strlen(text + line));
+}
+
+/* How many bytes a text has, of which at most n are looked at. */
+static size_t length_of(const char *text, int n) {
+    const char *end = memchr(text, 0, (size_t)n);
+    return end ? (size_t)(end - text) : (size_t)n;
 }
 
 int waddnstr(WINDOW *win, const char *text, int n) {
-    return !text || ready(win) == ERR ? ERR : add_text(win, text, length_of(text, n));
+    if (n < 0) return waddstr(win, text);
+    if (n == 0) return is_there(win);
+    if (!text) return ERR;
+    size_t length = length_of(text, n);
+    return !memchr(text, '\n', length) && is_written(win, text, length) ? OK : add_pieces(win, text, length);
 }
-
-int waddstr(WINDOW *win, const char *text) { return !text || ready(win) == ERR ? ERR : add_text(win, text, strlen(text)); }
 
 int waddchnstr(WINDOW *win, const chtype *row, int n) {
     int y = getcury(win), x = getcurx(win), most = getmaxx(win) - x, count;
-    if (y == ERR || !row) return ERR;
+    if (y == ERR || (!row && n != 0)) return ERR;
     if (n >= 0 && n < most) most = n;
     for (count = 0; count < most && row[count]; count++) continue;
     return curspan_put_cells(win, y, x, row, count);
@@ -104,51 +234,4 @@ int vw_printw(WINDOW *win, const char *format, va_list arguments) {
     if (length >= 0 && text) answer = waddnstr(win, text, length);
     if (text != few) free(text);
     return answer;
-}
-
-/* Whether a character can be inserted: those that move the cursor can't. */
-static bool is_spelled(uint8_t ch) { return ch <= 127 && ch != '\n' && ch != '\r' && ch != '\b'; }
-
-/* Inserts the characters of a text, as they are spelled and as far as the line goes, with the attributes that were given. */
-static int insert(WINDOW *win, const uint8_t *text, size_t length) {
-    uint8_t row[LONGEST + 8];
-    int from = getcurx(win), columns = getmaxx(win), to = from;
-    for (size_t i = 0; i < length && to < columns; i++) {
-        if (!is_spelled(text[i])) return ERR;
-        to += spell(text[i], to, row + to);
-    }
-    while (to > from)
-        if (done(curspan_winsch(SCREEN_AND(win), row[--to])) == ERR) return ERR;
-    return OK;
-}
-
-int winsch(WINDOW *win, chtype ch) {
-    uint8_t text = ch & A_CHARTEXT;
-    if (is_there(win) == ERR || PAIR_NUMBER(ch) > LAST_PAIR || curspan_tell(win, curspan_with(win->attrs, ch)) == ERR) return ERR;
-    return insert(win, &text, 1);
-}
-
-int winsnstr(WINDOW *win, const char *text, int n) {
-    return !text || ready(win) == ERR ? ERR : insert(win, (const uint8_t *)text, length_of(text, n));
-}
-
-int wdelch(WINDOW *win) { return done(curspan_wdelch(SCREEN_AND(win))); }
-int winsertln(WINDOW *win) { return done(curspan_winsertln(SCREEN_AND(win))); }
-int wdeleteln(WINDOW *win) { return done(curspan_wdeleteln(SCREEN_AND(win))); }
-
-int winsdelln(WINDOW *win, int n) {
-    int lines = getmaxy(win), answer = is_there(win);
-    int times = n < -lines || n > lines ? lines : n < 0 ? -n : n;
-    while (times-- > 0 && answer == OK) answer = n > 0 ? winsertln(win) : wdeleteln(win);
-    return answer;
-}
-
-int werase(WINDOW *win) { return done(curspan_werase(SCREEN_AND(win))); }
-int wclear(WINDOW *win) { return done(curspan_wclear(SCREEN_AND(win))); }
-int wclrtoeol(WINDOW *win) { return done(curspan_wclrtoeol(SCREEN_AND(win))); }
-int wclrtobot(WINDOW *win) { return done(curspan_wclrtobot(SCREEN_AND(win))); }
-
-int wscrl(WINDOW *win, int n) {
-    int lines = getmaxy(win), most = n < -lines ? -lines : n > lines ? lines : n;
-    return done(curspan_wscrl(SCREEN_AND(win), (int16_t)most));
 }

@@ -1,10 +1,12 @@
 """Puts out, of what `tmux capture-pane -e -p -N` puts out with lines that tell the cursor after each screen, the pictures in the form of
 `curspan paint`: each line between bars, and below it a line of attributes and one of colours where some cell has them. Blanks that
-were written and those that weren't are the same.
+were written and those that weren't are the same. A character that isn't ASCII is its letter without marks, or a question mark, and after a
+wide one a blank.
 
 usage: picture.py COLUMNS < CAPTURE"""
 import re
 import sys
+import unicodedata
 
 BITS = {1: 0x01, 2: 0x02, 4: 0x04, 5: 0x08, 7: 0x10, 8: 0x20}
 
@@ -29,6 +31,15 @@ def select(rendition, codes):
     return attributes, foreground, background
 
 
+def drawn(character):
+    if character.isascii():
+        return character
+    letter = unicodedata.normalize("NFD", character)[0]
+    if unicodedata.category(character) in ("Mn", "Me", "Cf"):
+        return ""
+    return (letter if letter.isascii() else "?") + " " * (unicodedata.east_asian_width(character) in "FW")
+
+
 def main():
     columns = int(sys.argv[1])
     rendition = (0, "-", "-")
@@ -40,7 +51,7 @@ def main():
         cells = []
         for codes, other in re.findall(r"\x1b\[([0-9;]*)m|(.)", line):
             if other:
-                cells.append((other, rendition))
+                cells += [(character, rendition) for character in drawn(other)]
             else:
                 rendition = select(rendition, [int(code or 0) for code in codes.split(";")])
         cells += [(" ", (0, "-", "-"))] * (columns - len(cells))

@@ -7,7 +7,7 @@ work=$(mktemp -d)
 unset TMUX TMUX_PANE LINES COLUMNS ESCDELAY
 pictures=0
 # A server for each program: one that is ended may still take the next one's session.
-in_tmux() { tmux -f "$work/settings" -S "$work/tmux-${name:-none}" "$@" 2> /dev/null; }
+in_tmux() { tmux -u -f "$work/settings" -S "$work/tmux-${name:-none}" "$@" 2> /dev/null; }
 trap 'in_tmux kill-server; rm -rf "$work"' EXIT
 
 # Says what is missing, and that nothing is compared.
@@ -47,9 +47,12 @@ sanitize() {
     besides=("${flags[@]}" "$work"/sanitized/*.o)
 }
 
-# Compiles a program twice.
+# Compiles a program twice. One that sets a locale is for ncurses of wide characters.
 compile() {
-    gcc -std=gnu99 -Wno-deprecated-declarations "$root/cases/c/$name.c" -o "$work/ncurses" -lpanel -lncurses && over_curspan "$name.c" curspan
+    local wide=
+    if grep -q setlocale "$root/cases/c/$name.c"; then wide=w; fi
+    gcc -std=gnu99 -Wno-deprecated-declarations "$root/cases/c/$name.c" -o "$work/ncurses" "-lpanel$wide" "-lncurses$wide" &&
+        over_curspan "$name.c" curspan
 }
 
 # Compiles a program over Curspan.

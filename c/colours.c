@@ -1,0 +1,80 @@
+/* Colours. Cells keep their pair, but a picture keeps the colours that a pair had when a cell came into it. So that a pair on the screen can get
+   others, Curspan knows each pair by two colours of its own, and those that the program gave it are put into the bytes on their way to the
+   terminal. Nothing here is proved. */
+#include "inside.h"
+
+#include <string.h>
+
+enum {
+    EIGHT = 8,
+    OWN = -1,    /* the terminal's own colour */
+    SHORTEST = 9 /* what comes before the end of a selection that has colours */
+};
+
+static short colours[LAST_PAIR + 1][2]; /* what the program gave */
+static bool is_given[LAST_PAIR + 1], may_be_shown[LAST_PAIR + 1], has_pairs;
+bool curspan_has_default_colours;
+
+void curspan_forget_colours(void) {
+    memset(colours, 0, sizeof colours);
+    memset(is_given, 0, sizeof is_given);
+    memset(may_be_shown, 0, sizeof may_be_shown);
+    has_pairs = curspan_has_default_colours = false;
+}
+
+void curspan_number_pairs(curspan *screen) {
+    for (int pair = 1; pair <= LAST_PAIR; pair++) curspan_init_pair(screen, (uint16_t)pair, (uint16_t)(pair / EIGHT), (uint16_t)(pair % EIGHT));
+}
+
+void curspan_use_pair(int pair) {
+    may_be_shown[pair] = true;
+    has_pairs |= pair > 0;
+}
+
+int start_color(void) { return stdscr ? OK : ERR; }
+bool has_colors(void) { return stdscr != NULL; }
+bool can_change_color(void) { return false; }
+
+static bool is_colour(int colour) { return colour < EIGHT && colour >= (curspan_has_default_colours ? OWN : 0); }
+
+int init_pair(short pair, short foreground, short background) {
+    if (!stdscr || pair < 1 || pair > LAST_PAIR || !is_colour(foreground) || !is_colour(background)) return ERR;
+    bool are_others = colours[pair][0] != foreground || colours[pair][1] != background;
+    if (is_given[pair] && may_be_shown[pair] && are_others) curspan_invalidate(&curspan_the_screen);
+    colours[pair][0] = foreground;
+    colours[pair][1] = background;
+    is_given[pair] = true;
+    return OK;
+}
+
+int pair_content(short pair, short *foreground, short *background) {
+    if (!stdscr || pair < 1 || pair > LAST_PAIR || !foreground || !background) return ERR;
+    *foreground = colours[pair][0];
+    *background = colours[pair][1];
+    return OK;
+}
+
+/* ---- the bytes */
+
+/* The digit that selects a colour of a pair. */
+static uint8_t digit_of(int pair, int which) {
+    int colour = is_given[pair] ? colours[pair][which] : OWN;
+    return (uint8_t)('0' + (colour == OWN ? 9 : colour));
+}
+
+/* Gives a selection of a rendition, which ends there, the colours of its pair, if it has one: it ends as 3f;4bm. */
+static void recolour(uint8_t *end) {
+    if (end[-6] != ';' || end[-5] != '3' || end[-3] != ';' || end[-2] != '4') return;
+    int pair = (end[-4] - '0') * EIGHT + end[-1] - '0';
+    end[-4] = digit_of(pair, 0);
+    end[-1] = digit_of(pair, 1);
+}
+
+void curspan_recolour(uint8_t *bytes, size_t length) {
+    const uint8_t *last = bytes + length;
+    uint8_t *at = bytes, *begin;
+    while (has_pairs && at < last && (begin = memchr(at, '\033', (size_t)(last - at)))) {
+        for (at = begin + 1; at < last && (*at < '@' || *at == '['); at++) continue;
+        if (at < last && *at == 'm' && at - begin >= SHORTEST) recolour(at);
+    }
+}

@@ -1,0 +1,60 @@
+/* Copies from window to window. Nothing here is proved. */
+#include "inside.h"
+
+static chtype colour_of(chtype ch) { return ch & A_COLOR; }
+
+/* A cell that is laid over a window, in its background's attributes, and its pair if it has one. */
+static chtype laid_over(chtype cell, chtype background) {
+    chtype pair = colour_of(background) ? background : cell;
+    return (cell & A_CHARTEXT) | colour_of(pair) | ((cell | background) & A_ATTRIBUTES & ~A_COLOR);
+}
+
+/* Lays the cells of one line of a window that aren't spaces over one of another: n of them, and each where it is another one. */
+static int lay_line(WINDOW *from, int from_y, int from_x, WINDOW *to, int to_y, int to_x, int n) {
+    chtype over[LONGEST], under[LONGEST];
+    curspan_read_cells(from, from_y, from_x, over, n);
+    curspan_read_cells(to, to_y, to_x, under, n);
+    for (int i = 0; i < n; i++) {
+        chtype cell = laid_over(over[i], to->background);
+        if ((over[i] & A_CHARTEXT) == ' ' || over[i] == under[i]) continue;
+        if (curspan_put_cells(to, to_y, to_x + i, &cell, 1) == ERR) return ERR;
+    }
+    return OK;
+}
+
+/* Whether a window has a rectangle that begins at a place, of so many more lines and columns. */
+static bool has_rectangle(const WINDOW *win, int y, int x, int lines, int columns) {
+    return lines >= 0 && columns >= 0 && y + lines < (int)win->lines && x + columns < (int)win->columns;
+}
+
+static int lay(WINDOW *from, int from_y, int from_x, WINDOW *to, int top, int left, int lines, int columns) {
+    if (!has_rectangle(from, from_y, from_x, lines, columns) || !has_rectangle(to, top, left, lines, columns)) return ERR;
+    for (int i = 0; i <= lines; i++)
+        if (lay_line(from, from_y + i, from_x, to, top + i, left, columns + 1) == ERR) return ERR;
+    return OK;
+}
+
+int copywin(const WINDOW *from, WINDOW *to, int from_y, int from_x, int to_top, int to_left, int to_bottom, int to_right,
+            int overlays) {
+    if (is_there(from) == ERR || is_there(to) == ERR) return ERR;
+    if (!are_numbers(from_y, from_x, to_top, to_left) || !are_numbers(to_bottom, to_right, 0, 0)) return ERR;
+    if (overlays && to->background & A_ATTRIBUTES)
+        return lay((WINDOW *)from, from_y, from_x, to, to_top, to_left, to_bottom - to_top, to_right - to_left);
+    return done(curspan_copywin(SCREEN_AND(from), to->number, (uint16_t)from_y, (uint16_t)from_x, (uint16_t)to_top, (uint16_t)to_left,
+                                (uint16_t)to_bottom, (uint16_t)to_right, overlays != 0));
+}
+
+static int most(int a, int b) { return a > b ? a : b; }
+
+/* Copies what both windows have of the screen. */
+static int copy_common(const WINDOW *from, WINDOW *to, bool overlays) {
+    if (is_there(from) == ERR || is_there(to) == ERR) return ERR;
+    int from_y = getbegy(from), from_x = getbegx(from), to_y = getbegy(to), to_x = getbegx(to);
+    int top = most(from_y, to_y), bottom = least(from_y + (int)from->lines, to_y + (int)to->lines) - 1;
+    int left = most(from_x, to_x), right = least(from_x + (int)from->columns, to_x + (int)to->columns) - 1;
+    if (top > bottom || left > right) return ERR;
+    return copywin(from, to, top - from_y, left - from_x, top - to_y, left - to_x, bottom - to_y, right - to_x, overlays);
+}
+
+int overlay(const WINDOW *from, WINDOW *to) { return copy_common(from, to, true); }
+int overwrite(const WINDOW *from, WINDOW *to) { return copy_common(from, to, false); }

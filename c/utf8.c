@@ -1,0 +1,85 @@
+/* Characters that aren't ASCII. A window has none of them: they come as UTF-8, and each is drawn by a letter or a question mark in as many
+   columns as it takes. Nothing here is proved. */
+#include "inside.h"
+#include "widths.h"
+
+#include <string.h>
+
+/* The letters without their marks, from U+00C0 on. */
+static const char letters[] =
+    "AAAAAA?CEEEEIIII?NOOOOO??UUUUY??aaaaaa?ceeeeiiii?nooooo??uuuuy?y"
+    "AaAaAaCcCcCcCcDd??EeEeEeEeEeGgGgGgGgHh??IiIiIiIiI???JjKk?LlLlLl????NnNnNn???OoOoOo??RrRrRrSsSsSsSsTtTt??UuUuUuUuUuUuWwYyYZzZzZz?";
+
+enum { FIRST_LETTER = 0xc0 };
+
+/* Whether a character is in one of some ranges, which are in order. */
+static bool is_in(const uint32_t ranges[][2], size_t count, uint32_t character) {
+    size_t from = 0, to = count;
+    while (from < to) {
+        size_t middle = (from + to) / 2;
+        if (character > ranges[middle][1]) from = middle + 1;
+        else if (character < ranges[middle][0]) to = middle;
+        else return true;
+    }
+    return false;
+}
+
+#define IS_IN(ranges, character) is_in(ranges, sizeof ranges / sizeof ranges[0], character)
+
+/* How many bytes a character has that begins with this one, and 0 where none does. There were longer ones than there are characters, and what
+   begins as they did is waited for. */
+static int length_by(uint8_t first) {
+    static const uint8_t begins[] = {0xc2, 0xe0, 0xf0, 0xf8, 0xfc};
+    int length = 1;
+    if (first < begins[0] || first > 0xfd) return 0;
+    while (length <= (int)sizeof begins && first >= begins[length - 1]) length++;
+    return length;
+}
+
+/* Whether these bytes begin a character, all but the last of which are known to. */
+static bool is_begun(const uint8_t *bytes, int count) {
+    return count == 1 ? length_by(bytes[0]) > 0 : (bytes[count - 1] & 0xc0) == 0x80;
+}
+
+static uint32_t decoded(const uint8_t *bytes, int count) {
+    uint32_t character = bytes[0] & (0x7fu >> count);
+    for (int i = 1; i < count; i++) character = character << 6 | (bytes[i] & 0x3f);
+    return character;
+}
+
+/* Whether a character of so many bytes is one: it is no surrogate, and takes no fewer. */
+static bool is_character(uint32_t character, int count) {
+    uint32_t first = count == 2 ? 0x80 : (uint32_t)1 << (5 * count - 4);
+    return character >= first && (character < 0xd800 || character > 0xdfff);
+}
+
+static curspan_spelling drawn(uint32_t character) {
+    curspan_spelling none = {{' '}, 0, false}, one = {{'?'}, 1, false}, two = {{'?', ' '}, 2, true};
+    if (IS_IN(without_width, character)) return none;
+    if (IS_IN(wide, character)) return two;
+    if (character >= FIRST_LETTER && character - FIRST_LETTER < sizeof letters - 1) one.text[0] = (uint8_t)letters[character - FIRST_LETTER];
+    return one;
+}
+
+/* A byte that is no part of a character, as ncurses spells it; one that could have been a character by itself is a blank. */
+static curspan_spelling spelled(uint8_t byte) {
+    curspan_spelling blank = {{' '}, 1, false}, control = {{'^', byte ^ 64}, 2, false};
+    curspan_spelling high = {{'~', byte == 255 ? '?' : byte - 64}, 2, false}, meta = {{'M', '-', byte & 127}, 3, false};
+    if (byte < ' ' || byte == 127) return control;
+    if (byte < 128) return blank;
+    return byte < 160 || byte == 255 ? high : meta;
+}
+
+curspan_spelling curspan_spell_part(curspan_unfinished *begun, uint8_t byte) {
+    curspan_spelling none = {{' '}, 0, false};
+    int count = ++begun->count;
+    begun->bytes[count - 1] = byte;
+    if (!is_begun(begun->bytes, count)) {
+        begun->count = 0;
+        return spelled(byte);
+    }
+    if (count < length_by(begun->bytes[0])) return none;
+    begun->count = 0;
+    uint32_t character = decoded(begun->bytes, count);
+    return is_character(character, count) ? drawn(character) : spelled(byte);
+}
