@@ -51,13 +51,11 @@ static int line_of(int in, int out) { return in >= 0 && isatty(in) ? in : isatty
 void curspan_begin_modes(void) {
     const struct curspan_modes first = {.echo = true, .newline = true, .meta = true};
     struct curspan_terminal *terminal = &curspan_terminal;
-    terminal->line = line_of(terminal->in, terminal->out);
+    int line = line_of(terminal->in, terminal->out);
     curspan_modes = first;
-    if (def_shell_mode() == ERR) {
-        terminal->line = -1;
-        return;
-    }
+    if (line < 0 || tcgetattr(line, &terminal->shell) != 0) return;
     terminal->program = terminal->shell;
+    terminal->line = line; /* from now on a handler of signals sets the modes */
     curspan_modes.meta = (terminal->shell.c_cflag & CSIZE) == CS8 && !(terminal->shell.c_iflag & ISTRIP);
     cbreak();
     struct termios modes = terminal->program;

@@ -84,6 +84,8 @@ int main(void) {
     read_line();
     halfdelay(200);
     tell(2);
+    keypad(stdscr, TRUE);
+    tell(4);
     endwin();
     return 0;
 }
