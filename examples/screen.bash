@@ -21,8 +21,8 @@ for curspan in "${CURSPAN:-}" "$here/../curspan" "$here/../../../../bin/curspan"
 done
 unset here
 
-# What would end the script, but for what bash ignores.
-deadly=(HUP INT TERM USR1 USR2 ALRM VTALRM PROF XCPU XFSZ ABRT SYS TRAP)
+# What would end the script, but for what bash ignores or uses itself.
+deadly=(HUP INT TERM USR1 USR2 VTALRM PROF XCPU XFSZ ABRT SYS TRAP)
 
 # How many calls are made before their answers are read: so many fit into the smallest pipe, and no one waits for ever.
 most_unread=50
@@ -30,20 +30,23 @@ most_unread=50
 # Becomes the program, whose name among its words is in UTF-8 whatever its folder's is.
 run_program() { exec -a curspan "$curspan" "$@"; }
 
-# Ends the script by a signal, and gives the terminal back before; where that is just being changed it ends right after.
+# Ends the script by a signal, and gives the terminal back before; between `hold` and `release` it is only noted.
 end_by() {
-    trap '' "${deadly[@]}"
-    ended=$((128 + $(kill -l "$1")))
-    if [ -z "$changing" ]; then
+    ended=$1
+    if [ -z "$held" ]; then
         close_screen
-        exit "$ended"
+        exit_by "$1"
     fi
 }
 
-# Ends the script where that was noted while the terminal was changed.
-conclude_change() {
-    changing=
-    [ -z "$ended" ] || exit "$ended"
+exit_by() { exit $((128 + $(kill -l "$1"))); }
+
+# Between these the terminal is changed, or bash reads, within which it runs what a signal has it do. A signal that came
+# ends the script at the second.
+hold() { held=yes; }
+release() {
+    held=
+    [ -z "$ended" ] || exit_by "$ended"
 }
 
 # Keys come as they are pressed and aren't shown, Ctrl-Z and Ctrl-\ among them; Ctrl-C drops nothing that is on its way
@@ -77,7 +80,7 @@ want_terminal() {
 
 open_screen() {
     local signal
-    told=() sent=0 unread=0 program='' page='' tty_before='' ended='' changing=''
+    told=() sent=0 unread=0 program='' page='' tty_before='' ended='' held=''
     trap close_screen EXIT
     # shellcheck disable=SC2064 # the name is that of the signal
     for signal in "${deadly[@]}"; do trap "end_by $signal" "$signal"; done
@@ -85,7 +88,7 @@ open_screen() {
     (run_program --help) > /dev/null || exit
     enter_page=$(tput smcup; tput civis)
     leave_page=$(tput sgr0; tput cnorm; tput rmcup)
-    changing=yes
+    hold
     take_terminal
     # What ends the script doesn't end the program: the end of its input does. Where it ended by itself, `call` meets a
     # closed pipe.
@@ -96,7 +99,7 @@ open_screen() {
     program=$screen_PID
     exec {answers}<&"${screen[0]}" {calls}>&"${screen[1]}"
     eval "exec ${screen[0]}<&- ${screen[1]}>&-"
-    conclude_change
+    release
 }
 
 # It may begin again where it was broken off: what is done is done once.
@@ -134,17 +137,21 @@ send() {
 # Waits until all calls are made, and reads what they answered, with that of a line of the script in `answer`. The last
 # one always answers.
 catch_up() {
-    local asked=${1:-} line
+    local asked=${1:-} line=
     answer=
     send getyx 0
+    hold
     while read -r -u "$answers" line; do
         case $line in
-            "line $sent: "*) unread=0; return ;;
+            "line $sent: "*) break ;;
             "line $asked: "*) answer=${line#line *: } ;;
         esac
         note "$line"
     done
-    exit 1
+    release
+    unread=0
+    # without a last answer the program has ended
+    [ -n "$line" ] || exit 1
 }
 
 # Whether words are one line of a script; else that is noted.
@@ -188,21 +195,39 @@ show() {
 # again.
 stop_script() {
     catch_up
-    changing=yes
+    hold
     give_terminal_back
     kill -TSTP 0
     take_terminal
-    conclude_change
+    release
     call clearok 0 on
     show
 }
 
-# Reads what a key sends after an escape: what comes at once, up to the end of a control sequence.
+# Reads a byte, or what is one character, into `byte`, for so many microseconds, or for ever. It waits a fifth of a second
+# at a time, since a signal is noted meanwhile.
+read_byte() {
+    local left=${1:-} span=200000 wait status
+    while [ "$left" != 0 ]; do
+        if [ -n "$left" ]; then
+            span=$((left < span ? left : span))
+            left=$((left - span))
+        fi
+        printf -v wait '0.%06d' "$span"
+        hold
+        IFS= read -r -N 1 -t "$wait" byte < /dev/tty
+        status=$?
+        release
+        [ "$status" -gt 128 ] || return "$status"
+    done
+    return 1
+}
+
+# Reads what a key sends after an escape into `rest`: what comes at once, up to the end of a control sequence.
 read_rest() {
-    local more
     rest=
-    while IFS= read -r -s -N 1 -t 0.1 more < /dev/tty; do
-        rest+=$more
+    while read_byte 100000; do
+        rest+=$byte
         case $rest in
             '[' | '[[' | O | '['*[0-9\;:\<=\>?\ !-/]) ;;
             *) break ;;
@@ -211,12 +236,18 @@ read_rest() {
 }
 
 read_key() {
-    local rest
+    local byte rest left='' part
+    if [ $# != 0 ]; then
+        part=${1#"${1%%.*}"}000000
+        part=${part#.}
+        left=$((10#0${1%%.*} * 1000000 + 10#${part:0:6}))
+    fi
+    key=
     while
-        key=
-        IFS= read -r -s -N 1 ${1:+-t "$1"} key < /dev/tty || return 1
-        [ "$key" = $'\cZ' ]
+        read_byte "$left" || return 1
+        [ "$byte" = $'\cZ' ]
     do stop_script; done
+    key=$byte
     case $key in
         $'\n' | $'\r') key=enter ;;
         $'\b' | $'\x7f') key=backspace ;;

@@ -1,0 +1,33 @@
+# What tests use besides the kit, a line each: a command, or a header in angle brackets; the packages of Debian that have
+# it; and the parts of ./test that are skipped without it, wholly or not.
+used_by_tests='gcc:gcc libc6-dev:library for C, budgets, refused allocations, small frames, faulty streams, C programs, memory of C programs
+ar:binutils:library for C, C programs, memory of C programs
+valgrind:valgrind libc6-dbg:budgets, memory, small frames, memory of C programs
+python3:python3:random, small frames, terminal, interrupted scripts, building, C programs
+tmux:tmux:shell scripts, terminal, C programs
+tic:ncurses-bin:small frames, C programs
+<panel.h>:libncurses-dev:small frames, C programs'
+
+# Puts out the lines of what is missing.
+missing() {
+    local line what
+    while IFS= read -r line; do
+        what=${line%%:*}
+        case $what in
+            '<'*) [ -e "/usr/include/${what//[<>]/}" ] || printf '%s\n' "$line" ;;
+            *) command -v "$what" > /dev/null || printf '%s\n' "$line" ;;
+        esac
+    done <<< "$used_by_tests"
+}
+
+# Puts out the packages of what is missing, in a line.
+missing_packages() { missing | cut -d : -f 2 | tr '\n' ' ' | sed 's/ $//'; }
+
+# Tells on standard error, after a name, what is missing and skipped, and what installs it.
+tell_missing() {
+    local packages
+    packages=$(missing_packages)
+    if [ -z "$packages" ]; then return; fi
+    missing | sed -E "s/^([^:]*):[^:]*:(.*)/$1: \1 is missing, without which is skipped, wholly or not: \2/" >&2
+    printf '%s: to install what is missing: apt-get install -y %s\n' "$1" "$packages" >&2
+}
