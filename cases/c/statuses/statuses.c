@@ -99,11 +99,31 @@ static void see_bytes(void) {
     if (curspan_take(&screen, (uint8_t *)bytes, 100) != 16 || memcmp(bytes, wanted, 16) != 0) wrong++;
 }
 
+/* A screen is opened over another, which is given back, of any size up to the largest. */
+static void see_screens(void) {
+    static uint8_t bytes[4096];
+    static const uint16_t sizes[][2] = {{999, 999}, {1, 1}, {501, 2}, {2, 501}, {999, 1}, {24, 80}};
+    for (size_t i = 0; i < sizeof sizes / sizeof sizes[0]; i++) {
+        uint16_t lines = sizes[i][0], columns = sizes[i][1];
+        ANSWERS(open(&screen, lines, columns), 0, 0);
+        ANSWERS(getmaxyx(&screen, 0), lines, columns);
+        ANSWERS(wmove(&screen, 0, (uint16_t)(lines - 1), (uint16_t)(columns - 1)), 0, 0);
+        ANSWERS(waddch(&screen, 0, '#'), 0, 0);
+        curspan_update_panels(&screen);
+        uint32_t sent = curspan_doupdate(&screen).first;
+        if (sent < 21 || curspan_take(&screen, bytes, sizeof bytes) != sent || memchr(bytes, '#', sent) == NULL) {
+            printf("statuses: a screen of %d by %d isn't drawn\n", lines, columns);
+            wrong++;
+        }
+    }
+}
+
 int main(void) {
     see_closed();
     see_refusals();
     see_answers();
     see_bytes();
+    see_screens();
     curspan_close(&screen);
     see_closed();
     printf("statuses: %d times wrong\n", wrong);
