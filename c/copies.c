@@ -34,14 +34,21 @@ static int lay(WINDOW *from, int from_y, int from_x, WINDOW *to, int top, int le
     return OK;
 }
 
+static int copy(const WINDOW *from, WINDOW *to, int from_y, int from_x, int to_top, int to_left, int to_bottom, int to_right,
+                bool overlays) {
+    if (overlays && to->background & A_ATTRIBUTES)
+        return lay((WINDOW *)from, from_y, from_x, to, to_top, to_left, to_bottom - to_top, to_right - to_left);
+    return done(curspan_copywin(SCREEN_AND(from), to->number, (uint16_t)from_y, (uint16_t)from_x, (uint16_t)to_top, (uint16_t)to_left,
+                                (uint16_t)to_bottom, (uint16_t)to_right, overlays));
+}
+
+/* As over ncurses, all of the lines that are copied to is touched. */
 int copywin(const WINDOW *from, WINDOW *to, int from_y, int from_x, int to_top, int to_left, int to_bottom, int to_right,
             int overlays) {
     if (is_there(from) == ERR || is_there(to) == ERR) return ERR;
     if (!are_numbers(from_y, from_x, to_top, to_left) || !are_numbers(to_bottom, to_right, 0, 0)) return ERR;
-    if (overlays && to->background & A_ATTRIBUTES)
-        return lay((WINDOW *)from, from_y, from_x, to, to_top, to_left, to_bottom - to_top, to_right - to_left);
-    return done(curspan_copywin(SCREEN_AND(from), to->number, (uint16_t)from_y, (uint16_t)from_x, (uint16_t)to_top, (uint16_t)to_left,
-                                (uint16_t)to_bottom, (uint16_t)to_right, overlays != 0));
+    if (copy(from, to, from_y, from_x, to_top, to_left, to_bottom, to_right, overlays != 0) == ERR) return ERR;
+    return touchline(to, to_top, to_bottom - to_top + 1);
 }
 
 static int most(int a, int b) { return a > b ? a : b; }

@@ -8,6 +8,9 @@ static chtype rendered(const WINDOW *win, chtype ch) {
     return text | (pair & A_COLOR) | ((ch | win->attrs | win->background) & A_ATTRIBUTES & ~A_COLOR);
 }
 
+/* A character of a border or a line, or the usual one where it has none. */
+static chtype drawn(chtype ch, chtype usual) { return ch & A_CHARTEXT ? ch : ch | usual; }
+
 /* Draws n cells of a window, of one character each in its rendition, from a place on to the right or downwards. */
 static int draw(WINDOW *win, int y, int x, int n, chtype ch, bool down) {
     chtype row[LONGEST], cell = rendered(win, ch);
@@ -18,26 +21,26 @@ static int draw(WINDOW *win, int y, int x, int n, chtype ch, bool down) {
 
 int whline(WINDOW *win, chtype ch, int n) {
     int y = getcury(win), x = getcurx(win);
-    return y == ERR ? ERR : draw(win, y, x, least(n, getmaxx(win) - x), ch ? ch : ACS_HLINE, false);
+    return y == ERR ? ERR : draw(win, y, x, least(n, getmaxx(win) - x), drawn(ch, ACS_HLINE), false);
 }
 
 int wvline(WINDOW *win, chtype ch, int n) {
     int y = getcury(win), x = getcurx(win);
-    return y == ERR ? ERR : draw(win, y, x, least(n, getmaxy(win) - y), ch ? ch : ACS_VLINE, true);
+    return y == ERR ? ERR : draw(win, y, x, least(n, getmaxy(win) - y), drawn(ch, ACS_VLINE), true);
 }
 
 int wborder(WINDOW *win, chtype left, chtype right, chtype top, chtype bottom, chtype top_left, chtype top_right,
             chtype bottom_left, chtype bottom_right) {
     int last_y = getmaxy(win) - 1, last_x = getmaxx(win) - 1;
     if (is_there(win) == ERR) return ERR;
-    if (draw(win, 0, 0, last_x + 1, top ? top : ACS_HLINE, false) == ERR) return ERR;
-    if (draw(win, last_y, 0, last_x + 1, bottom ? bottom : ACS_HLINE, false) == ERR) return ERR;
-    if (draw(win, 0, 0, last_y + 1, left ? left : ACS_VLINE, true) == ERR) return ERR;
-    if (draw(win, 0, last_x, last_y + 1, right ? right : ACS_VLINE, true) == ERR) return ERR;
-    if (draw(win, 0, 0, 1, top_left ? top_left : ACS_ULCORNER, false) == ERR) return ERR;
-    if (draw(win, 0, last_x, 1, top_right ? top_right : ACS_URCORNER, false) == ERR) return ERR;
-    if (draw(win, last_y, 0, 1, bottom_left ? bottom_left : ACS_LLCORNER, false) == ERR) return ERR;
-    return draw(win, last_y, last_x, 1, bottom_right ? bottom_right : ACS_LRCORNER, false);
+    if (draw(win, 0, 0, last_x + 1, drawn(top, ACS_HLINE), false) == ERR) return ERR;
+    if (draw(win, last_y, 0, last_x + 1, drawn(bottom, ACS_HLINE), false) == ERR) return ERR;
+    if (draw(win, 0, 0, last_y + 1, drawn(left, ACS_VLINE), true) == ERR) return ERR;
+    if (draw(win, 0, last_x, last_y + 1, drawn(right, ACS_VLINE), true) == ERR) return ERR;
+    if (draw(win, 0, 0, 1, drawn(top_left, ACS_ULCORNER), false) == ERR) return ERR;
+    if (draw(win, 0, last_x, 1, drawn(top_right, ACS_URCORNER), false) == ERR) return ERR;
+    if (draw(win, last_y, 0, 1, drawn(bottom_left, ACS_LLCORNER), false) == ERR) return ERR;
+    return draw(win, last_y, last_x, 1, drawn(bottom_right, ACS_LRCORNER), false);
 }
 
 int wchgat(WINDOW *win, int n, attr_t attrs, short pair, const void *none) {
