@@ -16,7 +16,8 @@
    It is proved of each function here but curspan_text, which is C, that it does what the definitions of Curspan say of it, as
    the manual explains them, is safe, and returns; that memory is given back is tested. The proof asks of the program: `screen`
    is a handle that began as CURSPAN_INIT, and no other call uses it meanwhile; a text or a buffer has the length that is passed
-   with it, and isn't NULL; malloc, realloc and free are those of one allocator.
+   with it, and isn't NULL; malloc, realloc and free are those of one allocator. That NULL may be passed with a length of 0 is
+   tested.
 
    Windows and pads are numbers, 0 the standard screen; panels are numbers from 1 on. A new one has the least that is free.
    Lines and columns count from 0. A call that is refused changes nothing and sends nothing. Its refusals are listed in
@@ -130,8 +131,8 @@ curspan_answer curspan_open(curspan *screen, uint16_t lines, uint16_t columns);
 void curspan_close(curspan *screen);
 
 /* Moves the bytes for the terminal that were sent and not taken yet to `out`, in order, and answers how many they
-   are. Where they are more than `room`, the answer says so, none is moved and all are kept. `out` is never NULL,
-   also where `room` is 0. A closed screen has none. */
+   are. Where they are more than `room`, the answer says so, none is moved and all are kept. `out` may be NULL where
+   `room` is 0. A closed screen has none. */
 size_t curspan_take(curspan *screen, uint8_t *out, size_t room);
 
 /* Says that the terminal may show anything, as after taken bytes that did not reach it: the next doupdate clears
@@ -182,8 +183,8 @@ curspan_answer curspan_wmove(curspan *screen, uint16_t win, uint16_t y, uint16_t
    NO_SUCH_WINDOW, BAD_CHARACTER. */
 curspan_answer curspan_waddch(curspan *screen, uint16_t win, uint8_t ch);
 
-/* Writes `length` characters in order. Nothing of a refused text is written. `text` is never NULL. Refused:
-   NO_SUCH_WINDOW, BAD_CHARACTER. */
+/* Writes `length` characters in order. Nothing of a refused text is written. `text` may be NULL where `length` is 0.
+   Refused: NO_SUCH_WINDOW, BAD_CHARACTER. */
 curspan_answer curspan_waddstr(curspan *screen, uint16_t win, const uint8_t *text, size_t length);
 
 /* Inserts a character, 32 to 126, at the cursor; the last cell of the line is lost. Refused: NO_SUCH_WINDOW,

@@ -87,9 +87,11 @@ static void see_bytes(void) {
     char bytes[100];
     memset(bytes, '.', sizeof bytes);
     ANSWERS(open(&screen, 2, 5), 0, 0);
+    ANSWERS(waddstr(&screen, 0, NULL, 0), 0, 0);
     ANSWERS(waddstr(&screen, 0, (const uint8_t *)"hi", 2), 0, 0);
     curspan_update_panels(&screen);
     ANSWERS(doupdate(&screen), 16, 0);
+    if (curspan_take(&screen, NULL, 0) != 16) wrong++;
     if (curspan_take(&screen, (uint8_t *)bytes, 15) != 16 || bytes[0] != '.') wrong++;
     if (curspan_take(&screen, (uint8_t *)bytes, 16) != 16 || memcmp(bytes, wanted, 16) != 0 || bytes[16] != '.') wrong++;
     if (curspan_take(&screen, (uint8_t *)bytes, 16) != 0) wrong++;
