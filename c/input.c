@@ -85,7 +85,9 @@ static bool wait_for_input(int milliseconds) {
 static int read_byte(void) {
     unsigned char byte;
     ssize_t count;
+    curspan_interrupt_by_stop(true);
     while ((count = read(curspan_terminal.in, &byte, 1)) < 0 && errno == EINTR && curspan_redraw_after_stop()) continue;
+    curspan_interrupt_by_stop(false);
     return count == 1 ? byte : ERR;
 }
 

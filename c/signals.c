@@ -14,6 +14,7 @@ static const int ending[] = {SIGINT, SIGTERM, SIGQUIT};
 enum { ENDING = sizeof ending / sizeof ending[0] };
 
 static volatile sig_atomic_t was_stopped, was_resized;
+static volatile sig_atomic_t restarts = SA_RESTART; /* whether a call that waits goes on after the program was stopped */
 
 /* Sets what a signal does, with the signals of the terminal held back meanwhile. */
 static void on(int number, void (*handler)(int), int flags) {
@@ -72,7 +73,7 @@ static void stop_now(void) {
     sigaddset(&through, SIGTTOU);
     raise(SIGTSTP);
     sigprocmask(SIG_UNBLOCK, &through, &before);
-    on(SIGTSTP, stop, 0);
+    on(SIGTSTP, stop, restarts);
 }
 
 static void note_size(int number) {
@@ -80,17 +81,25 @@ static void note_size(int number) {
     was_resized = true;
 }
 
-/* Catches a signal that the program left as it was. */
-static void catch_default(int number, void (*handler)(int), bool also_ignored) {
+/* Whether a signal has a handler. */
+static bool has(int number, void (*handler)(int)) {
     struct sigaction now;
-    if (sigaction(number, NULL, &now) != 0 || now.sa_flags & SA_SIGINFO) return;
-    if (now.sa_handler == SIG_DFL || (also_ignored && now.sa_handler == SIG_IGN)) on(number, handler, 0);
+    return sigaction(number, NULL, &now) == 0 && !(now.sa_flags & SA_SIGINFO) && now.sa_handler == handler;
+}
+
+/* Catches a signal that the program left as it was. */
+static void catch_default(int number, void (*handler)(int), int flags) {
+    if (has(number, SIG_DFL)) on(number, handler, flags);
 }
 
 /* Leaves a signal that is still caught as it was. */
 static void leave(int number, void (*handler)(int)) {
-    struct sigaction now;
-    if (sigaction(number, NULL, &now) == 0 && !(now.sa_flags & SA_SIGINFO) && now.sa_handler == handler) on(number, SIG_DFL, 0);
+    if (has(number, handler)) on(number, SIG_DFL, 0);
+}
+
+void curspan_interrupt_by_stop(bool flag) {
+    restarts = flag ? 0 : SA_RESTART;
+    if (has(SIGTSTP, stop)) on(SIGTSTP, stop, restarts);
 }
 
 static void give_back_at_exit(void) {
@@ -101,9 +110,10 @@ void curspan_catch_signals(void) {
     static bool is_registered;
     if (!is_registered) is_registered = atexit(give_back_at_exit) == 0;
     was_stopped = was_resized = false;
-    for (int i = 0; i < ENDING; i++) catch_default(ending[i], end, false);
-    catch_default(SIGTSTP, stop, false);
-    catch_default(SIGWINCH, note_size, true);
+    for (int i = 0; i < ENDING; i++) catch_default(ending[i], end, 0);
+    catch_default(SIGTSTP, stop, restarts);
+    if (has(SIGWINCH, SIG_IGN)) on(SIGWINCH, SIG_DFL, 0);
+    catch_default(SIGWINCH, note_size, 0);
 }
 
 void curspan_leave_signals(void) {

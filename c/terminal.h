@@ -69,6 +69,8 @@ void curspan_leave_signals(void);
 /* Holds back the signal that stops the program, and lets it through again. */
 void curspan_hold_stop(sigset_t *before);
 void curspan_let_stop(const sigset_t *before);
+/* Whether a call that waits ends where the program is stopped and goes on, as getch wants it, or is restarted. */
+void curspan_interrupt_by_stop(bool flag);
 /* Whether the program was stopped since the last call of it, and goes on. */
 bool curspan_was_stopped(void);
 /* Whether the terminal's size may have changed since the last call of it. */

@@ -140,6 +140,14 @@ static void read_keys(void) {
     endwin();
 }
 
+static void read_by_itself(void) {
+    char byte = 0;
+    begin();
+    while (byte != 'q')
+        if (read(0, &byte, 1) != 1) _exit(9);
+    endwin();
+}
+
 static void note(int number) {
     (void)number;
     mvaddstr(7, 4, "noted");
@@ -253,6 +261,21 @@ static void stop_and_continue(void) {
     finish(shell);
 }
 
+/* A program that reads by itself isn't interrupted. */
+static void stop_while_it_reads(void) {
+    const char *name = "Ctrl-Z while the program reads";
+    pid_t shell = start(read_by_itself);
+    want(comes(0, "the picture"), name, "it draws");
+    type("\032");
+    want(WIFSTOPPED(status_of_program()) && has_modes_again(), name, "it stops, and the modes are as before");
+    kill(shell, SIGCONT);
+    type("q");
+    int status = status_of_program();
+    want(WIFEXITED(status) && WEXITSTATUS(status) == 0, name, "it reads on");
+    want(has_modes_again() && left_page(0), name, "the terminal is as before");
+    finish(shell);
+}
+
 /* A program's own handlers are left alone. */
 static void own_handlers(void (*program)(void), const char *name) {
     pid_t shell = start(program);
@@ -303,6 +326,7 @@ int main(void) {
     end_without_picture("delscreen", delete_screen);
     end_without_picture("a first write that fails", fail_at_once);
     stop_and_continue();
+    stop_while_it_reads();
     own_handlers(read_with_own_handlers, "handlers from before");
     own_handlers(read_with_later_handlers, "handlers from later");
     shell_between();
