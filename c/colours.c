@@ -35,6 +35,31 @@ int start_color(void) { return stdscr ? OK : ERR; }
 bool has_colors(void) { return stdscr != NULL; }
 bool can_change_color(void) { return false; }
 
+int use_default_colors(void) {
+    if (!stdscr) return ERR;
+    curspan_has_default_colours = true;
+    return OK;
+}
+
+int assume_default_colors(int foreground, int background) { return foreground == OWN && background == OWN ? use_default_colors() : ERR; }
+
+int init_color(short color, short red, short green, short blue) {
+    (void)color;
+    (void)red;
+    (void)green;
+    (void)blue;
+    return ERR;
+}
+
+/* The first eight colours, as terminals usually have them. */
+int color_content(short color, short *red, short *green, short *blue) {
+    if (!stdscr || color < 0 || color >= EIGHT || !red || !green || !blue) return ERR;
+    *red = color & 1 ? 680 : 0;
+    *green = color & 2 ? 680 : 0;
+    *blue = color & 4 ? 680 : 0;
+    return OK;
+}
+
 static bool is_colour(int colour) { return colour < EIGHT && colour >= (curspan_has_default_colours ? OWN : 0); }
 
 int init_pair(short pair, short foreground, short background) {

@@ -1,6 +1,16 @@
 /* Borders and drawn lines, and cells whose rendition is changed where they are. Nothing here is proved. */
 #include "inside.h"
 
+#include <stddef.h>
+
+chtype acs_map[128];
+
+void curspan_begin_map(void) {
+    static const char mapped[] = "`+a:f'g#h#i#j+k+l+m+n+o~p-q-r-s_t+u+v+w+x|y<z>{*|!}f~o,<+>.v-^0#"; /* pairs of a letter and its character */
+    for (unsigned char ch = 0; ch < 128; ch++) acs_map[ch] = ch;
+    for (size_t i = 0; mapped[i]; i += 2) acs_map[(unsigned char)mapped[i]] = (unsigned char)mapped[i + 1];
+}
+
 /* What a character is in a window: with the window's attributes and those of its background, which a blank one takes whole. */
 static chtype rendered(const WINDOW *win, chtype ch) {
     chtype text = ch == ' ' ? win->background & A_CHARTEXT : ch & A_CHARTEXT;

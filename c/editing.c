@@ -108,8 +108,10 @@ int werase(WINDOW *win) {
 }
 
 int wclear(WINDOW *win) {
-    if (win) win->reach = 0;
-    return done(curspan_wclear(SCREEN_AND(win)));
+    if (done(curspan_wclear(SCREEN_AND(win))) == ERR) return ERR;
+    win->reach = 0;
+    win->clears = true;
+    return OK;
 }
 
 /* A character that was just written in the last place isn't to the right of the cursor, which stayed on it. */

@@ -27,10 +27,11 @@ typedef struct {
     int count, y, x;
 } curspan_unfinished;
 
-/* What curspan.h doesn't tell back of a window, by its number. */
+/* What curspan.h doesn't tell back of a window. */
 struct curspan_window {
     uint16_t number; /* its own, and NUMBER where it isn't there */
-    bool is_pad, scrolls;
+    bool is_pad, scrolls; /* it is a pad of curspan.h */
+    bool outlies;         /* one that stands for a window */
     bool moved;              /* the cursor was moved since the last refresh, as getch wants to know */
     bool keypad, no_timeout; /* how getch reads */
     int delay;               /* for how many milliseconds it waits, without end where that is negative */
@@ -44,8 +45,10 @@ struct curspan_window {
     int reach, limit;
     int top, bottom; /* the scroll region */
     curspan_unfinished begun;
+    bool clears, idlok, no_idcok, leaveok; /* the options that are set */
+    unsigned long shown; /* when it was last taken into the virtual screen, or 0 */
     WINDOW *parent;
-    int begin_y, begin_x; /* of a pad, where on the screen copies take it to be */
+    int begin_y, begin_x; /* of a pad, where on the screen copies take it to be, and of one that outlies, where it is */
     int part[6]; /* of a pad, which part of it was refreshed last, and to where */
 };
 
@@ -57,6 +60,8 @@ static inline uint16_t curspan_number(const WINDOW *win) { return win ? win->num
 
 /* The window of an answer that is its number, and NULL of a refusal. */
 WINDOW *curspan_window_of(curspan_answer answer);
+/* Gives a window another number. */
+void curspan_renumber(WINDOW *win, uint16_t number);
 /* Makes the standard screen of an answer that is its number. */
 void curspan_begin(curspan_answer answer);
 /* Forgets all windows. */
@@ -108,6 +113,12 @@ static inline attr_t curspan_with(attr_t attrs, attr_t more) {
     return attrs | (more & A_ATTRIBUTES);
 }
 
+/* Fills acs_map. */
+void curspan_begin_map(void);
+
+/* A character of the alternate set as it is drawn, with its attributes. */
+static inline chtype curspan_alternative(chtype ch) { return (ch & A_ATTRIBUTES) | ((ch & A_CHARTEXT) < 128 ? acs_map[ch & A_CHARTEXT] : '?'); }
+
 /* Writes a character as waddch does, whatever attributes it has, however it is spelled, and wherever the window ends. It is a function of
    its own, so that waddch keeps no registers for it. */
 int curspan_add_any(WINDOW *win, chtype ch);
@@ -130,6 +141,32 @@ int curspan_read_cells(WINDOW *win, int y, int x, chtype *cells, int n);
 static inline int curspan_put_cursor(const WINDOW *win, int y, int x) {
     return curspan_wmove_end(win->number, (uint16_t)y, (uint16_t)x, &curspan_the_screen);
 }
+
+
+/* Whether so many lines and columns from a place on are on the screen. */
+bool curspan_fits(int lines, int columns, int y, int x);
+/* Takes what is touched of a window that outlies, and its cursor, into the virtual screen. */
+int curspan_show_outlying(WINDOW *win);
+/* Takes a cursor into the virtual screen. */
+void curspan_show_cursor(int y, int x);
+/* Moves a window that outlies to a place where it fits. */
+int curspan_move_inside(WINDOW *win, int y, int x);
+/* Cuts off what of a window is not on the screen. */
+int curspan_cut_outside(WINDOW *win);
+
+/* How often windows, pads and panels were taken into the virtual screen, and when that was done of panels last. */
+extern unsigned long curspan_times_shown, curspan_panels_shown;
+
+/* Puts a window in the place of another into its panel, if it has one. */
+void curspan_replace_in_panels(uint16_t from, uint16_t to);
+/* Whether a window is in a panel. */
+bool curspan_is_in_panel(const WINDOW *win);
+/* Makes the panels anew in another screen, with windows of it by their places in curspan_windows. */
+int curspan_make_panels(curspan *screen, const uint16_t windows[MOST]);
+/* Takes those of that screen. */
+void curspan_take_panels(void);
+/* Forgets all panels. */
+void curspan_forget_panels(void);
 
 /* Gives each pair of a screen colours of its own, by which curspan_recolour knows it. */
 void curspan_number_pairs(curspan *screen);

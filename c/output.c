@@ -117,6 +117,17 @@ int curs_set(int visibility) {
     return before;
 }
 
+/* The cursor comes elsewhere than Curspan knows, so that the next refresh draws all. */
+int mvcur(int old_y, int old_x, int y, int x) {
+    char text[32];
+    (void)old_y;
+    (void)old_x;
+    if (!stdscr || y < 0 || y >= LINES || x < 0 || x >= COLS) return ERR;
+    curspan_invalidate(&curspan_the_screen);
+    snprintf(text, sizeof text, "\033[%d;%dH", y + 1, x + 1);
+    return curspan_put_text(text);
+}
+
 int beep(void) { return stdscr ? curspan_put_text("\a") : ERR; }
 
 int flash(void) { return beep(); }

@@ -4,33 +4,51 @@
 
 #include <stddef.h>
 
-/* What curspan.h doesn't keep of a panel, by its number. */
+/* What curspan.h doesn't keep of a panel. */
 struct curspan_panel {
+    uint16_t number; /* 0 where it isn't there */
+    uint16_t next;   /* its number in the screen that will be */
     const void *pointer;
 };
 
 static PANEL panels[MOST];
+static PANEL *numbered[MOST]; /* by their numbers */
 
 /* The number of a panel, and for a pointer to none a number that no panel has. */
 static uint16_t number_of(const PANEL *panel) {
     uintptr_t at = (uintptr_t)panel, first = (uintptr_t)panels;
-    return at > first && at < first + sizeof panels ? (uint16_t)(panel - panels) : NUMBER;
+    return at >= first && at < first + sizeof panels && panel->number > 0 ? panel->number : NUMBER;
 }
 
 #define SCREEN_AND_PANEL(panel) &curspan_the_screen, number_of(panel)
 
 /* The panel of an answer that is its number, and NULL of none or of a refusal. */
 static PANEL *panel_of(curspan_answer answer) {
-    return answer.status == CURSPAN_OK && answer.first > 0 ? &panels[answer.first] : NULL;
+    return answer.status == CURSPAN_OK && answer.first > 0 ? numbered[answer.first] : NULL;
+}
+
+static void give_number(PANEL *panel, uint16_t number) {
+    panel->number = number;
+    numbered[number] = panel;
 }
 
 PANEL *new_panel(WINDOW *win) {
-    PANEL *panel = panel_of(curspan_new_panel(&curspan_the_screen, curspan_number(win)));
-    if (panel) panel->pointer = NULL;
+    if (win && win->outlies && curspan_cut_outside(win) == ERR) return NULL;
+    curspan_answer answer = curspan_new_panel(&curspan_the_screen, curspan_number(win));
+    if (answer.status != CURSPAN_OK) return NULL;
+    PANEL *panel = &panels[answer.first];
+    if (panel->number > 0) /* another panel that changed its number has this place */
+        for (panel = panels; panel->number > 0; panel++) continue;
+    give_number(panel, (uint16_t)answer.first);
+    panel->pointer = NULL;
     return panel;
 }
 
-int del_panel(PANEL *panel) { return done(curspan_del_panel(SCREEN_AND_PANEL(panel))); }
+int del_panel(PANEL *panel) {
+    if (done(curspan_del_panel(SCREEN_AND_PANEL(panel))) == ERR) return ERR;
+    panel->number = 0;
+    return OK;
+}
 int show_panel(PANEL *panel) { return done(curspan_show_panel(SCREEN_AND_PANEL(panel))); }
 int hide_panel(PANEL *panel) { return done(curspan_hide_panel(SCREEN_AND_PANEL(panel))); }
 int top_panel(PANEL *panel) { return done(curspan_top_panel(SCREEN_AND_PANEL(panel))); }
@@ -70,4 +88,50 @@ void update_panels(void) {
     curspan_update_panels(&curspan_the_screen);
     if (stdscr) stdscr->moved = false;
     for (PANEL *panel = panel_above(NULL); panel; panel = panel_above(panel)) panel_window(panel)->moved = false;
+    curspan_panels_shown = ++curspan_times_shown;
+}
+
+/* ---- windows and screens that are made anew */
+
+void curspan_forget_panels(void) {
+    for (PANEL *panel = panels; panel < panels + MOST; panel++) panel->number = 0;
+    curspan_panels_shown = 0;
+}
+
+bool curspan_is_in_panel(const WINDOW *win) {
+    for (const PANEL *panel = panels; panel < panels + MOST; panel++)
+        if (panel->number > 0 && panel_window(panel) == win) return true;
+    return false;
+}
+
+void curspan_replace_in_panels(uint16_t from, uint16_t to) {
+    for (PANEL *panel = panels; panel < panels + MOST; panel++) {
+        curspan_answer answer = curspan_panel_window(SCREEN_AND_PANEL(panel));
+        if (answer.status != CURSPAN_OK || answer.first != from) continue;
+        curspan_replace_panel(SCREEN_AND_PANEL(panel), to);
+        return;
+    }
+}
+
+/* Puts the visible panels into their order, and hides the others. All are visible before. */
+static void order_panels(curspan *screen) {
+    for (PANEL *panel = panels; panel < panels + MOST; panel++)
+        if (panel->number > 0 && panel_hidden(panel) == TRUE) curspan_hide_panel(screen, panel->next);
+    for (PANEL *panel = panel_above(NULL); panel; panel = panel_above(panel)) curspan_top_panel(screen, panel->next);
+}
+
+int curspan_make_panels(curspan *screen, const uint16_t windows[MOST]) {
+    for (PANEL *panel = panels; panel < panels + MOST; panel++) {
+        if (panel->number == 0) continue;
+        curspan_answer answer = curspan_new_panel(screen, windows[panel_window(panel) - curspan_windows]);
+        if (answer.status != CURSPAN_OK) return ERR;
+        panel->next = (uint16_t)answer.first;
+    }
+    order_panels(screen);
+    return OK;
+}
+
+void curspan_take_panels(void) {
+    for (PANEL *panel = panels; panel < panels + MOST; panel++)
+        if (panel->number > 0) give_number(panel, panel->next);
 }

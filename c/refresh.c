@@ -29,10 +29,14 @@ void wcursyncup(WINDOW *win) {
 
 /* ---- refresh */
 
+unsigned long curspan_times_shown, curspan_panels_shown;
+
 int wnoutrefresh(WINDOW *win) {
     if (is_terminal(win)) return clearok(curscr, TRUE);
-    if (done(curspan_wnoutrefresh(SCREEN_AND(win))) == ERR) return ERR;
-    win->moved = false;
+    if (win && win->outlies) curspan_show_outlying(win);
+    else if (done(curspan_wnoutrefresh(SCREEN_AND(win))) == ERR) return ERR;
+    win->moved = win->clears = false;
+    win->shown = ++curspan_times_shown;
     return OK;
 }
 
@@ -40,10 +44,17 @@ int wrefresh(WINDOW *win) { return wnoutrefresh(win) == ERR ? ERR : doupdate(); 
 
 static int not_negative(int n) { return n < 0 ? 0 : n; }
 
+/* The cursor of a pad is taken where it is in the part that is shown. */
+static void show_cursor_of(const WINDOW *pad) {
+    const int *part = pad->part;
+    int y = part[2] + getcury(pad) - part[0], x = part[3] + getcurx(pad) - part[1];
+    if (y >= part[2] && y <= part[4] && x >= part[3] && x <= part[5]) curspan_show_cursor(y, x);
+}
+
 /* The part of the screen ends where the pad does, as over ncurses. */
 int pnoutrefresh(WINDOW *pad, int pad_y, int pad_x, int top, int left, int bottom, int right) {
     int part[6] = {not_negative(pad_y), not_negative(pad_x), not_negative(top), not_negative(left), bottom, right};
-    if (is_there(pad) == ERR || !are_numbers(part[0], part[1], part[2], part[3]) || !are_numbers(bottom, right, 0, 0)) return ERR;
+    if (is_there(pad) == ERR || pad->outlies || !are_numbers(part[0], part[1], part[2], part[3]) || !are_numbers(bottom, right, 0, 0)) return ERR;
     bottom = least(bottom, part[2] + getmaxy(pad) - 1 - part[0]);
     right = least(right, part[3] + getmaxx(pad) - 1 - part[1]);
     if (bottom < 0 || right < 0) return ERR;
@@ -53,6 +64,8 @@ int pnoutrefresh(WINDOW *pad, int pad_y, int pad_x, int top, int left, int botto
     memcpy(pad->part, part, sizeof part);
     pad->begin_y = part[2];
     pad->begin_x = part[3];
+    pad->shown = ++curspan_times_shown;
+    show_cursor_of(pad);
     return OK;
 }
 

@@ -1,6 +1,416 @@
-/* The terminal's size, where it changes. Nothing here is proved. */
+/* Sizes that change, of the screen and of windows. A screen of curspan.h and each of its windows have one size. So windows are made anew, in
+   a second screen where the screen's size changes, and take the place of the old ones when all are there: where one is refused, nothing
+   has changed. Nothing here is proved. */
 #define _XOPEN_SOURCE 700
 #include "inside.h"
+#include "panel.h"
 #include "terminal.h"
 
-void curspan_resize_to_terminal(void) {}
+#include <stddef.h>
+
+/* How large a window is, and where: a derived one in its parent, another on the screen. */
+struct shape {
+    int lines, columns, y, x;
+    int begin_y, begin_x; /* on the screen */
+    bool outlies;
+    bool is_other; /* it has other columns, not only because its parent has */
+};
+
+/* Windows that are made anew, by their places in curspan_windows. */
+struct remake {
+    curspan *from, *to;
+    int lines, columns; /* of the screen to which they come */
+    WINDOW *family[MOST];
+    int count;
+    uint16_t numbers[MOST], old[MOST];
+    struct shape shapes[MOST], before[MOST];
+};
+
+static struct remake remake;
+
+static ptrdiff_t place_of(const WINDOW *win) { return win - curspan_windows; }
+
+/* ---- which windows, and how large */
+
+static struct shape shape_of(const WINDOW *win) {
+    struct shape shape = {getmaxy(win), getmaxx(win), 0, 0, 0, 0, win->outlies, false};
+    if (!is_pad(win)) {
+        shape.begin_y = shape.y = getbegy(win);
+        shape.begin_x = shape.x = getbegx(win);
+    }
+    if (win->parent) {
+        shape.y = getpary(win);
+        shape.x = getparx(win);
+    }
+    return shape;
+}
+
+/* Adds the windows that derive from those that are listed. Each comes after the one that it derives from. */
+static void add_derived(void) {
+    for (int i = 0; i < remake.count; i++)
+        for (WINDOW *win = curspan_windows; win < curspan_windows + MOST; win++)
+            if (is_there(win) == OK && win->parent == remake.family[i]) remake.family[remake.count++] = win;
+}
+
+static void list_all(void) {
+    remake.count = 0;
+    for (WINDOW *win = curspan_windows; win < curspan_windows + MOST; win++)
+        if (is_there(win) == OK && !win->parent) remake.family[remake.count++] = win;
+    add_derived();
+}
+
+static void note_shapes(void) {
+    for (ptrdiff_t i = 0; i < MOST; i++) remake.numbers[i] = NUMBER;
+    for (int i = 0; i < remake.count; i++) {
+        const WINDOW *win = remake.family[i];
+        remake.old[place_of(win)] = win->number;
+        remake.shapes[place_of(win)] = remake.before[place_of(win)] = shape_of(win);
+    }
+}
+
+/* Cuts off what of a shape lies outside of some lines and columns. */
+static void cut(struct shape *shape, int lines, int columns) {
+    shape->y = least(shape->y, lines - 1);
+    shape->x = least(shape->x, columns - 1);
+    shape->lines = least(shape->lines, lines - shape->y);
+    shape->columns = least(shape->columns, columns - shape->x);
+}
+
+/* Cuts off what of derived windows lies outside of their parents. They outlie where those do. */
+static void cut_derived(void) {
+    for (int i = 0; i < remake.count; i++) {
+        const WINDOW *win = remake.family[i];
+        if (!win->parent || remake.shapes[place_of(win->parent)].lines == 0) continue;
+        const struct shape *around = &remake.shapes[place_of(win->parent)];
+        cut(&remake.shapes[place_of(win)], around->lines, around->columns);
+        remake.shapes[place_of(win)].outlies = around->outlies;
+    }
+}
+
+static bool fits_in(const struct shape *shape, int lines, int columns) {
+    return shape->y + shape->lines <= lines && shape->x + shape->columns <= columns;
+}
+
+/* Decides of a window that derives from none whether it outlies. One in a panel never does. */
+static void settle(const WINDOW *win) {
+    struct shape *shape = &remake.shapes[place_of(win)];
+    shape->outlies = !fits_in(shape, remake.lines, remake.columns);
+    if (shape->outlies && curspan_is_in_panel(win)) {
+        cut(shape, remake.lines, remake.columns);
+        shape->outlies = false;
+    }
+    shape->begin_y = shape->y;
+    shape->begin_x = shape->x;
+}
+
+/* A size that was the screen's is so again, and one that is larger is cut off. */
+static int size_on(int size, int old, int new) { return size == old ? new : least(size, new); }
+
+static void plan_all(void) {
+    for (int i = 0; i < remake.count; i++) {
+        const WINDOW *win = remake.family[i];
+        struct shape *shape = &remake.shapes[place_of(win)];
+        if (is_pad(win)) continue;
+        shape->lines = size_on(shape->lines, getmaxy(stdscr), remake.lines);
+        shape->columns = size_on(shape->columns, getmaxx(stdscr), remake.columns);
+        shape->is_other = shape->columns != getmaxx(win);
+        if (!win->parent) settle(win);
+    }
+    cut_derived();
+}
+
+/* ---- windows made anew */
+
+static uint16_t parent_of(const WINDOW *win) {
+    uint16_t number = remake.numbers[place_of(win->parent)];
+    return number == NUMBER ? win->parent->number : number;
+}
+
+static curspan_answer make(const WINDOW *win) {
+    const curspan_answer standard = {CURSPAN_OK, 0, 0};
+    const struct shape *shape = &remake.shapes[place_of(win)];
+    uint16_t lines = (uint16_t)shape->lines, columns = (uint16_t)shape->columns, y = (uint16_t)shape->y, x = (uint16_t)shape->x;
+    bool as_pad = is_pad(win) || shape->outlies;
+    if (win == stdscr) return standard;
+    if (!win->parent) return as_pad ? curspan_newpad(remake.to, lines, columns) : curspan_newwin(remake.to, lines, columns, y, x);
+    return as_pad ? curspan_subpad(remake.to, parent_of(win), lines, columns, y, x)
+                       : curspan_derwin(remake.to, parent_of(win), lines, columns, y, x);
+}
+
+static void unmake(int count) {
+    while (count-- > 0) curspan_delwin(remake.to, remake.numbers[place_of(remake.family[count])]);
+}
+
+static int make_all(void) {
+    for (int i = 0; i < remake.count; i++) {
+        curspan_answer answer = make(remake.family[i]);
+        if (answer.status != CURSPAN_OK) {
+            unmake(i);
+            return ERR;
+        }
+        remake.numbers[place_of(remake.family[i])] = (uint16_t)answer.first;
+    }
+    return OK;
+}
+
+/* ---- what they have */
+
+static void set_background(curspan *screen, uint16_t number, chtype ch) {
+    curspan_wbkgdset(screen, number, CURSPAN_ATTRIBUTES(ch), CURSPAN_CHARACTER(ch));
+    curspan_wbkgdpair(screen, number, CURSPAN_PAIR(ch));
+}
+
+/* Brings n cells of a line to a window of another screen. */
+static void bring_line(const uint16_t from, uint16_t to, uint16_t y, int n) {
+    uint32_t cells[LONGEST];
+    uint8_t text[LONGEST];
+    for (int x = 0; x < n; x++) {
+        curspan_wmove(remake.from, from, y, (uint16_t)x);
+        cells[x] = curspan_winch(remake.from, from).first;
+        text[x] = CURSPAN_CHARACTER(cells[x]);
+    }
+    curspan_wmove(remake.to, to, y, 0);
+    for (int start = 0, end; start < n; start = end) {
+        for (end = start; end < n && cells[end] >> 8 == cells[start] >> 8; end++) continue;
+        curspan_wattrset(remake.to, to, CURSPAN_ATTRIBUTES(cells[start]));
+        curspan_wcolor_set(remake.to, to, CURSPAN_PAIR(cells[start]));
+        curspan_waddstr(remake.to, to, text + start, (size_t)(end - start));
+    }
+}
+
+/* Brings the cells of a window to the new one, as far as they fit. What is new has the background. */
+static void bring_cells(const WINDOW *win, uint16_t from, uint16_t to) {
+    const struct shape *before = &remake.before[place_of(win)], *shape = &remake.shapes[place_of(win)];
+    int lines = least(before->lines, shape->lines), columns = least(before->columns, shape->columns);
+    set_background(remake.to, to, win->background);
+    if (win->parent) return;
+    curspan_werase(remake.to, to);
+    if (remake.from == remake.to) {
+        curspan_copywin(remake.to, from, to, 0, 0, 0, 0, (uint16_t)(lines - 1), (uint16_t)(columns - 1), false);
+        return;
+    }
+    set_background(remake.to, to, ' ');
+    for (int y = 0; y < lines; y++) bring_line(from, to, (uint16_t)y, columns);
+    curspan_wattrset(remake.to, to, 0);
+    curspan_wcolor_set(remake.to, to, 0);
+    set_background(remake.to, to, win->background);
+}
+
+/* A derived window that isn't where its parent shows it comes to where it was. */
+static void bring_place(const WINDOW *win, uint16_t to) {
+    const struct shape *shape = &remake.shapes[place_of(win)];
+    int y = least(shape->begin_y, remake.lines - shape->lines), x = least(shape->begin_x, remake.columns - shape->columns);
+    if (win->parent && !win->is_pad) curspan_mvwin(remake.to, to, (uint16_t)y, (uint16_t)x);
+}
+
+/* The scroll region ends with the window where it did before. */
+static void bring_region(WINDOW *win, uint16_t to) {
+    int last = remake.shapes[place_of(win)].lines - 1, last_before = remake.before[place_of(win)].lines - 1;
+    win->top = least(win->top, last);
+    win->bottom = win->bottom == last_before ? last : least(win->bottom, last);
+    curspan_scrollok(remake.to, to, win->scrolls);
+    curspan_wsetscrreg(remake.to, to, (uint16_t)win->top, (uint16_t)win->bottom);
+}
+
+static void bring(WINDOW *win) {
+    const struct shape *shape = &remake.shapes[place_of(win)];
+    uint16_t from = remake.old[place_of(win)], to = remake.numbers[place_of(win)];
+    curspan_answer cursor = curspan_getyx(remake.from, from);
+    int y = least((int)cursor.first, shape->lines - 1), x = least((int)cursor.second, shape->columns - 1);
+    bring_cells(win, from, to);
+    bring_place(win, to);
+    bring_region(win, to);
+    curspan_wmove(remake.to, to, (uint16_t)y, (uint16_t)x);
+}
+
+/* Touches what was touched, and what is new. */
+static void bring_touches(const WINDOW *win) {
+    const struct shape *before = &remake.before[place_of(win)], *shape = &remake.shapes[place_of(win)];
+    uint16_t from = remake.old[place_of(win)], to = remake.numbers[place_of(win)];
+    for (int y = 0; y < shape->lines; y++) {
+        bool touched = shape->is_other || y >= before->lines || curspan_is_linetouched(remake.from, from, (uint16_t)y).first == 1;
+        curspan_wtouchln(remake.to, to, (uint16_t)y, 1, touched);
+    }
+}
+
+static void renumber_all(void) {
+    for (int i = 0; i < remake.count; i++) {
+        WINDOW *win = remake.family[i];
+        const struct shape *shape = &remake.shapes[place_of(win)];
+        curspan_renumber(win, remake.numbers[place_of(win)]);
+        win->given = A_NORMAL;
+        win->reach = 0;
+        curspan_measure(win);
+        if (is_pad(win)) continue;
+        win->is_pad = win->outlies = shape->outlies;
+        win->begin_y = shape->begin_y;
+        win->begin_x = shape->begin_x;
+    }
+}
+
+/* ---- one window */
+
+/* Makes a window anew with those that derive from it, as it is planned. */
+static int remake_family(void) {
+    cut_derived();
+    if (make_all() == ERR) return ERR;
+    for (int i = 0; i < remake.count; i++) {
+        WINDOW *win = remake.family[i];
+        bring(win);
+        bring_touches(win);
+        curspan_replace_in_panels(remake.old[place_of(win)], remake.numbers[place_of(win)]);
+    }
+    renumber_all();
+    for (int i = remake.count - 1; i >= 0; i--) curspan_delwin(remake.from, remake.old[place_of(remake.family[i])]);
+    return OK;
+}
+
+/* Begins to make a window anew in the same screen. It answers the shape that it has. */
+static struct shape *begin_family(WINDOW *win) {
+    remake.from = remake.to = &curspan_the_screen;
+    remake.lines = getmaxy(stdscr);
+    remake.columns = getmaxx(stdscr);
+    remake.family[0] = win;
+    remake.count = 1;
+    add_derived();
+    for (int i = 0; i < MOST; i++) remake.shapes[i].lines = 0;
+    note_shapes();
+    return &remake.shapes[place_of(win)];
+}
+
+int wresize(WINDOW *win, int lines, int columns) {
+    if (is_there(win) == ERR || lines < 1 || columns < 1 || lines > LONGEST || columns > LONGEST) return ERR;
+    if (lines == getmaxy(win) && columns == getmaxx(win)) return OK;
+    if (win == stdscr) return ERR;
+    struct shape *shape = begin_family(win);
+    shape->is_other = shape->columns != columns;
+    shape->lines = lines;
+    shape->columns = columns;
+    if (win->parent && !fits_in(shape, getmaxy(win->parent), getmaxx(win->parent))) return ERR;
+    if (!win->parent && !is_pad(win)) settle(win);
+    return remake_family();
+}
+
+int curspan_move_inside(WINDOW *win, int y, int x) {
+    if (is_there(win) == ERR || !curspan_fits(getmaxy(win), getmaxx(win), y, x)) return ERR;
+    if (!win->parent) {
+        struct shape *shape = begin_family(win);
+        shape->y = y;
+        shape->x = x;
+        settle(win);
+        if (remake_family() == ERR) return ERR;
+    }
+    win->begin_y = y;
+    win->begin_x = x;
+    return touchwin(win);
+}
+
+int curspan_cut_outside(WINDOW *win) {
+    if (is_there(win) == ERR || win->parent) return ERR;
+    struct shape *shape = begin_family(win);
+    cut(shape, remake.lines, remake.columns);
+    settle(win);
+    return remake_family();
+}
+
+/* ---- the screen */
+
+/* The window, pad or panels that were taken into the virtual screen first after a time: the time of that, or 0 where there are none. */
+static unsigned long next_shown(const unsigned long after, WINDOW **win) {
+    unsigned long next = curspan_panels_shown > after ? curspan_panels_shown : 0;
+    *win = NULL;
+    for (int i = 0; i < remake.count; i++) {
+        unsigned long shown = remake.family[i]->shown;
+        if (shown <= after || (next > 0 && shown > next)) continue;
+        next = shown;
+        *win = remake.family[i];
+    }
+    return next;
+}
+
+/* Takes a part of a pad into the virtual screen as it was taken last, as far as the screen goes. */
+static void show_part(WINDOW *pad) {
+    const int *part = pad->part;
+    pnoutrefresh(pad, part[0], part[1], part[2], part[3], least(part[4], LINES - 1), least(part[5], COLS - 1));
+}
+
+/* Takes all that was on the old virtual screen into the new one, in the same order. */
+static void show_all(void) {
+    unsigned long last = curspan_times_shown;
+    WINDOW *win;
+    for (unsigned long time = 0; (time = next_shown(time, &win)) > 0 && time <= last;) {
+        if (!win) {
+            update_panels();
+        } else if (is_pad(win)) {
+            show_part(win);
+        } else {
+            curspan_touchwin(SCREEN_AND(win));
+            if (win->outlies) curspan_show_outlying(win);
+            else curspan_wnoutrefresh(SCREEN_AND(win));
+            win->shown = ++curspan_times_shown;
+        }
+    }
+}
+
+static int make_screen(void) {
+    list_all();
+    note_shapes();
+    plan_all();
+    if (curspan_open(remake.to, (uint16_t)remake.lines, (uint16_t)remake.columns).status != CURSPAN_OK) return ERR;
+    if (make_all() == OK && curspan_make_panels(remake.to, remake.numbers) == OK) return OK;
+    curspan_close(remake.to);
+    return ERR;
+}
+
+/* Goes over to the new screen. */
+static void take_screen(void) {
+    curspan old = curspan_the_screen;
+    curspan_number_pairs(remake.to);
+    for (int i = 0; i < remake.count; i++) bring(remake.family[i]);
+    curspan_the_screen = *remake.to;
+    remake.from = &old;
+    remake.to = &curspan_the_screen;
+    renumber_all();
+    curspan_take_panels();
+    LINES = remake.lines;
+    COLS = remake.columns;
+    curspan_tell_size(LINES);
+    show_all();
+    for (int i = 0; i < remake.count; i++) {
+        bring_touches(remake.family[i]);
+        if (remake.family[i]->clears) clearok(remake.family[i], TRUE);
+    }
+    curspan_close(&old);
+}
+
+bool is_term_resized(int lines, int columns) {
+    return stdscr && lines > 0 && columns > 0 && (lines != getmaxy(stdscr) || columns != getmaxx(stdscr));
+}
+
+int resize_term(int lines, int columns) {
+    curspan other = CURSPAN_INIT;
+    if (!stdscr || lines < 1 || columns < 1 || lines > CURSPAN_LARGEST_SCREEN || columns > CURSPAN_LARGEST_SCREEN) return ERR;
+    LINES = getmaxy(stdscr);
+    COLS = getmaxx(stdscr);
+    if (!is_term_resized(lines, columns)) return OK;
+    remake.from = &curspan_the_screen;
+    remake.to = &other;
+    remake.lines = lines;
+    remake.columns = columns;
+    if (make_screen() == ERR) return ERR;
+    take_screen();
+    return OK;
+}
+
+int resizeterm(int lines, int columns) {
+    if (!stdscr || lines < 1 || columns < 1) return ERR;
+    int answer = resize_term(lines, columns);
+    ungetch(KEY_RESIZE);
+    return answer;
+}
+
+void curspan_resize_to_terminal(void) {
+    int lines, columns;
+    curspan_find_size(&lines, &columns);
+    resizeterm(lines, columns);
+}

@@ -15,6 +15,10 @@ int LINES, COLS;
 int COLORS = 8, COLOR_PAIRS = LAST_PAIR + 1;
 curspan curspan_the_screen = CURSPAN_INIT;
 
+static bool ignores_environment;
+
+void use_env(bool flag) { ignores_environment = !flag; }
+
 int curspan_number_in(const char *variable) {
     const char *text = getenv(variable);
     char *end;
@@ -25,7 +29,7 @@ int curspan_number_in(const char *variable) {
 
 /* The size in a variable of the environment, or 0 where that is none. */
 static int size_in(const char *variable) {
-    int size = curspan_number_in(variable);
+    int size = ignores_environment ? ERR : curspan_number_in(variable);
     return size == ERR || size > CURSPAN_LARGEST_SCREEN ? 0 : size;
 }
 

@@ -7,6 +7,7 @@
 WINDOW *stdscr, *curscr;
 
 struct curspan_window curspan_windows[MOST];
+static WINDOW *numbered[MOST]; /* by their numbers */
 static struct curspan_window the_terminal = {.number = NUMBER, .limit = NOT_READY}; /* it is no window of Curspan */
 
 static void forget(WINDOW *win) {
@@ -18,11 +19,15 @@ static void forget(WINDOW *win) {
 void curspan_forget_all(void) {
     for (int i = 0; i < MOST; i++) forget(&curspan_windows[i]);
     curspan_forget_colours();
+    curspan_forget_panels();
     stdscr = curscr = NULL;
 }
 
-WINDOW *curspan_window_of(curspan_answer answer) {
-    return answer.status == CURSPAN_OK ? &curspan_windows[answer.first] : NULL;
+WINDOW *curspan_window_of(curspan_answer answer) { return answer.status == CURSPAN_OK ? numbered[answer.first] : NULL; }
+
+void curspan_renumber(WINDOW *win, uint16_t number) {
+    win->number = number;
+    numbered[number] = win;
 }
 
 void curspan_measure(WINDOW *win) {
@@ -40,10 +45,12 @@ static void set_begin(WINDOW *win) {
 
 /* A window that was made by an answer, with its size. A derived one begins with its parent's attributes and background. */
 static WINDOW *made(curspan_answer answer, bool is_pad, WINDOW *parent) {
-    WINDOW *win = curspan_window_of(answer);
-    if (!win) return NULL;
+    if (answer.status != CURSPAN_OK) return NULL;
+    WINDOW *win = &curspan_windows[answer.first];
+    if (win->number != NUMBER) /* another window that changed its number has this place */
+        for (win = curspan_windows; win->number != NUMBER; win++) continue;
     forget(win);
-    win->number = (uint16_t)answer.first;
+    curspan_renumber(win, (uint16_t)answer.first);
     win->is_pad = is_pad;
     win->parent = parent;
     curspan_measure(win);
@@ -61,22 +68,49 @@ static WINDOW *made(curspan_answer answer, bool is_pad, WINDOW *parent) {
 void curspan_begin(curspan_answer answer) {
     curspan_forget_all();
     curspan_number_pairs(&curspan_the_screen);
+    curspan_begin_map();
     stdscr = made(answer, false, NULL);
     curscr = &the_terminal;
 }
 
+/* Makes of a new pad a window that outlies. */
+static WINDOW *made_outlying(curspan_answer answer, WINDOW *parent, int y, int x) {
+    WINDOW *win = made(answer, true, parent);
+    if (!win) return NULL;
+    win->outlies = true;
+    win->begin_y = y;
+    win->begin_x = x;
+    return win;
+}
+
 WINDOW *newwin(int lines, int columns, int y, int x) {
-    if (!are_numbers(lines, columns, y, x)) return NULL;
+    if (!stdscr || !are_numbers(lines, columns, y, x)) return NULL;
+    if (lines == 0) lines = getmaxy(stdscr) - y;
+    if (columns == 0) columns = getmaxx(stdscr) - x;
+    if (lines < 1 || columns < 1) return NULL;
+    if (!curspan_fits(lines, columns, y, x))
+        return made_outlying(curspan_newpad(&curspan_the_screen, (uint16_t)lines, (uint16_t)columns), NULL, y, x);
     return made(curspan_newwin(&curspan_the_screen, (uint16_t)lines, (uint16_t)columns, (uint16_t)y, (uint16_t)x), false, NULL);
+}
+
+/* Makes a window that shows a part of one that outlies. */
+static WINDOW *derive_outlying(WINDOW *win, int lines, int columns, int y, int x) {
+    if (lines == 0) lines = getmaxy(win) - y;
+    if (columns == 0) columns = getmaxx(win) - x;
+    if (!are_numbers(lines, columns, y, x)) return NULL;
+    curspan_answer answer = curspan_subpad(SCREEN_AND(win), (uint16_t)lines, (uint16_t)columns, (uint16_t)y, (uint16_t)x);
+    return made_outlying(answer, win, win->begin_y + y, win->begin_x + x);
 }
 
 WINDOW *subwin(WINDOW *win, int lines, int columns, int y, int x) {
     if (!are_numbers(lines, columns, y, x)) return NULL;
+    if (win && win->outlies) return derive_outlying(win, lines, columns, y - win->begin_y, x - win->begin_x);
     return made(curspan_subwin(SCREEN_AND(win), (uint16_t)lines, (uint16_t)columns, (uint16_t)y, (uint16_t)x), false, win);
 }
 
 WINDOW *derwin(WINDOW *win, int lines, int columns, int y, int x) {
     if (!are_numbers(lines, columns, y, x)) return NULL;
+    if (win && win->outlies) return derive_outlying(win, lines, columns, y, x);
     return made(curspan_derwin(SCREEN_AND(win), (uint16_t)lines, (uint16_t)columns, (uint16_t)y, (uint16_t)x), false, win);
 }
 
@@ -86,14 +120,14 @@ WINDOW *newpad(int lines, int columns) {
 }
 
 WINDOW *subpad(WINDOW *pad, int lines, int columns, int y, int x) {
-    if (!are_numbers(lines, columns, y, x)) return NULL;
+    if (!are_numbers(lines, columns, y, x) || (pad && pad->outlies)) return NULL;
     return made(curspan_subpad(SCREEN_AND(pad), (uint16_t)lines, (uint16_t)columns, (uint16_t)y, (uint16_t)x), true, pad);
 }
 
 WINDOW *dupwin(WINDOW *win) {
     int lines = getmaxy(win), columns = getmaxx(win);
     if (lines == ERR) return NULL;
-    WINDOW *copy = win->is_pad ? newpad(lines, columns) : newwin(lines, columns, getbegy(win), getbegx(win));
+    WINDOW *copy = is_pad(win) ? newpad(lines, columns) : newwin(lines, columns, getbegy(win), getbegx(win));
     if (!copy) return NULL;
     copywin(win, copy, 0, 0, 0, 0, lines - 1, columns - 1, FALSE);
     wbkgdset(copy, win->background);
@@ -122,6 +156,7 @@ int delwin(WINDOW *win) {
 
 int mvwin(WINDOW *win, int y, int x) {
     if (!are_numbers(y, x, 0, 0)) return ERR;
+    if (win && win->outlies) return curspan_move_inside(win, y, x);
     if (done(curspan_mvwin(SCREEN_AND(win), (uint16_t)y, (uint16_t)x)) == ERR) return ERR;
     return touchwin(win);
 }
@@ -151,7 +186,9 @@ int clearok(WINDOW *win, bool flag) {
         if (flag) curspan_invalidate(&curspan_the_screen);
         return OK;
     }
-    return done(curspan_clearok(SCREEN_AND(win), flag));
+    if (done(curspan_clearok(SCREEN_AND(win), flag)) == ERR) return ERR;
+    win->clears = flag;
+    return OK;
 }
 
 int scrollok(WINDOW *win, bool flag) {
@@ -171,16 +208,17 @@ int wsetscrreg(WINDOW *win, int top, int bottom) {
 }
 
 int idlok(WINDOW *win, bool flag) {
-    (void)flag;
-    return is_there(win);
+    if (is_there(win) == ERR) return ERR;
+    win->idlok = flag;
+    return OK;
 }
 
 void idcok(WINDOW *win, bool flag) {
-    (void)win;
-    (void)flag;
+    if (is_there(win) == OK) win->no_idcok = !flag;
 }
 
 int leaveok(WINDOW *win, bool flag) {
-    (void)flag;
-    return is_there(win);
+    if (is_there(win) == ERR) return ERR;
+    win->leaveok = flag;
+    return OK;
 }

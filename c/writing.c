@@ -135,6 +135,7 @@ static bool is_printable(uint8_t ch) { return ch >= ' ' && ch <= '~'; }
 /* ---- characters and texts */
 
 int curspan_add_any(WINDOW *win, chtype ch) {
+    if (ch & A_ALTCHARSET) return curspan_add_any(win, curspan_alternative(ch));
     uint8_t character = ch & A_CHARTEXT;
     bool has_attributes = (ch & A_ATTRIBUTES) != 0;
     if (is_there(win) == ERR || PAIR_NUMBER(ch) > LAST_PAIR) return ERR;

@@ -1,8 +1,8 @@
 /* curses.h: X/Open Curses over Curspan (curspan.h), in C99 or C++.
 
-   A program that draws and reads keys by these names compiles unchanged. What isn't here is absent: wide and complex
-   characters, soft labels, terminfo, several screens. A program that needs it doesn't compile.
-   curspan(3) has a table of all of X/Open's windowing names, with what takes the place of each.
+   A program that uses these names compiles unchanged. What isn't here is absent: wide and complex characters, soft labels,
+   terminfo, several screens, menus and forms. A program that needs it doesn't compile. curspan(3) has a table of all of
+   X/Open's names and of the usual ones of ncurses, with what takes the place of each.
 
    One screen. It is proved what the functions of curspan.h do. What is C here is not proved: it turns these names and types
    into calls of curspan.h, and writes their bytes to the terminal. It is tested against ncurses. */
@@ -64,6 +64,24 @@ typedef chtype attr_t;
 #define WA_INVIS A_INVIS
 #define WA_STANDOUT A_STANDOUT
 
+/* They change nothing, and no cell keeps them. A character with A_ALTCHARSET is the one that acs_map has for it. */
+#define A_ALTCHARSET ((chtype)1 << 24)
+#define A_PROTECT ((chtype)1 << 25)
+#define A_HORIZONTAL ((chtype)1 << 26)
+#define A_LEFT ((chtype)1 << 27)
+#define A_LOW ((chtype)1 << 28)
+#define A_RIGHT ((chtype)1 << 29)
+#define A_TOP ((chtype)1 << 30)
+#define A_VERTICAL ((chtype)1 << 31)
+#define WA_ALTCHARSET A_ALTCHARSET
+#define WA_PROTECT A_PROTECT
+#define WA_HORIZONTAL A_HORIZONTAL
+#define WA_LEFT A_LEFT
+#define WA_LOW A_LOW
+#define WA_RIGHT A_RIGHT
+#define WA_TOP A_TOP
+#define WA_VERTICAL A_VERTICAL
+
 #define COLOR_PAIR(pair) (((chtype)(pair) << 16) & A_COLOR)
 #define PAIR_NUMBER(attrs) ((int)(((attrs) & A_COLOR) >> 16))
 #define COLOR_BLACK 0
@@ -101,6 +119,24 @@ typedef chtype attr_t;
 #define ACS_BOARD ((chtype)'#')
 #define ACS_LANTERN ((chtype)'#')
 #define ACS_BLOCK ((chtype)'#')
+#define ACS_S3 ((chtype)'-')
+#define ACS_S7 ((chtype)'-')
+#define ACS_LEQUAL ((chtype)'<')
+#define ACS_GEQUAL ((chtype)'>')
+#define ACS_PI ((chtype)'*')
+#define ACS_NEQUAL ((chtype)'!')
+#define ACS_STERLING ((chtype)'f')
+#define ACS_BSSB ACS_ULCORNER
+#define ACS_SSBB ACS_LLCORNER
+#define ACS_BBSS ACS_URCORNER
+#define ACS_SBBS ACS_LRCORNER
+#define ACS_SBSS ACS_RTEE
+#define ACS_SSSB ACS_LTEE
+#define ACS_SSBS ACS_BTEE
+#define ACS_BSSS ACS_TTEE
+#define ACS_BSBS ACS_HLINE
+#define ACS_SBSB ACS_VLINE
+#define ACS_SSSS ACS_PLUS
 
 /* Keys that are no characters, for keypad(win, TRUE). Their numbers are those of ncurses. */
 #define KEY_BREAK 0401
@@ -202,6 +238,7 @@ extern WINDOW *stdscr; /* the standard screen, from initscr on */
 extern WINDOW *curscr; /* what the terminal shows: for refresh, clearok, touchwin and redrawwin alone, which draw all anew */
 extern int LINES, COLS;
 extern int COLORS, COLOR_PAIRS;
+extern chtype acs_map[]; /* the characters above, by the letters that VT100 has for them */
 extern int ESCDELAY; /* for how many milliseconds getch waits for the rest of a key that begins with an escape */
 
 /* ---- the screen */
@@ -211,6 +248,10 @@ SCREEN *newterm(const char *type, FILE *out, FILE *in);
 int endwin(void);                                        /* the next refresh brings the picture back */
 bool isendwin(void);
 void delscreen(SCREEN *screen);
+SCREEN *set_term(SCREEN *screen); /* the one screen, and NULL of another */
+void use_env(bool flag);          /* whether LINES and COLUMNS count, where the screen is not made yet */
+int mvcur(int old_y, int old_x, int y, int x);
+const char *curses_version(void);
 int curs_set(int visibility);
 int beep(void);
 int flash(void);
@@ -221,7 +262,11 @@ char *longname(void); /* the same */
 
 int start_color(void);
 bool has_colors(void);
+int use_default_colors(void);                                /* the colour -1 is the terminal's own */
+int assume_default_colors(int foreground, int background);   /* the same for -1 and -1, and refused for others */
 bool can_change_color(void);
+int init_color(short color, short red, short green, short blue);            /* refused: colours can't be changed */
+int color_content(short color, short *red, short *green, short *blue);
 int init_pair(short pair, short foreground, short background);
 int pair_content(short pair, short *foreground, short *background);
 
@@ -249,6 +294,13 @@ int getparx(const WINDOW *win);
 #define getbegyx(win, y, x) ((y) = getbegy(win), (x) = getbegx(win))
 #define getmaxyx(win, y, x) ((y) = getmaxy(win), (x) = getmaxx(win))
 #define getparyx(win, y, x) ((y) = getpary(win), (x) = getparx(win))
+
+/* ---- sizes that change: windows keep what fits */
+
+int wresize(WINDOW *win, int lines, int columns);
+int resizeterm(int lines, int columns); /* the screen's; getch answers KEY_RESIZE then */
+int resize_term(int lines, int columns);
+bool is_term_resized(int lines, int columns);
 
 /* ---- options */
 
@@ -499,6 +551,77 @@ int prefresh(WINDOW *pad, int pad_y, int pad_x, int top, int left, int bottom, i
 int pnoutrefresh(WINDOW *pad, int pad_y, int pad_x, int top, int left, int bottom, int right);
 int redrawwin(WINDOW *win);
 int wredrawln(WINDOW *win, int y, int n);
+
+/* ---- what is asked, as ncurses has it */
+
+typedef int (*NCURSES_WINDOW_CB)(WINDOW *, void *);
+typedef int (*NCURSES_SCREEN_CB)(SCREEN *, void *);
+
+bool is_cleared(const WINDOW *win);
+bool is_idcok(const WINDOW *win);
+bool is_idlok(const WINDOW *win);
+bool is_leaveok(const WINDOW *win);
+bool is_pad(const WINDOW *win);
+bool is_scrollok(const WINDOW *win);
+bool is_subwin(const WINDOW *win);
+WINDOW *wgetparent(const WINDOW *win);
+int wgetscrreg(const WINDOW *win, int *top, int *bottom);
+attr_t getattrs(const WINDOW *win);
+int use_window(WINDOW *win, NCURSES_WINDOW_CB call, void *argument);
+int use_screen(SCREEN *screen, NCURSES_SCREEN_CB call, void *argument);
+bool has_ic(void);
+bool has_il(void);
+chtype termattrs(void);
+
+/* ---- the mouse: there is none, and no call gets an event of it */
+
+typedef uint32_t mmask_t;
+typedef struct {
+    short id;
+    int x, y, z;
+    mmask_t bstate;
+} MEVENT;
+
+#define NCURSES_MOUSE_MASK(button, event) ((mmask_t)(event) << (((button) - 1) * 5))
+#define BUTTON1_RELEASED NCURSES_MOUSE_MASK(1, 001)
+#define BUTTON1_PRESSED NCURSES_MOUSE_MASK(1, 002)
+#define BUTTON1_CLICKED NCURSES_MOUSE_MASK(1, 004)
+#define BUTTON1_DOUBLE_CLICKED NCURSES_MOUSE_MASK(1, 010)
+#define BUTTON1_TRIPLE_CLICKED NCURSES_MOUSE_MASK(1, 020)
+#define BUTTON2_RELEASED NCURSES_MOUSE_MASK(2, 001)
+#define BUTTON2_PRESSED NCURSES_MOUSE_MASK(2, 002)
+#define BUTTON2_CLICKED NCURSES_MOUSE_MASK(2, 004)
+#define BUTTON2_DOUBLE_CLICKED NCURSES_MOUSE_MASK(2, 010)
+#define BUTTON2_TRIPLE_CLICKED NCURSES_MOUSE_MASK(2, 020)
+#define BUTTON3_RELEASED NCURSES_MOUSE_MASK(3, 001)
+#define BUTTON3_PRESSED NCURSES_MOUSE_MASK(3, 002)
+#define BUTTON3_CLICKED NCURSES_MOUSE_MASK(3, 004)
+#define BUTTON3_DOUBLE_CLICKED NCURSES_MOUSE_MASK(3, 010)
+#define BUTTON3_TRIPLE_CLICKED NCURSES_MOUSE_MASK(3, 020)
+#define BUTTON4_RELEASED NCURSES_MOUSE_MASK(4, 001)
+#define BUTTON4_PRESSED NCURSES_MOUSE_MASK(4, 002)
+#define BUTTON4_CLICKED NCURSES_MOUSE_MASK(4, 004)
+#define BUTTON4_DOUBLE_CLICKED NCURSES_MOUSE_MASK(4, 010)
+#define BUTTON4_TRIPLE_CLICKED NCURSES_MOUSE_MASK(4, 020)
+#define BUTTON5_RELEASED NCURSES_MOUSE_MASK(5, 001)
+#define BUTTON5_PRESSED NCURSES_MOUSE_MASK(5, 002)
+#define BUTTON5_CLICKED NCURSES_MOUSE_MASK(5, 004)
+#define BUTTON5_DOUBLE_CLICKED NCURSES_MOUSE_MASK(5, 010)
+#define BUTTON5_TRIPLE_CLICKED NCURSES_MOUSE_MASK(5, 020)
+#define BUTTON_CTRL NCURSES_MOUSE_MASK(6, 001)
+#define BUTTON_SHIFT NCURSES_MOUSE_MASK(6, 002)
+#define BUTTON_ALT NCURSES_MOUSE_MASK(6, 004)
+#define REPORT_MOUSE_POSITION NCURSES_MOUSE_MASK(6, 010)
+#define ALL_MOUSE_EVENTS (REPORT_MOUSE_POSITION - 1)
+
+bool has_mouse(void);
+mmask_t mousemask(mmask_t wanted, mmask_t *before);
+int mouseinterval(int milliseconds);
+int getmouse(MEVENT *event);
+int ungetmouse(MEVENT *event);
+bool wenclose(const WINDOW *win, int y, int x);
+bool wmouse_trafo(const WINDOW *win, int *y, int *x, bool to_screen);
+bool mouse_trafo(int *y, int *x, bool to_screen);
 
 #ifdef __cplusplus
 }

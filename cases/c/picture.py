@@ -54,7 +54,10 @@ def main():
                 cells += [(character, rendition) for character in drawn(other)]
             else:
                 rendition = select(rendition, [int(code or 0) for code in codes.split(";")])
-        cells += [(" ", (0, "-", "-"))] * (columns - len(cells))
+        blank = (" ", (0, "-", "-"))
+        while len(cells) > columns and cells[-1] == blank:
+            cells.pop()
+        cells += [blank] * (columns - len(cells))
         print("|" + "".join(character for character, _ in cells) + "|")
         if any(attributes for _, (attributes, _, _) in cells):
             print(":" + "".join(f"{attributes:02x}" for _, (attributes, _, _) in cells))

@@ -88,11 +88,21 @@ keep() {
     in_tmux capture-pane -t "$1" -e -p -N \; display-message -t "$1" -p -- '--- cursor #{cursor_y} #{cursor_x}' >> "$work/$1.kept"
 }
 
-# Types a line into both terminals: each word at once, with a pause between two. A word is bytes as printf has them.
+# Gives both terminals another size, and waits until tmux has told the programs.
+resize() {
+    in_tmux resize-window -t ncurses -y "${1%x*}" -x "${1#*x}" \; resize-window -t curspan -y "${1%x*}" -x "${1#*x}"
+    sleep 0.5
+}
+
+# Types a line into both terminals: each word at once, with a pause between two. A word is bytes as printf has them, or a size as @30x100.
 type_line() {
     local words word bytes
     read -ra words <<< "$1"
     for word in "${words[@]}"; do
+        if [[ $word == @* ]]; then
+            resize "${word#@}"
+            continue
+        fi
         mapfile -t bytes < <(printf %b "$word" | od -An -v -w1 -tx1 | tr -d ' ')
         in_tmux send-keys -t ncurses -H "${bytes[@]}" \; send-keys -t curspan -H "${bytes[@]}"
         [ "${#words[@]}" = 1 ] || sleep 0.02

@@ -1,0 +1,84 @@
+/* What is asked about windows and of the terminal. Nothing here is proved. */
+#include "inside.h"
+
+#include <stddef.h>
+
+/* ---- windows */
+
+static bool has(const WINDOW *win, bool option) { return is_there(win) == OK && option; }
+
+bool is_cleared(const WINDOW *win) { return win && has(win, win->clears); }
+bool is_idcok(const WINDOW *win) { return win && has(win, !win->no_idcok); }
+bool is_idlok(const WINDOW *win) { return win && has(win, win->idlok); }
+bool is_leaveok(const WINDOW *win) { return win && has(win, win->leaveok); }
+bool is_pad(const WINDOW *win) { return win && has(win, win->is_pad && !win->outlies); }
+bool is_scrollok(const WINDOW *win) { return win && has(win, win->scrolls); }
+bool is_subwin(const WINDOW *win) { return win && has(win, win->parent != NULL); }
+
+WINDOW *wgetparent(const WINDOW *win) { return is_there(win) == OK ? win->parent : NULL; }
+
+int wgetscrreg(const WINDOW *win, int *top, int *bottom) {
+    if (is_there(win) == ERR || !top || !bottom) return ERR;
+    *top = win->top;
+    *bottom = win->bottom;
+    return OK;
+}
+
+attr_t getattrs(const WINDOW *win) { return is_there(win) == OK ? win->attrs : A_NORMAL; }
+
+int use_window(WINDOW *win, NCURSES_WINDOW_CB call, void *argument) { return is_there(win) == OK && call ? call(win, argument) : ERR; }
+
+/* ---- the terminal */
+
+bool has_ic(void) { return stdscr != NULL; }
+bool has_il(void) { return stdscr != NULL; }
+chtype termattrs(void) { return stdscr ? A_BOLD | A_DIM | A_UNDERLINE | A_BLINK | A_REVERSE | A_INVIS | A_COLOR : A_NORMAL; }
+const char *curses_version(void) { return "curspan " CURSPAN_VERSION; }
+
+SCREEN *set_term(SCREEN *screen) { return stdscr && screen == (SCREEN *)&curspan_the_screen ? screen : NULL; }
+
+int use_screen(SCREEN *screen, NCURSES_SCREEN_CB call, void *argument) {
+    return set_term(screen) && call ? call(screen, argument) : ERR;
+}
+
+/* ---- the mouse, which there is none */
+
+bool has_mouse(void) { return false; }
+
+mmask_t mousemask(mmask_t wanted, mmask_t *before) {
+    (void)wanted;
+    if (before) *before = 0;
+    return 0;
+}
+
+int mouseinterval(int milliseconds) {
+    (void)milliseconds;
+    return 0;
+}
+
+int getmouse(MEVENT *event) {
+    (void)event;
+    return ERR;
+}
+
+int ungetmouse(MEVENT *event) {
+    (void)event;
+    return ERR;
+}
+
+bool wenclose(const WINDOW *win, int y, int x) {
+    int top = getbegy(win), left = getbegx(win);
+    return top != ERR && y >= top && y < top + getmaxy(win) && x >= left && x < left + getmaxx(win);
+}
+
+bool wmouse_trafo(const WINDOW *win, int *y, int *x, bool to_screen) {
+    int sign = to_screen ? 1 : -1, top = getbegy(win), left = getbegx(win);
+    if (top == ERR || !y || !x) return false;
+    int screen_y = to_screen ? *y + top : *y, screen_x = to_screen ? *x + left : *x;
+    if (!wenclose(win, screen_y, screen_x)) return false;
+    *y += sign * top;
+    *x += sign * left;
+    return true;
+}
+
+bool mouse_trafo(int *y, int *x, bool to_screen) { return wmouse_trafo(stdscr, y, x, to_screen); }

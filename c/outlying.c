@@ -1,0 +1,31 @@
+/* Windows that aren't wholly on the screen, which curspan.h doesn't have: a pad stands for each, and what of it is on the screen is shown.
+   And the cursor of a pad. Nothing here is proved. */
+#include "inside.h"
+
+#include <stddef.h>
+
+bool curspan_fits(int lines, int columns, int y, int x) {
+    return stdscr && y >= 0 && x >= 0 && y + lines <= getmaxy(stdscr) && x + columns <= getmaxx(stdscr);
+}
+
+/* A window of one cell that isn't touched has nothing to show but its cursor. */
+void curspan_show_cursor(int y, int x) {
+    if (!curspan_fits(1, 1, y, x)) return;
+    curspan_answer answer = curspan_newwin(&curspan_the_screen, 1, 1, (uint16_t)y, (uint16_t)x);
+    if (answer.status != CURSPAN_OK) return;
+    curspan_untouchwin(&curspan_the_screen, (uint16_t)answer.first);
+    curspan_wnoutrefresh(&curspan_the_screen, (uint16_t)answer.first);
+    curspan_delwin(&curspan_the_screen, (uint16_t)answer.first);
+}
+
+int curspan_show_outlying(WINDOW *win) {
+    int lines = least(getmaxy(win), getmaxy(stdscr) - win->begin_y), right = least(win->begin_x + getmaxx(win), getmaxx(stdscr)) - 1;
+    for (int y = 0; y < lines && right >= win->begin_x; y++) {
+        uint16_t line = (uint16_t)(win->begin_y + y);
+        if (is_linetouched(win, y))
+            curspan_pnoutrefresh(SCREEN_AND(win), (uint16_t)y, 0, line, (uint16_t)win->begin_x, line, (uint16_t)right);
+    }
+    curspan_untouchwin(SCREEN_AND(win));
+    curspan_show_cursor(win->begin_y + getcury(win), win->begin_x + getcurx(win));
+    return OK;
+}

@@ -1,0 +1,33 @@
+/* The characters of lines and signs, attributes that change nothing, and what colours the terminal has. */
+#include "shot.h"
+#include <unctrl.h>
+
+int main(void) {
+    const attr_t none[] = {A_PROTECT, A_HORIZONTAL, A_LEFT, A_LOW, A_RIGHT, A_TOP, A_VERTICAL, WA_PROTECT, WA_HORIZONTAL,
+                           WA_LEFT,   WA_LOW,       WA_RIGHT, WA_TOP, WA_VERTICAL};
+    short red = 0, green = 0, blue = 0;
+    initscr();
+    for (chtype ch = '0'; ch <= '~'; ch++)
+        if (strchr("`afghijklmnopqrstuvwxyz{|}~0", (int)ch)) addch(acs_map[ch]);
+    move(1, 0);
+    const chtype signs[] = {ACS_S3,   ACS_S7,   ACS_LEQUAL, ACS_GEQUAL, ACS_PI,   ACS_NEQUAL, ACS_STERLING, ACS_BSSB, ACS_SSBB, ACS_BBSS,
+                            ACS_SBBS, ACS_SBSS, ACS_SSSB,   ACS_SSBS,   ACS_BSSS, ACS_BSBS,   ACS_SBSB,     ACS_SSSS};
+    for (size_t i = 0; i < sizeof signs / sizeof signs[0]; i++) addch(signs[i]);
+    mvaddch(2, 0, 'x' | A_ALTCHARSET);
+    addch('q' | WA_ALTCHARSET | A_BOLD);
+    move(3, 0);
+    for (size_t i = 0; i < sizeof none / sizeof none[0]; i++) addch('a' | none[i] | (none[i] == A_LOW ? A_BOLD : A_NORMAL));
+    start_color();
+    mvprintw(5, 0, "colours %d %d %d", use_default_colors(), assume_default_colors(-1, -1), init_color(1, 0, 0, 0));
+    printw(", %d", color_content(COLOR_YELLOW, &red, &green, &blue));
+    printw(": %d %d %d, %d", red, green, blue, color_content(99, &red, &green, &blue));
+    mvaddstr(11, 0, unctrl('\x01'));
+    refresh();
+    shot();
+    mvcur(0, 0, 20, 40);
+    mvaddstr(21, 0, "after");
+    refresh();
+    shot();
+    endwin();
+    return 0;
+}

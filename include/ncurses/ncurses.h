@@ -1,0 +1,2 @@
+/* <ncurses/ncurses.h>, as some programs have it. See ../curses.h. */
+#include "../curses.h"

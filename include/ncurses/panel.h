@@ -1,0 +1,2 @@
+/* <ncurses/panel.h>, as some programs have it. See ../panel.h. */
+#include "../panel.h"
