@@ -2,6 +2,7 @@
 
 ghost use Rattle.std.specs.Prelude.{◌≡◌};
 ghost use Rattle.cell.specs.Limits.{is_no_size};
+ghost use Rattle.cell.specs.declared.window.TheConstants.WinId.{STANDARD};
 
 /// The most lines, and the most columns, of a screen.
 pub const LARGEST_SCREEN: u16 = 999;
@@ -33,8 +34,8 @@ pub fn is_no_size(most: u16, n: u16) -> bool
     n == 0 || most < n
 }
 
-/// The limits in numerals: of a screen, a pad, how many windows and panels there can be, and what a cell can hold. Here a reader checks the
-/// values; all else uses the names.
+/// The limits in numerals: of a screen, a pad, how many windows and panels there can be, and what a cell can hold; and the number of the
+/// standard screen. Here a reader checks the values; all else uses the names.
 pub fn limits_in_numerals()
     ensures screen { LARGEST_SCREEN ≡ 999 }
     ensures pad { LARGEST_PAD ≡ 1000 }
@@ -43,4 +44,5 @@ pub fn limits_in_numerals()
     ensures characters { (FIRST_CHARACTER ≡ 32) × (LAST_CHARACTER ≡ 126) }
     ensures colours { LAST_COLOUR ≡ 7 }
     ensures pairs { LAST_PAIR ≡ 63 }
+    ensures standard { STANDARD.0 ≡ 0 }
 {}

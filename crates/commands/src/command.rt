@@ -25,6 +25,12 @@ A script has a call a line, and is read from standard input, as the terminal byt
 Example:
   printf 'addstr 0 hi\\nupdate_panels\\ndoupdate\\n' | curspan run --lines 24 --cols 80";
 
+/// The help of the option for the lines of a screen.
+pub const LINES_HELP: &str = "Lines of the screen, 1 to 999";
+
+/// The help of the option for its columns.
+pub const COLS_HELP: &str = "Columns of the screen, 1 to 999";
+
 /// An option for a number of lines or columns of a screen.
 fn size<'a>(alloc: Global, name: &'a str, help: &'a str) -> Arg<'a>
     ensures rule { rule_of result ≡ size_rule name.entry.now }
@@ -46,8 +52,8 @@ fn subcommand<'a>(alloc: Global, name: &'a str, about: &'a str) -> Result<Comman
 {
     Command::new(alloc, name)
         .about(about)
-        .arg(size(alloc, "lines", "Lines of the screen, 1 to 999"))?
-        .arg(size(alloc, "cols", "Columns of the screen, 1 to 999"))
+        .arg(size(alloc, "lines", LINES_HELP))?
+        .arg(size(alloc, "cols", COLS_HELP))
 }
 
 /// The program without its subcommands.

@@ -4,6 +4,7 @@
 //! - `check`: `check`
 //! - `command`: the command line
 //! - `escapes`: a usage fault's text
+//! - `laws`: the numerals in the help are the limits
 //! - `printing`: the printed picture
 //! - `put`: what is written, and flushed
 //! - `refused_words`: what is shown of words that are refused
@@ -16,6 +17,7 @@
 mod check;
 mod command;
 mod escapes;
+mod laws;
 mod printing;
 mod put;
 mod refused_words;
@@ -25,6 +27,7 @@ mod status;
 
 pub use check::check_script;
 pub use command::job;
+pub use laws::limits_in_help;
 pub use printing::print;
 pub use put::write_log;
 pub use refused_words::usage;

@@ -2,3 +2,4 @@ pub mod Faults
 pub mod Advice
 pub mod Reasons
 pub mod Explanations
+pub mod steps

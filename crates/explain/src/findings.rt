@@ -93,7 +93,7 @@ fn append_advice(text: &mut Finding, word: &[u8])
     ensures short { length text.new.items < FINDING_ROOM }
 {
     if let Some(advice) = advice_on(word) {
-        append_call(text, b": ", advice.text());
+        append_call(text, b": ", advice);
     } else if let Some(call) = call_after_prefix(b"mvw", word) {
         append_call(text, b": see move, ", call);
     } else if let Some(call) = call_after_prefix(b"mv", word) {

@@ -1,9 +1,10 @@
-use Rattle.std.proofs.Common.{◌≡◌, length, map}
-use Rattle.explain.specs.Advice.{look_up}
+use Rattle.std.proofs.Common.{◌≡◌, length}
+use Rattle.explain.specs.Advice.{advice_in}
+use Rattle.explain.specs.steps.Tables.{rows_now}
 use Rattle.explain.proofs.advice.look_up.Given as goal
 
-abbrev pub invariant-loop-table : goal.invariant-loop-table
-invariant-loop-table l = look_up (map (λ entry. (entry.0.now, entry.1)) l.table) l.name ≡ look_up (map (λ entry. (entry.0.now, entry.1)) l.initial.table) l.name
+abbrev pub invariant-loop-rows : goal.invariant-loop-rows
+invariant-loop-rows l = advice_in (rows_now l.rows) l.name ≡ advice_in (rows_now l.initial.rows) l.name
 
-abbrev pub decreases-loop-table : goal.decreases-loop-table
-decreases-loop-table l = length l.table
+abbrev pub decreases-loop-rows : goal.decreases-loop-rows
+decreases-loop-rows l = length l.rows
