@@ -1,9 +1,11 @@
 -- How many bytes a token has.
-use Rattle.std.proofs.Common.{◌≡◌, ℕ, ◌+◌, ◌*◌, ◌<◌, ◌≤◌, List, [], ◌∷◌, ◌++◌, length, arith, length-append}
-use Rattle.std.specs.Prelude.{decimal, if◌then◌else◌, Option, Some, None}
+use Rattle.std.proofs.Common.{◌≡◌, ℕ, ◌+◌, ◌*◌, ◌/◌, ◌%◌, ◌<◌, ◌≤◌, true, List, [], ◌∷◌, ◌++◌, length, refl, ap, arith, length-append}
+use Rattle.std.specs.Prelude.{decimal, ◌==◌, if◌then◌else◌, Option, Some, None}
+use Rattle.std.specs.Int.RustNames.{count_ones}
+use Rattle.std.proofs.lemmas.Bool.{agree_below_at, eqb-true}
 use Rattle.std.specs.List.{AllByRecursion}
 use Rattle.std.proofs.lemmas.List.Concat.{flat_map-append}
-use Rattle.std.proofs.lemmas.Fmt.{length-decimal-le}
+use Rattle.std.proofs.lemmas.Fmt.{decimal_digit, decimal_step, length-decimal-le}
 use Rattle.cell.specs.Shown.{Rendition, IsColour, IsRendition, has_colour}
 use Rattle.cell.specs.declared.limits.TheConstants.{LARGEST_SCREEN, LAST_COLOUR}
 use Rattle.ecma.specs.declared.token.Token.{Token}
@@ -50,3 +52,58 @@ length-selection rendition h = grind (arith, selection-codes_of, length-append, 
 pub length-spelling : (token : Token) → IsToken token → length (spelling token) ≤ longest token
 unfolding spelling
 length-spelling token h = grind (arith, length-cup, length-selection, length-append)
+
+-- ---- exactly
+
+module _ (n : ℕ) where
+  pub decimal-one : n < 10 → decimal n ≡ (48 + n) ∷ []
+  decimal-one few = decimal_digit n few
+
+  pub decimal-two : 10 ≤ n → n < 100 → decimal n ≡ (48 + n / 10 % 10) ∷ (48 + n % 10) ∷ []
+  decimal-two many few =
+      let first : n / 10 % 10 ≡ n / 10 = omega arith in
+      rw (decimal_step n many (omega arith), decimal_digit (n / 10) (omega arith), first) refl
+
+  pub decimal-three : 100 ≤ n → n < 1000 → decimal n ≡ (48 + n / 100) ∷ (48 + n / 10 % 10) ∷ (48 + n % 10) ∷ []
+  decimal-three many few =
+      let first : n / 10 / 10 ≡ n / 100 = omega arith in
+      rw (decimal_step n (omega arith) (omega arith), decimal_step (n / 10) (omega arith) (omega arith), decimal_digit (n / 10 / 10) (omega arith), first) refl
+
+-- a separator and a digit for each code
+length-codes_exact : (codes : List ℕ) → AllByRecursion (λ code. code < 10) codes → length (selection codes) ≡ 2 * length codes
+length-codes_exact [] h = omega arith
+length-codes_exact (code ∷ codes) h =
+    omega (arith, ap length (decimal_digit code h.0), length-append (59 ∷ decimal code) (selection codes), length-codes_exact codes h.1)
+
+counted_below : (bits : ℕ) → bits < 64 → (length (codes_of_attributes bits) == count_ones bits) ≡ true
+unfolding codes_of_attributes count_ones
+counted_below bits fits = agree_below_at (λ (n : ℕ). length (codes_of_attributes n) == count_ones n) (λ _. true) 64 bits refl fits
+
+pub length-attributes : (bits : ℕ) → bits < 64 → length (selection (codes_of_attributes bits)) ≡ 2 * count_ones bits
+length-attributes bits fits = omega (arith, length-codes_exact (codes_of_attributes bits) (one_digit bits fits), eqb-true _ _ (counted_below bits fits))
+
+pub few-attributes : (bits : ℕ) → bits < 64 → count_ones bits ≤ 6
+few-attributes bits fits = omega (arith, eqb-true _ _ (counted_below bits fits), few_attributes bits fits)
+
+pub length-colour : (first : ℕ) (number : ℕ) → 10 ≤ first → first ≤ 40 → number ≤ LAST_COLOUR → length (selection (code_of_colour first (Some number))) ≡ 3
+length-colour first number least most few =
+    let long : length (decimal (first + number)) ≡ 2 = ap length (decimal-two (first + number) (omega arith) (omega arith)) in
+    omega (arith, long, length-append (59 ∷ decimal (first + number)) [])
+
+pub length-cup_exact : (line column : ℕ) → length (spelling (Cup line column)) ≡ 4 + length (decimal (line + 1)) + length (decimal (column + 1))
+unfolding spelling
+length-cup_exact line column = simp length-append (omega arith)
+
+pub length-sgr_exact : (rendition : Rendition) → length (spelling (Sgr rendition)) ≡ 4 + length (selection (codes_of_attributes rendition.attributes))
+    + length (selection (code_of_colour first_foreground rendition.foreground)) + length (selection (code_of_colour first_background rendition.background))
+unfolding spelling
+length-sgr_exact rendition =
+    let attributes = selection (codes_of_attributes rendition.attributes) in
+    let foreground = selection (code_of_colour first_foreground rendition.foreground) in
+    let background = selection (code_of_colour first_background rendition.background) in
+    rw (selection-codes_of rendition)
+    (omega (arith, length-append (attributes ++ foreground ++ background) (109 ∷ []), length-append (attributes ++ foreground) background, length-append attributes foreground))
+
+pub no-attributes : codes_of_attributes 0 ≡ []
+unfolding codes_of_attributes
+no-attributes = refl

@@ -20,6 +20,6 @@ mod terminal;
 mod token;
 
 pub use reader::NotInProfile;
-pub use spelling::{LONGEST_SPELLING, spell};
+pub use spelling::{LONGEST_SPELLING, position_length, selection_length, spell};
 pub use terminal::Terminal;
 pub use token::{Erase, Token};

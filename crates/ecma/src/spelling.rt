@@ -1,6 +1,6 @@
 //! The spelling of tokens.
 
-ghost use Rattle.std.specs.Prelude.{◌≡◌, ◌+◌, ◌<◌, ◌≤◌, [], ◌∷◌, ◌++◌, length, take};
+ghost use Rattle.std.specs.Prelude.{◌≡◌, ◌+◌, ◌*◌, ◌<◌, ◌≤◌, [], ◌∷◌, ◌++◌, decimal, length, take};
 ghost use Rattle.cell.specs.Attributes.{bits_of};
 ghost use Rattle.cell.specs.Shown.{IsRendition};
 ghost use Rattle.cell.specs.declared.limits.TheConstants.{LARGEST_SCREEN};
@@ -9,8 +9,7 @@ ghost use Rattle.ecma.specs.Spelling.{spelling, selection, codes_of_attributes, 
 
 use crate::token::{Erase, Token};
 use bitflags::Flags;
-use cell::{Attr, Colour, Rendition};
-use itoa::Buffer;
+use cell::{Attr, Colour, LAST_COLOUR, Rendition};
 
 /// The most bytes that the spelling of a token has.
 pub const LONGEST_SPELLING: usize = 22;
@@ -32,7 +31,8 @@ const CODES: [(Attr, u8); 6] = [
     (Attr::INVIS, b'8'),
 ];
 
-/// Writes the piece at a place, and says where it ends.
+/// Writes the piece at a place, and says where it ends. It is inlined, as most pieces are constants of a few bytes.
+#[inline(always)]
 fn append(out: &mut [u8; LONGEST_SPELLING], at: usize, piece: &[u8]) -> usize
     requires { at + length piece.now ≤ LONGEST_SPELLING }
     ensures end { result ≡ at + length piece.now }
@@ -41,6 +41,74 @@ fn append(out: &mut [u8; LONGEST_SPELLING], at: usize, piece: &[u8]) -> usize
     let end = at + piece.len();
     out[at..end].copy_from_slice(piece);
     end
+}
+
+/// Writes a number below 1,000 at a place, and says where it ends.
+fn append_number(out: &mut [u8; LONGEST_SPELLING], at: usize, number: u16) -> usize
+    requires room { at + length (decimal number) ≤ LONGEST_SPELLING }
+    requires few { number < 1000 }
+    ensures end { result ≡ at + length (decimal number) }
+    ensures text { take result out.new ≡ take at out.old ++ decimal number }
+{
+    let ones = b'0' + (number % 10) as u8;
+    if number < 10 {
+        return append(out, at, &[ones]);
+    }
+    let tens = b'0' + (number / 10 % 10) as u8;
+    if number < 100 {
+        return append(out, at, &[tens, ones]);
+    }
+    append(out, at, &[b'0' + (number / 100) as u8, tens, ones])
+}
+
+/// How many digits a number below 1,000 has.
+fn digits(number: u16) -> usize
+    requires { number < 1000 }
+    ensures value { result ≡ length (decimal number) }
+    ensures short { result ≤ 3 }
+{
+    if number < 10 {
+        1
+    } else if number < 100 {
+        2
+    } else {
+        3
+    }
+}
+
+/// How many bytes the spelling of a position has.
+pub fn position_length(line: u16, column: u16) -> usize
+    requires line { line < LARGEST_SCREEN }
+    requires column { column < LARGEST_SCREEN }
+    ensures exact { result ≡ length (spelling (Token.Cup line column)) }
+    ensures short { result ≤ 10 }
+{
+    4 + digits(line + 1) + digits(column + 1)
+}
+
+/// How many bytes the spelling of a selection has.
+pub fn selection_length(rendition: Rendition) -> usize
+    ensures exact { result ≡ length (spelling (Token.Sgr rendition)) }
+    ensures short { result ≤ 22 }
+{
+    let pair = rendition.colours();
+    let colours = colour_length(pair.foreground) + colour_length(pair.background);
+    4 + 2 * rendition.attrs().bits().count_ones() as usize + colours
+}
+
+/// How many bytes the code of a colour has, with the separator before it.
+fn colour_length(colour: Option<Colour>) -> usize
+    ensures foreground { result ≡ length (selection (code_of_colour 30 colour)) }
+    ensures background { result ≡ length (selection (code_of_colour 40 colour)) }
+    ensures short { result ≤ 3 }
+{
+    match colour {
+        Some(colour) => {
+            prove!(colour.number() <= LAST_COLOUR);
+            3
+        }
+        None => 0,
+    }
 }
 
 /// Writes the spelling of a token to the start of the buffer, and says how many bytes it has.
@@ -69,11 +137,10 @@ fn spell_place(line: u16, column: u16, out: &mut [u8; LONGEST_SPELLING]) -> usiz
     ensures text { take result out.new ≡ spelling (Token.Cup line column) }
     ensures short { result ≤ 10 }
 {
-    let mut digits = Buffer::new();
     let at = append(out, 0, INTRODUCER);
-    let at = append(out, at, digits.format(line + 1).as_bytes());
+    let at = append_number(out, at, line + 1);
     let at = append(out, at, b";");
-    let at = append(out, at, digits.format(column + 1).as_bytes());
+    let at = append_number(out, at, column + 1);
     append(out, at, b"H")
 }
 
@@ -109,6 +176,9 @@ fn append_codes(out: &mut [u8; LONGEST_SPELLING], at: usize, attr: Attr) -> usiz
     ensures room { result ≤ at + 12 }
     ensures text { take result out.new ≡ take at out.old ++ selection (codes_of_attributes (bits_of attr)) }
 {
+    if attr.bits() == 0 {
+        return at;
+    }
     let mut end = at;
     for (flag, code) in CODES {
         if attr.contains(flag) {
@@ -133,9 +203,8 @@ fn append_colour(
 {
     match colour {
         Some(colour) => {
-            let mut digits = Buffer::new();
             let at = append(out, at, b";");
-            append(out, at, digits.format(first + colour.number()).as_bytes())
+            append_number(out, at, u16::from(first + colour.number()))
         }
         None => at,
     }

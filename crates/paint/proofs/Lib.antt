@@ -33,3 +33,5 @@ pub mod Copying
 pub mod Choices
 -- The order of the passes for renditions as they come; for `note_cells`, `note_part`, `order_of` and others
 pub mod PassOrders
+-- The characters of cells, gathered piece by piece; for `append_characters`
+pub mod Narrowing

@@ -9,8 +9,8 @@ use crate::pen::Pen;
 use streams::{Discard, Sink};
 
 /// Draws the wanted picture of a frame over the one that is shown, from where the cursor is, and goes to a place. Where passes may take
-/// fewer bytes than one walk over all lines, both are drawn into the pen's room first. If the passes took fewer, their text stays where all
-/// of it is in the room still, and else they are drawn again for the sink. If not, the walk is.
+/// fewer bytes than one walk over all lines, both are drawn into the pen's room first, the walk last. If the passes took fewer, they are
+/// drawn again for the sink. Else the walk's text stays where all of it is in the room still, and is drawn again if not.
 pub fn draw_frame<W: Sink>(
     pen: &mut Pen,
     sink: &mut W,
@@ -30,13 +30,13 @@ pub fn draw_frame<W: Sink>(
     }
     let mut discard = Discard::new();
     let nowhere = &mut discard;
-    draw(pen, nowhere, frame, from, to, &walk);
-    let bytes = pen.bytes();
     draw(pen, nowhere, frame, from, to, &order);
-    if bytes <= pen.bytes() {
-        draw(pen, sink, frame, from, to, &walk);
-    } else if !pen.holds_all() {
+    let bytes = pen.bytes();
+    draw(pen, nowhere, frame, from, to, &walk);
+    if bytes < pen.bytes() {
         draw(pen, sink, frame, from, to, &order);
+    } else if !pen.holds_all() {
+        draw(pen, sink, frame, from, to, &walk);
     }
 }
 

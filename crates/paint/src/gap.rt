@@ -2,14 +2,11 @@
 
 ghost use Rattle.std.specs.Prelude.{◌≡◌, ◌+◌, ◌<◌, ◌≤◌, Some, drop, take, length};
 ghost use Rattle.cell.specs.Pictures.{Picture, line_of};
-ghost use Rattle.ecma.specs.Spelling.{spelling};
-ghost use Rattle.ecma.specs.declared.token.Token.TheVariants.{Cup};
 ghost use Rattle.paint.specs.steps.Strokes.{SameTerminals, Strokes, again_bytes, all_have, approach_bytes, change, is_printed_again, moved_bytes};
 
 use crate::pen::Pen;
-use bitflags::Flags;
 use cell::{LARGEST_SCREEN, Rendition, Shown};
-use ecma::{LONGEST_SPELLING, Token, spell};
+use ecma::{position_length, selection_length};
 use streams::Sink;
 
 /// The most bytes of a move.
@@ -115,19 +112,8 @@ fn moved_length(pen: &Pen, line: u16, column: u16, rendition: Rendition) -> usiz
     if pen.is_at(line, column) {
         selection
     } else {
-        move_length(line, column) + selection
+        position_length(line, column) + selection
     }
-}
-
-/// How many bytes a move to a place has.
-fn move_length(line: u16, column: u16) -> usize
-    requires line { line < LARGEST_SCREEN }
-    requires column { column < LARGEST_SCREEN }
-    ensures exact { result ≡ length (spelling (Cup line column)) }
-    ensures short { result ≤ 10 }
-{
-    let mut text = [0; LONGEST_SPELLING];
-    spell(&Token::Cup(line, column), &mut text)
 }
 
 /// How many bytes it takes to select a rendition where another one may be in force.
@@ -138,9 +124,7 @@ fn change_length(old: Rendition, new: Rendition) -> usize
     if new == old {
         return 0;
     }
-    prove!(new.attrs().bits() < 64);
-    let mut text = [0; LONGEST_SPELLING];
-    spell(&Token::Sgr(new), &mut text)
+    selection_length(new)
 }
 
 /// Whether all cells have a rendition.

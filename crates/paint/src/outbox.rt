@@ -17,6 +17,9 @@ use streams::{Sink, WriteFault, send};
 /// How many bytes are gathered before they are sent.
 pub const ROOM: usize = 4096;
 
+/// How many characters are gathered at once.
+const LANES: usize = 16;
+
 /// The next piece of a text, and how many bytes went out before it. Once a write failed nothing more is sent. The piece is in memory that
 /// is allocated once: so an outbox is moved in a few words.
 #[derive(Drop)]
@@ -156,8 +159,35 @@ fn append(bytes: &mut ArrayVec<u8, ROOM>, piece: &[u8])
     }
 }
 
-/// Appends the characters of cells.
+/// Appends the characters of cells, of many at once.
 fn append_characters(bytes: &mut ArrayVec<u8, ROOM>, cells: &[Shown])
+    requires { array_vec_len bytes.old + length cells.now ≤ ROOM }
+    ensures appended { bytes.new.items ≡ bytes.old.items ++ characters cells.now }
+    ensures sound { (k : ℕ) → k < length cells.now → IsShown (slice_index_or cells.now k shown_blank) }
+{
+    let mut start = 0;
+    while cells.len() - start >= LANES {
+        append(bytes, &characters_of(&cells[start..start + LANES]));
+        start += LANES;
+    }
+    append_few(bytes, &cells[start..]);
+}
+
+/// The characters of so many cells, by a loop with one exit, which the compiler vectorizes.
+fn characters_of(cells: &[Shown]) -> [u8; LANES]
+    requires { length cells.now ≡ LANES }
+    ensures characters { result ≡ characters cells.now }
+    ensures sound { (k : ℕ) → k < length cells.now → IsShown (slice_index_or cells.now k shown_blank) }
+{
+    let mut characters = [0; LANES];
+    for x in 0..LANES {
+        characters[x] = cells[x].ch();
+    }
+    characters
+}
+
+/// Appends the characters of cells, one after another.
+fn append_few(bytes: &mut ArrayVec<u8, ROOM>, cells: &[Shown])
     requires { array_vec_len bytes.old + length cells.now ≤ ROOM }
     ensures appended { bytes.new.items ≡ bytes.old.items ++ characters cells.now }
     ensures sound { (k : ℕ) → k < length cells.now → IsShown (slice_index_or cells.now k shown_blank) }

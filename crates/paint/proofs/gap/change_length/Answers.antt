@@ -6,4 +6,4 @@ pub returns-then-eq-clause-exact : goal.returns-then-eq-clause-exact
 returns-then-eq-clause-exact c = sym (ap length (change-same c.args.old c.args.new (sym c.if-eq.ensures)))
 
 pub returns-clause-exact : goal.returns-clause-exact
-returns-clause-exact c = c.spell.ensures.length ∙ sym (ap length (change-other c.args.old c.args.new (sym c.if-eq.ensures)))
+returns-clause-exact c = c.selection_length.ensures.exact ∙ sym (ap length (change-other c.args.old c.args.new (sym c.if-eq.ensures)))
