@@ -3,8 +3,8 @@ use Rattle.std.proofs.Common.{arith}
 use Rattle.ecma.proofs.Lengths.{two_digits}
 use Rattle.ecma.proofs.spelling.append_colour.Goals as goal
 
-pub append_number-requires-clause-room : goal.append_number-requires-clause-room
-append_number-requires-clause-room c = grind (arith, two_digits)
+pub append_number-requires : goal.append_number-requires
+append_number-requires c = grind (arith, two_digits)
 
 pub returns-in-Some-clause-room : goal.returns-in-Some-clause-room
 returns-in-Some-clause-room c = grind (arith, two_digits)
