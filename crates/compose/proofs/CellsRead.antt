@@ -1,5 +1,5 @@
 -- What update_panels reads: no less than it changes, and no more than all of the damaged lines.
-use Rattle.std.proofs.Common.{◌≡◌, ℕ, true, false, Option, None, is_some, length, Ok, refl, sym, ap, subst, ◌∙◌, arith}
+use Rattle.std.proofs.Common.{◌≡◌, ℕ, ◌+◌, ◌%◌, ◌^◌, true, false, Option, None, is_some, length, Ok, refl, sym, ap, subst, ◌∙◌, arith}
 use Rattle.cell.specs.Pictures.{picture_of}
 use Rattle.cell.specs.Shown.{shown, shown_blank}
 use Rattle.cell.proofs.PictureLemmas.{HasSize-lines_from, cell_or-lines_from, length-line}
@@ -47,9 +47,9 @@ shown-composed old new left =
 -- so the desk that it leaves is one, and the call was made
 pub update-made : (old new : DeskTable) (cells : ℕ) → IsDesk old → world new ≡ world_after (world old) (calls.Refresh UpdatePanels) → length new.damage ≡ old.windows.lines
     → ((y : ℕ) → columns_of new.damage y ≡ None) → cells ≡ cells_above old.damage old.windows.lines
-    → IsDesk new × Called old (calls.Refresh UpdatePanels) (Ok (Composed (record { cells = cells }))) new
-update-made old new cells h left height none read =
+    → new.cells_read ≡ (old.cells_read + cells) % 2 ^ 64 → IsDesk new × Called old (calls.Refresh UpdatePanels) (Ok (Composed (record { cells = cells }))) new
+update-made old new cells h left height none read counted =
     let whole = subst IsSound (sym left) (sound-call (world old) (calls.Refresh UpdatePanels) h.sound refl) in let lines = ap (λ (w : World). w.windows.lines) left in (
       record { sound = whole; covered = covered-composed new (height ∙ sym lines) none (shown-composed (world old) (world new) left) },
-      (refl, (cells, may-read old h cells read, refl), left, none-damaged old new none, whole),
+      (refl, (cells, may-read old h cells read, refl), left, none-damaged old new none, whole, counted),
     )

@@ -13,13 +13,15 @@ use Rattle.world.specs.calls.Dispatch.{is_update_panels, refusal, world_after}
 use Rattle.world.specs.calls.Affected.{affects_place}
 use Rattle.world.specs.declared.settings.Columns.{Columns}
 use Rattle.world.specs.declared.call.Call.{Call}
+use Rattle.world.specs.declared.call.Call.TheVariants as calls
+use Rattle.world.specs.declared.call.Refresh.TheVariants.{UpdatePanels}
 use Rattle.world.specs.declared.call.Reply.{Reply}
 use Rattle.world.proofs.Sizes.{size-call}
 use Rattle.picture.specs.Damages.{Damages, has_damage_at}
 use Rattle.picture.proofs.DamageLaws.{damages-line}
 use Rattle.world.proofs.CallLaws.{picture-kept, virtual-kept}
 use Rattle.world.proofs.SoundCalls.{sound-call}
-use Rattle.compose.specs.Calling.{Called, DamagesFew, MayLeave, MayTell}
+use Rattle.compose.specs.Calling.{Called, CountsReads, DamagesFew, MayLeave, MayTell}
 use Rattle.compose.specs.Covers.{IsDesk}
 use Rattle.compose.specs.Desks.{DeskTable, is_damaged_line, world}
 use Rattle.compose.proofs.DeskLemmas.{IsSound-first, world-left}
@@ -28,8 +30,14 @@ use Rattle.compose.proofs.DeskLemmas.{IsSound-first, world-left}
 off-both : (one other cover : Bool) → (one ≡ true → cover ≡ true) → (other ≡ true → cover ≡ true) → cover ≡ false → (one ≡ false) × (other ≡ false)
 off-both one other cover h k free = grind arith
 
+-- a call that isn't update_panels, and leaves the count
+uncounted-counts : (old new : DeskTable) (call : Call) (reply : Reply) → is_update_panels call ≡ false → new.cells_read ≡ old.cells_read → CountsReads old call reply new
+uncounted-counts old new (calls.Refresh UpdatePanels) reply other same = cc
+uncounted-counts old new call reply other same = same
+
 module _ (old new : DeskTable) (call : Call) (h : IsDesk old) (accepted : refusal (world old) call ≡ None) (other : is_update_panels call ≡ false)
-    (leaves : MayLeave old call new) (damages : Damages old.windows.columns (affects_place (world old) call) old.damage new.damage) where
+    (leaves : MayLeave old call new) (damages : Damages old.windows.columns (affects_place (world old) call) old.damage new.damage)
+    (uncounted : new.cells_read ≡ old.cells_read) where
   left : world new ≡ world_after (world old) call
   left = world-left old new call leaves
 
@@ -43,9 +51,12 @@ module _ (old new : DeskTable) (call : Call) (h : IsDesk old) (accepted : refusa
   few-after : DamagesFew old call new
   few-after line is = rw (other, accepted) (damages-line old.windows.columns (affects_place (world old) call) old.damage new.damage damages line is)
 
+  counts : (reply : Reply) → CountsReads old call reply new
+  counts reply = uncounted-counts old new call reply other uncounted
+
   -- what it leaves is a desk, and the call was made
   pub call-accepted : (reply : Reply) → MayTell (world old) (is_damaged_line old) call reply → IsDesk new × Called old call (Ok reply) new
-  call-accepted reply tells = let same = left in let size = size-call (world old) call in grind (arith, (sound-call (world old) call h.sound), shown-after, few-after)
+  call-accepted reply tells = let same = left in let size = size-call (world old) call in grind (arith, (sound-call (world old) call h.sound), shown-after, few-after, (counts reply))
 
 -- ---- a new desk
 

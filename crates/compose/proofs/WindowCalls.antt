@@ -31,7 +31,7 @@ module _ (old : DeskTable) (w : WindowTable) (d : List (Option Columns)) (call :
       → IfOk r (λ reply. MayTell (world old) (is_damaged_line old) call reply) → (world new ≡ world_after (world old) call → MayLeave old call new) → IsDesk new × Called old call r new
   change-made (Ok reply) m other tells leaves =
       call-accepted old new call h (accepted-by _ _ _ m.call.refused reply refl) other (leaves (rw is (λ i. record (world old) { windows = m.call.changed i })))
-      (subst (λ (e : Effect). Damages old.windows.columns (effect_shows_at (world old) e) old.damage d) (sym is) m.damaged) reply tells
+      (subst (λ (e : Effect). Damages old.windows.columns (effect_shows_at (world old) e) old.damage d) (sym is) m.damaged) refl reply tells
   change-made (Err e) m other tells leaves = grind (arith, call-refused)
 
 -- a query leaves the desk as it was

@@ -1,5 +1,5 @@
 -- A call that sends nothing, made on a desk: what it answers, and what it leaves.
-use Rattle.std.specs.Prelude.{◌≡◌, ◌≤◌, ◌⊎◌, ℕ, Bool, true, Some, None, Result, Ok, Err}
+use Rattle.std.specs.Prelude.{◌≡◌, ◌≤◌, ◌⊎◌, ◌+◌, ◌%◌, ◌^◌, ℕ, Bool, true, Some, None, Result, Ok, Err}
 use Rattle.world.specs.Sound.{IsSound}
 use Rattle.world.specs.World.{World}
 use Rattle.world.specs.calls.Affected.{affected_after, most_cells}
@@ -38,6 +38,16 @@ MayLeave old call new = world new ≡ world_after (world old) call
 abbrev pub DamagesFew : DeskTable → Call → DeskTable → Type 0
 DamagesFew old call new = (line : ℕ) → is_damaged_line new line ≡ true → affected_after (world old) (is_damaged_line old) call line ≡ true
 
+-- how many cells an answer of update_panels says were read
+abbrev pub cells_of_reply : Reply → ℕ
+cells_of_reply (Composed composed) = composed.cells
+cells_of_reply _ = 0
+
+-- An update_panels answers what the count of the cells of windows that it reads grew by, modulo 2^64. No other call changes the count.
+abbrev pub CountsReads : DeskTable → Call → Reply → DeskTable → Type 0
+CountsReads old (calls.Refresh UpdatePanels) reply new = new.cells_read ≡ (old.cells_read + cells_of_reply reply) % 2 ^ 64
+CountsReads old call reply new = new.cells_read ≡ old.cells_read
+
 -- The call, which sends nothing, was made on a desk, and leaves it sound. A refused one changed nothing.
 abbrev pub Called : DeskTable → Call → Result Reply Refusal → DeskTable → Type 0
 Called old call (Ok reply) new =
@@ -46,4 +56,5 @@ Called old call (Ok reply) new =
     × MayLeave old call new
     × DamagesFew old call new
     × IsSound (world new)
+    × CountsReads old call reply new
 Called old call (Err e) new = MayRefuse (world old) call e × (new ≡ old)

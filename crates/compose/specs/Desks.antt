@@ -8,13 +8,15 @@ use Rattle.grids.specs.Tables.{WindowTable, windows}
 use Rattle.stack.specs.Tables.{PanelTable, panels}
 use Rattle.picture.specs.Damages.{columns_of, has_damage, has_damage_at}
 
--- the table of windows, the panels, the colour pairs, the virtual screen, and of each line of the screen the columns that are damaged
+-- the table of windows, the panels, the colour pairs, the virtual screen, of each line of the screen the columns that are damaged, and how
+-- many cells of windows update_panels has read, modulo 2^64
 pub record DeskTable : Type 0 where
   pub windows : WindowTable
   pub panels : PanelTable
   pub pairs : Pairs
   pub virtual : VirtualScreen
   pub damage : List (Option Columns)
+  pub cells_read : ℕ
 
 abbrev pub world : DeskTable → World
 world t = record { windows = windows t.windows; panels = panels t.panels; pairs = t.pairs; virtual = t.virtual }

@@ -29,7 +29,8 @@ use calls::Calls;
 use cell::{Cell, Colour, Grid, PairId, Pairs, Refusal, Shown, VirtualScreen, WinId};
 use grids::Grids;
 use picture::{
-    Damage, Span, TableRows, cell_found, owner_span, show_damaged, wanted_cursor, window_part,
+    Damage, Owners, Span, TableRows, cell_found, owner_span, show_damaged, wanted_cursor,
+    window_part,
 };
 use stack::Stack;
 use std::alloc::Global;
@@ -48,6 +49,9 @@ pub struct Desk {
     pub(crate) cursor: (u16, u16),
     pub(crate) clear: bool,
     pub(crate) damage: Damage,
+    pub(crate) cells_read: u64,
+    // Room for the search.
+    owners: Owners,
 }
 
 impl Model for Desk {
@@ -62,6 +66,7 @@ impl Model for Desk {
       pairs = d.pairs;
       virtual = record { picture = d.picture; cursor = d.cursor; clear = d.clear };
       damage = d.damage;
+      cells_read = d.cells_read;
     } };
 
     ghost invariant = { λ d. IsDesk (record {
@@ -70,6 +75,7 @@ impl Model for Desk {
       pairs = d.pairs;
       virtual = record { picture = d.picture; cursor = d.cursor; clear = d.clear };
       damage = d.damage;
+      cells_read = d.cells_read;
     }) };
 }
 
@@ -95,6 +101,8 @@ impl Desk {
             cursor: (0, 0),
             clear: false,
             damage,
+            cells_read: 0,
+            owners: Owners::none(),
         })
     }
 
@@ -111,15 +119,17 @@ impl Desk {
         ensures { Called self.old (Call.Refresh Refresh.UpdatePanels) (Ok (Reply.Composed result)) self.new }
     {
         let (lines, _) = self.windows.table.screen_size();
-        let mut rows = TableRows::of(&self.windows.table);
+        let mut rows = TableRows::of(&self.windows.table, self.cells_read);
         let cells = show_damaged(
             &mut rows,
             &self.stack,
             &self.pairs,
+            &mut self.owners,
             lines,
             &mut self.damage,
             &mut self.picture,
         );
+        self.cells_read = rows.cells_read();
         self.cursor = wanted_cursor(&self.windows.table, &self.stack);
         self.clear |= clear_asked(&self.windows.table, &self.stack);
         unmark_composed(&mut self.windows.table, &self.stack);
@@ -167,6 +177,13 @@ impl Desk {
         Ok(Reply::Nothing)
     }
 
+    /// How many cells of windows the calls of `update_panels` have read since the desk was made, modulo 2^64.
+    pub fn cells_read(&self) -> u64
+        ensures { result ≡ self.now.cells_read }
+    {
+        self.cells_read
+    }
+
     /// The panels.
     pub fn stack(&self) -> &Stack
         ensures { result.now ≡ self.now.panels }
@@ -192,7 +209,7 @@ impl Desk {
         ensures { IsSpan (windows_of self.now.windows).window (panels self.now.panels) y x (self.now.windows.columns - 1) result }
     {
         let (_, columns) = self.size();
-        let rows = TableRows::of(&self.windows.table);
+        let rows = TableRows::of(&self.windows.table, 0);
         owner_span(&rows, &self.stack, y, x, columns - 1)
     }
 

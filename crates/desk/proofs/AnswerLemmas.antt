@@ -3,6 +3,7 @@ use Rattle.std.proofs.Common.{arith, ℕ, List, [], ◌∷◌, Ok, Err, Result, 
 use Rattle.cell.specs.declared.refusal.Refusal.{Refusal}
 use Rattle.streams.specs.Sinks.{Seen}
 use Rattle.desk.specs.Ends.{CallEnds, Writes}
+use Rattle.desk.proofs.ReadLemmas.{call-grew, same-grew}
 use Rattle.desk.proofs.WriterLemmas.{Writes-refused}
 use Rattle.desk.proofs.StateLemmas.{is-kept}
 use Rattle.desk.specs.States.{IsWithin, state_of, ScreenOver}
@@ -10,7 +11,8 @@ use Rattle.script.specs.Words.{placeless}
 use Rattle.world.specs.declared.call.Call.{Call}
 use Rattle.world.specs.declared.call.Reply.{Reply}
 use Rattle.desk.specs.declared.screen.Fault.{Fault}
-use Rattle.desk.specs.Runs.{MayAnswer, state_after}
+use Rattle.desk.specs.Runs.{MayAnswer, cells_of_answer, state_after}
+use Rattle.desk.specs.Reads.{CountGrew}
 use Rattle.desk.specs.steps.Answers.{call_end}
 
 module _ {W : Type 0} (seen : W → Seen) where
@@ -21,8 +23,12 @@ module _ {W : Type 0} (seen : W → Seen) where
   abbrev pub Answered : ScreenOver W → Call → Result Reply Refusal → ScreenOver W → Type 0
   Answered old call answer new = IsWithin (state_of new) (state_after (state_of old) call answer)
       × ((sent : List ℕ) × MayAnswer (state_of old) call answer sent × Writes seen old new (call ∷ []) sent)
+      × CountGrew (cells_of_answer answer) old.desk new.desk
 
   pub is_answered : (old : ScreenOver W) (call : Call) (answer : Result Reply Refusal) (new : ScreenOver W) → CallEnds seen old call (call_end (Ok answer)) new → Answered old call answer new
-  is_answered old call (Ok reply) new h = h
-  is_answered old call (Err refusal) new h =
-      (is-kept h.1, ([], (h.0, refl), subst (λ s. Writes seen old s (call ∷ []) []) (sym h.1) (Writes-refused seen old call refusal h.0)))
+  is_answered old call (Ok reply) new h = (h.0, h.1, call-grew (state_of old) call reply h.1.0 old.desk new.desk h.1.1 h.2)
+  is_answered old call (Err refusal) new h = (
+    is-kept h.1,
+    ([], (h.0, refl), subst (λ s. Writes seen old s (call ∷ []) []) (sym h.1) (Writes-refused seen old call refusal h.0)),
+    subst (λ s. CountGrew 0 old.desk s.desk) (sym h.1) (same-grew old.desk),
+  )

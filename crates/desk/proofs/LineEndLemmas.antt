@@ -55,7 +55,7 @@ module _ {W : Type 0} (seen : W → Seen) where
     call = Some call;
     outcomes = record { answer = answer; sent = a.1.0 } ∷ [];
     at_stop = new;
-    makes = Makes-one seen old new call answer a.1.0 a.1.1 a.0 a.1.2;
+    makes = Makes-one seen old new call answer a.1.0 a.1.1 a.0 a.1.2 a.2;
     stop = stop;
     logs = logs;
     failures = failures;

@@ -1,12 +1,14 @@
 -- Calls that were made, and what they leave: none, one, and one list after another.
-use Rattle.std.proofs.Common.{arith, ◌≡◌, ℕ, List, [], ◌∷◌, ◌++◌, Result, refl, sym, subst, append-nil}
+use Rattle.std.proofs.Common.{arith, ◌≡◌, ℕ, List, [], ◌∷◌, ◌++◌, Result, refl, sym, subst, ◌∙◌, add-zero, append-nil, sum_by}
 use Rattle.std.proofs.lemmas.Grind.{flat_map-append}
+use Rattle.std.proofs.lemmas.List.Sums.{sum_by-append, sum_by-cons}
 use Rattle.cell.specs.declared.refusal.Refusal.{Refusal}
 use Rattle.streams.specs.Sinks.{Seen}
 use Rattle.desk.specs.States.{IsWithin, ScreenOver, State, state_of}
-use Rattle.desk.specs.Runs.{MayAnswer, Outcome, Run, all_sent, state_after, state_at_end}
+use Rattle.desk.specs.Runs.{MayAnswer, Outcome, Run, all_sent, cells_of_answer, cells_read, state_after, state_at_end}
 use Rattle.desk.specs.Ends.{Makes, Writes}
-use Rattle.desk.proofs.ReadLemmas.{reads-run}
+use Rattle.desk.specs.Reads.{CountGrew}
+use Rattle.desk.proofs.ReadLemmas.{reads-run, same-grew, then-grew}
 use Rattle.desk.proofs.Shortness.{short-run}
 use Rattle.desk.proofs.StateLemmas.{IsWithin-refl, IsWithin-trans, Run-within, state_at_end-within}
 use Rattle.desk.proofs.WriterLemmas.{Writes-nothing, Writes-trans}
@@ -28,17 +30,21 @@ state_at_end-append state calls more outcomes others run = absurd run
 module _ {W : Type 0} (seen : W → Seen) where
   -- what follows of a run
   Makes-run : {old new : ScreenOver W} {calls : List Call} {outcomes : List Outcome} → Run (state_of old) calls outcomes
-      → IsWithin (state_of new) (state_at_end (state_of old) calls outcomes) → Writes seen old new calls (all_sent outcomes) → Makes seen old calls outcomes new
-  Makes-run {old} {new} {calls} {outcomes} run state writes = grind (arith, short-run, reads-run)
+      → IsWithin (state_of new) (state_at_end (state_of old) calls outcomes) → Writes seen old new calls (all_sent outcomes) → CountGrew (sum_by cells_read outcomes) old.desk new.desk
+      → Makes seen old calls outcomes new
+  Makes-run {old} {new} {calls} {outcomes} run state writes counted = grind (arith, short-run, reads-run)
 
   pub Makes-nothing : (old : ScreenOver W) → Makes seen old [] [] old
-  Makes-nothing old = grind (arith, Makes-run, IsWithin-refl, Writes-nothing)
+  Makes-nothing old = Makes-run tt (IsWithin-refl (state_of old)) (Writes-nothing seen old) (same-grew old.desk)
 
   -- one call was made, and had this outcome
   pub Makes-one : (old new : ScreenOver W) (call : Call) (answer : Result Reply Refusal) (sent : List ℕ) → MayAnswer (state_of old) call answer sent
       → IsWithin (state_of new) (state_after (state_of old) call answer) → Writes seen old new (call ∷ []) sent
-      → Makes seen old (call ∷ []) (record { answer = answer; sent = sent } ∷ []) new
-  Makes-one old new call answer sent may state writes = grind (arith, Makes-run, append-nil)
+      → CountGrew (cells_of_answer answer) old.desk new.desk → Makes seen old (call ∷ []) (record { answer = answer; sent = sent } ∷ []) new
+  Makes-one old new call answer sent may state writes counted =
+      let outcome : Outcome = record { answer = answer; sent = sent } in
+      Makes-run (may, tt) state (subst (Writes seen old new (call ∷ [])) (sym (append-nil sent)) writes)
+      (subst (λ n. CountGrew n old.desk new.desk) (sym (sum_by-cons cells_read outcome [] ∙ add-zero _)) counted)
 
   pub Makes-append : {old mid new : ScreenOver W} {calls more : List Call} {outcomes others : List Outcome} → Makes seen old calls outcomes mid → Makes seen mid more others new
       → Makes seen old (calls ++ more) (outcomes ++ others) new
@@ -48,3 +54,4 @@ module _ {W : Type 0} (seen : W → Seen) where
       (IsWithin-trans second.state (state_at_end-within more others first.state)))
       (subst (Writes seen old new (calls ++ more)) (sym (flat_map-append _ outcomes others))
       (Writes-trans seen old mid new calls more (all_sent outcomes) (all_sent others) first.writes second.writes))
+      (subst (λ n. CountGrew n old.desk new.desk) (sym (sum_by-append cells_read outcomes others)) (then-grew _ _ old.desk mid.desk new.desk first.counted second.counted))

@@ -1,6 +1,6 @@
 -- How many cells a run reads.
-use Rattle.std.proofs.Common.{◌≡◌, ◌≤◌, ℕ, ◌+◌, List, [], ◌∷◌, Bool, false, Option, Result, Ok, refl, sym, subst, ap, ◌∙◌, sum_by, is_ok, arith}
-use Rattle.std.proofs.Math.Nat.{add-le-add}
+use Rattle.std.proofs.Common.{◌≡◌, ◌≤◌, ℕ, ◌+◌, List, [], ◌∷◌, Bool, false, Option, Result, Ok, refl, sym, subst, ap, ◌∙◌, sum_by, is_ok, arith, add_assoc, ◌%◌, ◌^◌}
+use Rattle.std.proofs.Math.Nat.{add-le-add, mod-add-mod, mod-mod}
 use Rattle.std.proofs.lemmas.List.Sums.{sum_by-cons}
 use Rattle.std.specs.Option.{option_map_or}
 use Rattle.cell.specs.Glyphs.{Glyph}
@@ -10,9 +10,11 @@ use Rattle.world.specs.World.{World}
 use Rattle.world.specs.calls.Affected.{most_cells}
 use Rattle.world.specs.calls.Dispatch.{is_update_panels, reply_of}
 use Rattle.world.specs.calls.Queries.{pair, cell_at_cursor}
+use Rattle.compose.specs.Calling.{CountsReads, cells_of_reply}
+use Rattle.compose.specs.Desks.{DeskTable}
 use Rattle.desk.specs.States.{State}
-use Rattle.desk.specs.Runs.{MayAnswer, Outcome, Run, cells_of_answer, cells_of_reply, cells_read, state_after}
-use Rattle.desk.specs.Reads.{ReadsFew, places_redrawn, with_acceptance}
+use Rattle.desk.specs.Runs.{MayAnswer, Outcome, Run, cells_of_answer, cells_read, state_after}
+use Rattle.desk.specs.Reads.{CountGrew, ReadsFew, places_redrawn, with_acceptance}
 use Rattle.world.specs.declared.call.Call.{Call}
 use Rattle.world.specs.declared.call.Call.TheVariants as calls
 use Rattle.world.specs.declared.call.Copying.TheVariants.{Syncup}
@@ -55,6 +57,25 @@ call-reads : (s : State) (call : Call) (reply : Reply) (sent : List ℕ) → May
 call-reads s (calls.Refresh UpdatePanels) reply sent may = grind arith
 call-reads s (calls.Refresh Doupdate) reply sent may = reads-nothing s (calls.Refresh Doupdate) _ refl (ap cells_of_reply may.1.1)
 call-reads s call reply sent may = reads-nothing s call _ refl (ap cells_of_reply may.1.1 ∙ reply_of-no_cells s.world call)
+
+-- ---- the count
+
+kept-grew : (old new : DeskTable) (cells : ℕ) → cells ≡ 0 → new.cells_read ≡ old.cells_read → CountGrew cells old new
+kept-grew old new cells none same = record { sum = ap (λ k. k % 2 ^ 64) (same ∙ (let sum : old.cells_read ≡ old.cells_read + cells = omega (arith, none) in sum)) }
+
+pub same-grew : (old : DeskTable) → CountGrew 0 old old
+same-grew old = kept-grew old old 0 refl refl
+
+-- it grows by what an accepted call answers
+pub call-grew : (s : State) (call : Call) (reply : Reply) (sent : List ℕ) (old new : DeskTable) → MayAnswer s call (Ok reply) sent → CountsReads old call reply new
+    → CountGrew (cells_of_reply reply) old new
+call-grew s (calls.Refresh UpdatePanels) reply sent old new may counts =
+    record { sum = ap (λ k. k % 2 ^ 64) counts ∙ mod-mod (old.cells_read + cells_of_reply reply) (2 ^ 64) }
+call-grew s (calls.Refresh Doupdate) reply sent old new may counts = kept-grew old new _ (ap cells_of_reply may.1.1) counts
+call-grew s call reply sent old new may counts = kept-grew old new _ (ap cells_of_reply may.1.1 ∙ reply_of-no_cells s.world call) counts
+
+pub then-grew : (first second : ℕ) (old mid new : DeskTable) → CountGrew first old mid → CountGrew second mid new → CountGrew (first + second) old new
+then-grew first second old mid new h k = grind (arith, mod-add-mod, add_assoc)
 
 -- ---- a run
 

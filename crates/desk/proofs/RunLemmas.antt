@@ -1,16 +1,18 @@
 -- A run goes on by one call.
-use Rattle.std.proofs.Common.{◌≡◌, ℕ, ◌+◌, ◌≤◌, ◌++◌, List, [], ◌∷◌, length, take, drop, get_or, None, Some, ◌<◌, Ok, Err, refl, sym, ap, ◌∙◌, subst, count_by, sum_by, cond, add-zero}
+use Rattle.std.proofs.Common.{◌≡◌, ℕ, ◌+◌, ◌≤◌, ◌++◌, List, [], ◌∷◌, length, take, drop, get_or, None, Some, ◌<◌, Ok, Err, refl, sym, ap, ◌∙◌, subst, count_by, sum_by, cond, add-zero, ◌%◌, ◌^◌, Option}
 use Rattle.std.proofs.Common.{append-nil, take-append-drop, take_all}
 use Rattle.std.proofs.lemmas.List.{drop_more, take_more}
 use Rattle.std.proofs.lemmas.List.Sums.{sum_by_push}
 use Rattle.cell.specs.declared.refusal.Refusal.{Refusal}
 use Rattle.streams.specs.Sinks.{Seen}
 use Rattle.streams.specs.declared.sending.WriteFault.{WriteFault}
-use Rattle.desk.specs.Runs.{Outcome, cells_of_reply, cells_read, is_accepted, is_refused}
+use Rattle.desk.specs.Runs.{Outcome, cells_read, is_accepted, is_refused}
+use Rattle.compose.specs.Calling.{cells_of_reply}
+use Rattle.desk.proofs.ReadLemmas.{call-grew, same-grew}
 use Rattle.desk.proofs.MakesLemmas.{Makes-append, Makes-nothing, Makes-one}
 use Rattle.desk.proofs.StateLemmas.{is-kept}
 use Rattle.desk.proofs.WriterLemmas.{Writes-refused}
-use Rattle.desk.specs.Reads.{ReadsFew, with_acceptance}
+use Rattle.desk.specs.Reads.{CountGrew, ReadsFew, with_acceptance}
 use Rattle.desk.specs.Ends.{CallEnds, Makes, RunEnds, Stops, Writes, begins_with_doupdate}
 use Rattle.world.specs.declared.call.Call.{Call}
 use Rattle.world.specs.declared.call.Reply.{Reply}
@@ -38,7 +40,8 @@ module _ {W : Type 0} (seen : W → Seen) where
       let outcome : Outcome = record { answer = Ok reply; sent = ends.1.0 } in
       rw (take_more calls i call h) (record {
         outcomes = so_far.outcomes ++ outcome ∷ [];
-        makes = Makes-append seen so_far.makes (Makes-one seen mid new (get_or calls i call) (Ok reply) ends.1.0 ends.1.1 ends.0 ends.1.2);
+        makes = Makes-append seen so_far.makes (Makes-one seen mid new (get_or calls i call) (Ok reply) ends.1.0 ends.1.1 ends.0 ends.1.2
+            (call-grew (state_of mid) (get_or calls i call) reply ends.1.0 mid.desk new.desk ends.1.1 ends.2));
         is_done = ap (λ n. n + 1) so_far.is_done ∙ sym (sum_by_push (λ (o : Outcome). cond (is_accepted o) 1 0) so_far.outcomes outcome);
         is_refused = so_far.is_refused ∙ sym (sum_by_push (λ (o : Outcome). cond (is_refused o) 1 0) so_far.outcomes outcome ∙ add-zero _);
         is_composed = ap (λ n. n + cells_of_reply reply) so_far.is_composed ∙ sym (sum_by_push cells_read so_far.outcomes outcome);
@@ -53,16 +56,23 @@ module _ {W : Type 0} (seen : W → Seen) where
       rw (take_more calls i call h) (record {
         outcomes = so_far.outcomes ++ outcome ∷ [];
         makes = Makes-append seen so_far.makes (Makes-one seen mid new made (Err refusal) [] (ends.0, refl) (is-kept ends.1)
-            (subst (λ s. Writes seen mid s (made ∷ []) []) (sym ends.1) (Writes-refused seen mid made refusal ends.0)));
+            (subst (λ s. Writes seen mid s (made ∷ []) []) (sym ends.1) (Writes-refused seen mid made refusal ends.0))
+            (subst (λ s. CountGrew 0 mid.desk s.desk) (sym ends.1) (same-grew mid.desk)));
         is_done = so_far.is_done ∙ sym (sum_by_push (λ (o : Outcome). cond (is_accepted o) 1 0) so_far.outcomes outcome ∙ add-zero _);
         is_refused = ap (λ n. n + 1) so_far.is_refused ∙ sym (sum_by_push (λ (o : Outcome). cond (is_refused o) 1 0) so_far.outcomes outcome);
         is_composed = so_far.is_composed ∙ sym (sum_by_push cells_read so_far.outcomes outcome ∙ add-zero _);
       })
 
+  -- what ends a run reads nothing
+  stop-grew : (old mid new : ScreenOver W) (fault : Option WriteFault) (cells : ℕ) (left : List Call) → CountGrew cells old.desk mid.desk → Stops seen mid left fault new
+      → CountGrew cells old.desk new.desk
+  stop-grew old mid new None cells left grew stop = subst (λ s. CountGrew cells old.desk s.desk) (sym stop.1) grew
+  stop-grew old mid new (Some fault) cells left grew stop = record { sum = ap (λ n. n % 2 ^ 64) stop.1.counted ∙ grew.sum }
+
   -- the run ends here
   ends : {old mid new : ScreenOver W} {calls made : List Call} {end : RunEnd} (left : List Call) → SoFar old made mid end.done end.refused end.composed → calls ≡ made ++ left
       → Stops seen mid left end.fault new → RunEnds seen old calls end new
-  ends {old} {mid} {made} left so_far parts stop = record {
+  ends {old} {mid} {new} {made = made} {end = end} left so_far parts stop = record {
     made = made;
     left = left;
     outcomes = so_far.outcomes;
@@ -74,6 +84,8 @@ module _ {W : Type 0} (seen : W → Seen) where
     refused = so_far.is_refused;
     composed = so_far.is_composed;
     reads = subst (ReadsFew (state_of old) (with_acceptance made so_far.outcomes)) (sym so_far.is_composed) so_far.makes.reads;
+    counted = subst (λ n. CountGrew n old.desk new.desk) (sym so_far.is_composed)
+        (stop-grew old mid new end.fault (sum_by cells_read so_far.outcomes) left so_far.makes.counted stop);
   }
 
   -- every call was made

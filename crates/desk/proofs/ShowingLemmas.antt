@@ -22,6 +22,7 @@ use Rattle.streams.specs.Sinks.{Seen}
 use Rattle.paint.specs.Updates.{Agrees, PainterState, ShownPicture}
 use Rattle.streams.specs.declared.sending.WriteFault.{WriteFault}
 use Rattle.paint.proofs.Repair.{Agrees-update, Agrees-fault, IsKnown, reads-known}
+use Rattle.desk.proofs.ReadLemmas.{call-grew, same-grew}
 use Rattle.desk.proofs.MakesLemmas.{Makes-nothing, Makes-one}
 use Rattle.desk.proofs.StateLemmas.{IsWithin-refl, painter-quiet}
 use Rattle.desk.specs.States.{IsWithin, State, after, wanted, state_of, HasOneSize, KeepsSize, ScreenOver}
@@ -287,10 +288,11 @@ run-shows seen old new cs end one_size h = grind (arith, run-stops)
 pub call-shows : {W : Type 0} (seen : W → Seen) (old new : ScreenOver W) (call : Call) (r : Result Reply Fault) → HasOneSize old.desk old.painter → CallEnds seen old call r new
     → RunShows seen old new (call ∷ []) (cut_of r)
 call-shows seen old new call (Ok reply) one_size h =
-    shows-unbroken seen old new new (call ∷ []) (call ∷ []) (record { answer = Ok reply; sent = h.1.0 } ∷ []) (Makes-one seen old new call (Ok reply) h.1.0 h.1.1 h.0 h.1.2) one_size refl refl
+    shows-unbroken seen old new new (call ∷ []) (call ∷ []) (record { answer = Ok reply; sent = h.1.0 } ∷ []) (Makes-one seen old new call (Ok reply) h.1.0 h.1.1 h.0 h.1.2
+    (call-grew (state_of old) call reply h.1.0 old.desk new.desk h.1.1 h.2)) one_size refl refl
 call-shows seen old new call (Err (Refused e)) one_size h =
     shows-unbroken seen old old new (call ∷ []) (call ∷ []) (record { answer = Err e; sent = [] } ∷ [])
-    (Makes-one seen old old call (Err e) [] (h.0, refl) (IsWithin-refl (state_of old)) (Writes-refused seen old call e h.0)) one_size refl h.1
+    (Makes-one seen old old call (Err e) [] (h.0, refl) (IsWithin-refl (state_of old)) (Writes-refused seen old call e h.0) (same-grew old.desk)) one_size refl h.1
 call-shows seen old new call (Err (Write fault)) one_size h =
     shows-broken seen old old new (call ∷ []) [] [] (Makes-nothing seen old) one_size fault h.1
 

@@ -1,12 +1,10 @@
 -- What calls do to the writer of a screen.
-use Rattle.std.proofs.Common.{arith, ◌≡◌, ℕ, Bool, true, false, ◌||◌, List, [], ◌∷◌, ◌++◌, Some, None, Ok, Err, refl, sym}
+use Rattle.std.proofs.Common.{arith, ◌≡◌, ℕ, Bool, false, ◌||◌, List, [], ◌∷◌, ◌++◌, None, Ok, Err, refl, sym}
 use Rattle.std.proofs.KnownBytes.{Appends-nil, Appends-trans}
 use Rattle.std.proofs.lemmas.List.Folds.{list_any-append}
 use Rattle.cell.specs.declared.refusal.Refusal.{Refusal}
 use Rattle.streams.specs.Counts.{count_after}
 use Rattle.streams.specs.Sinks.{Seen}
-use Rattle.streams.specs.declared.sending.WriteFault.{WriteFault}
-use Rattle.paint.specs.Updates.{BreaksOff, Updates}
 use Rattle.world.specs.World.{World}
 use Rattle.world.specs.calls.Dispatch.{takes_memory, is_doupdate, world_after}
 use Rattle.world.specs.calls.Refresh.{refresh_refusal}
@@ -15,16 +13,15 @@ use Rattle.world.specs.declared.call.Call.TheVariants as calls
 use Rattle.world.specs.declared.call.Refresh.{Refresh}
 use Rattle.world.specs.declared.call.Refresh.TheVariants.{Doupdate}
 use Rattle.world.specs.declared.call.Reply.{Reply}
-use Rattle.world.specs.declared.call.Reply.TheVariants.{Sent}
 use Rattle.compose.specs.Desks.{DeskTable, world}
-use Rattle.desk.specs.States.{IsWithin, ScreenOver, after, state_of, wanted}
+use Rattle.desk.specs.States.{IsWithin, ScreenOver, after, state_of}
 use Rattle.compose.specs.Calling.{Called, DamagesFew, MayRefuse}
 use Rattle.desk.specs.Runs.{flushes_after}
 use Rattle.desk.specs.steps.Quiet.{each-call, quiet-reply}
 use Rattle.desk.proofs.StateLemmas.{painter-quiet}
 use Rattle.compose.proofs.DeskLemmas.{world-left}
 use Rattle.desk.specs.Ends.{CallEnds, Writes}
-use Rattle.desk.specs.declared.screen.Fault.TheVariants.{Refused, Write}
+use Rattle.desk.specs.declared.screen.Fault.TheVariants.{Refused}
 
 -- a call that has no test and takes no memory is never refused
 pub never-refused : (w : World) (refresh : Refresh) (e : Refusal) → refresh_refusal w refresh ≡ None → takes_memory w (calls.Refresh refresh) ≡ false → MayRefuse w (calls.Refresh refresh) e
@@ -68,6 +65,7 @@ module _ {W : Type 0} (seen : W → Seen) where
   called-ends old desk call reply other h = (
     is-after old desk call (world-left old.desk desk call h.2) h.3 (painter-quiet (state_of old) call other),
     ([], (h.0, (quiet-reply (state_of old) reply [] call other).1 (refl, h.1)), quiet old (record old { desk = desk }) call other refl),
+    h.5,
   )
 
   -- a call of the desk was refused

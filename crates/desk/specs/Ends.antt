@@ -6,12 +6,12 @@ use Rattle.streams.specs.Counts.{count_after}
 use Rattle.streams.specs.Sinks.{Seen}
 use Rattle.paint.specs.Updates.{IsUpdateText}
 use Rattle.streams.specs.declared.sending.WriteFault.{WriteFault}
-use Rattle.compose.specs.Calling.{MayRefuse}
+use Rattle.compose.specs.Calling.{CountsReads, MayRefuse}
 use Rattle.compose.specs.Desks.{world}
 use Rattle.world.specs.calls.Dispatch.{is_doupdate}
 use Rattle.desk.specs.States.{IsWithin, ScreenOver, after, state_of, wanted}
 use Rattle.desk.specs.Runs.{Outcome, AreShort, MayAnswer, Run, all_sent, cells_read, flushes_after, is_accepted, is_refused, state_at_end}
-use Rattle.desk.specs.Reads.{ReadsFew, with_acceptance}
+use Rattle.desk.specs.Reads.{CountGrew, ReadsFew, with_acceptance}
 use Rattle.world.specs.declared.call.Call.{Call}
 use Rattle.world.specs.declared.call.Reply.{Reply}
 use Rattle.desk.specs.declared.screen.Fault.{Fault}
@@ -47,11 +47,13 @@ module _ {W : Type 0} (seen : W → Seen) where
     pub within : fault.sent ≤ length text
     pub bytes : Took old new (take fault.sent text)
     pub flushes : (seen new.writer).flushes ≡ count_after (fault.sent == length text) (seen old.writer).flushes
+    pub counted : new.desk.cells_read ≡ old.desk.cells_read
 
   -- One call ended so.
   abbrev pub CallEnds : ScreenOver W → Call → Result Reply Fault → ScreenOver W → Type 0
   CallEnds old call (Ok reply) new = IsWithin (state_of new) (after (state_of old) call)
       × ((sent : List ℕ) × MayAnswer (state_of old) call (Ok reply) sent × Writes old new (call ∷ []) sent)
+      × CountsReads old.desk call reply new.desk
   CallEnds old call (Err (Refused e)) new = MayRefuse (world old.desk) call e × (new ≡ old)
   CallEnds old call (Err (Write fault)) new = (is_doupdate call ≡ true) × IsCut old new fault
 
@@ -62,6 +64,7 @@ module _ {W : Type 0} (seen : W → Seen) where
     pub reads : ReadsFew (state_of old) (with_acceptance calls outcomes) (sum_by cells_read outcomes)
     pub state : IsWithin (state_of new) (state_at_end (state_of old) calls outcomes)
     pub writes : Writes old new calls (all_sent outcomes)
+    pub counted : CountGrew (sum_by cells_read outcomes) old.desk new.desk
 
   -- The calls that are left are none, or begin with a doupdate whose text was cut short.
   abbrev pub Stops : ScreenOver W → List Call → Option WriteFault → ScreenOver W → Type 0
@@ -81,3 +84,4 @@ module _ {W : Type 0} (seen : W → Seen) where
     pub refused : end.refused ≡ count_by is_refused outcomes
     pub composed : end.composed ≡ sum_by cells_read outcomes
     pub reads : ReadsFew (state_of old) (with_acceptance made outcomes) end.composed
+    pub counted : CountGrew end.composed old.desk new.desk

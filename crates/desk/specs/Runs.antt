@@ -4,14 +4,14 @@ use Rattle.std.specs.List.{flat_map}
 use Rattle.cell.specs.declared.refusal.Refusal.{Refusal}
 use Rattle.paint.specs.Updates.{IsUpdateText, most_bytes}
 use Rattle.streams.specs.Counts.{count_after}
-use Rattle.compose.specs.Calling.{MayRefuse, MayTell}
+use Rattle.compose.specs.Calling.{MayRefuse, MayTell, cells_of_reply}
 use Rattle.world.specs.calls.Dispatch.{is_doupdate, refusal}
 use Rattle.desk.specs.States.{State, after, wanted}
 use Rattle.world.specs.declared.call.Call.{Call}
 use Rattle.world.specs.declared.call.Call.TheVariants as calls
 use Rattle.world.specs.declared.call.Refresh.TheVariants.{Doupdate}
 use Rattle.world.specs.declared.call.Reply.{Reply}
-use Rattle.world.specs.declared.call.Reply.TheVariants.{Composed, Sent}
+use Rattle.world.specs.declared.call.Reply.TheVariants.{Sent}
 
 -- the outcome of a call: its answer, and the bytes that were sent
 pub record Outcome : Type 0 where
@@ -65,10 +65,6 @@ abbrev pub is_refused : Outcome → Bool
 is_refused outcome = not (is_accepted outcome)
 
 -- how many cells an answer of update_panels says were read
-abbrev pub cells_of_reply : Reply → ℕ
-cells_of_reply (Composed composed) = composed.cells
-cells_of_reply _ = 0
-
 abbrev pub cells_of_answer : Result Reply Refusal → ℕ
 cells_of_answer (Ok r) = cells_of_reply r
 cells_of_answer (Err e) = 0

@@ -10,8 +10,8 @@ ghost use Rattle.world.specs.World.{first_world};
 ghost use Rattle.world.specs.calls.Dispatch.{is_doupdate};
 ghost use Rattle.streams.specs.Counts.{count_after};
 ghost use Rattle.paint.specs.Updates.{first_painter};
+ghost use Rattle.compose.specs.Calling.{cells_of_reply};
 ghost use Rattle.compose.specs.Desks.{is_damaged_line, world};
-ghost use Rattle.desk.specs.Runs.{cells_of_reply};
 ghost use Rattle.desk.specs.declared.screen.Fault.TheVariants.{Refused};
 
 use crate::changing::widen_for;

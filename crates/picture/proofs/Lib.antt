@@ -14,6 +14,8 @@ pub mod Searching
 pub mod PictureRuns
 -- the search from the bottom, for find_owners
 pub mod OwnerLaws
+-- spans of a line after a panel is laid over it, for Spans::lay and Spans::at
+pub mod SpanLaws
 -- a picture made line by line, for show_damaged and compose_row
 pub mod Lines
 -- a piece of a row, for piece

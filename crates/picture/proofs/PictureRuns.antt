@@ -1,21 +1,34 @@
 -- A line of the picture is made run by run, each from a piece of one window's line.
-use Rattle.std.proofs.Common.{◌≡◌, ℕ, ◌+◌, ◌-◌, ◌≤◌, ◌==◌, ◌&&◌, true, if◌then◌else◌, List, length, nat_le, nat_lt, ap, ◌∙◌, arith, add_assoc}
+use Rattle.std.proofs.Common.{◌≡◌, ℕ, ◌+◌, ◌-◌, ◌≤◌, ◌==◌, ◌&&◌, true, if◌then◌else◌, List, length, nat_le, nat_lt, sym, ap, ◌∙◌, arith, add_assoc}
 use Rattle.std.specs.Prelude.{slice_index_or}
 use Rattle.std.proofs.lemmas.Bool.Decides.{nat_tests}
 use Rattle.cell.specs.Glyphs.{Glyph, blank}
 use Rattle.cell.specs.Pictures.{HasSize, Picture, Place, line_of, shown_at}
 use Rattle.cell.specs.Shown.{Pairs, shown}
 use Rattle.cell.specs.declared.window.Rect.{Rect}
-use Rattle.world.specs.Windows.{HasPlace, Windows}
+use Rattle.world.specs.Windows.{HasPlace, WindowMap, Windows}
 use Rattle.world.specs.calls.Making.{is_no_pad}
-use Rattle.world.specs.Panels.{Panels, found_from_top, holds, place_of, standard_screen}
+use Rattle.world.specs.calls.Stacking.{panel_number}
+use Rattle.world.specs.Panels.{Panels, found_from_top, holds, owner, place_of, standard_screen, window_or_standard}
 use Rattle.picture.specs.Counts.{GrewBy}
 use Rattle.picture.specs.Parts.{IsPiece, frame_holds}
-use Rattle.picture.specs.steps.Owners.{IsRun}
+use Rattle.picture.specs.Spans.{IsSpan}
+use Rattle.picture.specs.declared.span.Span.{Span}
 use Rattle.picture.proofs.Held.{IsBetween, held-between, held-no-pad, held-place}
 use Rattle.picture.proofs.Lines.{LineShown}
 use Rattle.picture.proofs.Searching.{owner-held}
 use Rattle.std.proofs.Math.Nat.{mod-add-mod}
+
+-- the search finds window w from a column on, up to a last one
+pub record IsRun (window : WindowMap) (panels : Panels) (y x edge w last : ℕ) : Type 0 where
+  pub from : x ≤ last
+  pub within : last ≤ edge
+  pub same : (u : ℕ) → x ≤ u → u ≤ last → window_or_standard panels (owner window panels y u) ≡ w
+
+-- the window of a span's panel
+pub run-of : {window : WindowMap} {panels : Panels} {y x edge w : ℕ} {span : Span} → IsSpan window panels y x edge span → w ≡ window_or_standard panels (panel_number span.panel)
+    → IsRun window panels y x edge w span.end
+run-of {panels = panels} h is = record { from = h.from; within = h.within; same = λ u from upto. ap (window_or_standard panels) (h.same u from upto) ∙ sym is }
 
 -- A run of columns of which a window is the owner, where the standard screen holds the line. The windows are those before.
 pub record IsHeldRun (old now : Windows) (panels : Panels) (y x edge w last : ℕ) : Type 0 where

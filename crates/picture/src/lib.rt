@@ -2,13 +2,14 @@
 //!
 //! - `damage`: the damaged columns of each line
 //! - `line`: `compose_row`
-//! - `owners`: from run to run along a line
+//! - `owners`: the search from the top, along the lines of the screen
 //! - `parts`: which part of the screen shows something of a window
 //! - `piece`: a part of a window's line, put into a picture
 //! - `repair`: the damaged lines composed again
 //! - `rows`: the lines of windows, with a count of the cells that are read
 //! - `search`: what the search finds at a place, and the topmost's cursor
-//! - `span`: the search from the top, along a line
+//! - `span`: a span of a line
+//! - `spans`: the spans of a line, over which panels are laid
 #![tactic(auto)]
 
 mod damage;
@@ -20,11 +21,13 @@ mod repair;
 mod rows;
 mod search;
 mod span;
+mod spans;
 #[cfg(test)]
 mod tests;
 
 pub use damage::Damage;
 pub use line::compose_row;
+pub use owners::Owners;
 pub use parts::{following_part, panel_part, shared_part, window_part};
 pub use piece::show_piece;
 pub use repair::show_damaged;

@@ -7,9 +7,11 @@ ghost use Rattle.world.specs.Panels.{found_from_top, holds, standard_screen};
 ghost use Rattle.stack.specs.Tables.{panels};
 ghost use Rattle.picture.specs.Counts.{GrewBy};
 ghost use Rattle.picture.specs.Spans.{HasPanelWindows};
+ghost use Rattle.picture.specs.steps.Owners.{KnowsOwners};
 
 use crate::owners::Owners;
 use crate::rows::Rows;
+use crate::search::window_of;
 use cell::{Grid, Pairs, Shown, show_cells};
 use stack::Stack;
 
@@ -36,16 +38,52 @@ pub fn compose_row<'a, R: Rows<'a>>(
     ensures count { GrewBy (right - left + 1) (R.cells_read rows.old) (R.cells_read rows.new) }
     ensures same { R.windows rows.new ≡ R.windows rows.old }
 {
-    let mut owners = Owners::none(stack);
+    compose_columns(
+        rows,
+        stack,
+        pairs,
+        &mut Owners::none(),
+        y,
+        left,
+        right,
+        picture,
+    );
+}
+
+/// The same, with what is known of lines.
+pub(crate) fn compose_columns<'a, R: Rows<'a>>(
+    rows: &mut R,
+    stack: &Stack,
+    pairs: &Pairs,
+    owners: &mut Owners,
+    y: u16,
+    left: u16,
+    right: u16,
+    picture: &mut Grid<Shown>,
+)
+    requires standard { (u : ℕ) → left ≤ u → u ≤ right → holds (R.windows rows.old).window standard_screen y u ≡ true }
+    requires panels { HasPanelWindows (R.windows rows.old).window (panels stack.now) }
+    requires ordered { left ≤ right }
+    requires line { y < length picture.old }
+    requires columns { right < length (line_of picture.old y) }
+    requires known { KnowsOwners (R.windows rows.old).window (panels stack.now) owners.old }
+    ensures shown { (v u : ℕ) → shown_at picture.new (v, u) ≡ (if (v == y) && (nat_le left u && nat_lt u (right + 1)) then shown pairs.now
+        (found_from_top (R.windows rows.old).window (panels stack.now) y u) else shown_at picture.old (v, u)) }
+    ensures size { (lines columns : ℕ) → HasSize lines columns picture.old → HasSize lines columns picture.new }
+    ensures count { GrewBy (right - left + 1) (R.cells_read rows.old) (R.cells_read rows.new) }
+    ensures same { R.windows rows.new ≡ R.windows rows.old }
+    ensures known { KnowsOwners (R.windows rows.old).window (panels stack.now) owners.new }
+{
     let mut x = left;
     loop {
-        let run = owners.run(rows, stack, y, x, right);
-        let rect = rows.rect(run.win);
-        let cells = rows.read(run.win, y - rect.top, x - rect.left, run.last - rect.left);
+        let span = owners.span(rows, stack, y, x, right);
+        let win = window_of(stack, span.panel);
+        let rect = rows.rect(win);
+        let cells = rows.read(win, y - rect.top, x - rect.left, span.end - rect.left);
         show_cells(cells, pairs, y, x, picture);
-        if run.last == right {
+        if span.end == right {
             return;
         }
-        x = run.last + 1;
+        x = span.end + 1;
     }
 }

@@ -10,18 +10,20 @@ ghost use Rattle.picture.specs.Counts.{GrewBy};
 ghost use Rattle.picture.specs.Damages.{cells_above, columns_of, has_damage_at};
 
 use crate::damage::Damage;
-use crate::line::compose_row;
+use crate::line::compose_columns;
+use crate::owners::Owners;
 use crate::rows::Rows;
 use cell::{Grid, Pairs, Shown};
 use stack::Stack;
 use world::Columns;
 
 /// Puts what a search from the top finds at each damaged place of so many lines into a picture, and clears the damage. It answers how many
-/// cells of windows it read.
+/// cells of windows it read. The owners of any lines may be passed: they only save the room.
 pub fn show_damaged<'a, R: Rows<'a>>(
     rows: &mut R,
     stack: &Stack,
     pairs: &Pairs,
+    owners: &mut Owners,
     lines: u16,
     damage: &mut Damage,
     picture: &mut Grid<Shown>,
@@ -42,11 +44,12 @@ pub fn show_damaged<'a, R: Rows<'a>>(
     ensures read { result ≡ cells_above damage.old (R.windows rows.old).lines }
     ensures count { GrewBy result (R.cells_read rows.old) (R.cells_read rows.new) }
 {
+    owners.forget();
     let mut cells = 0;
     let mut y = damage.next(0);
     while y < lines {
         if let Some(Columns { first, last }) = damage.line(y) {
-            compose_row(rows, stack, pairs, y, first, last, picture);
+            compose_columns(rows, stack, pairs, owners, y, first, last, picture);
             cells += u32::from(last - first) + 1;
             damage.clear(y);
         }

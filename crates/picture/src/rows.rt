@@ -1,6 +1,7 @@
 //! Where the lines of windows come from that a picture is composed of, and how many of their cells were read.
 
-ghost use Rattle.std.specs.Prelude.{◌≡◌, ◌≤◌, ◌+◌, ◌-◌, ℕ, true};
+ghost use Rattle.std.specs.Prelude.{◌≡◌, ◌<◌, ◌≤◌, ◌+◌, ◌-◌, ℕ, true};
+ghost use Rattle.cell.specs.declared.limits.TheConstants.{LARGEST_SCREEN};
 ghost use Rattle.world.specs.Panels.{holds, place_of};
 ghost use Rattle.world.specs.Sound.{AreSoundWindows};
 ghost use Rattle.world.specs.Windows.{HasPlace, Windows};
@@ -27,6 +28,7 @@ pub trait Rows<'a> {
         requires { is_no_pad (windows self.now).window win.0 ≡ true }
         ensures place { (result.top, result.left) ≡ place_of (windows self.now).window win.0 }
         ensures ordered { result.left ≤ result.right }
+        ensures within { result.right < LARGEST_SCREEN }
         ensures holds { (y x : ℕ) → frame_holds result y x ≡ holds (windows self.now).window win.0 y x };
 
     /// A piece of line `y` of a window, from its column `left` to its column `right`, both inclusive, which must exist. The count goes up
@@ -39,20 +41,27 @@ pub trait Rows<'a> {
         ensures same { windows self.new ≡ windows self.old };
 }
 
-/// The lines of a table of windows.
+/// The lines of a table of windows. No cell of it can be read but through `read`, which counts it.
 #[derive(Drop)]
 pub struct TableRows<'a> {
     table: &'a Grids,
-    pub cells: u64,
+    cells: u64,
 }
 
 impl<'a> TableRows<'a> {
-    /// The lines of a table, of which nothing was read yet.
-    pub fn of(table: &'a Grids) -> TableRows<'a>
+    /// The lines of a table, of which so many cells were read before.
+    pub fn of(table: &'a Grids, cells: u64) -> TableRows<'a>
         ensures windows { ⟦<TableRows<'a> as Rows<'a>>⟧.windows result ≡ windows_of table.now }
-        ensures none { ⟦<TableRows<'a> as Rows<'a>>⟧.cells_read result ≡ 0 }
+        ensures count { ⟦<TableRows<'a> as Rows<'a>>⟧.cells_read result ≡ cells }
     {
-        TableRows { table, cells: 0 }
+        TableRows { table, cells }
+    }
+
+    /// How many cells were read, modulo 2^64.
+    pub fn cells_read(&self) -> u64
+        ensures { result ≡ ⟦<TableRows<'a> as Rows<'a>>⟧.cells_read self.now }
+    {
+        self.cells
     }
 }
 
@@ -62,6 +71,7 @@ impl<'a> Rows<'a> for TableRows<'a> {
     ghost cells_read = { λ rows. rows.cells };
 
     fn rect(&self, win: WinId) -> Rect {
+        prove!(self.table.has_window(WinId::STANDARD));
         match window_part(self.table, win) {
             Some(frame) => frame,
             None => unreachable!(),

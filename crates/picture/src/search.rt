@@ -24,7 +24,7 @@ pub fn cell_found(table: &Grids, stack: &Stack, y: u16, x: u16, columns: u16) ->
     requires columns { columns ≡ table.now.columns }
     ensures { result ≡ found_from_top (windows_of table.now).window (panels stack.now) y x }
 {
-    let span = owner_span(&TableRows::of(table), stack, y, x, columns - 1);
+    let span = owner_span(&TableRows::of(table, 0), stack, y, x, columns - 1);
     let win = window_of(stack, span.panel);
     let (top, left) = place(table, win);
     table.cell(win, y - top, x - left)

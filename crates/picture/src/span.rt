@@ -1,12 +1,11 @@
 //! The spans of a line: columns side by side at which the search from the top finds the same panel.
 
-ghost use Rattle.std.specs.Prelude.{◌≡◌, ◌<◌, ◌≤◌, ◌+◌, ℕ, not};
+ghost use Rattle.std.specs.Prelude.{◌≤◌};
 ghost use Rattle.stack.specs.Tables.{panels};
-ghost use Rattle.picture.specs.Parts.{frame_holds};
 ghost use Rattle.picture.specs.Spans.{HasPanelWindows, IsSpan};
 
+use crate::owners::Owners;
 use crate::rows::Rows;
-use cell::Rect;
 use stack::Stack;
 use world::PanelId;
 
@@ -24,36 +23,5 @@ pub fn owner_span<'a, R: Rows<'a>>(rows: &R, stack: &Stack, y: u16, x: u16, edge
     requires column { x ≤ edge }
     ensures { IsSpan (R.windows rows.now).window (panels stack.now) y x edge result }
 {
-    let mut end = edge;
-    for panel in stack.visible_from_top() {
-        if let Ok(win) = stack.window(panel) {
-            let (held, last) = along(rows.rect(win), y, x, end);
-            end = last;
-            if held {
-                return Span {
-                    panel: Some(panel),
-                    end,
-                };
-            }
-        }
-    }
-    Span { panel: None, end }
-}
-
-/// Whether a rectangle holds line `y` at column `x`, and the last column, `end` at most, up to which that stays so.
-fn along(rect: Rect, y: u16, x: u16, end: u16) -> (bool, u16)
-    requires ordered { rect.left ≤ rect.right }
-    requires column { x ≤ end }
-    ensures from { x ≤ result.1 }
-    ensures within { result.1 ≤ end }
-    ensures same { (u : ℕ) → x ≤ u → u ≤ result.1 → frame_holds rect y u ≡ result.0 }
-    ensures another { result.1 < end → frame_holds rect y (result.1 + 1) ≡ not result.0 }
-{
-    if y < rect.top || rect.bottom < y || rect.right < x {
-        return (false, end);
-    }
-    if x < rect.left {
-        return (false, end.min(rect.left - 1));
-    }
-    (true, end.min(rect.right))
+    Owners::none().span(rows, stack, y, x, edge)
 }

@@ -139,7 +139,7 @@ fn composed<'a>(
         return Err("no such columns".into());
     }
     let mut rows = Noted {
-        rows: TableRows::of(table),
+        rows: TableRows::of(table, 0),
         pieces: [None; 3],
         noted: 0,
     };
@@ -165,7 +165,7 @@ fn a_line_is_composed_of_pieces(rt: HostRuntime) -> Result<(), Fail> {
     let stack = one_panel(rt.alloc(), &table)?;
     let (shown, rows) = composed(rt.alloc(), &table, &stack, 0, 3)?;
     assert_eq!(rt; shown.as_slice(), b"aXYd".as_slice());
-    assert_eq!(rt; rows.rows.cells, 4);
+    assert_eq!(rt; rows.rows.cells_read(), 4);
     let pieces = [
         Some(Piece::new(WinId::STANDARD, 0, 0)),
         Some(Piece::new(IN_PANEL, 0, 1)),
@@ -181,7 +181,7 @@ fn other_columns_are_left(rt: HostRuntime) -> Result<(), Fail> {
     let stack = one_panel(rt.alloc(), &table)?;
     let (shown, rows) = composed(rt.alloc(), &table, &stack, 2, 2)?;
     assert_eq!(rt; shown.as_slice(), b"--Y-".as_slice());
-    assert_eq!(rt; rows.rows.cells, 1);
+    assert_eq!(rt; rows.rows.cells_read(), 1);
     assert_eq!(rt; rows.pieces, [Some(Piece::new(IN_PANEL, 1, 1)), None, None]);
     Ok(())
 }

@@ -1,25 +1,34 @@
--- Of columns of a line, one after another, the windows that the search from the top finds.
-use Rattle.std.specs.Prelude.{◌≡◌, ℕ, ◌-◌, ◌<◌, ◌≤◌, List, slice_index}
-use Rattle.world.specs.Panels.{Panels, owner, window_or_standard}
+-- The spans of a line, by their last columns, and the lines of which they are known to be those that the search from the top finds.
+use Rattle.std.specs.Prelude.{◌≡◌, ◌≢◌, ℕ, ◌+◌, ◌<◌, ◌≤◌, ◌==◌, if◌then◌else◌, true, false, Option, Some, None, List, slice_index}
+use Rattle.cell.specs.declared.limits.TheConstants.{LARGEST_SCREEN}
+use Rattle.small_set.specs.Sets.{contains}
+use Rattle.world.specs.Panels.{Panels, owner}
 use Rattle.world.specs.Windows.{WindowMap}
 use Rattle.picture.specs.declared.owners.Owners.{Owners}
-use Rattle.picture.specs.declared.owners.TheConstants.{PART}
+use Rattle.picture.specs.declared.spans.Spans.{Spans}
 
--- the window that the search finds at (y, x)
-abbrev pub owner_window : WindowMap → Panels → ℕ → ℕ → ℕ
-owner_window window panels y x = window_or_standard panels (owner window panels y x)
+-- the panel of a number; 0 is that of none
+abbrev pub numbered : ℕ → Option ℕ
+numbered n = if n == 0 then None else Some n
 
--- these begin with the numbers of the windows that it finds at the columns of line y from left to right
-abbrev pub AreOwners : WindowMap → Panels → ℕ → ℕ → ℕ → List ℕ → Type 0
-AreOwners window panels y left right owners = (x : ℕ) → left ≤ x → x ≤ right → slice_index owners (x - left) ≡ owner_window window panels y x
+-- the first end from column x on
+pub record IsEndFrom (ends : List ℕ) (x e : ℕ) : Type 0 where
+  pub from : x ≤ e
+  pub is : contains ends e ≡ true
+  pub first : (n : ℕ) → x ≤ n → n < e → contains ends n ≡ false
 
--- what is known of the columns of a line is so
-pub record KnowsOwners (window : WindowMap) (panels : Panels) (y : ℕ) (owners : Owners) : Type 0 where
-  pub room : owners.right - owners.left < PART
-  pub found : AreOwners window panels y owners.left owners.right owners.windows
+-- each end is a column of a line
+pub record AreInside (spans : Spans) : Type 0 where
+  pub few : spans.beyond ≤ LARGEST_SCREEN
+  pub each : (e : ℕ) → contains spans.ends e ≡ true → e < spans.beyond
 
--- the search finds window w from a column on, up to a last one
-pub record IsRun (window : WindowMap) (panels : Panels) (y x edge w last : ℕ) : Type 0 where
-  pub from : x ≤ last
-  pub within : last ≤ edge
-  pub same : (u : ℕ) → x ≤ u → u ≤ last → owner_window window panels y u ≡ w
+-- A column has the owner that stands at the first end from it on; one after all ends has none. The column after an end has another owner.
+pub record AreSpans (o : ℕ → Option ℕ) (spans : Spans) : Type 0 where
+  pub same : (x e : ℕ) → IsEndFrom spans.ends x e → o x ≡ numbered (slice_index spans.panels e)
+  pub past : (x : ℕ) → ((n : ℕ) → x ≤ n → contains spans.ends n ≡ false) → o x ≡ None
+  pub another : (e : ℕ) → contains spans.ends e ≡ true → o (e + 1) ≢ numbered (slice_index spans.panels e)
+
+-- in the lines that are known they are those that the search finds
+pub record KnowsOwners (window : WindowMap) (panels : Panels) (owners : Owners) : Type 0 where
+  pub inside : AreInside owners.spans
+  pub found : (y : ℕ) → owners.top ≤ y → y ≤ owners.bottom → AreSpans (owner window panels y) owners.spans

@@ -1,13 +1,15 @@
 -- Each round composes the damaged columns of one line more; the others were those of the picture before.
-use Rattle.std.proofs.Common.{rules, ◌≡◌, ℕ, suc, ◌+◌, ◌-◌, ◌<◌, ◌≤◌, ◌==◌, ◌&&◌, true, nat_le, nat_lt, if◌then◌else◌, None, refl, ap, sym, ◌∙◌, arith, add_assoc}
-use Rattle.std.proofs.lemmas.Grind.{common_steps}
+use Rattle.std.proofs.Common.{rules, ◌≡◌, ℕ, suc, ◌+◌, ◌<◌, ◌≤◌, ◌==◌, ◌&&◌, true, nat_le, nat_lt, if◌then◌else◌, None, Some, refl, subst, ap, sym, ◌∙◌, arith, add_assoc}
 use Rattle.cell.specs.Pictures.{shown_at}
 use Rattle.cell.specs.Shown.{Shown, shown}
 use Rattle.cell.proofs.PictureLemmas.{length-line}
-use Rattle.world.specs.Panels.{found_from_top}
+use Rattle.world.specs.Panels.{found_from_top, holds, standard_screen}
+use Rattle.world.specs.Sound.{AreColumnsWithin}
 use Rattle.world.specs.Windows.{Windows}
 use Rattle.stack.specs.Tables.{panels}
 use Rattle.picture.specs.Damages.{cells_above, cells_of_line, columns_of}
+use Rattle.picture.specs.Spans.{HasPanelWindows}
+use Rattle.picture.specs.steps.Owners.{KnowsOwners}
 use Rattle.picture.proofs.Composing.{ComposedAbove, composed-bare, composed-more, composed-none, composed-to, fits-more, no-more-to}
 use Rattle.picture.proofs.Lines.{shown-all}
 use Rattle.picture.proofs.Standard.{sound-windows, standard-holds}
@@ -15,8 +17,32 @@ use Rattle.std.proofs.Math.Nat.{mod-add-mod}
 use Rattle.picture.proofs.repair.show_damaged.Goals.{in-Some, in_default}
 use Rattle.picture.proofs.repair.show_damaged.Goals as goal
 
-pub compose_row-requires : goal.compose_row-requires
-compose_row-requires g c κs = grind (arith, common_steps, length-line, standard-holds, sound-windows)
+pub compose_columns-requires : goal.compose_columns-requires
+compose_columns-requires g c κs =
+    let old = g.R.Rows.windows c.args.rows.now in
+    let ps = panels c.args.stack.now in
+    let y = c.loop-y.y in
+    let h = c.loop-y.invariant in
+    let back = sym h.windows in
+    let test = c.loop-y-test.true in
+    let all = c.requires.lines in
+    let below : y < old.lines = omega (arith, test, all) in
+    let size = h.composed.above.size in
+    let height = size.height in
+    let wide = length-line y size below in
+    let line : columns_of c.args.damage.now y ≡ Some c.in-Some.field-0 = sym (h.composed.left y (omega arith)) ∙ sym c.line.ensures ∙ c.in-Some.is in
+    let within : AreColumnsWithin old.columns (Some c.in-Some.field-0) = subst (AreColumnsWithin old.columns) line (c.requires.within y) in
+    let ordered = within.0 in
+    let last = within.1 in (
+      (refl, record {}),
+      (
+        λ u from upto. subst (λ (ws : Windows). holds ws.window standard_screen y u ≡ true) back (standard-holds old y u c.requires.windows below (omega (arith, upto, last))),
+        (
+          subst (λ (ws : Windows). HasPanelWindows ws.window ps) back (sound-windows old.window ps c.requires.panels),
+          (ordered, (omega (arith, height, below), (omega (arith, wide, last), subst (λ (ws : Windows). KnowsOwners ws.window ps c.loop-y.owners) back h.known))),
+        ),
+      ),
+    )
 
 pub overflow_add-cells-in-Some : goal.overflow_add-cells-in-Some
 overflow_add-cells-in-Some g c = grind (arith, fits-more)
@@ -31,6 +57,7 @@ loop-y-init g c =
     let inside = c.next-y.ensures.inside (omega arith) in
     record {
       windows = refl;
+      known = c.forget.ensures old.window (panels c.args.stack.now);
       read = sym (no-more-to before 0 c.next-y.result (omega arith) none);
       count = search rules;
       composed = composed-to f old.lines old.columns before c.args.picture.now c.requires.covered 0 c.next-y.result before c.args.picture.now
@@ -55,14 +82,18 @@ loop-y-preserved g c =
       | in-Some s ↦
           let r = s.in-Some.field-0 in
           rw (s.damage-is, s.picture-is, s.clear.ensures)
-          (composed-more f old.lines old.columns before c.args.picture.now c.requires.covered y r c.loop-y.damage c.loop-y.picture s.compose_row.new.picture h.composed below
+          (composed-more f old.lines old.columns before c.args.picture.now c.requires.covered y r c.loop-y.damage c.loop-y.picture s.compose_columns.new.picture h.composed below
           (sym c.line.ensures ∙ s.in-Some.is)
-          (λ v u. s.compose_row.ensures.shown v u
+          (λ v u. s.compose_columns.ensures.shown v u
           ∙ ap (λ (ws : Windows). if (v == y) && (nat_le r.first u && nat_lt u (r.last + 1)) then shown c.args.pairs.now (found_from_top ws.window ps y u) else shown_at c.loop-y.picture (v, u))
           h.windows)
-          (s.compose_row.ensures.size old.lines old.columns h.composed.above.size))
+          (s.compose_columns.ensures.size old.lines old.columns h.composed.above.size))
       | in_default s ↦ rw (s.damage-is, s.picture-is)
           (composed-bare f old.lines old.columns before c.args.picture.now c.requires.covered y c.loop-y.damage c.loop-y.picture h.composed below (sym c.line.ensures ∙ s.in_default.is))
+    ] in
+    let known : KnowsOwners old.window ps c.match-line.owners = elim c.match-line.branch [
+      | in-Some s ↦ rw s.owners-is (subst (λ (ws : Windows). KnowsOwners ws.window ps s.compose_columns.new.owners) h.windows s.compose_columns.ensures.known)
+      | in_default s ↦ rw s.owners-is h.known
     ] in
     let next = c.next-y-in-loop-y.result in
     let from : y + 1 ≤ next = c.next-y-in-loop-y.ensures.from in
@@ -72,6 +103,7 @@ loop-y-preserved g c =
     let skipped : cells_above before next ≡ cells_above before (y + 1) = no-more-to before (y + 1) next from (λ v a b. sym (composed.left v a) ∙ none v a b) in
     record {
       windows = grind arith;
+      known = known;
       read = grind arith;
       count = grind (arith, mod-add-mod, add_assoc);
       composed = grind (arith, composed-to);

@@ -4,6 +4,7 @@ use Rattle.world.specs.Panels.{found_from_top}
 use Rattle.stack.specs.Tables.{panels}
 use Rattle.picture.specs.Counts.{GrewBy}
 use Rattle.picture.specs.Damages.{cells_above}
+use Rattle.picture.specs.steps.Owners.{KnowsOwners}
 use Rattle.picture.proofs.Composing.{ComposedAbove}
 use Rattle.picture.proofs.repair.show_damaged.Given as goal
 
@@ -11,6 +12,7 @@ use Rattle.picture.proofs.repair.show_damaged.Given as goal
 abbrev pub invariant-loop-y : goal.invariant-loop-y
 invariant-loop-y g l = record {
   windows : g.R.Rows.windows l.rows ≡ g.R.Rows.windows l.fn.rows;
+  known : KnowsOwners (g.R.Rows.windows l.fn.rows).window (panels l.fn.stack) l.owners;
   inside : l.y ≤ (g.R.Rows.windows l.fn.rows).lines;
   read : l.cells ≡ cells_above l.fn.damage l.y;
   count : GrewBy l.cells (g.R.Rows.cells_read l.fn.rows) (g.R.Rows.cells_read l.rows);

@@ -34,7 +34,7 @@ made c =
     let of = of-pad ws a.pad.0 a.pminrow a.pmincol a.sminrow a.smincol a.smaxrow a.smaxcol h.sound.windows accepted in
     let damaged = c.damage_part.ensures.damaged ws.columns of.on_column in
     call-accepted (the_view c.self.inside) (new c) (calls.Refresh (refresh c)) h accepted refl (search rules)
-    (pad-damages ws a.pad.0 a.pminrow a.pmincol a.sminrow a.smincol a.smaxrow a.smaxcol of frame refl refl refl refl c.self.inside.damage c.damage_part.new.damage damaged) Nothing refl
+    (pad-damages ws a.pad.0 a.pminrow a.pmincol a.sminrow a.smincol a.smaxrow a.smaxcol of frame refl refl refl refl c.self.inside.damage c.damage_part.new.damage damaged) refl Nothing refl
 
 pub invariant_of-self : goal.invariant_of-self
 invariant_of-self c = (made c).0

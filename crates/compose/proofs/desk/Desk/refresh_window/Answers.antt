@@ -27,7 +27,7 @@ made c =
     (λ i. record (world (the_view c.self.inside)) {
       windows = c.unmark.ensures.unmarked i;
       virtual = record { picture = c.show_touched.ensures i; cursor = c.cursor_on_screen-self-inside.ensures i; clear = c.self.inside.clear || c.asks.ensures i };
-    }) c.damage_touched.ensures.damaged Nothing refl
+    }) c.damage_touched.ensures.damaged refl Nothing refl
 
 pub invariant_of-self : goal.invariant_of-self
 invariant_of-self c = (made c).0
