@@ -1,10 +1,10 @@
 -- What a call does to a window of a known state, and the rectangle that it answers.
 use Rattle.std.proofs.Common.{◌≡◌, ℕ, ◌+◌, ◌-◌, ◌<◌, Option, Some, None, Ok, arith}
+use Rattle.std.specs.Prelude.{option_and_then}
 use Rattle.cell.specs.Pictures.{origin}
 use Rattle.world.specs.Windows.{Drawing, Window, Windows, put, if_there}
 use Rattle.world.specs.Settings.{set, with_cursor}
 use Rattle.world.specs.Drawings.{everywhere, lines_up, lines_down}
-use Rattle.world.specs.Typing.{frame_if_there}
 use Rattle.world.specs.calls.Writing.{insch_drawing, delch_drawing, erase_drawing, clrtoeol_drawing, clrtobot_drawing, insertln_drawing, deleteln_drawing, after_clear}
 use Rattle.world.specs.Effects.{Change, after_change, change_frame, drawing_frame, after_edit, draws}
 use Rattle.world.specs.Sound.{AreSoundWindows}
@@ -34,7 +34,7 @@ module _ (windows : Windows) (w : ℕ) (s : WindowState) (h : IsStateOf windows 
   pub call-is : (change : Window → Windows) → change (with_state s h.window) ≡ change (window_in_state s) → if_there windows w change ≡ change (window_in_state s)
   call-is change same = grind arith
 
-  pub frame-is : (frame : Window → Option Rect) → frame (with_state s h.window) ≡ frame (window_in_state s) → frame_if_there windows w frame ≡ frame (window_in_state s)
+  pub frame-is : (frame : Window → Option Rect) → frame (with_state s h.window) ≡ frame (window_in_state s) → option_and_then frame (windows.window w) ≡ frame (window_in_state s)
   frame-is frame same = grind arith
 
   -- ---- clearing

@@ -15,7 +15,7 @@ use Rattle.world.specs.Settings.{set_in, set, with_cursor}
 use Rattle.world.specs.Rows.{listed_cells}
 use Rattle.world.specs.Drawings.{written_glyph, at_place}
 use Rattle.world.specs.Frames.{frame_of_two}
-use Rattle.world.specs.Typing.{drawn_to, character_printed, character_frame, typed_in, typed_frame, after_character, frame_of_character, after_text, text_frame}
+use Rattle.world.specs.Typing.{drawn_to, character_printed, character_drawing, typed_in, typed_drawing, after_character, after_text}
 use Rattle.world.specs.calls.Writing.{is_bad_character}
 use Rattle.world.specs.declared.settings.Settings.{Settings}
 use Rattle.world.proofs.WindowLaws.{own-put, put-nothing}
@@ -26,6 +26,7 @@ use Rattle.windows.specs.declared.state.WindowState.{WindowState}
 use Rattle.windows.proofs.Calls.{with_state}
 use Rattle.windows.proofs.Rectangles.{frame-at_place}
 use Rattle.windows.proofs.States.{spot-of, window-put}
+use Rattle.windows.proofs.TextFrames.{frame-append, frame-first, frame-nothing, frame_of_character, text_frame}
 use Rattle.windows.proofs.Texts.{HasSame, same-typed, joined-none, joined-joined}
 
 -- ---- a text and then another
@@ -34,11 +35,6 @@ after-append : (one two : List ℕ) (windows : Windows) (w : ℕ) → after_text
 after-append [] two windows w = refl
 after-append (first ∷ one) two windows w = after-append one two (after_character windows w first) w
 
-frame-append : (one two : List ℕ) (windows : Windows) (w : ℕ)
-    → text_frame windows w (one ++ two) ≡ frame_of_two (text_frame windows w one) (text_frame (after_text windows w one) w two)
-frame-append [] two windows w = refl
-frame-append (first ∷ one) two windows w = grind (arith, joined-joined, (frame-append one two (after_character windows w first) w))
-
 -- the first characters of what is left were written
 module _ (windows now new : Windows) (w : ℕ) (text rest : List ℕ) (count : ℕ) (written : new ≡ after_text now w (take count rest)) where
   pub text_goes_on : after_text now w rest ≡ after_text windows w text → after_text new w (drop count rest) ≡ after_text windows w text
@@ -46,7 +42,11 @@ module _ (windows now new : Windows) (w : ℕ) (text rest : List ℕ) (count : �
 
   pub frame_goes_on : (frame one next : Option Rect) → frame_of_two frame (text_frame now w rest) ≡ text_frame windows w text → one ≡ text_frame now w (take count rest)
       → next ≡ frame_of_two frame one → frame_of_two next (text_frame new w (drop count rest)) ≡ text_frame windows w text
-  frame_goes_on frame one next before covered is = grind (arith, joined-joined, (frame-append (take count rest) (drop count rest) now w), take-append-drop)
+  frame_goes_on frame one next before covered is =
+      rw (is, covered, written)
+      (joined-joined frame _ _
+      ∙ ap (frame_of_two frame) (sym (frame-append (take count rest) (drop count rest) now w) ∙ ap (text_frame now w) (take-append-drop count rest))
+      ∙ before)
 
 pub rest_accepted : (count : ℕ) (rest : List ℕ) → list_any is_bad_character rest ≡ false → list_any is_bad_character (drop count rest) ≡ false
 rest_accepted count rest h = grind (arith, (list_any-append is_bad_character (take count rest) (drop count rest)), take-append-drop)
@@ -57,7 +57,7 @@ one_written windows new w text some is = grind (arith, (take_more text 0 0 some)
 
 pub one_covered : (windows : Windows) (w : ℕ) (text : List ℕ) (frame : Option Rect) → 0 < length text → frame ≡ frame_of_character windows w (get_or text 0 0)
     → frame ≡ text_frame windows w (take 1 text)
-one_covered windows w text frame some is = grind (arith, joined-none, (take_more text 0 0 some))
+one_covered windows w text frame some is = grind (arith, joined-none, frame-first, frame-nothing, (take_more text 0 0 some))
 
 -- ---- no window comes or goes
 
@@ -86,8 +86,8 @@ module _ (a : Window) (character : ℕ) (printable : is_printable character ≡ 
   pub typed-printed : (windows : Windows) (w : ℕ) → typed_in windows w character a ≡ character_printed windows w character a
   typed-printed windows w = grind (arith, nat_tests)
 
-  pub frame-printed : (windows : Windows) (w : ℕ) → typed_frame windows w character a ≡ character_frame windows w character a
-  frame-printed windows w = grind (arith, nat_tests)
+  pub drawing-printed : (windows : Windows) (w : ℕ) → typed_drawing windows w character a ≡ character_drawing windows w character a
+  drawing-printed windows w = grind (arith, nat_tests)
 
 module _ (windows : Windows) (w : ℕ) (a : Window) (there : windows.window w ≡ Some a) (character : ℕ) (printable : is_printable character ≡ true)
     (inside : a.settings.cursor.1 + 1 < a.columns) where
@@ -97,7 +97,7 @@ module _ (windows : Windows) (w : ℕ) (a : Window) (there : windows.window w �
 
   covered-printed : a.settings.cursor.0 < a.lines
       → frame_of_character windows w character ≡ Some (record { top = a.settings.cursor.0; left = a.settings.cursor.1; bottom = a.settings.cursor.0; right = a.settings.cursor.1 })
-  covered-printed below = grind (arith, frame-printed, frame-at_place, nat_tests)
+  covered-printed below = grind (arith, drawing-printed, frame-at_place, nat_tests)
 
   -- the window then, and that it shows the same places
   module _ (p : GridPlace) (spot : own windows.window w 0 0 ≡ Some p) where
@@ -149,13 +149,13 @@ run_covered : (run : List ℕ) (first : ℕ) (windows : Windows) (w : ℕ) (a : 
     → text_frame windows w (first ∷ run)
     ≡ Some (record { top = a.settings.cursor.0; left = a.settings.cursor.1; bottom = a.settings.cursor.0; right = a.settings.cursor.1 + length run })
 run_covered [] first windows w a p there spot printed below inside =
-    rw (joined-none, covered-printed windows w a there first (printed 0 (omega arith)) (omega arith) below) (grind arith)
+    rw (frame-first windows w first [], frame-nothing, joined-none, covered-printed windows w a there first (printed 0 (omega arith)) (omega arith) below) (grind arith)
 run_covered (second ∷ run) first windows w a p there spot printed below inside =
     let fits : a.settings.cursor.1 + 1 < a.columns = omega arith in
     let ok = printed 0 (omega arith) in
     let more = run_covered run second (after_character windows w first) w _ p (there-next windows w a there first ok fits p spot) (spot-next windows w a there first ok fits p spot)
     (λ k in_run. printed (suc k) (omega arith)) below (omega arith) in
-    rw (covered-printed windows w a there first ok fits below, more) (grind arith)
+    rw (frame-first windows w first (second ∷ run), covered-printed windows w a there first ok fits below, more) (grind arith)
 
 -- ---- as the code has it
 

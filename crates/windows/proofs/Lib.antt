@@ -12,6 +12,8 @@ pub mod Calls
 pub mod Typing
 -- one character after another, and that printed ones are accepted, for type_text and has_bad_character
 pub mod Texts
+-- the rectangle of several characters, for type_first and type_text
+pub mod TextFrames
 -- a run of characters that stay inside a line is one drawing, for type_text
 pub mod CharacterRuns
 -- the lines of a region, for scroll

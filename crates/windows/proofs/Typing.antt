@@ -1,5 +1,5 @@
 -- A character written at the cursor of a window of a known state.
-use Rattle.std.proofs.Common.{◌≡◌, ℕ, ◌+◌, ◌-◌, ◌<◌, ◌≤◌, Bool, true, if◌then◌else◌, ◌==◌, Option, Some, None, arith, refl}
+use Rattle.std.proofs.Common.{◌≡◌, ℕ, ◌+◌, ◌-◌, ◌<◌, ◌≤◌, Bool, true, false, if◌then◌else◌, ◌==◌, ◌&&◌, Option, Some, None, arith, refl, sym, ◌∙◌}
 use Rattle.std.specs.Int.RustNames.{bit_or}
 use Rattle.std.proofs.lemmas.Bool.Decides.{nat_tests}
 use Rattle.cell.specs.Attributes.{bits_of, valid_attributes}
@@ -8,14 +8,17 @@ use Rattle.cell.specs.Pictures.{Place}
 use Rattle.world.specs.Windows.{Windows, put}
 use Rattle.world.specs.Settings.{set, with_cursor}
 use Rattle.world.specs.Drawings.{written_glyph, at_place, to_end_of_line, lines_up}
-use Rattle.world.specs.Frames.{frame_of_two}
-use Rattle.world.specs.Typing.{to_next_line, next_line_frame, character_printed, character_frame, line_ended, line_ended_frame, typed_in, typed_frame, after_character, frame_of_character}
+use Rattle.world.specs.Frames.{frame_of, frame_of_two}
+use Rattle.world.specs.Typing.{to_next_line, next_line_drawing, character_printed, character_drawing, line_ended, line_ended_drawing, typed_in, typed_drawing, after_character}
 use Rattle.cell.specs.declared.window.Rect.{Rect}
 use Rattle.world.specs.declared.settings.Settings.{Settings}
 use Rattle.windows.specs.steps.State.{IsStateOf, window_in_state}
 use Rattle.windows.specs.declared.state.WindowState.{WindowState}
+use Rattle.world.proofs.EditLaws.{frame-if-there}
+use Rattle.world.proofs.FrameLaws.{frame-over, frame_of-none}
 use Rattle.windows.proofs.Rectangles.{frame-at_place, frame-to_end_of_line, frame-lines_up}
 use Rattle.windows.proofs.Calls.{call-is, frame-is}
+use Rattle.windows.proofs.TextFrames.{frame_of_character}
 use Rattle.windows.proofs.States.{either-few, valid_attributes-small}
 
 module _ (windows : Windows) (w : ℕ) (s : WindowState) (h : IsStateOf windows w s) where
@@ -27,8 +30,11 @@ module _ (windows : Windows) (w : ℕ) (s : WindowState) (h : IsStateOf windows 
   scrolled now new place on last drawn moved = grind (arith, nat_tests)
 
   pub scrolled_frame : (r : Rect) → s.settings.scrolling ≡ true → s.settings.cursor.0 ≡ s.settings.region.1
-      → r ≡ record { top = s.settings.region.0; left = 0; bottom = s.settings.region.1; right = s.columns - 1 } → Some r ≡ next_line_frame windows.window w (window_in_state s)
+      → r ≡ record { top = s.settings.region.0; left = 0; bottom = s.settings.region.1; right = s.columns - 1 } → Some r ≡ frame_of (window_in_state s) (next_line_drawing windows.window w (window_in_state s))
   scrolled_frame r on last e = grind (arith, frame-lines_up, nat_tests)
+
+  pub not_scrolled_frame : (s.settings.scrolling && s.settings.cursor.0 == s.settings.region.1) ≡ false → None ≡ frame_of (window_in_state s) (next_line_drawing windows.window w (window_in_state s))
+  not_scrolled_frame off = grind (arith, frame_of-none)
 
   -- ---- a printed character
 
@@ -43,14 +49,14 @@ module _ (windows : Windows) (w : ℕ) (s : WindowState) (h : IsStateOf windows 
 
     pub printed_inside_frame : (r : Rect) → s.settings.cursor.1 + 1 < s.columns
         → r ≡ record { top = s.settings.cursor.0; left = s.settings.cursor.1; bottom = s.settings.cursor.0; right = s.settings.cursor.1 }
-        → Some r ≡ character_frame windows w character (window_in_state s)
+        → Some r ≡ frame_of (window_in_state s) (character_drawing windows w character (window_in_state s))
     printed_inside_frame r inside e = grind (arith, frame-at_place, nat_tests)
 
     pub printed_at_end_frame : (now : Windows) (r : Rect) (below o : Option Rect) → s.columns ≤ s.settings.cursor.1 + 1
         → now ≡ put windows w (at_place s.settings.cursor (written_glyph s.settings character))
         → r ≡ record { top = s.settings.cursor.0; left = s.settings.cursor.1; bottom = s.settings.cursor.0; right = s.settings.cursor.1 }
-        → below ≡ next_line_frame now.window w (window_in_state s) → o ≡ frame_of_two (Some r) below → o ≡ character_frame windows w character (window_in_state s)
-    printed_at_end_frame now r below o past drawn e next is = grind (arith, frame-at_place, nat_tests)
+        → below ≡ frame_of (window_in_state s) (next_line_drawing now.window w (window_in_state s)) → o ≡ frame_of_two (Some r) below → o ≡ frame_of (window_in_state s) (character_drawing windows w character (window_in_state s))
+    printed_at_end_frame now r below o past drawn e next is = grind (arith, frame-at_place, frame-over, nat_tests)
 
   -- ---- a newline
 
@@ -60,16 +66,18 @@ module _ (windows : Windows) (w : ℕ) (s : WindowState) (h : IsStateOf windows 
 
   pub ended_frame : (now : Windows) (r : Rect) (below o : Option Rect) → now ≡ put windows w (to_end_of_line s.settings.cursor s.settings.background)
       → r ≡ record { top = s.settings.cursor.0; left = s.settings.cursor.1; bottom = s.settings.cursor.0; right = s.columns - 1 }
-      → below ≡ next_line_frame now.window w (window_in_state s) → o ≡ frame_of_two (Some r) below → o ≡ line_ended_frame windows w (window_in_state s)
-  ended_frame now r below o drawn e next is = grind (arith, frame-to_end_of_line)
+      → below ≡ frame_of (window_in_state s) (next_line_drawing now.window w (window_in_state s)) → o ≡ frame_of_two (Some r) below → o ≡ frame_of (window_in_state s) (line_ended_drawing windows w (window_in_state s))
+  ended_frame now r below o drawn e next is = grind (arith, frame-to_end_of_line, frame-over)
 
   -- ---- any character
 
   pub added : (new : Windows) (character : ℕ) → new ≡ typed_in windows w character (window_in_state s) → new ≡ after_character windows w character
   added new character e = grind (arith, call-is windows w s h (typed_in windows w character) refl)
 
-  pub added_frame : (o : Option Rect) (character : ℕ) → o ≡ typed_frame windows w character (window_in_state s) → o ≡ frame_of_character windows w character
-  added_frame o character e = grind (arith, frame-is)
+  pub added_frame : (o : Option Rect) (character : ℕ) → o ≡ frame_of (window_in_state s) (typed_drawing windows w character (window_in_state s))
+      → o ≡ frame_of_character windows w character
+  added_frame o character e =
+      e ∙ sym (frame-is windows w s h (λ a. frame_of a (typed_drawing windows w character a)) refl) ∙ frame-if-there (windows.window w) (typed_drawing windows w character)
 
 -- ---- the cell of a character
 

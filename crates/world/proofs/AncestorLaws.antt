@@ -2,7 +2,7 @@
 use Rattle.std.proofs.Common.{◌≡◌, ℕ, zero, suc, false, ◌==◌, Option, Some, refl, arith}
 use Rattle.std.specs.List.{list_any}
 use Rattle.std.proofs.lemmas.Bool.{eqb-false}
-use Rattle.world.specs.Windows.{Window, WindowMap, Windows, GridPlace, ancestors_within, cell_at, derives, own_within, with_window, window_limit}
+use Rattle.world.specs.Windows.{Window, WindowMap, Windows, GridPlace, ancestors_within, cell_at, derives, own, own_within, with_window, window_limit}
 use Rattle.world.specs.Effects.{shifted_to}
 
 pub replaced-off : (window : WindowMap) (w : ℕ) (o : Option Window) (v : ℕ) → (v ≡ w → ⊥) → with_window window w o v ≡ window v
@@ -16,6 +16,9 @@ module _ (new old : WindowMap) (w : ℕ) (same : (v : ℕ) → (v ≡ w → ⊥)
   own_within-kept : (n u y x : ℕ) → (u ≡ w → ⊥) → Beside n u → own_within n new u y x ≡ own_within n old u y x
   own_within-kept zero u y x other h = refl
   own_within-kept (suc n) u y x other h = grind (arith, (own_within-kept n))
+
+  pub own-beside : (u y x : ℕ) → (u ≡ w → ⊥) → derives old w u ≡ false → own new u y x ≡ own old u y x
+  own-beside u y x other apart = own_within-kept window_limit u y x other apart
 
   -- the grid isn't that window's either
   own_within-elsewhere : (n u y x : ℕ) (p : GridPlace) → (u ≡ w → ⊥) → Beside n u → own_within n old u y x ≡ Some p → p.grid ≡ w → ⊥

@@ -16,6 +16,8 @@ pub mod PanelLaws
 pub mod SharingLaws
 -- that only what derives from a shifted window changes, for kept_by_mvderwin
 pub mod AncestorLaws
+-- that an edit is one write of its drawing, for edits_are_writes and the laws of edits and calls below
+pub mod EditLaws
 -- that a write keeps the picture outside its frame, for kept_by_edits
 pub mod PictureLaws
 -- that an unaffected line has no affected place, for kept_picture
@@ -28,6 +30,8 @@ pub mod Allowed
 pub mod StackingLaws
 -- that a call keeps the picture at each place that it doesn't affect, for kept_picture and kept_places
 pub mod CallLaws
+-- that a call changes the cells that it writes, and no others, for cells_after_calls and frames_of_calls
+pub mod CellLaws
 -- that making, deleting and moving keep what is found elsewhere, for kept_by_making
 pub mod MoveLaws
 -- that no call changes the size of the screen, for the layers above

@@ -65,7 +65,7 @@ module _ (new old : WindowMap) (panels : Panels) (w : ℕ) (same : (v : ℕ) →
 -- ---- delwin
 
 module _ (window : WindowMap) (w : ℕ) (none : (v : ℕ) → option_map_or (λ a. is_part_of w a.backing) (window v) false ≡ false) where
-  underived : (n u : ℕ) → list_any (λ v. v == w) (ancestors_within n window u) ≡ false
+  pub underived : (n u : ℕ) → list_any (λ v. v == w) (ancestors_within n window u) ≡ false
   underived zero u = refl
   underived (suc n) u = grind (arith, or_from, (none u), (underived n))
 
@@ -92,7 +92,7 @@ module _ (window : WindowMap) (n : ℕ) (free : window n ≡ None) where
   leading zero u y x p found = cc
   leading (suc k) u y x p found = grind (arith, or_from, ne_eqb, other-parent, (leading k))
 
-  leading-some : (u : ℕ) (o : Option GridPlace) → own window u 0 0 ≡ o → IsSome o → derives window n u ≡ false
+  pub leading-some : (u : ℕ) (o : Option GridPlace) → own window u 0 0 ≡ o → IsSome o → derives window n u ≡ false
   leading-some u o found some = grind (arith, leading)
 
 found-new : (windows : Windows) (panels : Panels) (n : ℕ) (o : Option Window) (y x : ℕ) → AreSoundWindows windows → AreSoundPanels windows.window panels → windows.window n ≡ None

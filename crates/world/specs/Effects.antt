@@ -1,15 +1,15 @@
 -- What calls do, said once for each effect: a call is its tests and one of these effects.
 -- X/Open Curses Issue 7 and NetBSD panel(3) say what each call does; that these few effects cover them all is Curspan's own finding.
-use Rattle.std.specs.Prelude.{ℕ, Bool, true, false, if◌then◌else◌, ◌==◌, ◌||◌, Option, Some, None, List, [], ◌∷◌, ◌++◌, slice_set}
+use Rattle.std.specs.Prelude.{◌≡◌, ℕ, Bool, true, false, if◌then◌else◌, ◌==◌, ◌||◌, Option, Some, None, List, [], ◌∷◌, ◌++◌, slice_set}
 use Rattle.std.specs.List.{list_any}
-use Rattle.std.specs.Option.{option_map, option_map_or}
+use Rattle.std.specs.Option.{option_and_then, option_map, option_map_or}
 use Rattle.cell.specs.Pictures.{Picture, Place, picture_of, shown_at}
 use Rattle.cell.specs.Shown.{Pairs, Shown, shown}
-use Rattle.world.specs.Windows.{Backing, own_grid, part_of, Drawing, Window, WindowMap, Windows, with_change, if_there, put, with_window}
+use Rattle.world.specs.Windows.{Backing, own_grid, part_of, Drawing, Window, WindowMap, Windows, with_change, drawing_if_there, if_there, no_cells, put, with_window}
 use Rattle.world.specs.Settings.{set}
 use Rattle.world.specs.Panels.{Panels, window_or_standard, windows_of_picture}
 use Rattle.world.specs.Frames.{frame_of}
-use Rattle.world.specs.Typing.{after_text, frame_if_there, text_frame}
+use Rattle.world.specs.Typing.{after_text, text_drawing}
 use Rattle.cell.specs.VirtualScreens.{VirtualScreen}
 use Rattle.world.specs.World.{World, picture, topmost_cursor}
 use Rattle.cell.specs.declared.window.Rect.{Rect}
@@ -36,18 +36,30 @@ after_edit windows (types w text) = after_text windows w text
 
 -- the rectangle of a drawing in a window
 abbrev pub drawing_frame : Windows → ℕ → (Window → Drawing) → Option Rect
-drawing_frame windows w drawing = frame_if_there windows w (λ a. frame_of a (drawing a))
+drawing_frame windows w drawing = option_and_then (λ a. frame_of a (drawing a)) (windows.window w)
 
--- the window, and the rectangle of it that is written
+-- the window, what is written there, and the rectangle of it
 abbrev pub edit_window : Edit → ℕ
 edit_window (sets w change) = w
 edit_window (draws w drawing change) = w
 edit_window (types w text) = w
 
+abbrev pub edit_drawing : Windows → Edit → Drawing
+edit_drawing windows (sets w change) = no_cells
+edit_drawing windows (draws w drawing change) = drawing_if_there windows w drawing
+edit_drawing windows (types w text) = text_drawing windows w text
+
 abbrev pub edit_frame : Windows → Edit → Option Rect
 edit_frame windows (sets w change) = None
 edit_frame windows (draws w drawing change) = drawing_frame windows w drawing
-edit_frame windows (types w text) = text_frame windows w text
+edit_frame windows (types w text) = drawing_frame windows w (λ a. text_drawing windows w text)
+
+-- the windows are the same, but for their settings
+abbrev pub with_its_settings : Settings → Window → Window
+with_its_settings settings a = record a { settings = settings }
+
+pub record DifferInSettings (new old : WindowMap) : Type 0 where
+  pub same : (u : ℕ) (settings : Settings) → option_map (with_its_settings settings) (new u) ≡ option_map (with_its_settings settings) (old u)
 
 -- ---- on windows
 

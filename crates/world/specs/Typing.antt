@@ -1,14 +1,11 @@
 -- Typing characters in a window: what each draws, and where the cursor goes.
 -- X/Open Curses Issue 7: addch, addstr. Where the cursor goes at the ends of lines and of the window, and what scrolls then, is Curspan's
 -- own choice.
-use Rattle.std.specs.Prelude.{ℕ, ◌+◌, ◌-◌, Bool, if◌then◌else◌, ◌==◌, ◌&&◌, ◌||◌, nat_lt, Option, None, List, [], ◌∷◌, fold}
-use Rattle.std.specs.Option.{option_and_then}
+use Rattle.std.specs.Prelude.{ℕ, ◌+◌, ◌-◌, Bool, if◌then◌else◌, ◌==◌, ◌&&◌, ◌||◌, nat_lt, List, [], ◌∷◌, fold}
 use Rattle.cell.specs.Pictures.{Place}
-use Rattle.world.specs.Windows.{Drawing, Window, WindowMap, Windows, if_there, put}
+use Rattle.world.specs.Windows.{Drawing, Window, WindowMap, Windows, drawing_if_there, if_there, no_cells, over, put}
 use Rattle.world.specs.Settings.{set, with_cursor}
 use Rattle.world.specs.Drawings.{written_glyph, at_place, to_end_of_line, lines_up}
-use Rattle.world.specs.Frames.{frame_of_two, frame_of}
-use Rattle.cell.specs.declared.window.Rect.{Rect}
 
 -- ---- characters
 
@@ -26,9 +23,6 @@ carriage_return = 13
 -- window w with a drawing, and then with its cursor at a place
 abbrev pub drawn_to : Windows → ℕ → Drawing → Place → Windows
 drawn_to windows w f place = set (put windows w f) w (with_cursor place)
-
-abbrev pub frame_if_there : Windows → ℕ → (Window → Option Rect) → Option Rect
-frame_if_there windows w frame = option_and_then frame (windows.window w)
 
 -- ---- the end of a line
 
@@ -52,8 +46,9 @@ to_next_line windows w a place =
     else if is_last_line a a.settings.cursor.0 then set windows w (with_cursor place)
     else set windows w (with_cursor (a.settings.cursor.0 + 1, 0))
 
-abbrev pub next_line_frame : WindowMap → ℕ → Window → Option Rect
-next_line_frame window w a = if scrolls a then frame_of a (region_up window w a) else None
+-- what is drawn then
+abbrev pub next_line_drawing : WindowMap → ℕ → Window → Drawing
+next_line_drawing window w a = if scrolls a then region_up window w a else no_cells
 
 -- ---- one character
 
@@ -64,21 +59,21 @@ character_printed windows w character a =
     if nat_lt (a.settings.cursor.1 + 1) a.columns then drawn_to windows w glyph (a.settings.cursor.0, a.settings.cursor.1 + 1)
     else to_next_line (put windows w glyph) w a a.settings.cursor
 
-abbrev pub character_frame : Windows → ℕ → ℕ → Window → Option Rect
-character_frame windows w character a =
+abbrev pub character_drawing : Windows → ℕ → ℕ → Window → Drawing
+character_drawing windows w character a =
     let glyph = at_place a.settings.cursor (written_glyph a.settings character) in
-    if nat_lt (a.settings.cursor.1 + 1) a.columns then frame_of a glyph
-    else frame_of_two (frame_of a glyph) (next_line_frame (put windows w glyph).window w a)
+    if nat_lt (a.settings.cursor.1 + 1) a.columns then glyph
+    else over (next_line_drawing (put windows w glyph).window w a) glyph
 
 -- a newline clears the line from the cursor on; at the end of a last line the cursor goes to column 0
 abbrev pub line_ended : Windows → ℕ → Window → Windows
 line_ended windows w a =
     to_next_line (put windows w (to_end_of_line a.settings.cursor a.settings.background)) w a (a.settings.cursor.0, 0)
 
-abbrev pub line_ended_frame : Windows → ℕ → Window → Option Rect
-line_ended_frame windows w a =
+abbrev pub line_ended_drawing : Windows → ℕ → Window → Drawing
+line_ended_drawing windows w a =
     let rest = to_end_of_line a.settings.cursor a.settings.background in
-    frame_of_two (frame_of a rest) (next_line_frame (put windows w rest).window w a)
+    over (next_line_drawing (put windows w rest).window w a) rest
 
 abbrev pub typed_in : Windows → ℕ → ℕ → Window → Windows
 typed_in windows w character a =
@@ -87,23 +82,24 @@ typed_in windows w character a =
     else if character == backspace then set windows w (with_cursor (a.settings.cursor.0, a.settings.cursor.1 - 1))
     else character_printed windows w character a
 
-abbrev pub typed_frame : Windows → ℕ → ℕ → Window → Option Rect
-typed_frame windows w character a =
-    if character == newline then line_ended_frame windows w a
-    else if character == carriage_return || character == backspace then None
-    else character_frame windows w character a
+abbrev pub typed_drawing : Windows → ℕ → ℕ → Window → Drawing
+typed_drawing windows w character a =
+    if character == newline then line_ended_drawing windows w a
+    else if character == carriage_return || character == backspace then no_cells
+    else character_drawing windows w character a
 
 abbrev pub after_character : Windows → ℕ → ℕ → Windows
 after_character windows w character = if_there windows w (typed_in windows w character)
 
-abbrev pub frame_of_character : Windows → ℕ → ℕ → Option Rect
-frame_of_character windows w character = frame_if_there windows w (typed_frame windows w character)
+abbrev pub drawing_of_character : Windows → ℕ → ℕ → Drawing
+drawing_of_character windows w character = drawing_if_there windows w (typed_drawing windows w character)
 
 -- ---- the characters of a text, in order
 
 abbrev pub after_text : Windows → ℕ → List ℕ → Windows
 after_text windows w text = fold (λ before character. after_character before w character) windows text
 
-abbrev pub text_frame : Windows → ℕ → List ℕ → Option Rect
-text_frame windows w [] = None
-text_frame windows w (character ∷ text) = frame_of_two (frame_of_character windows w character) (text_frame (after_character windows w character) w text)
+-- what they draw: each over what was drawn before it
+abbrev pub text_drawing : Windows → ℕ → List ℕ → Drawing
+text_drawing windows w [] = no_cells
+text_drawing windows w (character ∷ text) = over (text_drawing (after_character windows w character) w text) (drawing_of_character windows w character)

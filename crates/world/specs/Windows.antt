@@ -108,6 +108,10 @@ derives window w u = list_any (λ v. v == w) (ancestors window u)
 abbrev pub Drawing : Type 0
 Drawing = ℕ → ℕ → Option Glyph
 
+-- no cell
+abbrev pub no_cells : Drawing
+no_cells y x = None
+
 -- the part of a drawing that is in the window
 abbrev pub within : Window → Drawing → Drawing
 within a f y x = if nat_lt y a.lines && nat_lt x a.columns then f y x else None
@@ -187,3 +191,7 @@ is_missing window w = is_none (window w)
 -- what becomes of a window that is there
 abbrev pub if_there : Windows → ℕ → (Window → Windows) → Windows
 if_there windows w change = option_map_or change (windows.window w) windows
+
+-- what is drawn in a window that is there
+abbrev pub drawing_if_there : Windows → ℕ → (Window → Drawing) → Drawing
+drawing_if_there windows w drawing = option_map_or drawing (windows.window w) no_cells

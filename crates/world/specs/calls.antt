@@ -8,3 +8,4 @@ pub mod Stacking
 pub mod Refresh
 pub mod Dispatch
 pub mod Affected
+pub mod Written

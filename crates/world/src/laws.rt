@@ -7,18 +7,19 @@ ghost use Rattle.world.specs.Panels.{Panels, cursor_of_topmost, found_from_top, 
 ghost use Rattle.world.specs.Sharing.{SharesPart};
 ghost use Rattle.world.specs.Sound.{AreSoundPanels, AreSoundWindows, IsSound};
 ghost use Rattle.world.specs.World.{World, picture};
-ghost use Rattle.world.specs.calls.Dispatch.{is_update_panels, refusal, world_after};
+ghost use Rattle.world.specs.calls.Dispatch.{call_frame, effect_of, is_update_panels, refusal, world_after};
 ghost use Rattle.world.specs.calls.Affected.{affects_line, affects_place, change_shows_at, edit_shows_at, frame_shows_at, move_shows_at, order_shows_at};
+ghost use Rattle.world.specs.calls.Written.{Writes, WritesAt, leads_elsewhere, windows_after_call};
 ghost use Rattle.world.specs.calls.Making.{after_making, has_no_parent, making_change, making_refusal};
 ghost use Rattle.world.specs.calls.Stacking.{stacking_order, stacking_refusal};
-ghost use Rattle.world.specs.Effects.{Edit, after_edit, edit_frame, edit_window, panels_after, shifted_to, windows_after, with_unmarked};
+ghost use Rattle.world.specs.Effects.{DifferInSettings, Edit, after_edit, edit_drawing, edit_frame, edit_window, panels_after, shifted_to, windows_after, with_unmarked};
 ghost use Rattle.cell.specs.Glyphs.{Glyph};
 ghost use Rattle.cell.specs.Pictures.{shown_at};
 ghost use Rattle.world.specs.declared.call.Call.{Call};
 ghost use Rattle.world.specs.declared.call.Making.{Making};
 ghost use Rattle.world.specs.declared.call.Refresh.{Refresh};
 ghost use Rattle.world.specs.declared.call.Stacking.{Stacking};
-ghost use Rattle.world.specs.Windows.{Drawing, GridPlace, HasPlace, Window, WindowMap, Windows, cell_at, derives, onward, over, own, put_windows};
+ghost use Rattle.world.specs.Windows.{Drawing, GridPlace, HasPlace, Window, WindowMap, Windows, cell_at, cell_in_grid, derives, onward, over, own, put_windows};
 
 /// The places of a window lead to a rectangle of one grid: where one leads is where the first one leads, moved.
 pub fn own_is_moved()
@@ -52,6 +53,35 @@ pub fn kept_cell()
     ensures { (window : WindowMap) (w : ℕ) (f : Drawing) (u v z : ℕ)
         → ((y x : ℕ) → HasPlace window w y x → IsSome (f y x) → own window w y x ≡ own window u v z → ⊥)
         → cell_at (put_windows window w f) u v z ≡ cell_at window u v z }
+{}
+
+/// What an edit leaves is one write of its drawing, but for settings: a text too, whose drawing has those of its characters, each over
+/// those before it.
+pub fn edits_are_writes()
+    ensures { (windows : Windows) (edit : Edit)
+        → DifferInSettings (after_edit windows edit).window (put_windows windows.window (edit_window edit) (edit_drawing windows edit)) }
+{}
+
+/// Of each call that isn't refused. Each place of a window that leads where the call wrote shows what it wrote there. Each other place shows
+/// what was there, in the grid to which it leads. And where it leads changes in those windows alone that the call made or deleted, or
+/// moved in their parent, and in those that derive from these.
+pub fn cells_after_calls()
+    ensures written { (world : World) (call : Call) (w y x : ℕ) (glyph : Glyph) (u v z : ℕ) → IsSound world
+        → WritesAt world.windows (effect_of world call) w y x glyph
+        → own (windows_after_call world call) u v z ≡ own world.windows.window w y x
+        → cell_at (windows_after_call world call) u v z ≡ glyph }
+    ensures kept { (world : World) (call : Call) (u v z : ℕ) → IsSound world → refusal world call ≡ None
+        → ((w y x : ℕ) (glyph : Glyph) → WritesAt world.windows (effect_of world call) w y x glyph
+        → own world.windows.window w y x ≡ own (windows_after_call world call) u v z → ⊥)
+        → cell_at (windows_after_call world call) u v z ≡ cell_in_grid world.windows.window (own (windows_after_call world call) u v z) }
+    ensures leads { (world : World) (call : Call) (u v z : ℕ) → IsSound world → refusal world call ≡ None
+        → leads_elsewhere world.windows (effect_of world call) u ≡ false
+        → own (windows_after_call world call) u v z ≡ own world.windows.window u v z }
+{}
+
+/// The frame of a call is the smallest rectangle that holds each place that it writes; there is none where it writes nothing.
+pub fn frames_of_calls()
+    ensures { (world : World) (call : Call) → IsFrameOf (Writes world.windows (effect_of world call)) (call_frame world call) }
 {}
 
 /// A write through a window leaves the picture as it is at each place of the screen where its frame isn't shown; so does

@@ -3,7 +3,9 @@ use Rattle.std.specs.Prelude.{◌≡◌, ℕ, ◌<◌, ◌≤◌, Option, List}
 use Rattle.cell.specs.declared.window.Rect.{Rect}
 use Rattle.world.specs.Windows.{Drawing, Windows, put}
 use Rattle.world.specs.Sound.{AreSoundWindows}
-use Rattle.world.specs.Typing.{after_text, text_frame, character_printed, character_frame}
+use Rattle.world.specs.Frames.{frame_of}
+use Rattle.world.specs.Typing.{character_printed, character_drawing}
+use Rattle.world.specs.Effects.{after_edit, edit_frame, types}
 use Rattle.windows.specs.declared.state.WindowState.{WindowState}
 use Rattle.windows.specs.steps.State.{IsStateOf, window_in_state}
 
@@ -32,9 +34,10 @@ pub record StepWrote (after : Windows) (rectangle : Option Rect) (new : Windows)
 
 -- the characters of a text were typed in window w
 abbrev pub TextTyped : Windows → ℕ → List ℕ → Windows → Option Rect → Type 0
-TextTyped old w text new answer = StepWrote (after_text old w text) (text_frame old w text) new answer
+TextTyped old w text new answer = StepWrote (after_edit old (types w text)) (edit_frame old (types w text)) new answer
 
 -- a character was printed at the cursor of window w, which has the given state
 abbrev pub CharacterPrinted : Windows → ℕ → WindowState → ℕ → Windows → Option Rect → Type 0
 CharacterPrinted old w given character new answer =
-    StepWrote (character_printed old w character (window_in_state given)) (character_frame old w character (window_in_state given)) new answer
+    StepWrote (character_printed old w character (window_in_state given))
+    (frame_of (window_in_state given) (character_drawing old w character (window_in_state given))) new answer

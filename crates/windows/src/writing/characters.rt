@@ -7,7 +7,8 @@ ghost use Rattle.cell.specs.Attributes.{bits_of};
 ghost use Rattle.world.specs.Drawings.{written_glyph};
 ghost use Rattle.world.specs.Sound.{AreSoundWindows};
 ghost use Rattle.world.specs.calls.Writing.{is_bad_character};
-ghost use Rattle.world.specs.Typing.{to_next_line, next_line_frame, line_ended, line_ended_frame, typed_in, typed_frame};
+ghost use Rattle.world.specs.Frames.{frame_of};
+ghost use Rattle.world.specs.Typing.{to_next_line, next_line_drawing, line_ended, line_ended_drawing, typed_in, typed_drawing};
 ghost use Rattle.world.specs.declared.call.Writing.{Writing};
 ghost use Rattle.cell.specs.Glyphs.{is_printable};
 ghost use Rattle.grids.specs.Tables.{windows};
@@ -218,7 +219,7 @@ fn type_character(table: &mut Grids, win: WinId, state: &WindowState, ch: u8) ->
     requires state { IsStateOf (windows table.old) win.0 state.now }
     requires accepted { is_bad_character ch ≡ false }
     ensures { StepWrote (typed_in (windows table.old) win.0 ch (window_in_state state.now))
-        (typed_frame (windows table.old) win.0 ch (window_in_state state.now)) (windows table.new) result }
+        (frame_of (window_in_state state.now) (typed_drawing (windows table.old) win.0 ch (window_in_state state.now))) (windows table.new) result }
 {
     let (y, x) = state.settings.cursor;
     if ch == NEWLINE {
@@ -268,7 +269,7 @@ fn print(table: &mut Grids, win: WinId, state: &WindowState, ch: u8) -> Option<R
 fn end_line(table: &mut Grids, win: WinId, state: &WindowState) -> Option<Rect>
     requires state { IsStateOf (windows table.old) win.0 state.now }
     ensures { StepWrote (line_ended (windows table.old) win.0 (window_in_state state.now))
-        (line_ended_frame (windows table.old) win.0 (window_in_state state.now)) (windows table.new) result }
+        (frame_of (window_in_state state.now) (line_ended_drawing (windows table.old) win.0 (window_in_state state.now))) (windows table.new) result }
 {
     let (y, x) = state.settings.cursor;
     clear_rest(table, win, state, y, x);
@@ -280,7 +281,7 @@ fn end_line(table: &mut Grids, win: WinId, state: &WindowState) -> Option<Rect>
 fn to_next_line(table: &mut Grids, win: WinId, state: &WindowState, y: u16, x: u16) -> Option<Rect>
     requires { HasStateAndPlace (windows table.old) win.0 state.now y x }
     ensures { StepWrote (to_next_line (windows table.old) win.0 (window_in_state state.now) (y, x))
-        (next_line_frame (windows table.old).window win.0 (window_in_state state.now)) (windows table.new) result }
+        (frame_of (window_in_state state.now) (next_line_drawing (windows table.old).window win.0 (window_in_state state.now))) (windows table.new) result }
 {
     let line = state.settings.cursor.0;
     let (top, bottom) = state.settings.region;

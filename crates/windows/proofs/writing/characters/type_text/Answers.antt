@@ -1,6 +1,10 @@
 -- `type_text`: characters that are printed in one line, before its last column, are one write of that line (`CharacterRuns`).
+use Rattle.std.proofs.Common.{◌≡◌, [], arith}
+use Rattle.std.proofs.lemmas.List.{nil_from_length}
 use Rattle.grids.specs.Tables.{windows}
 use Rattle.windows.proofs.CharacterRuns.{text_goes_on, frame_goes_on, rest_accepted}
+use Rattle.windows.proofs.TextFrames.{frame-nothing}
+use Rattle.windows.proofs.Texts.{joined-none}
 use Rattle.windows.proofs.writing.characters.type_text.Goals as goal
 
 pub loop-rest-preserved : goal.loop-rest-preserved
@@ -19,3 +23,14 @@ loop-rest-preserved c =
       there = first.there;
       sound = first.typed.sound;
     })
+
+pub returns : goal.returns
+returns c =
+    let now = windows c.loop-rest.table in
+    let none : c.loop-rest.rest.now ≡ [] = nil_from_length c.loop-rest.rest.now (grind arith) in
+    let frame = rw (none, frame-nothing now c.args.win.0, joined-none c.loop-rest.frame) at c.loop-rest.invariant.frame in
+    record {
+      written = rw none at c.loop-rest.invariant.written;
+      frame = frame;
+      sound = c.loop-rest.invariant.sound;
+    }

@@ -2,7 +2,8 @@ use Rattle.std.proofs.Common.{◌≡◌, IsSome, false, length}
 use Rattle.std.specs.List.{list_any}
 use Rattle.world.specs.Sound.{AreSoundWindows}
 use Rattle.world.specs.Frames.{frame_of_two}
-use Rattle.world.specs.Typing.{after_text, text_frame}
+use Rattle.world.specs.Typing.{after_text}
+use Rattle.windows.proofs.TextFrames.{text_frame}
 use Rattle.world.specs.calls.Writing.{is_bad_character}
 use Rattle.grids.specs.Tables.{windows}
 use Rattle.windows.proofs.writing.characters.type_text.Given as goal

@@ -1,0 +1,27 @@
+-- `type_character`: what moves the cursor alone writes nothing, and so has no rectangle (`FrameLaws` of `world`).
+use Rattle.std.proofs.Common.{◌≡◌, true, ap, arith, sym, ◌∙◌}
+use Rattle.std.proofs.lemmas.Bool.Decides.{nat_tests}
+use Rattle.cell.specs.Glyphs.{is_printable}
+use Rattle.world.specs.Frames.{frame_of}
+use Rattle.world.proofs.FrameLaws.{frame_of-none}
+use Rattle.grids.specs.Tables.{windows}
+use Rattle.windows.specs.steps.State.{window_in_state}
+use Rattle.windows.proofs.CharacterRuns.{drawing-printed, typed-printed}
+use Rattle.windows.proofs.writing.characters.type_character.Goals as goal
+
+pub returns-then-ch-eq-CARRIAGE_RETURN : goal.returns-then-ch-eq-CARRIAGE_RETURN
+returns-then-ch-eq-CARRIAGE_RETURN c = grind (arith, nat_tests, frame_of-none)
+
+pub returns-then-ch-eq-BACKSPACE : goal.returns-then-ch-eq-BACKSPACE
+returns-then-ch-eq-BACKSPACE c = grind (arith, nat_tests, frame_of-none)
+
+pub returns : goal.returns
+returns c =
+    let now = windows c.args.table.now in
+    let a = window_in_state c.args.state.now in
+    let printable : is_printable c.args.ch ≡ true = grind (arith, nat_tests) in
+    record {
+      written = c.print.ensures.written ∙ sym (typed-printed a c.args.ch printable now c.args.win.0);
+      frame = c.print.ensures.frame ∙ ap (frame_of a) (sym (drawing-printed a c.args.ch printable now c.args.win.0));
+      sound = c.print.ensures.sound;
+    }
