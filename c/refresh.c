@@ -20,7 +20,13 @@ int touchline(WINDOW *win, int y, int n) { return wtouchln(win, y, n, TRUE); }
 bool is_linetouched(WINDOW *win, int y) { return is_number(y) && first_of(curspan_is_linetouched(SCREEN_AND(win), (uint16_t)y)) == 1; }
 bool is_wintouched(WINDOW *win) { return first_of(curspan_is_wintouched(SCREEN_AND(win))) == 1; }
 void wsyncup(WINDOW *win) { curspan_wsyncup(SCREEN_AND(win)); }
-void wsyncdown(WINDOW *win) { curspan_wsyncdown(SCREEN_AND(win)); }
+
+/* What is touched of an ancestor is so in those that derive from it in between too. */
+void wsyncdown(WINDOW *win) {
+    if (is_there(win) == ERR || !win->parent) return;
+    wsyncdown(win->parent);
+    curspan_wsyncdown(SCREEN_AND(win));
+}
 
 void wcursyncup(WINDOW *win) {
     for (; is_there(win) == OK && win->parent; win = win->parent)
@@ -33,6 +39,7 @@ unsigned long curspan_times_shown, curspan_panels_shown;
 
 int wnoutrefresh(WINDOW *win) {
     if (is_terminal(win)) return clearok(curscr, TRUE);
+    wsyncdown(win);
     if (win && win->outlies) curspan_show_outlying(win);
     else if (done(curspan_wnoutrefresh(SCREEN_AND(win))) == ERR) return ERR;
     win->moved = win->clears = false;

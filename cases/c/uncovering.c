@@ -36,6 +36,12 @@ int main(void) {
     touchwin(parent);
     wrefresh(parent);
     shot();
+    deep = derwin(part, 1, 8, 1, 1);
+    mvwaddstr(parent, 6, 20, "through the parent");
+    wrefresh(deep);
+    mvprintw(23, 0, "touched %d %d", is_wintouched(part), is_wintouched(deep));
+    refresh();
+    shot();
     endwin();
     return 0;
 }
