@@ -1,4 +1,4 @@
-/* Which bytes are which key, and the keys' names. Nothing here is proved. */
+/* Which bytes are which key. Nothing here is proved. */
 #define _XOPEN_SOURCE 700
 #include "inside.h"
 #include "terminal.h"
@@ -8,64 +8,82 @@
 #include <stdlib.h>
 #include <string.h>
 
-/* A sequence that the program defined. */
-struct defined {
-    struct defined *next;
-    int key;
-    char bytes[];
+/* A sequence of a key, in a list: those that the program defined, and after them those of the table. */
+struct key {
+    struct key *next;
+    const char *bytes;
+    int number;
+    bool is_off;     /* keyok switched it off */
+    bool is_defined; /* by the program: it is freed */
 };
 
-static struct defined *defined;
-static bool removed[CURSPAN_SEQUENCES]; /* those that the program took away */
+static struct key *keys, table[CURSPAN_SEQUENCES];
 static char type_of_terminal[128];
 
+/* Takes a key out of the list. */
+static void take_out(struct key **at) {
+    struct key *key = *at;
+    *at = key->next;
+    if (key->is_defined) free(key);
+}
+
+/* Whether the keys of this terminal have a sequence. */
+static bool is_of_terminal(const struct curspan_sequence *sequence) {
+    return !sequence->type || strncmp(type_of_terminal, sequence->type, strlen(sequence->type)) == 0;
+}
+
 void curspan_forget_keys(const char *type) {
-    while (defined) {
-        struct defined *next = defined->next;
-        free(defined);
-        defined = next;
-    }
-    memset(removed, 0, sizeof removed);
+    while (keys) take_out(&keys);
     if (!type) type = getenv("TERM");
     snprintf(type_of_terminal, sizeof type_of_terminal, "%s", type ? type : "unknown");
+    for (size_t i = CURSPAN_SEQUENCES; i-- > 0;) {
+        const struct key key = {keys, curspan_sequences[i].bytes, curspan_sequences[i].key, false, false};
+        if (!is_of_terminal(&curspan_sequences[i])) continue;
+        table[i] = key;
+        keys = &table[i];
+    }
 }
 
-/* Whether a sequence of the table is one of this terminal, and still there. */
-static bool is_known(size_t i) {
-    const char *type = curspan_sequences[i].type;
-    return !removed[i] && (!type || strncmp(type_of_terminal, type, strlen(type)) == 0);
-}
+char *termname(void) { return stdscr ? type_of_terminal : NULL; }
 
-/* What some bytes say of a sequence: that they are it, begin it, or neither. */
-enum match { NONE, BEGIN, WHOLE };
+/* There is no database of types: the long name is the short one. */
+char *longname(void) { return termname(); }
 
-static enum match match(const char *sequence, const unsigned char *bytes, size_t length) {
-    if (strncmp(sequence, (const char *)bytes, length) != 0) return NONE;
-    return sequence[length] == 0 ? WHOLE : BEGIN;
+/* Whether a sequence begins with some bytes. */
+static bool begins_with(const char *sequence, const unsigned char *bytes, size_t length) {
+    return strlen(sequence) >= length && memcmp(sequence, bytes, length) == 0;
 }
 
 int curspan_key_of(const unsigned char *bytes, size_t length) {
-    bool begin = false;
-    for (const struct defined *it = defined; it; it = it->next) {
-        enum match found = match(it->bytes, bytes, length);
-        if (found == WHOLE) return it->key;
-        begin |= found == BEGIN;
+    int number = 0;
+    for (const struct key *it = keys; it; it = it->next) {
+        if (it->is_off || !begins_with(it->bytes, bytes, length)) continue;
+        if (it->bytes[length] == 0) return it->number;
+        number = ERR;
     }
-    for (size_t i = 0; i < CURSPAN_SEQUENCES; i++) {
-        enum match found = is_known(i) ? match(curspan_sequences[i].bytes, bytes, length) : NONE;
-        if (found == WHOLE) return curspan_sequences[i].key;
-        begin |= found == BEGIN;
-    }
-    return begin ? ERR : 0;
+    return number;
 }
 
-int has_key(int key) {
-    if (!stdscr) return FALSE;
-    for (const struct defined *it = defined; it; it = it->next)
-        if (it->key == key) return TRUE;
-    for (size_t i = 0; i < CURSPAN_SEQUENCES; i++)
-        if (is_known(i) && curspan_sequences[i].key == key) return TRUE;
-    return FALSE;
+/* The first sequence of a key after those of a count, on or off, or NULL. */
+static struct key *sequence_of(int number, bool is_off, int count) {
+    struct key *it = keys;
+    while (it && (it->number != number || it->is_off != is_off || count-- > 0)) it = it->next;
+    return it;
+}
+
+int has_key(int key) { return stdscr && sequence_of(key, false, 0) != NULL; }
+
+char *keybound(int key, int count) {
+    const struct key *it = stdscr && count >= 0 ? sequence_of(key, false, count) : NULL;
+    char *copy = it ? malloc(strlen(it->bytes) + 1) : NULL;
+    return copy ? strcpy(copy, it->bytes) : NULL;
+}
+
+int keyok(int key, bool flag) {
+    int answer = ERR;
+    if (!stdscr || key <= 0) return ERR;
+    for (struct key *it; (it = sequence_of(key, flag, 0)); answer = OK) it->is_off = !flag;
+    return answer;
 }
 
 /* The key that getch answers as soon as it has read some bytes, 0 where they begin none, and ERR where it would read on. */
@@ -78,35 +96,27 @@ int key_defined(const char *sequence) {
 }
 
 /* Takes away all sequences of a key, or one whatever its key is, and answers whether there was one. */
-static bool take_away(const char *sequence, int key) {
+static bool take_away(const char *sequence, int number) {
     bool was = false;
-    for (struct defined **at = &defined; *at;) {
-        struct defined *it = *at;
-        if (sequence ? strcmp(it->bytes, sequence) == 0 : it->key == key) {
-            *at = it->next;
-            free(it);
-            was = true;
+    for (struct key **at = &keys; *at;) {
+        if ((*at)->is_off || (sequence ? strcmp((*at)->bytes, sequence) != 0 : (*at)->number != number)) {
+            at = &(*at)->next;
         } else {
-            at = &it->next;
+            take_out(at);
+            was = true;
         }
-    }
-    for (size_t i = 0; i < CURSPAN_SEQUENCES; i++) {
-        const struct curspan_sequence *it = &curspan_sequences[i];
-        if (!is_known(i) || !(sequence ? strcmp(it->bytes, sequence) == 0 : it->key == key)) continue;
-        removed[i] = was = true;
     }
     return was;
 }
 
-static int define(const char *sequence, int key) {
-    size_t length = strlen(sequence);
-    if (length == 0 || key_defined(sequence) != 0) return ERR;
-    struct defined *it = malloc(sizeof *it + length + 1);
-    if (!it) return ERR;
-    memcpy(it->bytes, sequence, length + 1);
-    it->key = key;
-    it->next = defined;
-    defined = it;
+static int define(const char *sequence, int number) {
+    size_t size = strlen(sequence) + 1;
+    if (size == 1 || key_defined(sequence) != 0) return ERR;
+    struct key *key = malloc(sizeof *key + size);
+    if (!key) return ERR;
+    const struct key made = {keys, memcpy(key + 1, sequence, size), number, false, true};
+    *key = made;
+    keys = key;
     return OK;
 }
 
@@ -116,77 +126,4 @@ int define_key(const char *sequence, int key) {
     bool was = take_away(sequence, 0);
     if (key > 0) return define(sequence, key);
     return was ? OK : ERR;
-}
-
-/* ---- names */
-
-char *termname(void) { return stdscr ? type_of_terminal : NULL; }
-
-/* There is no database of types: the long name is the short one. */
-char *longname(void) { return termname(); }
-
-/* Spells a byte: a control character as a caret and a letter, and one of eight bits with M- and the others, where it is wanted so. */
-static void spell(char *name, int byte, bool with_meta) {
-    if (byte >= 128 && with_meta) {
-        *name++ = 'M';
-        *name++ = '-';
-        byte -= 128;
-    }
-    if (byte < ' ' || byte == 127) {
-        *name++ = '^';
-        byte ^= 64;
-    }
-    *name++ = (char)byte;
-    *name = 0;
-}
-
-const char *unctrl(chtype ch) {
-    static char names[256][6];
-    int byte = (int)(ch & A_CHARTEXT), low = byte & 127;
-    spell(names[byte], byte, true);
-    if (byte >= 128 && (low < ' ' || low == 127)) {
-        names[byte][0] = '~';
-        names[byte][1] = (char)(low ^ 64);
-        names[byte][2] = 0;
-    }
-    return names[byte];
-}
-
-/* The names of the keys that are no function keys, from KEY_MIN on. */
-static const struct {
-    int key;
-    const char *name;
-} named[] = {
-#define NAMED(key) {key, #key}
-    NAMED(KEY_BREAK), NAMED(KEY_DOWN), NAMED(KEY_UP), NAMED(KEY_LEFT), NAMED(KEY_RIGHT), NAMED(KEY_HOME), NAMED(KEY_BACKSPACE),
-    NAMED(KEY_DL), NAMED(KEY_IL), NAMED(KEY_DC), NAMED(KEY_IC), NAMED(KEY_EIC), NAMED(KEY_CLEAR), NAMED(KEY_EOS), NAMED(KEY_EOL),
-    NAMED(KEY_SF), NAMED(KEY_SR), NAMED(KEY_NPAGE), NAMED(KEY_PPAGE), NAMED(KEY_STAB), NAMED(KEY_CTAB), NAMED(KEY_CATAB),
-    NAMED(KEY_ENTER), NAMED(KEY_SRESET), NAMED(KEY_RESET), NAMED(KEY_PRINT), NAMED(KEY_LL), NAMED(KEY_A1), NAMED(KEY_A3),
-    NAMED(KEY_B2), NAMED(KEY_C1), NAMED(KEY_C3), NAMED(KEY_BTAB), NAMED(KEY_BEG), NAMED(KEY_CANCEL), NAMED(KEY_CLOSE),
-    NAMED(KEY_COMMAND), NAMED(KEY_COPY), NAMED(KEY_CREATE), NAMED(KEY_END), NAMED(KEY_EXIT), NAMED(KEY_FIND), NAMED(KEY_HELP),
-    NAMED(KEY_MARK), NAMED(KEY_MESSAGE), NAMED(KEY_MOVE), NAMED(KEY_NEXT), NAMED(KEY_OPEN), NAMED(KEY_OPTIONS),
-    NAMED(KEY_PREVIOUS), NAMED(KEY_REDO), NAMED(KEY_REFERENCE), NAMED(KEY_REFRESH), NAMED(KEY_REPLACE), NAMED(KEY_RESTART),
-    NAMED(KEY_RESUME), NAMED(KEY_SAVE), NAMED(KEY_SBEG), NAMED(KEY_SCANCEL), NAMED(KEY_SCOMMAND), NAMED(KEY_SCOPY),
-    NAMED(KEY_SCREATE), NAMED(KEY_SDC), NAMED(KEY_SDL), NAMED(KEY_SELECT), NAMED(KEY_SEND), NAMED(KEY_SEOL), NAMED(KEY_SEXIT),
-    NAMED(KEY_SFIND), NAMED(KEY_SHELP), NAMED(KEY_SHOME), NAMED(KEY_SIC), NAMED(KEY_SLEFT), NAMED(KEY_SMESSAGE),
-    NAMED(KEY_SMOVE), NAMED(KEY_SNEXT), NAMED(KEY_SOPTIONS), NAMED(KEY_SPREVIOUS), NAMED(KEY_SPRINT), NAMED(KEY_SREDO),
-    NAMED(KEY_SREPLACE), NAMED(KEY_SRIGHT), NAMED(KEY_SRSUME), NAMED(KEY_SSAVE), NAMED(KEY_SSUSPEND), NAMED(KEY_SUNDO),
-    NAMED(KEY_SUSPEND), NAMED(KEY_UNDO), NAMED(KEY_MOUSE), NAMED(KEY_RESIZE),
-#undef NAMED
-};
-
-const char *keyname(int key) {
-    static char bytes[256][6], functions[64][12];
-    if (key == ERR) return "-1";
-    if (key >= 0 && key < 256) {
-        spell(bytes[key], key, curspan_modes.meta || !stdscr);
-        return bytes[key];
-    }
-    if (key >= KEY_F0 && key < KEY_F0 + 64) {
-        snprintf(functions[key - KEY_F0], sizeof functions[0], "KEY_F(%d)", key - KEY_F0);
-        return functions[key - KEY_F0];
-    }
-    for (size_t i = 0; i < sizeof named / sizeof named[0]; i++)
-        if (named[i].key == key) return named[i].name;
-    return NULL;
 }

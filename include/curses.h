@@ -497,6 +497,8 @@ const char *unctrl(chtype ch);
 int has_key(int key);
 int define_key(const char *sequence, int key);
 int key_defined(const char *sequence);
+int keyok(int key, bool flag);
+char *keybound(int key, int count); /* the program frees it */
 
 /* ---- modes of the terminal */
 
