@@ -57,8 +57,12 @@ take_terminal() {
     page=taken
 }
 
+# What is written gets some time to be read: with its modes of before, a terminal drops at Ctrl-C what isn't read yet.
 give_terminal_back() {
-    if [ -n "$page" ]; then printf %s "$leave_page" > /dev/tty; fi
+    if [ -n "$page" ]; then
+        printf %s "$leave_page" > /dev/tty
+        sleep 0.05
+    fi
     page=
     if [ -n "$tty_before" ]; then stty "$tty_before" < /dev/tty; fi
 }
@@ -214,11 +218,13 @@ read_byte() {
             left=$((left - span))
         fi
         printf -v wait '0.%06d' "$span"
+        status=0
         hold
-        IFS= read -r -N 1 -t "$wait" byte < /dev/tty
-        status=$?
+        IFS= read -r -N 1 -t "$wait" byte < /dev/tty || status=$?
         release
-        [ "$status" -gt 128 ] || return "$status"
+        # bash has also read what comes just as the time is over
+        if [ -n "$byte" ]; then return; fi
+        [ "$status" -gt 128 ] || return 1
     done
     return 1
 }
