@@ -83,7 +83,7 @@ want_terminal() {
 }
 
 open_screen() {
-    local signal
+    local signal ends
     told=() sent=0 unread=0 program='' page='' tty_before='' ended='' held=''
     trap close_screen EXIT
     # shellcheck disable=SC2064 # the name is that of the signal
@@ -99,10 +99,14 @@ open_screen() {
     trap '' PIPE
     # shellcheck disable=SC2069 # answers go to the pipe, and what is drawn to the terminal
     coproc screen { trap '' HUP INT QUIT TERM TSTP; run_program run --lines "$1" --cols "$2" 2>&1 > /dev/tty; }
-    # shellcheck disable=SC2154 # coproc sets it
-    program=$screen_PID
-    exec {answers}<&"${screen[0]}" {calls}>&"${screen[1]}"
-    eval "exec ${screen[0]}<&- ${screen[1]}>&-"
+    ends=("${screen[0]:-}" "${screen[1]:-}") program=${screen_PID:-}
+    # the signal that ends the script may have ended the program before it ignored that
+    if ! { exec {answers}<&"${ends[0]}" {calls}>&"${ends[1]}"; } 2> /dev/null; then
+        program=
+        release
+        exit 1
+    fi
+    eval "exec ${ends[0]}<&- ${ends[1]}>&-"
     release
 }
 

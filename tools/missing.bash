@@ -21,7 +21,7 @@ missing() {
 }
 
 # Puts out the packages of what is missing, in a line.
-missing_packages() { missing | cut -d : -f 2 | tr '\n' ' ' | sed 's/ $//'; }
+missing_packages() { missing | cut -d : -f 2 | paste -sd ' '; }
 
 # Tells on standard error, after a name, what is missing and skipped, and what installs it.
 tell_missing() {
