@@ -73,7 +73,12 @@ int init_pair(short pair, short foreground, short background) {
 }
 
 int pair_content(short pair, short *foreground, short *background) {
-    if (!stdscr || pair < 1 || pair > LAST_PAIR || !foreground || !background) return ERR;
+    if (!stdscr || pair < 0 || pair > LAST_PAIR || !foreground || !background) return ERR;
+    if (pair == 0) {
+        *foreground = curspan_has_default_colours ? OWN : COLOR_WHITE;
+        *background = curspan_has_default_colours ? OWN : COLOR_BLACK;
+        return OK;
+    }
     *foreground = colours[pair][0];
     *background = colours[pair][1];
     return OK;

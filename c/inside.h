@@ -148,7 +148,7 @@ bool curspan_fits(int lines, int columns, int y, int x);
 /* Takes what is touched of a window that outlies, and its cursor, into the virtual screen. */
 int curspan_show_outlying(WINDOW *win);
 /* Takes a cursor into the virtual screen. */
-void curspan_show_cursor(int y, int x);
+int curspan_show_cursor(int y, int x);
 /* Moves a window that outlies to a place where it fits. */
 int curspan_move_inside(WINDOW *win, int y, int x);
 /* Cuts off what of a window is not on the screen. */

@@ -9,13 +9,13 @@ bool curspan_fits(int lines, int columns, int y, int x) {
 }
 
 /* A window of one cell that isn't touched has nothing to show but its cursor. */
-void curspan_show_cursor(int y, int x) {
-    if (!curspan_fits(1, 1, y, x)) return;
+int curspan_show_cursor(int y, int x) {
+    if (!curspan_fits(1, 1, y, x)) return OK;
     curspan_answer answer = curspan_newwin(&curspan_the_screen, 1, 1, (uint16_t)y, (uint16_t)x);
-    if (answer.status != CURSPAN_OK) return;
+    if (answer.status != CURSPAN_OK) return ERR;
     curspan_untouchwin(&curspan_the_screen, (uint16_t)answer.first);
     curspan_wnoutrefresh(&curspan_the_screen, (uint16_t)answer.first);
-    curspan_delwin(&curspan_the_screen, (uint16_t)answer.first);
+    return done(curspan_delwin(&curspan_the_screen, (uint16_t)answer.first));
 }
 
 int curspan_show_outlying(WINDOW *win) {
@@ -26,6 +26,5 @@ int curspan_show_outlying(WINDOW *win) {
             curspan_pnoutrefresh(SCREEN_AND(win), (uint16_t)y, 0, line, (uint16_t)win->begin_x, line, (uint16_t)right);
     }
     curspan_untouchwin(SCREEN_AND(win));
-    curspan_show_cursor(win->begin_y + getcury(win), win->begin_x + getcurx(win));
-    return OK;
+    return curspan_show_cursor(win->begin_y + getcury(win), win->begin_x + getcurx(win));
 }

@@ -40,8 +40,7 @@ unsigned long curspan_times_shown, curspan_panels_shown;
 int wnoutrefresh(WINDOW *win) {
     if (is_terminal(win)) return clearok(curscr, TRUE);
     wsyncdown(win);
-    if (win && win->outlies) curspan_show_outlying(win);
-    else if (done(curspan_wnoutrefresh(SCREEN_AND(win))) == ERR) return ERR;
+    if ((win && win->outlies ? curspan_show_outlying(win) : done(curspan_wnoutrefresh(SCREEN_AND(win)))) == ERR) return ERR;
     win->moved = win->clears = false;
     win->shown = ++curspan_times_shown;
     return OK;
@@ -52,10 +51,10 @@ int wrefresh(WINDOW *win) { return wnoutrefresh(win) == ERR ? ERR : doupdate(); 
 static int not_negative(int n) { return n < 0 ? 0 : n; }
 
 /* The cursor of a pad is taken where it is in the part that is shown. */
-static void show_cursor_of(const WINDOW *pad) {
+static int show_cursor_of(const WINDOW *pad) {
     const int *part = pad->part;
     int y = part[2] + getcury(pad) - part[0], x = part[3] + getcurx(pad) - part[1];
-    if (y >= part[2] && y <= part[4] && x >= part[3] && x <= part[5]) curspan_show_cursor(y, x);
+    return y >= part[2] && y <= part[4] && x >= part[3] && x <= part[5] ? curspan_show_cursor(y, x) : OK;
 }
 
 /* The part of the screen ends where the pad does, as over ncurses. */
@@ -72,8 +71,7 @@ int pnoutrefresh(WINDOW *pad, int pad_y, int pad_x, int top, int left, int botto
     pad->begin_y = part[2];
     pad->begin_x = part[3];
     pad->shown = ++curspan_times_shown;
-    show_cursor_of(pad);
-    return OK;
+    return show_cursor_of(pad);
 }
 
 int prefresh(WINDOW *pad, int pad_y, int pad_x, int top, int left, int bottom, int right) {

@@ -102,6 +102,7 @@ static bool obey(int key) {
     case KEY_BACKSPACE:
     case KEY_LEFT: leave_folder(); break;
     case KEY_RESIZE: arrange(); break;
+    case ERR:
     case 'q': return false;
     }
     return true;

@@ -21,6 +21,15 @@ int main(void) {
     mvprintw(5, 0, "colours %d %d %d", use_default_colors(), assume_default_colors(-1, -1), init_color(1, 0, 0, 0));
     printw(", %d", color_content(COLOR_YELLOW, &red, &green, &blue));
     printw(": %d %d %d, %d", red, green, blue, color_content(99, &red, &green, &blue));
+    init_pair(1, COLOR_RED, -1);
+    init_pair(2, -1, COLOR_BLUE);
+    init_pair(3, COLOR_RED, COLOR_BLACK);
+    init_pair(4, -1, -1);
+    for (int pair = 1; pair <= 4; pair++) {
+        attron(COLOR_PAIR(pair));
+        mvaddstr(5 + pair, 0, "pair");
+        attroff(COLOR_PAIR(pair));
+    }
     mvaddstr(11, 0, unctrl('\x01'));
     refresh();
     shot();

@@ -104,6 +104,7 @@ static bool obey(int key) {
             delete_before();
         }
         break;
+    case ERR: return false;
     case 17: return !is_answered("Leave it? (y or n)");
     default:
         if ((key >= ' ' && key <= '~') || key == '\t') insert((char)key);

@@ -66,6 +66,7 @@ static bool obey(int key) {
         erase();
         refresh();
         break;
+    case ERR:
     case 'q': return false;
     }
     return true;

@@ -27,7 +27,7 @@ static void made(const void *thing) {
     if (!thing) refusals++;
 }
 
-/* The job: windows, pads and panels, long texts, borders, and refreshes. */
+/* The job: windows, pads and panels, long texts, borders, refreshes, and sizes that change. */
 static SCREEN *work(FILE *out) {
     char long_text[2000];
     SCREEN *screen = newterm(NULL, out, stdin);
@@ -49,6 +49,12 @@ static SCREEN *work(FILE *out) {
     update_panels();
     answered(doupdate());
     if (pad) answered(prefresh(pad, 0, 0, 3, 3, 10, 40));
+    if (win) answered(wresize(win, 8, 30));
+    if (win) answered(wresize(win, 30, 100));
+    if (win) answered(wrefresh(win));
+    answered(resize_term(20, 70));
+    answered(doupdate());
+    if (win) answered(mvwin(win, 0, 0));
     return screen;
 }
 
@@ -79,7 +85,7 @@ int main(void) {
         const long before = refused_one;
         refused_one = 0;
         if (!screen) screen = newterm(NULL, out, stdin);
-        if (!screen || refresh() == ERR) return 1;
+        if (!screen || resize_term(24, 80) == ERR || refresh() == ERR) return 1;
         long count = draw(out, came, sizeof came);
         refused_one = before;
         if (before < 0) {
