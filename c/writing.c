@@ -232,7 +232,7 @@ int vw_printw(WINDOW *win, const char *format, va_list arguments) {
     int length = vsnprintf(few, sizeof few, format, arguments);
     if (length >= (int)sizeof few && (text = malloc((size_t)length + 1))) vsnprintf(text, (size_t)length + 1, format, again);
     va_end(again);
-    if (length >= 0 && text) answer = waddnstr(win, text, length);
+    if (length >= 0 && text) answer = waddstr(win, text);
     if (text != few) free(text);
     return answer;
 }
