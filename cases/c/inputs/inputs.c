@@ -8,6 +8,7 @@
 #include <string.h>
 #include <sys/time.h>
 #include <sys/wait.h>
+#include <termios.h>
 #include <time.h>
 #include <unistd.h>
 
@@ -88,11 +89,45 @@ static void read_file(void) {
     fclose(file);
 }
 
+/* What getch doesn't need stays for others, as for a child that reads on. */
+static void share_pipe(void) {
+    pid_t process;
+    char byte = 0;
+    int in = writer("abc", false, &process);
+    waitpid(process, NULL, 0);
+    SCREEN *screen = open_over(in);
+    want(getch() == 'a' && read(in, &byte, 1) == 1 && byte == 'b' && getch() == 'c', "getch takes no more than it answers");
+    delscreen(screen);
+}
+
+/* A pseudoterminal's end for a program; the other end is for whoever types. */
+static int open_terminal(int *master) {
+    *master = posix_openpt(O_RDWR | O_NOCTTY);
+    if (*master < 0 || grantpt(*master) != 0 || unlockpt(*master) != 0) exit(3);
+    return open(ptsname(*master), O_RDWR | O_NOCTTY);
+}
+
+/* Where the input is no terminal the modes are those of the output's. */
+static void read_beside_terminal(void) {
+    int master, slave = open_terminal(&master), ends[2];
+    struct termios before, during, after;
+    if (pipe(ends) != 0 || write(ends[1], "k\n", 2) != 2) exit(3);
+    tcgetattr(slave, &before);
+    SCREEN *screen = newterm("xterm", fdopen(dup(slave), "w"), fdopen(ends[0], "r"));
+    tcgetattr(slave, &during);
+    want(before.c_lflag & ECHO && !(during.c_lflag & (ECHO | ICANON)), "the output's terminal has the modes");
+    want(getch() == 'k' && nocbreak() == OK && getch() == '\n', "keys come from the pipe, also after nocbreak");
+    delscreen(screen);
+    tcgetattr(slave, &after);
+    want(after.c_lflag == before.c_lflag && after.c_iflag == before.c_iflag && after.c_oflag == before.c_oflag, "they are as before in the end");
+    close(ends[1]);
+    close(slave);
+    close(master);
+}
+
 /* The other end of the terminal is closed. */
 static void lose_terminal(void) {
-    int master = posix_openpt(O_RDWR | O_NOCTTY);
-    if (master < 0 || grantpt(master) != 0 || unlockpt(master) != 0) exit(3);
-    int slave = open(ptsname(master), O_RDWR | O_NOCTTY);
+    int master, slave = open_terminal(&master);
     SCREEN *screen = newterm("xterm", fdopen(slave, "w"), fdopen(dup(slave), "r"));
     cbreak();
     if (write(master, "ab", 2) < 0) exit(3);
@@ -182,6 +217,8 @@ static void delay_is(const char *delay, int wanted) {
 int main(void) {
     read_pipe();
     read_file();
+    share_pipe();
+    read_beside_terminal();
     lose_terminal();
     be_interrupted();
     have_none();
