@@ -16,16 +16,16 @@ enum { ENDING = sizeof ending / sizeof ending[0] };
 static volatile sig_atomic_t was_stopped, was_resized;
 static volatile sig_atomic_t restarts = SA_RESTART; /* whether a call that waits goes on after the program was stopped */
 
-/* Sets what a signal does, with the signals of the terminal held back meanwhile. */
+/* Sets what a signal does. Meanwhile the terminal may be changed from behind, and where the signal ends the program, no other comes. */
 static void on(int number, void (*handler)(int), int flags) {
     struct sigaction action;
     memset(&action, 0, sizeof action);
     action.sa_handler = handler;
     action.sa_flags = flags;
     sigemptyset(&action.sa_mask);
-    for (int i = 0; i < ENDING; i++) sigaddset(&action.sa_mask, ending[i]);
-    sigaddset(&action.sa_mask, SIGTSTP);
     sigaddset(&action.sa_mask, SIGTTOU);
+    sigaddset(&action.sa_mask, SIGTSTP);
+    for (int i = 0; i < ENDING && number != SIGTSTP; i++) sigaddset(&action.sa_mask, ending[i]);
     sigaction(number, &action, NULL);
 }
 
@@ -66,13 +66,13 @@ static void stop(int number) {
 
 /* Stops as the signal does where nobody catches it, until the program is continued. */
 static void stop_now(void) {
-    sigset_t through, before;
+    sigset_t through;
     on(SIGTSTP, SIG_DFL, 0);
     sigemptyset(&through);
     sigaddset(&through, SIGTSTP);
     sigaddset(&through, SIGTTOU);
     raise(SIGTSTP);
-    sigprocmask(SIG_UNBLOCK, &through, &before);
+    sigprocmask(SIG_UNBLOCK, &through, NULL);
     on(SIGTSTP, stop, restarts);
 }
 

@@ -261,6 +261,32 @@ static void stop_and_continue(void) {
     finish(shell);
 }
 
+/* The state of a process, as Linux tells it. */
+static char state_of(pid_t process) {
+    char name[40], state = '?';
+    snprintf(name, sizeof name, "/proc/%d/stat", (int)process);
+    FILE *file = fopen(name, "r");
+    if (file && fscanf(file, "%*d %*s %c", &state) != 1) state = '?';
+    if (file) fclose(file);
+    return state;
+}
+
+/* A stopped program ends without a terminal that listens to it. */
+static void end_while_stopped(void) {
+    const char *name = "SIGTERM after Ctrl-Z";
+    pid_t shell = start(read_keys);
+    want(comes(0, "the picture"), name, "it draws");
+    pid_t job = tcgetpgrp(master);
+    type("\032");
+    want(WIFSTOPPED(status_of_program()) && has_modes_again(), name, "it stops, and the modes are as before");
+    kill(-job, SIGTERM);
+    kill(-job, SIGCONT);
+    for (int tries = 0; tries < 200 && state_of(job) != 'Z'; tries++) usleep(10000);
+    want(state_of(job) == 'Z', name, "it ends");
+    want(has_modes_again() && left_page(0), name, "the terminal is as before");
+    finish(shell);
+}
+
 /* A program that reads by itself isn't interrupted. */
 static void stop_while_it_reads(void) {
     const char *name = "Ctrl-Z while the program reads";
@@ -327,6 +353,7 @@ int main(void) {
     end_without_picture("a first write that fails", fail_at_once);
     stop_and_continue();
     stop_while_it_reads();
+    end_while_stopped();
     own_handlers(read_with_own_handlers, "handlers from before");
     own_handlers(read_with_later_handlers, "handlers from later");
     shell_between();
