@@ -80,6 +80,7 @@ static int come_back(void) {
     if (terminal->is_ended) {
         terminal->is_ended = false;
         curspan_resume_modes();
+        if (curspan_was_resized()) curspan_resize_to_terminal();
     }
     if (terminal->page == PAGE_ENTERED) return OK;
     terminal->page = PAGE_ENTERING;
