@@ -46,10 +46,11 @@ typedef struct curspan {
 /* How a call ended. */
 enum curspan_status {
     CURSPAN_OK = 0,               /* done */
+    /* Written by tools/calls from calls.table: statuses */
     CURSPAN_NO_SUCH_WINDOW = 1,   /* there is no such window or pad */
     CURSPAN_NO_SUCH_PANEL = 2,    /* there is no such panel */
     CURSPAN_OFF_SCREEN = 3,       /* a part would lie off the screen, or there would be no cell */
-    CURSPAN_OUTSIDE_PARENT = 4,   /* a derived window would not lie inside its parent, or have no cell */
+    CURSPAN_OUTSIDE_PARENT = 4,   /* a derived window or pad would not lie inside its parent, or have no cell */
     CURSPAN_OUTSIDE_WINDOW = 5,   /* the window has no such place, line or rectangle */
     CURSPAN_HAS_DERIVED = 6,      /* a window or pad derives from this one */
     CURSPAN_IN_PANEL = 7,         /* the window is in a panel */
@@ -58,14 +59,15 @@ enum curspan_status {
     CURSPAN_NOT_DERIVED = 10,     /* the call is for derived windows and pads alone */
     CURSPAN_BAD_SIZE = 11,        /* a screen or a pad has no such size */
     CURSPAN_BAD_REGION = 12,      /* the region's first line is after its last, or the window has no such line */
-    CURSPAN_BAD_CHARACTER = 13,   /* the character is none that a window takes */
+    CURSPAN_BAD_CHARACTER = 13,   /* the character is none that the call takes */
     CURSPAN_STANDARD_SCREEN = 14, /* the call is not for the standard screen */
     CURSPAN_HIDDEN = 15,          /* the panel is hidden */
     CURSPAN_SCROLLING_OFF = 16,   /* the window doesn't scroll */
     CURSPAN_TOO_MANY = 17,        /* there are 1000 windows and pads besides the standard screen, or 1000 panels */
     CURSPAN_NO_MEMORY = 18,       /* there is no memory for it */
     CURSPAN_BAD_RECTANGLE = 19,   /* a rectangle's first line or column is after its last */
-    CURSPAN_BAD_PAIR = 20,        /* there is no such colour pair or colour */
+    CURSPAN_BAD_PAIR = 20,        /* there is no such colour pair or colour, or pair 0 was to be set */
+    /* End of what tools/calls wrote */
     CURSPAN_WRITE_FAILED = 21,    /* there is no memory for the bytes of a doupdate */
     CURSPAN_CLOSED = 22           /* the screen is closed */
 };
@@ -80,10 +82,11 @@ typedef struct curspan_answer {
 static inline const char *curspan_text(uint32_t status) {
     static const char *const words[] = {
         "done",
+        /* Written by tools/calls from calls.table: words */
         "there is no such window or pad",
         "there is no such panel",
         "a part would lie off the screen, or there would be no cell",
-        "a derived window would not lie inside its parent, or have no cell",
+        "a derived window or pad would not lie inside its parent, or have no cell",
         "the window has no such place, line or rectangle",
         "a window or pad derives from this one",
         "the window is in a panel",
@@ -92,14 +95,15 @@ static inline const char *curspan_text(uint32_t status) {
         "the call is for derived windows and pads alone",
         "a screen or a pad has no such size",
         "the region's first line is after its last, or the window has no such line",
-        "the character is none that a window takes",
+        "the character is none that the call takes",
         "the call is not for the standard screen",
         "the panel is hidden",
         "the window doesn't scroll",
-        "there are 1000 windows and pads, or 1000 panels",
+        "there are 1000 windows and pads besides the standard screen, or 1000 panels",
         "there is no memory for it",
         "a rectangle's first line or column is after its last",
-        "there is no such colour pair or colour",
+        "there is no such colour pair or colour, or pair 0 was to be set",
+        /* End of what tools/calls wrote */
         "there is no memory for the bytes of a doupdate",
         "the screen is closed",
     };
@@ -139,138 +143,150 @@ size_t curspan_take(curspan *screen, uint8_t *out, size_t room);
    it and sends all. Windows, panels and the bytes that were not taken stay. */
 void curspan_invalidate(curspan *screen);
 
-/* ---- making and placing windows and pads */
+/* Written by tools/calls from calls.table: prototypes. */
 
-/* Makes a window with cells of its own at a line and a column of the screen; 0 lines or columns reach to its edge.
-   Answers the window. Refused: OFF_SCREEN, TOO_MANY, NO_MEMORY. */
+/* ---- the calls that make windows and pads, delete them, and place them */
+
+/* Makes a window at a place of the screen, with a blank grid of its own. A size of 0 reaches to the edge of the screen.
+   Answers its number. Refused: OFF_SCREEN, TOO_MANY, NO_MEMORY. */
 curspan_answer curspan_newwin(curspan *screen, uint16_t lines, uint16_t columns, uint16_t y, uint16_t x);
 
-/* Makes a window that shows a part of another, from a line and a column of the screen on; 0 lines or columns reach
-   to the edge of the other. Answers the window. Refused: NO_SUCH_WINDOW, IS_PAD, OUTSIDE_PARENT, TOO_MANY,
-   NO_MEMORY. */
+/* Makes a window that shows the part of a window from a place of the screen on. A size of 0 reaches to the window's
+   edge. Answers its number. Refused: NO_SUCH_WINDOW, IS_PAD, OUTSIDE_PARENT, TOO_MANY, NO_MEMORY. */
 curspan_answer curspan_subwin(curspan *screen, uint16_t win, uint16_t lines, uint16_t columns, uint16_t y, uint16_t x);
 
-/* The same, from a line and a column of the other window on. Answers the window. Refused: NO_SUCH_WINDOW, IS_PAD,
-   OUTSIDE_PARENT, TOO_MANY, NO_MEMORY. */
+/* Makes a window that shows the part of a window from a line and a column of it on. A size of 0 reaches to its edge.
+   Answers its number. Refused: NO_SUCH_WINDOW, IS_PAD, OUTSIDE_PARENT, TOO_MANY, NO_MEMORY. */
 curspan_answer curspan_derwin(curspan *screen, uint16_t win, uint16_t lines, uint16_t columns, uint16_t y, uint16_t x);
 
-/* Makes a pad of 1 to 1000 lines and columns, which has no place on the screen. Answers the pad. Refused:
-   BAD_SIZE, TOO_MANY, NO_MEMORY. */
+/* Makes a pad of 1 to 1000 lines and columns, which has no place on the screen, with a blank grid of its own. Answers
+   its number. Refused: BAD_SIZE, TOO_MANY, NO_MEMORY. */
 curspan_answer curspan_newpad(curspan *screen, uint16_t lines, uint16_t columns);
 
-/* Makes a pad that shows a part of another, from a line and a column of it on. Answers the pad. Refused:
-   NO_SUCH_WINDOW, NOT_PAD, OUTSIDE_PARENT, TOO_MANY, NO_MEMORY. */
+/* Makes a pad that shows the part of a pad from a line and a column of it on. A size of 0 reaches to its edge. Answers
+   its number. Refused: NO_SUCH_WINDOW, NOT_PAD, OUTSIDE_PARENT, TOO_MANY, NO_MEMORY. */
 curspan_answer curspan_subpad(curspan *screen, uint16_t pad, uint16_t lines, uint16_t columns, uint16_t y, uint16_t x);
 
-/* Deletes a window or pad. Its number may be given again. Refused: NO_SUCH_WINDOW, STANDARD_SCREEN, IN_PANEL,
-   HAS_DERIVED. */
+/* Deletes a window or pad that is in no panel, and from which none derives. Its number is free then. Refused:
+   NO_SUCH_WINDOW, STANDARD_SCREEN, IN_PANEL, HAS_DERIVED. */
 curspan_answer curspan_delwin(curspan *screen, uint16_t win);
 
-/* Moves a window to a line and a column of the screen. Refused: NO_SUCH_WINDOW, STANDARD_SCREEN, IS_PAD, IN_PANEL,
-   OFF_SCREEN. */
+/* Moves a window that is in no panel to a place of the screen. No other window moves. Refused: NO_SUCH_WINDOW,
+   STANDARD_SCREEN, IS_PAD, IN_PANEL, OFF_SCREEN. */
 curspan_answer curspan_mvwin(curspan *screen, uint16_t win, uint16_t y, uint16_t x);
 
-/* Lets a derived window or pad show its parent from another line and column on. It stays where it is on the
+/* Lets a derived window or pad show the part of its parent from another line and column on. It stays where it is on the
    screen. Refused: NO_SUCH_WINDOW, NOT_DERIVED, OUTSIDE_PARENT. */
 curspan_answer curspan_mvderwin(curspan *screen, uint16_t win, uint16_t y, uint16_t x);
 
-/* ---- writing in windows and pads */
+/* ---- the calls that write in a window or pad, or set how it is written in */
 
-/* Moves the cursor to a line and a column of the window. Refused: NO_SUCH_WINDOW, OUTSIDE_WINDOW. */
+/* Moves the cursor to line `y` and column `x`. Refused: NO_SUCH_WINDOW; OUTSIDE_WINDOW for a place that the window
+   hasn't. */
 curspan_answer curspan_wmove(curspan *screen, uint16_t win, uint16_t y, uint16_t x);
 
-/* Writes a character at the cursor: 32 to 126, or a newline, a carriage return or a backspace. Refused:
-   NO_SUCH_WINDOW, BAD_CHARACTER. */
+/* Writes a character at the cursor, which advances; a newline (10), carriage return (13) or backspace (8) moves it.
+   Refused: NO_SUCH_WINDOW; BAD_CHARACTER for another character outside 32 to 126. */
 curspan_answer curspan_waddch(curspan *screen, uint16_t win, uint8_t ch);
 
-/* Writes `length` characters in order. Nothing of a refused text is written. `text` may be NULL where `length` is 0.
-   Refused: NO_SUCH_WINDOW, BAD_CHARACTER. */
+/* Writes the characters of a text in order, each as `waddch` does. No character of a refused text is written. The text
+   has `length` characters, and may be NULL where that is 0. Refused: NO_SUCH_WINDOW; BAD_CHARACTER for a character
+   other than 8, 10, 13 and 32 to 126. */
 curspan_answer curspan_waddstr(curspan *screen, uint16_t win, const uint8_t *text, size_t length);
 
-/* Inserts a character, 32 to 126, at the cursor; the last cell of the line is lost. Refused: NO_SUCH_WINDOW,
-   BAD_CHARACTER. */
+/* Inserts a character at the cursor, which stays: the cells from there on go one column right, and the last is lost.
+   Refused: NO_SUCH_WINDOW; BAD_CHARACTER for a character outside 32 to 126. */
 curspan_answer curspan_winsch(curspan *screen, uint16_t win, uint8_t ch);
 
-/* Deletes the character at the cursor, and clears the last cell of the line. Refused: NO_SUCH_WINDOW. */
+/* Deletes the character at the cursor, which stays: the cells after it go one column left, and the last is set to the
+   background. Refused: NO_SUCH_WINDOW. */
 curspan_answer curspan_wdelch(curspan *screen, uint16_t win);
 
-/* Inserts a clear line at the cursor's; the last line of the window is lost. Refused: NO_SUCH_WINDOW. */
+/* Moves the cursor's line and those below down by one, loses the last, and sets the cursor's line to the background.
+   Refused: NO_SUCH_WINDOW. */
 curspan_answer curspan_winsertln(curspan *screen, uint16_t win);
 
-/* Deletes the cursor's line, and clears the last line of the window. Refused: NO_SUCH_WINDOW. */
+/* Moves the lines below the cursor's up by one, and sets the last line to the background. Refused: NO_SUCH_WINDOW. */
 curspan_answer curspan_wdeleteln(curspan *screen, uint16_t win);
 
-/* Clears the window, and moves the cursor to its first place. Refused: NO_SUCH_WINDOW. */
+/* Sets all cells to the background, and the cursor to line 0 and column 0. Refused: NO_SUCH_WINDOW. */
 curspan_answer curspan_werase(curspan *screen, uint16_t win);
 
-/* The same, and the doupdate after the window is next taken into the virtual screen clears the terminal. Refused:
+/* Does as `werase`, and asks for a clear screen where the window is next taken into the virtual screen. Refused:
    NO_SUCH_WINDOW. */
 curspan_answer curspan_wclear(curspan *screen, uint16_t win);
 
-/* Clears from the cursor to the end of the line. Refused: NO_SUCH_WINDOW. */
+/* Sets the cells from the cursor to the end of its line to the background. Refused: NO_SUCH_WINDOW. */
 curspan_answer curspan_wclrtoeol(curspan *screen, uint16_t win);
 
-/* Clears from the cursor to the end of the window. Refused: NO_SUCH_WINDOW. */
+/* Sets the cells from the cursor to the end of its line, and all lines below, to the background. Refused:
+   NO_SUCH_WINDOW. */
 curspan_answer curspan_wclrtobot(curspan *screen, uint16_t win);
 
-/* Scrolls the region up by n lines, or down by a negative number. Refused: NO_SUCH_WINDOW, SCROLLING_OFF. */
+/* Moves the lines of the scroll region up by `n`, or down by `-n` for a negative one. The cursor stays. Refused:
+   NO_SUCH_WINDOW; SCROLLING_OFF for a window that doesn't scroll. */
 curspan_answer curspan_wscrl(curspan *screen, uint16_t win, int16_t n);
 
-/* Sets the region that scrolls, from line `top` to line `bottom`. Refused: NO_SUCH_WINDOW, BAD_REGION. */
+/* Sets the scroll region to the lines from `top` to `bottom`, both inclusive. Refused: NO_SUCH_WINDOW; BAD_REGION if
+   `top` is after `bottom` or `bottom` outside the window. */
 curspan_answer curspan_wsetscrreg(curspan *screen, uint16_t win, uint16_t top, uint16_t bottom);
 
-/* Sets whether the window scrolls. At first it does not. Refused: NO_SUCH_WINDOW. */
+/* Sets whether the window scrolls where the cursor leaves the last line of its region. At first it doesn't. Refused:
+   NO_SUCH_WINDOW. */
 curspan_answer curspan_scrollok(curspan *screen, uint16_t win, bool flag);
 
-/* Sets whether the window asks for a clear terminal where it is next taken into the virtual screen. Refused:
+/* Sets whether the window asks for a clear screen where it is next taken into the virtual screen. Refused:
    NO_SUCH_WINDOW. */
 curspan_answer curspan_clearok(curspan *screen, uint16_t win, bool flag);
 
-/* Sets the attributes that written characters get: CURSPAN_BOLD and the others, or-ed. Refused: NO_SUCH_WINDOW. */
+/* Sets the attributes that written characters get. Refused: NO_SUCH_WINDOW. */
 curspan_answer curspan_wattrset(curspan *screen, uint16_t win, uint8_t attrs);
 
-/* Adds attributes to those that are set. Refused: NO_SUCH_WINDOW. */
+/* Adds attributes to those that written characters get. Refused: NO_SUCH_WINDOW. */
 curspan_answer curspan_wattron(curspan *screen, uint16_t win, uint8_t attrs);
 
-/* Takes attributes away from those that are set. Refused: NO_SUCH_WINDOW. */
+/* Takes attributes from those that written characters get. Refused: NO_SUCH_WINDOW. */
 curspan_answer curspan_wattroff(curspan *screen, uint16_t win, uint8_t attrs);
 
-/* Sets the background to a character, 32 to 126, with attributes and pair 0. No cell is written. Refused:
-   NO_SUCH_WINDOW, BAD_CHARACTER. */
+/* Sets the background to a character with attributes, of pair 0. No cell is written. Refused: NO_SUCH_WINDOW;
+   BAD_CHARACTER for a character outside 32 to 126. */
 curspan_answer curspan_wbkgdset(curspan *screen, uint16_t win, uint8_t attrs, uint8_t ch);
 
-/* Sets the window's colour pair, 0 to 63. Refused: NO_SUCH_WINDOW, BAD_PAIR. */
+/* Sets the colour pair that written characters get. Refused: NO_SUCH_WINDOW; BAD_PAIR for a number past 63. */
 curspan_answer curspan_wcolor_set(curspan *screen, uint16_t win, uint16_t pair);
 
-/* Sets the background's colour pair, 0 to 63. No cell is written. Refused: NO_SUCH_WINDOW, BAD_PAIR. */
+/* Sets the colour pair of the background. No cell is written. Refused: NO_SUCH_WINDOW; BAD_PAIR for a number past 63. */
 curspan_answer curspan_wbkgdpair(curspan *screen, uint16_t win, uint16_t pair);
 
-/* ---- copies and marks */
+/* ---- the calls that copy cells from window to window, and those on what is touched of a window */
 
-/* Copies the cells that aren't spaces from one window to another, where both cover the screen. Refused:
+/* Copies the cells of `src` that aren't spaces to `dst`, at the places of the screen that both cover. Refused:
    NO_SUCH_WINDOW, IS_PAD, each for either window. */
 curspan_answer curspan_overlay(curspan *screen, uint16_t src, uint16_t dst);
 
-/* Copies all cells there. Refused: NO_SUCH_WINDOW, IS_PAD, each for either window. */
+/* Copies all cells of `src` to `dst`, at the places of the screen that both cover. Refused: NO_SUCH_WINDOW, IS_PAD,
+   each for either window. */
 curspan_answer curspan_overwrite(curspan *screen, uint16_t src, uint16_t dst);
 
-/* Copies the cells of `src` from a line and a column on to the lines `top` to `bottom` and the columns `left` to
-   `right` of `dst`; with the flag, all but the spaces. Windows and pads may be mixed. Refused: NO_SUCH_WINDOW,
-   BAD_RECTANGLE, OUTSIDE_WINDOW. */
-curspan_answer curspan_copywin(curspan *screen, uint16_t src, uint16_t dst, uint16_t src_y, uint16_t src_x, uint16_t
-                               top, uint16_t left, uint16_t bottom, uint16_t right, bool overlays);
+/* Copies the cells of `src` from line `sminrow` and column `smincol` on to the lines from `dminrow` to `dmaxrow` and
+   the columns from `dmincol` to `dmaxcol` of `dst`, all inclusive; with `overlay`, all but the spaces. Windows and pads
+   may be mixed. Refused: NO_SUCH_WINDOW for either window; BAD_RECTANGLE if a last line or column comes before its
+   first; OUTSIDE_WINDOW if the rectangle isn't in `dst`, or that of the same size not in `src`. */
+curspan_answer curspan_copywin(curspan *screen, uint16_t src, uint16_t dst, uint16_t sminrow, uint16_t smincol, uint16_t
+                               dminrow, uint16_t dmincol, uint16_t dmaxrow, uint16_t dmaxcol, bool overlay);
 
-/* Touches all lines, as if they had been written. Refused: NO_SUCH_WINDOW. */
+/* Touches all of a window, as if it had been written. Refused: NO_SUCH_WINDOW. */
 curspan_answer curspan_touchwin(curspan *screen, uint16_t win);
 
-/* Takes all touches away. Refused: NO_SUCH_WINDOW. */
+/* Untouches all of a window. Refused: NO_SUCH_WINDOW. */
 curspan_answer curspan_untouchwin(curspan *screen, uint16_t win);
 
-/* Touches n lines from line y on. Refused: NO_SUCH_WINDOW, OUTSIDE_WINDOW. */
+/* Touches all of `n` lines from line `y` on. Refused: NO_SUCH_WINDOW; OUTSIDE_WINDOW if the window hasn't line `y`, or
+   not `n` lines from it on. */
 curspan_answer curspan_touchline(curspan *screen, uint16_t win, uint16_t y, uint16_t n);
 
-/* Touches n lines from line y on, or without the flag takes their touches away. Refused: NO_SUCH_WINDOW,
-   OUTSIDE_WINDOW. */
+/* Touches all of `n` lines from line `y` on, or without the flag untouches them. Refused: NO_SUCH_WINDOW;
+   OUTSIDE_WINDOW if the window hasn't line `y`, or not `n` lines from it on. */
 curspan_answer curspan_wtouchln(curspan *screen, uint16_t win, uint16_t y, uint16_t n, bool flag);
 
 /* Touches each ancestor of a window where it shows what is touched of the window. Refused: NO_SUCH_WINDOW. */
@@ -279,38 +295,38 @@ curspan_answer curspan_wsyncup(curspan *screen, uint16_t win);
 /* Touches a window where it shows what is touched of an ancestor. Refused: NO_SUCH_WINDOW. */
 curspan_answer curspan_wsyncdown(curspan *screen, uint16_t win);
 
-/* Answers 1 where line y is touched, and else 0. Refused: NO_SUCH_WINDOW, OUTSIDE_WINDOW. */
+/* Whether line `y` of a window is touched. Answers 1 where it is so, and else 0. Refused: NO_SUCH_WINDOW;
+   OUTSIDE_WINDOW if the window hasn't line `y`. */
 curspan_answer curspan_is_linetouched(curspan *screen, uint16_t win, uint16_t y);
 
-/* Answers 1 where some line is touched, and else 0. Refused: NO_SUCH_WINDOW. */
+/* Whether some line of a window is touched. Answers 1 where it is so, and else 0. Refused: NO_SUCH_WINDOW. */
 curspan_answer curspan_is_wintouched(curspan *screen, uint16_t win);
 
-/* ---- queries */
+/* ---- the calls that ask about a window or pad */
 
-/* Answers the line and the column of the cursor. Refused: NO_SUCH_WINDOW. */
+/* The line and the column of the cursor. Refused: NO_SUCH_WINDOW. */
 curspan_answer curspan_getyx(curspan *screen, uint16_t win);
 
-/* Answers the line and the column of the screen where the window begins. Refused: NO_SUCH_WINDOW, IS_PAD. */
+/* The line and the column of the screen where the window begins. Refused: NO_SUCH_WINDOW, IS_PAD. */
 curspan_answer curspan_getbegyx(curspan *screen, uint16_t win);
 
-/* Answers the number of lines and that of columns. Refused: NO_SUCH_WINDOW. */
+/* The number of lines, and the number of columns. Refused: NO_SUCH_WINDOW. */
 curspan_answer curspan_getmaxyx(curspan *screen, uint16_t win);
 
-/* Answers the line and the column of its parent where a derived window begins. Refused: NO_SUCH_WINDOW,
-   NOT_DERIVED. */
+/* The line and the column of the parent where a derived window begins. Refused: NO_SUCH_WINDOW, NOT_DERIVED. */
 curspan_answer curspan_getparyx(curspan *screen, uint16_t win);
 
-/* Answers the cell at the cursor: CURSPAN_CHARACTER, CURSPAN_ATTRIBUTES and CURSPAN_PAIR take it apart. Refused:
+/* The cell at the cursor. CURSPAN_CHARACTER, CURSPAN_ATTRIBUTES and CURSPAN_PAIR take it apart. Refused:
    NO_SUCH_WINDOW. */
 curspan_answer curspan_winch(curspan *screen, uint16_t win);
 
-/* ---- panels */
+/* ---- the calls that make panels, delete them, order them and move them, and those that ask about them */
 
-/* Puts a window into a new panel, visible on top. Answers the panel. Refused: NO_SUCH_WINDOW, STANDARD_SCREEN,
-   IS_PAD, IN_PANEL, TOO_MANY, NO_MEMORY. */
+/* Puts a window into a new panel, visible on top. The number is the least free one from 1 on. Answers its number.
+   Refused: NO_SUCH_WINDOW, STANDARD_SCREEN, IS_PAD, IN_PANEL, TOO_MANY, NO_MEMORY. */
 curspan_answer curspan_new_panel(curspan *screen, uint16_t win);
 
-/* Deletes a panel. Its window stays. Refused: NO_SUCH_PANEL. */
+/* Deletes a panel. Its window stays, and is in no panel any more. Refused: NO_SUCH_PANEL. */
 curspan_answer curspan_del_panel(curspan *screen, uint16_t panel);
 
 /* Puts a panel on top, whether it was hidden or visible. Refused: NO_SUCH_PANEL. */
@@ -319,56 +335,61 @@ curspan_answer curspan_show_panel(curspan *screen, uint16_t panel);
 /* Takes a visible panel out of the order. Refused: NO_SUCH_PANEL, HIDDEN. */
 curspan_answer curspan_hide_panel(curspan *screen, uint16_t panel);
 
-/* Puts a visible panel on top. Refused: NO_SUCH_PANEL, HIDDEN. */
+/* Moves a visible panel to the top. Refused: NO_SUCH_PANEL, HIDDEN. */
 curspan_answer curspan_top_panel(curspan *screen, uint16_t panel);
 
-/* Puts a visible panel below all others. Refused: NO_SUCH_PANEL, HIDDEN. */
+/* Moves a visible panel to the bottom. Refused: NO_SUCH_PANEL, HIDDEN. */
 curspan_answer curspan_bottom_panel(curspan *screen, uint16_t panel);
 
-/* Moves the window of a panel, visible or hidden, to a line and a column of the screen. Refused: NO_SUCH_PANEL,
-   OFF_SCREEN. */
+/* Moves the window of a panel, visible or hidden, to a place of the screen. Refused: NO_SUCH_PANEL, OFF_SCREEN. */
 curspan_answer curspan_move_panel(curspan *screen, uint16_t panel, uint16_t y, uint16_t x);
 
-/* Gives a panel another window. The panel keeps its depth, or stays hidden. Refused: NO_SUCH_PANEL,
-   NO_SUCH_WINDOW, STANDARD_SCREEN, IS_PAD, IN_PANEL. */
+/* Gives a panel another window. The panel keeps its depth, or stays hidden. Refused: NO_SUCH_PANEL, NO_SUCH_WINDOW,
+   STANDARD_SCREEN, IS_PAD, IN_PANEL. */
 curspan_answer curspan_replace_panel(curspan *screen, uint16_t panel, uint16_t win);
 
-/* Answers the panel right above a visible one, or 0 where that is the top one; of 0 the bottom panel, or 0.
-   Refused: NO_SUCH_PANEL, HIDDEN. */
+/* The panel right above a visible one, or without a panel the bottom one. 0 is none, also in the answer. Refused:
+   NO_SUCH_PANEL, HIDDEN. */
 curspan_answer curspan_panel_above(curspan *screen, uint16_t panel);
 
-/* Answers the panel right below a visible one, or 0 where that is the bottom one; of 0 the top panel, or 0.
-   Refused: NO_SUCH_PANEL, HIDDEN. */
+/* The panel right below a visible one, or without a panel the top one. 0 is none, also in the answer. Refused:
+   NO_SUCH_PANEL, HIDDEN. */
 curspan_answer curspan_panel_below(curspan *screen, uint16_t panel);
 
-/* Answers the window of a panel. Refused: NO_SUCH_PANEL. */
+/* The window of a panel. Answers its number. Refused: NO_SUCH_PANEL. */
 curspan_answer curspan_panel_window(curspan *screen, uint16_t panel);
 
-/* Answers 1 where the panel is hidden, and else 0. Refused: NO_SUCH_PANEL. */
+/* Whether a panel is hidden. Answers 1 where it is so, and else 0. Refused: NO_SUCH_PANEL. */
 curspan_answer curspan_panel_hidden(curspan *screen, uint16_t panel);
 
-/* ---- refresh */
+/* ---- the calls that refresh, and the one that sets the colours of a pair */
 
-/* Takes what is touched of a window, and its cursor, into the virtual screen. Refused: NO_SUCH_WINDOW, IS_PAD. */
+/* Takes what is touched of a window into the virtual screen, at the window's place, with its cursor. Then no place of
+   it is touched; and if it asked for a clear screen, the virtual screen asks for it instead. Refused: NO_SUCH_WINDOW,
+   IS_PAD. */
 curspan_answer curspan_wnoutrefresh(curspan *screen, uint16_t win);
 
-/* Takes the cells of a pad from a line and a column on into the lines `top` to `bottom` and the columns `left` to
-   `right` of the virtual screen. Refused: NO_SUCH_WINDOW, NOT_PAD, BAD_RECTANGLE, OUTSIDE_WINDOW, OFF_SCREEN. */
-curspan_answer curspan_pnoutrefresh(curspan *screen, uint16_t pad, uint16_t pad_y, uint16_t pad_x, uint16_t top,
-                                    uint16_t left, uint16_t bottom, uint16_t right);
+/* Takes the cells of a pad from line `pminrow` and column `pmincol` on into the lines from `sminrow` to `smaxrow` and
+   the columns from `smincol` to `smaxcol` of the virtual screen, all inclusive, whether they are touched or not.
+   Refused: NO_SUCH_WINDOW, NOT_PAD; BAD_RECTANGLE if a last line or column comes before its first; OUTSIDE_WINDOW if
+   the rectangle isn't in the pad; OFF_SCREEN if it isn't on the screen. */
+curspan_answer curspan_pnoutrefresh(curspan *screen, uint16_t pad, uint16_t pminrow, uint16_t pmincol, uint16_t sminrow,
+                                    uint16_t smincol, uint16_t smaxrow, uint16_t smaxcol);
 
-/* Takes the picture of the standard screen and the visible panels, and the cursor of the topmost, into the virtual
-   screen. Answers how many cells it read. */
+/* Takes the picture of windows and panels, and the topmost's cursor, into the virtual screen. It answers how many cells
+   it read. */
 curspan_answer curspan_update_panels(curspan *screen);
 
-/* Sends the bytes that show the virtual screen on the terminal: only what changed, or all of it after a clear.
-   curspan_take moves them. Answers how many they are. WRITE_FAILED where there was no memory for all of them: the
-   first answer is how many were sent, and the next doupdate clears the terminal and sends all. */
+/* Sends the bytes that show the virtual screen on the terminal: only what changed, or all of it after a clear. It
+   answers how many they are. CURSPAN_WRITE_FAILED where there was no memory for all of them: the first answer is how
+   many were sent, and the next doupdate clears the terminal and sends all. */
 curspan_answer curspan_doupdate(curspan *screen);
 
-/* Gives a colour pair, 1 to 63, a foreground and a background: 0 black, 1 red, 2 green, 3 yellow, 4 blue, 5
-   magenta, 6 cyan, 7 white. Refused: BAD_PAIR. */
+/* Gives a colour pair a foreground and a background: 0 black, 1 red, 2 green, 3 yellow, 4 blue, 5 magenta, 6 cyan, 7
+   white. What is shown already stays. Refused: BAD_PAIR for pair 0, for one past 63, and for a colour past 7. */
 curspan_answer curspan_init_pair(curspan *screen, uint16_t pair, uint16_t foreground, uint16_t background);
+
+/* End of what tools/calls wrote. */
 
 #ifdef __cplusplus
 }

@@ -1,5 +1,6 @@
 """Refusals. A call's tests are at its beginning, in their order, and the first that holds refuses it."""
 
+# Written by tools/calls from calls.table: refusals
 E1 = 'E1 NoSuchWindow'
 E2 = 'E2 NoSuchPanel'
 E3 = 'E3 OffScreen'
@@ -17,8 +18,10 @@ E14 = 'E14 StandardScreen'
 E15 = 'E15 Hidden'
 E16 = 'E16 ScrollingOff'
 E17 = 'E17 TooMany'
+E18 = 'E18 NoMemory'
 E19 = 'E19 BadRectangle'
 E20 = 'E20 BadPair'
+# End of what tools/calls wrote
 
 
 class Refused(Exception):

@@ -7,46 +7,48 @@ use std::alloc::AllocError;
 /// A refused call changed nothing and sent nothing.
 #[derive(Clone, Copy, PartialEq, Eq, Debug)]
 pub enum Refusal {
+    // Written by tools/calls from calls.table: refusals
     /// There is no such window or pad.
     NoSuchWindow,
     /// There is no such panel.
     NoSuchPanel,
-    /// A part would lie off the screen.
+    /// A part would lie off the screen, or there would be no cell.
     OffScreen,
-    /// A derived window would reach past its parent.
+    /// A derived window or pad would not lie inside its parent, or have no cell.
     OutsideParent,
-    /// A place, line or rectangle is outside the window.
+    /// The window has no such place, line or rectangle.
     OutsideWindow,
-    /// A window derives from it.
+    /// A window or pad derives from this one.
     HasDerived,
     /// The window is in a panel.
     InPanel,
-    /// Not for pads.
+    /// The call is not for pads.
     IsPad,
-    /// Only for pads.
+    /// The call is for pads alone.
     NotPad,
-    /// The window has no parent.
+    /// The call is for derived windows and pads alone.
     NotDerived,
-    /// The size of a screen or pad is out of limits.
+    /// A screen or a pad has no such size.
     BadSize,
-    /// The scroll region is upside down or reaches past the window.
+    /// The region's first line is after its last, or the window has no such line.
     BadRegion,
-    /// A character is outside those accepted.
+    /// The character is none that the call takes.
     BadCharacter,
-    /// Not for the standard screen.
+    /// The call is not for the standard screen.
     StandardScreen,
     /// The panel is hidden.
     Hidden,
     /// The window doesn't scroll.
     ScrollingOff,
-    /// The table of windows or of panels is full.
+    /// There are 1000 windows and pads besides the standard screen, or 1000 panels.
     TooMany,
-    /// There was no memory for it.
+    /// There is no memory for it.
     NoMemory,
     /// A rectangle's first line or column is after its last.
     BadRectangle,
-    /// There is no such colour pair, it can't be set, or there is no such colour.
+    /// There is no such colour pair or colour, or pair 0 was to be set.
     BadPair,
+    // End of what tools/calls wrote
 }
 
 impl From<AllocError> for Refusal {
@@ -68,6 +70,7 @@ impl Refusal {
         ensures short { length result.now ≤ 20 }
     {
         match self {
+            // Written by tools/calls from calls.table: texts
             Refusal::NoSuchWindow => "E1 NoSuchWindow",
             Refusal::NoSuchPanel => "E2 NoSuchPanel",
             Refusal::OffScreen => "E3 OffScreen",
@@ -88,6 +91,7 @@ impl Refusal {
             Refusal::NoMemory => "E18 NoMemory",
             Refusal::BadRectangle => "E19 BadRectangle",
             Refusal::BadPair => "E20 BadPair",
+            // End of what tools/calls wrote
         }
     }
 }

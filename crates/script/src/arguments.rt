@@ -2,7 +2,7 @@
 
 ghost use Rattle.std.specs.Prelude.{◌≡◌, ◌≤◌, ◌<◌, ◌+◌, ◌∷◌, ◌++◌, [], length, is_some, IfSome, Some, None, false};
 ghost use Rattle.std.specs.Bool.{OnTrue};
-ghost use Rattle.script.specs.Words.{attributes, character, no_arguments, number, panel_or_none};
+ghost use Rattle.script.specs.Words.{attributes, character, no_arguments, number, panel_or_none, window_at};
 ghost use Rattle.script.specs.Texts.{parse_argument};
 
 use crate::limits::{GREATEST_NUMBER, LONGEST_LINE, MOST_ARGUMENTS};
@@ -11,7 +11,7 @@ use crate::text::read_text;
 use crate::words::Form;
 use arrayvec::ArrayVec;
 use bitflags::Flags;
-use cell::Attr;
+use cell::{Attr, WinId};
 use std::marker::Model;
 use world::PanelId;
 
@@ -98,6 +98,20 @@ impl Arguments {
         } else {
             0
         }
+    }
+
+    /// The window whose number is at a place.
+    pub(crate) fn window(&self, place: usize) -> WinId
+        ensures { result ≡ window_at self.now place }
+    {
+        WinId(self.number(place))
+    }
+
+    /// The panel whose number is at a place.
+    pub(crate) fn panel(&self, place: usize) -> PanelId
+        ensures { result ≡ record { 0 = number self.now place } }
+    {
+        PanelId(self.number(place))
     }
 
     /// The panel that an argument names, if it isn't `none`.

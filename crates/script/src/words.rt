@@ -14,8 +14,7 @@ use QueryWord::*;
 use RefreshWord::*;
 use StackingWord::*;
 use WritingWord::*;
-use cell::WinId;
-use world::{Call, Copying, Making, PanelId, Query, Refresh, Stacking, Writing};
+use world::{Call, Copying, Making, Query, Refresh, Stacking, Writing};
 
 /// The form of an argument.
 #[derive(Clone, Copy)]
@@ -47,14 +46,16 @@ pub enum Word {
     Refresh(RefreshWord),
 }
 
-/// A call that makes windows or pads, deletes them or places them, by its word.
+// Written by tools/calls from calls.table: enums
+
+/// The calls that make windows and pads, delete them, and place them, by their words.
 #[rattlefmt::skip]
 #[derive(Clone, Copy)]
 pub enum MakingWord {
     Newwin, Subwin, Derwin, Newpad, Subpad, Delwin, Mvwin, Mvderwin,
 }
 
-/// A call that writes, or sets how a window is written in, by its word.
+/// The calls that write in a window or pad, or set how it is written in, by their words.
 #[rattlefmt::skip]
 #[derive(Clone, Copy)]
 pub enum WritingWord {
@@ -62,7 +63,7 @@ pub enum WritingWord {
     Clearok, Attrset, Attron, Attroff, Bkgdset, ColorSet, Bkgdpair,
 }
 
-/// A call that copies cells or is on what is touched, by its word.
+/// The calls that copy cells from window to window, and those on what is touched of a window, by their words.
 #[rattlefmt::skip]
 #[derive(Clone, Copy)]
 pub enum CopyingWord {
@@ -70,14 +71,14 @@ pub enum CopyingWord {
     IsWintouched,
 }
 
-/// A call that asks about a window or pad, by its word.
+/// The calls that ask about a window or pad, by their words.
 #[rattlefmt::skip]
 #[derive(Clone, Copy)]
 pub enum QueryWord {
     Getyx, Getbegyx, Getmaxyx, Getparyx, Inch,
 }
 
-/// A call on panels, by its word.
+/// The calls that make panels, delete them, order them and move them, and those that ask about them, by their words.
 #[rattlefmt::skip]
 #[derive(Clone, Copy)]
 pub enum StackingWord {
@@ -85,14 +86,18 @@ pub enum StackingWord {
     PanelWindow, PanelHidden,
 }
 
-/// A call that refreshes or sets the colours of a pair, by its word.
+/// The calls that refresh, and the one that sets the colours of a pair, by their words.
 #[rattlefmt::skip]
 #[derive(Clone, Copy)]
 pub enum RefreshWord {
     Noutrefresh, Pnoutrefresh, UpdatePanels, Doupdate, InitPair,
 }
 
-/// Each word, in the row of its first letter: `a` has the row 1, as the last five bits of its code say, and `z` the row 26.
+// End of what tools/calls wrote
+
+// Written by tools/calls from calls.table: lists
+
+/// Each word, in the list of its first letter: `a` has the list 1, as the last five bits of its code say, and `z` the list 26.
 #[rattlefmt::skip]
 const WORDS: [&[Word]; 32] = [
     &[],
@@ -106,7 +111,7 @@ const WORDS: [&[Word]; 32] = [
         Word::Writing(ColorSet), Word::Copying(Copywin),
     ],
     &[
-        Word::Making(Derwin), Word::Making(Delwin), Word::Writing(Delch), Word::Writing(Deleteln),
+        Word::Writing(Delch), Word::Writing(Deleteln), Word::Making(Derwin), Word::Making(Delwin),
         Word::Stacking(DelPanel), Word::Refresh(Doupdate),
     ],
     &[Word::Writing(Erase)],
@@ -130,8 +135,8 @@ const WORDS: [&[Word]; 32] = [
     &[],
     &[Word::Stacking(ReplacePanel)],
     &[
-        Word::Making(Subwin), Word::Making(Subpad), Word::Writing(Scrl), Word::Writing(Setscrreg),
-        Word::Writing(Scrollok), Word::Copying(Syncup), Word::Copying(Syncdown), Word::Stacking(ShowPanel),
+        Word::Writing(Scrl), Word::Writing(Setscrreg), Word::Writing(Scrollok), Word::Making(Subwin),
+        Word::Making(Subpad), Word::Copying(Syncup), Word::Copying(Syncdown), Word::Stacking(ShowPanel),
     ],
     &[Word::Copying(Touchwin), Word::Copying(Touchline), Word::Copying(Touchln), Word::Stacking(TopPanel)],
     &[Word::Copying(Untouchwin), Word::Refresh(UpdatePanels)],
@@ -146,6 +151,8 @@ const WORDS: [&[Word]; 32] = [
     &[],
     &[],
 ];
+
+// End of what tools/calls wrote
 
 /// How a word is written, the forms of its call's arguments, and the call that they make.
 #[derive(Clone, Copy)]
@@ -232,6 +239,8 @@ impl Word {
     }
 }
 
+// Written by tools/calls from calls.table: rows
+
 impl MakingWord {
     /// The word's row, with the call that the arguments make.
     #[rattlefmt::skip]
@@ -239,7 +248,6 @@ impl MakingWord {
     fn row(self, a: &Arguments) -> Row<'_>
         ensures { IsRow result (entry_of (word.Making self)) a.now }
     {
-        let win = WinId(a.number(0));
         match self {
             Self::Newwin => Row {
                 word: b"newwin", forms: &[Number, Number, Number, Number],
@@ -247,22 +255,28 @@ impl MakingWord {
             },
             Self::Subwin => Row {
                 word: b"subwin", forms: &[Number, Number, Number, Number, Number],
-                call: Call::Making(Making::Subwin { win, lines: a.number(1), columns: a.number(2), y: a.number(3), x: a.number(4) }),
+                call: Call::Making(Making::Subwin { win: a.window(0), lines: a.number(1), columns: a.number(2), y: a.number(3), x: a.number(4) }),
             },
             Self::Derwin => Row {
                 word: b"derwin", forms: &[Number, Number, Number, Number, Number],
-                call: Call::Making(Making::Derwin { win, lines: a.number(1), columns: a.number(2), y: a.number(3), x: a.number(4) }),
+                call: Call::Making(Making::Derwin { win: a.window(0), lines: a.number(1), columns: a.number(2), y: a.number(3), x: a.number(4) }),
             },
-            Self::Newpad => Row { word: b"newpad", forms: &[Number, Number], call: Call::Making(Making::Newpad { lines: a.number(0), columns: a.number(1) }) },
+            Self::Newpad => Row {
+                word: b"newpad", forms: &[Number, Number],
+                call: Call::Making(Making::Newpad { lines: a.number(0), columns: a.number(1) }),
+            },
             Self::Subpad => Row {
                 word: b"subpad", forms: &[Number, Number, Number, Number, Number],
-                call: Call::Making(Making::Subpad { pad: win, lines: a.number(1), columns: a.number(2), y: a.number(3), x: a.number(4) }),
+                call: Call::Making(Making::Subpad { pad: a.window(0), lines: a.number(1), columns: a.number(2), y: a.number(3), x: a.number(4) }),
             },
-            Self::Delwin => Row { word: b"delwin", forms: &[Number], call: Call::Making(Making::Delwin { win }) },
-            Self::Mvwin => Row { word: b"mvwin", forms: &[Number, Number, Number], call: Call::Making(Making::Mvwin { win, y: a.number(1), x: a.number(2) }) },
+            Self::Delwin => Row { word: b"delwin", forms: &[Number], call: Call::Making(Making::Delwin { win: a.window(0) }) },
+            Self::Mvwin => Row {
+                word: b"mvwin", forms: &[Number, Number, Number],
+                call: Call::Making(Making::Mvwin { win: a.window(0), y: a.number(1), x: a.number(2) }),
+            },
             Self::Mvderwin => Row {
                 word: b"mvderwin", forms: &[Number, Number, Number],
-                call: Call::Making(Making::Mvderwin { win, y: a.number(1), x: a.number(2) }),
+                call: Call::Making(Making::Mvderwin { win: a.window(0), y: a.number(1), x: a.number(2) }),
             },
         }
     }
@@ -275,35 +289,52 @@ impl WritingWord {
     fn row(self, a: &Arguments) -> Row<'_>
         ensures { IsRow result (entry_of (word.Writing self)) a.now }
     {
-        let win = WinId(a.number(0));
         match self {
-            Self::Move => Row { word: b"move", forms: &[Number, Number, Number], call: Call::Writing(Writing::Move { win, y: a.number(1), x: a.number(2) }) },
-            Self::Addch => Row { word: b"addch", forms: &[Number, Character], call: Call::Writing(Writing::Addch { win, ch: a.character() }) },
-            Self::Addstr => Row { word: b"addstr", forms: &[Number, Text], call: Call::Writing(Writing::Addstr { win, text: a.text() }) },
-            Self::Insch => Row { word: b"insch", forms: &[Number, Character], call: Call::Writing(Writing::Insch { win, ch: a.character() }) },
-            Self::Delch => Row { word: b"delch", forms: &[Number], call: Call::Writing(Writing::Delch { win }) },
-            Self::Insertln => Row { word: b"insertln", forms: &[Number], call: Call::Writing(Writing::Insertln { win }) },
-            Self::Deleteln => Row { word: b"deleteln", forms: &[Number], call: Call::Writing(Writing::Deleteln { win }) },
-            Self::Erase => Row { word: b"erase", forms: &[Number], call: Call::Writing(Writing::Erase { win }) },
-            Self::Clear => Row { word: b"clear", forms: &[Number], call: Call::Writing(Writing::Clear { win }) },
-            Self::Clrtoeol => Row { word: b"clrtoeol", forms: &[Number], call: Call::Writing(Writing::Clrtoeol { win }) },
-            Self::Clrtobot => Row { word: b"clrtobot", forms: &[Number], call: Call::Writing(Writing::Clrtobot { win }) },
-            Self::Scrl => Row { word: b"scrl", forms: &[Number, Signed], call: Call::Writing(Writing::Scrl { win, n: a.signed() }) },
+            Self::Move => Row {
+                word: b"move", forms: &[Number, Number, Number],
+                call: Call::Writing(Writing::Move { win: a.window(0), y: a.number(1), x: a.number(2) }),
+            },
+            Self::Addch => Row { word: b"addch", forms: &[Number, Character], call: Call::Writing(Writing::Addch { win: a.window(0), ch: a.character() }) },
+            Self::Addstr => Row { word: b"addstr", forms: &[Number, Text], call: Call::Writing(Writing::Addstr { win: a.window(0), text: a.text() }) },
+            Self::Insch => Row { word: b"insch", forms: &[Number, Character], call: Call::Writing(Writing::Insch { win: a.window(0), ch: a.character() }) },
+            Self::Delch => Row { word: b"delch", forms: &[Number], call: Call::Writing(Writing::Delch { win: a.window(0) }) },
+            Self::Insertln => Row { word: b"insertln", forms: &[Number], call: Call::Writing(Writing::Insertln { win: a.window(0) }) },
+            Self::Deleteln => Row { word: b"deleteln", forms: &[Number], call: Call::Writing(Writing::Deleteln { win: a.window(0) }) },
+            Self::Erase => Row { word: b"erase", forms: &[Number], call: Call::Writing(Writing::Erase { win: a.window(0) }) },
+            Self::Clear => Row { word: b"clear", forms: &[Number], call: Call::Writing(Writing::Clear { win: a.window(0) }) },
+            Self::Clrtoeol => Row { word: b"clrtoeol", forms: &[Number], call: Call::Writing(Writing::Clrtoeol { win: a.window(0) }) },
+            Self::Clrtobot => Row { word: b"clrtobot", forms: &[Number], call: Call::Writing(Writing::Clrtobot { win: a.window(0) }) },
+            Self::Scrl => Row { word: b"scrl", forms: &[Number, Signed], call: Call::Writing(Writing::Scrl { win: a.window(0), n: a.signed() }) },
             Self::Setscrreg => Row {
                 word: b"setscrreg", forms: &[Number, Number, Number],
-                call: Call::Writing(Writing::Setscrreg { win, top: a.number(1), bottom: a.number(2) }),
+                call: Call::Writing(Writing::Setscrreg { win: a.window(0), top: a.number(1), bottom: a.number(2) }),
             },
-            Self::Scrollok => Row { word: b"scrollok", forms: &[Number, Flag], call: Call::Writing(Writing::Scrollok { win, flag: a.flag() }) },
-            Self::Clearok => Row { word: b"clearok", forms: &[Number, Flag], call: Call::Writing(Writing::Clearok { win, flag: a.flag() }) },
-            Self::Attrset => Row { word: b"attrset", forms: &[Number, Attributes], call: Call::Writing(Writing::Attrset { win, attrs: a.attributes() }) },
-            Self::Attron => Row { word: b"attron", forms: &[Number, Attributes], call: Call::Writing(Writing::Attron { win, attrs: a.attributes() }) },
-            Self::Attroff => Row { word: b"attroff", forms: &[Number, Attributes], call: Call::Writing(Writing::Attroff { win, attrs: a.attributes() }) },
+            Self::Scrollok => Row { word: b"scrollok", forms: &[Number, Flag], call: Call::Writing(Writing::Scrollok { win: a.window(0), flag: a.flag() }) },
+            Self::Clearok => Row { word: b"clearok", forms: &[Number, Flag], call: Call::Writing(Writing::Clearok { win: a.window(0), flag: a.flag() }) },
+            Self::Attrset => Row {
+                word: b"attrset", forms: &[Number, Attributes],
+                call: Call::Writing(Writing::Attrset { win: a.window(0), attrs: a.attributes() }),
+            },
+            Self::Attron => Row {
+                word: b"attron", forms: &[Number, Attributes],
+                call: Call::Writing(Writing::Attron { win: a.window(0), attrs: a.attributes() }),
+            },
+            Self::Attroff => Row {
+                word: b"attroff", forms: &[Number, Attributes],
+                call: Call::Writing(Writing::Attroff { win: a.window(0), attrs: a.attributes() }),
+            },
             Self::Bkgdset => Row {
                 word: b"bkgdset", forms: &[Number, Attributes, Character],
-                call: Call::Writing(Writing::Bkgdset { win, attrs: a.attributes(), ch: a.character() }),
+                call: Call::Writing(Writing::Bkgdset { win: a.window(0), attrs: a.attributes(), ch: a.character() }),
             },
-            Self::ColorSet => Row { word: b"color_set", forms: &[Number, Number], call: Call::Writing(Writing::ColorSet { win, pair: a.number(1) }) },
-            Self::Bkgdpair => Row { word: b"bkgdpair", forms: &[Number, Number], call: Call::Writing(Writing::Bkgdpair { win, pair: a.number(1) }) },
+            Self::ColorSet => Row {
+                word: b"color_set", forms: &[Number, Number],
+                call: Call::Writing(Writing::ColorSet { win: a.window(0), pair: a.number(1) }),
+            },
+            Self::Bkgdpair => Row {
+                word: b"bkgdpair", forms: &[Number, Number],
+                call: Call::Writing(Writing::Bkgdpair { win: a.window(0), pair: a.number(1) }),
+            },
         }
     }
 }
@@ -315,38 +346,34 @@ impl CopyingWord {
     fn row(self, a: &Arguments) -> Row<'_>
         ensures { IsRow result (entry_of (word.Copying self)) a.now }
     {
-        let win = WinId(a.number(0));
         match self {
-            Self::Overlay => Row { word: b"overlay", forms: &[Number, Number], call: Call::Copying(Copying::Overlay { src: win, dst: WinId(a.number(1)) }) },
+            Self::Overlay => Row { word: b"overlay", forms: &[Number, Number], call: Call::Copying(Copying::Overlay { src: a.window(0), dst: a.window(1) }) },
             Self::Overwrite => Row {
                 word: b"overwrite", forms: &[Number, Number],
-                call: Call::Copying(Copying::Overwrite { src: win, dst: WinId(a.number(1)) }),
+                call: Call::Copying(Copying::Overwrite { src: a.window(0), dst: a.window(1) }),
             },
             Self::Copywin => Row {
                 word: b"copywin", forms: &[Number, Number, Number, Number, Number, Number, Number, Number, Flag],
-                call: Call::Copying(Copying::Copywin {
-                    src: win, dst: WinId(a.number(1)), sminrow: a.number(2), smincol: a.number(3),
-                    dminrow: a.number(4), dmincol: a.number(5), dmaxrow: a.number(6), dmaxcol: a.number(7),
-                    overlay: a.flag(),
-                }),
+                call: Call::Copying(Copying::Copywin { src: a.window(0), dst: a.window(1), sminrow: a.number(2), smincol: a.number(3), dminrow:
+                    a.number(4), dmincol: a.number(5), dmaxrow: a.number(6), dmaxcol: a.number(7), overlay: a.flag() }),
             },
-            Self::Touchwin => Row { word: b"touchwin", forms: &[Number], call: Call::Copying(Copying::Touchwin { win }) },
-            Self::Untouchwin => Row { word: b"untouchwin", forms: &[Number], call: Call::Copying(Copying::Untouchwin { win }) },
+            Self::Touchwin => Row { word: b"touchwin", forms: &[Number], call: Call::Copying(Copying::Touchwin { win: a.window(0) }) },
+            Self::Untouchwin => Row { word: b"untouchwin", forms: &[Number], call: Call::Copying(Copying::Untouchwin { win: a.window(0) }) },
             Self::Touchline => Row {
                 word: b"touchline", forms: &[Number, Number, Number],
-                call: Call::Copying(Copying::Touchline { win, y: a.number(1), n: a.number(2) }),
+                call: Call::Copying(Copying::Touchline { win: a.window(0), y: a.number(1), n: a.number(2) }),
             },
             Self::Touchln => Row {
                 word: b"touchln", forms: &[Number, Number, Number, Flag],
-                call: Call::Copying(Copying::Touchln { win, y: a.number(1), n: a.number(2), flag: a.flag() }),
+                call: Call::Copying(Copying::Touchln { win: a.window(0), y: a.number(1), n: a.number(2), flag: a.flag() }),
             },
-            Self::Syncup => Row { word: b"syncup", forms: &[Number], call: Call::Copying(Copying::Syncup { win }) },
-            Self::Syncdown => Row { word: b"syncdown", forms: &[Number], call: Call::Copying(Copying::Syncdown { win }) },
+            Self::Syncup => Row { word: b"syncup", forms: &[Number], call: Call::Copying(Copying::Syncup { win: a.window(0) }) },
+            Self::Syncdown => Row { word: b"syncdown", forms: &[Number], call: Call::Copying(Copying::Syncdown { win: a.window(0) }) },
             Self::IsLinetouched => Row {
                 word: b"is_linetouched", forms: &[Number, Number],
-                call: Call::Copying(Copying::IsLinetouched { win, y: a.number(1) }),
+                call: Call::Copying(Copying::IsLinetouched { win: a.window(0), y: a.number(1) }),
             },
-            Self::IsWintouched => Row { word: b"is_wintouched", forms: &[Number], call: Call::Copying(Copying::IsWintouched { win }) },
+            Self::IsWintouched => Row { word: b"is_wintouched", forms: &[Number], call: Call::Copying(Copying::IsWintouched { win: a.window(0) }) },
         }
     }
 }
@@ -358,13 +385,12 @@ impl QueryWord {
     fn row(self, a: &Arguments) -> Row<'_>
         ensures { IsRow result (entry_of (word.Query self)) a.now }
     {
-        let win = WinId(a.number(0));
         match self {
-            Self::Getyx => Row { word: b"getyx", forms: &[Number], call: Call::Query(Query::Getyx { win }) },
-            Self::Getbegyx => Row { word: b"getbegyx", forms: &[Number], call: Call::Query(Query::Getbegyx { win }) },
-            Self::Getmaxyx => Row { word: b"getmaxyx", forms: &[Number], call: Call::Query(Query::Getmaxyx { win }) },
-            Self::Getparyx => Row { word: b"getparyx", forms: &[Number], call: Call::Query(Query::Getparyx { win }) },
-            Self::Inch => Row { word: b"inch", forms: &[Number], call: Call::Query(Query::Inch { win }) },
+            Self::Getyx => Row { word: b"getyx", forms: &[Number], call: Call::Query(Query::Getyx { win: a.window(0) }) },
+            Self::Getbegyx => Row { word: b"getbegyx", forms: &[Number], call: Call::Query(Query::Getbegyx { win: a.window(0) }) },
+            Self::Getmaxyx => Row { word: b"getmaxyx", forms: &[Number], call: Call::Query(Query::Getmaxyx { win: a.window(0) }) },
+            Self::Getparyx => Row { word: b"getparyx", forms: &[Number], call: Call::Query(Query::Getparyx { win: a.window(0) }) },
+            Self::Inch => Row { word: b"inch", forms: &[Number], call: Call::Query(Query::Inch { win: a.window(0) }) },
         }
     }
 }
@@ -376,26 +402,25 @@ impl StackingWord {
     fn row(self, a: &Arguments) -> Row<'_>
         ensures { IsRow result (entry_of (word.Stacking self)) a.now }
     {
-        let panel = PanelId(a.number(0));
         match self {
-            Self::NewPanel => Row { word: b"new_panel", forms: &[Number], call: Call::Stacking(Stacking::NewPanel { win: WinId(a.number(0)) }) },
-            Self::DelPanel => Row { word: b"del_panel", forms: &[Number], call: Call::Stacking(Stacking::DelPanel { panel }) },
-            Self::ShowPanel => Row { word: b"show_panel", forms: &[Number], call: Call::Stacking(Stacking::ShowPanel { panel }) },
-            Self::HidePanel => Row { word: b"hide_panel", forms: &[Number], call: Call::Stacking(Stacking::HidePanel { panel }) },
-            Self::TopPanel => Row { word: b"top_panel", forms: &[Number], call: Call::Stacking(Stacking::TopPanel { panel }) },
-            Self::BottomPanel => Row { word: b"bottom_panel", forms: &[Number], call: Call::Stacking(Stacking::BottomPanel { panel }) },
+            Self::NewPanel => Row { word: b"new_panel", forms: &[Number], call: Call::Stacking(Stacking::NewPanel { win: a.window(0) }) },
+            Self::DelPanel => Row { word: b"del_panel", forms: &[Number], call: Call::Stacking(Stacking::DelPanel { panel: a.panel(0) }) },
+            Self::ShowPanel => Row { word: b"show_panel", forms: &[Number], call: Call::Stacking(Stacking::ShowPanel { panel: a.panel(0) }) },
+            Self::HidePanel => Row { word: b"hide_panel", forms: &[Number], call: Call::Stacking(Stacking::HidePanel { panel: a.panel(0) }) },
+            Self::TopPanel => Row { word: b"top_panel", forms: &[Number], call: Call::Stacking(Stacking::TopPanel { panel: a.panel(0) }) },
+            Self::BottomPanel => Row { word: b"bottom_panel", forms: &[Number], call: Call::Stacking(Stacking::BottomPanel { panel: a.panel(0) }) },
             Self::MovePanel => Row {
                 word: b"move_panel", forms: &[Number, Number, Number],
-                call: Call::Stacking(Stacking::MovePanel { panel, y: a.number(1), x: a.number(2) }),
+                call: Call::Stacking(Stacking::MovePanel { panel: a.panel(0), y: a.number(1), x: a.number(2) }),
             },
             Self::ReplacePanel => Row {
                 word: b"replace_panel", forms: &[Number, Number],
-                call: Call::Stacking(Stacking::ReplacePanel { panel, win: WinId(a.number(1)) }),
+                call: Call::Stacking(Stacking::ReplacePanel { panel: a.panel(0), win: a.window(1) }),
             },
             Self::PanelAbove => Row { word: b"panel_above", forms: &[NumberOrNone], call: Call::Stacking(Stacking::PanelAbove { panel: a.panel_or_none() }) },
             Self::PanelBelow => Row { word: b"panel_below", forms: &[NumberOrNone], call: Call::Stacking(Stacking::PanelBelow { panel: a.panel_or_none() }) },
-            Self::PanelWindow => Row { word: b"panel_window", forms: &[Number], call: Call::Stacking(Stacking::PanelWindow { panel }) },
-            Self::PanelHidden => Row { word: b"panel_hidden", forms: &[Number], call: Call::Stacking(Stacking::PanelHidden { panel }) },
+            Self::PanelWindow => Row { word: b"panel_window", forms: &[Number], call: Call::Stacking(Stacking::PanelWindow { panel: a.panel(0) }) },
+            Self::PanelHidden => Row { word: b"panel_hidden", forms: &[Number], call: Call::Stacking(Stacking::PanelHidden { panel: a.panel(0) }) },
         }
     }
 }
@@ -407,15 +432,12 @@ impl RefreshWord {
     fn row(self, a: &Arguments) -> Row<'_>
         ensures { IsRow result (entry_of (word.Refresh self)) a.now }
     {
-        let win = WinId(a.number(0));
         match self {
-            Self::Noutrefresh => Row { word: b"noutrefresh", forms: &[Number], call: Call::Refresh(Refresh::Noutrefresh { win }) },
+            Self::Noutrefresh => Row { word: b"noutrefresh", forms: &[Number], call: Call::Refresh(Refresh::Noutrefresh { win: a.window(0) }) },
             Self::Pnoutrefresh => Row {
                 word: b"pnoutrefresh", forms: &[Number, Number, Number, Number, Number, Number, Number],
-                call: Call::Refresh(Refresh::Pnoutrefresh {
-                    pad: win, pminrow: a.number(1), pmincol: a.number(2), sminrow: a.number(3), smincol: a.number(4),
-                    smaxrow: a.number(5), smaxcol: a.number(6),
-                }),
+                call: Call::Refresh(Refresh::Pnoutrefresh { pad: a.window(0), pminrow: a.number(1), pmincol: a.number(2), sminrow: a.number(3),
+                    smincol: a.number(4), smaxrow: a.number(5), smaxcol: a.number(6) }),
             },
             Self::UpdatePanels => Row { word: b"update_panels", forms: &[], call: Call::Refresh(Refresh::UpdatePanels) },
             Self::Doupdate => Row { word: b"doupdate", forms: &[], call: Call::Refresh(Refresh::Doupdate) },
@@ -426,3 +448,5 @@ impl RefreshWord {
         }
     }
 }
+
+// End of what tools/calls wrote

@@ -9,7 +9,9 @@ use crate::surface::Outlet;
 use desk::{Call, Sink, WinId};
 use std::alloc::Global;
 
-/// Copies the cells that aren't spaces, where both windows cover the screen.
+// Written by tools/calls from calls.table: exports
+
+/// Copies the cells of `src` that aren't spaces to `dst`, at the places of the screen that both cover.
 #[unsafe(no_mangle)]
 pub extern "C" fn curspan_overlay(alloc: Global, screen: &mut Handle, src: u16, dst: u16) -> Answer
     ensures { Called ⟦<Outlet as Sink>⟧ screen.old.value (Call.Copying (Copying.Overlay (record { 0 = src }) (record { 0 = dst }))) result screen.new.value }
@@ -17,7 +19,7 @@ pub extern "C" fn curspan_overlay(alloc: Global, screen: &mut Handle, src: u16, 
     screen.call(alloc, &Call::overlay(WinId(src), WinId(dst)))
 }
 
-/// Copies all cells, where both windows cover the screen.
+/// Copies all cells of `src` to `dst`, at the places of the screen that both cover.
 #[unsafe(no_mangle)]
 pub extern "C" fn curspan_overwrite(
     alloc: Global,
@@ -25,13 +27,15 @@ pub extern "C" fn curspan_overwrite(
     src: u16,
     dst: u16,
 ) -> Answer
-    ensures { Called ⟦<Outlet as Sink>⟧ screen.old.value (Call.Copying (Copying.Overwrite (record { 0 = src }) (record { 0 = dst }))) result screen.new.value }
+    ensures { Called ⟦<Outlet as Sink>⟧ screen.old.value (Call.Copying (Copying.Overwrite (record { 0 = src }) (record { 0 = dst }))) result
+        screen.new.value }
 {
     screen.call(alloc, &Call::overwrite(WinId(src), WinId(dst)))
 }
 
-/// Copies the cells from a line and a column of the source on to a rectangle, both ends inclusive; with the flag, all but
-/// the spaces.
+/// Copies the cells of `src` from line `sminrow` and column `smincol` on to the lines from `dminrow` to `dmaxrow` and
+/// the columns from `dmincol` to `dmaxcol` of `dst`, all inclusive; with `overlay`, all but the spaces. Windows and
+/// pads may be mixed.
 #[unsafe(no_mangle)]
 pub extern "C" fn curspan_copywin(
     alloc: Global,
@@ -46,8 +50,8 @@ pub extern "C" fn curspan_copywin(
     dmaxcol: u16,
     overlay: bool,
 ) -> Answer
-    ensures { Called ⟦<Outlet as Sink>⟧ screen.old.value (Call.Copying (Copying.Copywin (record { 0 = src })
-        (record { 0 = dst }) sminrow smincol dminrow dmincol dmaxrow dmaxcol overlay)) result screen.new.value }
+    ensures { Called ⟦<Outlet as Sink>⟧ screen.old.value (Call.Copying (Copying.Copywin (record { 0 = src }) (record { 0 = dst }) sminrow smincol dminrow
+        dmincol dmaxrow dmaxcol overlay)) result screen.new.value }
 {
     screen.call(
         alloc,
@@ -65,7 +69,7 @@ pub extern "C" fn curspan_copywin(
     )
 }
 
-/// Touches all lines.
+/// Touches all of a window, as if it had been written.
 #[unsafe(no_mangle)]
 pub extern "C" fn curspan_touchwin(alloc: Global, screen: &mut Handle, win: u16) -> Answer
     ensures { Called ⟦<Outlet as Sink>⟧ screen.old.value (Call.Copying (Copying.Touchwin (record { 0 = win }))) result screen.new.value }
@@ -73,7 +77,7 @@ pub extern "C" fn curspan_touchwin(alloc: Global, screen: &mut Handle, win: u16)
     screen.call(alloc, &Call::touchwin(WinId(win)))
 }
 
-/// Untouches all lines.
+/// Untouches all of a window.
 #[unsafe(no_mangle)]
 pub extern "C" fn curspan_untouchwin(alloc: Global, screen: &mut Handle, win: u16) -> Answer
     ensures { Called ⟦<Outlet as Sink>⟧ screen.old.value (Call.Copying (Copying.Untouchwin (record { 0 = win }))) result screen.new.value }
@@ -81,7 +85,7 @@ pub extern "C" fn curspan_untouchwin(alloc: Global, screen: &mut Handle, win: u1
     screen.call(alloc, &Call::untouchwin(WinId(win)))
 }
 
-/// Touches lines, from one on.
+/// Touches all of `n` lines from line `y` on.
 #[unsafe(no_mangle)]
 pub extern "C" fn curspan_touchline(
     alloc: Global,
@@ -95,7 +99,7 @@ pub extern "C" fn curspan_touchline(
     screen.call(alloc, &Call::touchline(WinId(win), y, n))
 }
 
-/// Touches lines, from one on, or untouches them.
+/// Touches all of `n` lines from line `y` on, or without the flag untouches them.
 #[unsafe(no_mangle)]
 pub extern "C" fn curspan_wtouchln(
     alloc: Global,
@@ -110,7 +114,7 @@ pub extern "C" fn curspan_wtouchln(
     screen.call(alloc, &Call::wtouchln(WinId(win), y, n, flag))
 }
 
-/// Touches each ancestor where it shows what is touched of the window.
+/// Touches each ancestor of a window where it shows what is touched of the window.
 #[unsafe(no_mangle)]
 pub extern "C" fn curspan_wsyncup(alloc: Global, screen: &mut Handle, win: u16) -> Answer
     ensures { Called ⟦<Outlet as Sink>⟧ screen.old.value (Call.Copying (Copying.Syncup (record { 0 = win }))) result screen.new.value }
@@ -118,7 +122,7 @@ pub extern "C" fn curspan_wsyncup(alloc: Global, screen: &mut Handle, win: u16) 
     screen.call(alloc, &Call::wsyncup(WinId(win)))
 }
 
-/// Touches the window where it shows what is touched of an ancestor.
+/// Touches a window where it shows what is touched of an ancestor.
 #[unsafe(no_mangle)]
 pub extern "C" fn curspan_wsyncdown(alloc: Global, screen: &mut Handle, win: u16) -> Answer
     ensures { Called ⟦<Outlet as Sink>⟧ screen.old.value (Call.Copying (Copying.Syncdown (record { 0 = win }))) result screen.new.value }
@@ -126,7 +130,7 @@ pub extern "C" fn curspan_wsyncdown(alloc: Global, screen: &mut Handle, win: u16
     screen.call(alloc, &Call::wsyncdown(WinId(win)))
 }
 
-/// Answers whether a line is touched.
+/// Whether line `y` of a window is touched.
 #[unsafe(no_mangle)]
 pub extern "C" fn curspan_is_linetouched(
     alloc: Global,
@@ -139,10 +143,12 @@ pub extern "C" fn curspan_is_linetouched(
     screen.call(alloc, &Call::is_linetouched(WinId(win), y))
 }
 
-/// Answers whether some line is touched.
+/// Whether some line of a window is touched.
 #[unsafe(no_mangle)]
 pub extern "C" fn curspan_is_wintouched(alloc: Global, screen: &mut Handle, win: u16) -> Answer
     ensures { Called ⟦<Outlet as Sink>⟧ screen.old.value (Call.Copying (Copying.IsWintouched (record { 0 = win }))) result screen.new.value }
 {
     screen.call(alloc, &Call::is_wintouched(WinId(win)))
 }
+
+// End of what tools/calls wrote

@@ -9,7 +9,10 @@ use crate::surface::Outlet;
 use desk::{Call, Sink, WinId};
 use std::alloc::Global;
 
-/// Makes a window of so many lines and columns at a line and a column of the screen. It answers its number.
+// Written by tools/calls from calls.table: exports
+
+/// Makes a window at a place of the screen, with a blank grid of its own. A size of 0 reaches to the edge of the
+/// screen.
 #[unsafe(no_mangle)]
 pub extern "C" fn curspan_newwin(
     alloc: Global,
@@ -24,7 +27,8 @@ pub extern "C" fn curspan_newwin(
     screen.call(alloc, &Call::newwin(lines, columns, y, x))
 }
 
-/// Makes a window that shows a part of another, from a line and a column of the screen on. It answers its number.
+/// Makes a window that shows the part of a window from a place of the screen on. A size of 0 reaches to the window's
+/// edge.
 #[unsafe(no_mangle)]
 pub extern "C" fn curspan_subwin(
     alloc: Global,
@@ -40,7 +44,7 @@ pub extern "C" fn curspan_subwin(
     screen.call(alloc, &Call::subwin(WinId(win), lines, columns, y, x))
 }
 
-/// Makes a window that shows a part of another, from a line and a column of it on. It answers its number.
+/// Makes a window that shows the part of a window from a line and a column of it on. A size of 0 reaches to its edge.
 #[unsafe(no_mangle)]
 pub extern "C" fn curspan_derwin(
     alloc: Global,
@@ -56,7 +60,7 @@ pub extern "C" fn curspan_derwin(
     screen.call(alloc, &Call::derwin(WinId(win), lines, columns, y, x))
 }
 
-/// Makes a pad of so many lines and columns. It answers its number.
+/// Makes a pad of 1 to 1000 lines and columns, which has no place on the screen, with a blank grid of its own.
 #[unsafe(no_mangle)]
 pub extern "C" fn curspan_newpad(
     alloc: Global,
@@ -69,7 +73,7 @@ pub extern "C" fn curspan_newpad(
     screen.call(alloc, &Call::newpad(lines, columns))
 }
 
-/// Makes a pad that shows a part of another, from a line and a column of it on. It answers its number.
+/// Makes a pad that shows the part of a pad from a line and a column of it on. A size of 0 reaches to its edge.
 #[unsafe(no_mangle)]
 pub extern "C" fn curspan_subpad(
     alloc: Global,
@@ -85,7 +89,7 @@ pub extern "C" fn curspan_subpad(
     screen.call(alloc, &Call::subpad(WinId(pad), lines, columns, y, x))
 }
 
-/// Deletes a window or pad.
+/// Deletes a window or pad that is in no panel, and from which none derives. Its number is free then.
 #[unsafe(no_mangle)]
 pub extern "C" fn curspan_delwin(alloc: Global, screen: &mut Handle, win: u16) -> Answer
     ensures { Called ⟦<Outlet as Sink>⟧ screen.old.value (Call.Making (Making.Delwin (record { 0 = win }))) result screen.new.value }
@@ -93,7 +97,7 @@ pub extern "C" fn curspan_delwin(alloc: Global, screen: &mut Handle, win: u16) -
     screen.call(alloc, &Call::delwin(WinId(win)))
 }
 
-/// Moves a window to a line and a column of the screen.
+/// Moves a window that is in no panel to a place of the screen. No other window moves.
 #[unsafe(no_mangle)]
 pub extern "C" fn curspan_mvwin(
     alloc: Global,
@@ -107,7 +111,8 @@ pub extern "C" fn curspan_mvwin(
     screen.call(alloc, &Call::mvwin(WinId(win), y, x))
 }
 
-/// Lets a derived window or pad show its parent from another line and column on.
+/// Lets a derived window or pad show the part of its parent from another line and column on. It stays where it is on
+/// the screen.
 #[unsafe(no_mangle)]
 pub extern "C" fn curspan_mvderwin(
     alloc: Global,
@@ -120,3 +125,5 @@ pub extern "C" fn curspan_mvderwin(
 {
     screen.call(alloc, &Call::mvderwin(WinId(win), y, x))
 }
+
+// End of what tools/calls wrote

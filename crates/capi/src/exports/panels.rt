@@ -10,7 +10,9 @@ use crate::surface::Outlet;
 use desk::{Call, PanelId, Sink, WinId};
 use std::alloc::Global;
 
-/// Puts a window into a new panel, visible on top. It answers its number.
+// Written by tools/calls from calls.table: exports
+
+/// Puts a window into a new panel, visible on top. The number is the least free one from 1 on.
 #[unsafe(no_mangle)]
 pub extern "C" fn curspan_new_panel(alloc: Global, screen: &mut Handle, win: u16) -> Answer
     ensures { Called ⟦<Outlet as Sink>⟧ screen.old.value (Call.Stacking (Stacking.NewPanel (record { 0 = win }))) result screen.new.value }
@@ -18,7 +20,7 @@ pub extern "C" fn curspan_new_panel(alloc: Global, screen: &mut Handle, win: u16
     screen.call(alloc, &Call::new_panel(WinId(win)))
 }
 
-/// Deletes a panel. Its window stays.
+/// Deletes a panel. Its window stays, and is in no panel any more.
 #[unsafe(no_mangle)]
 pub extern "C" fn curspan_del_panel(alloc: Global, screen: &mut Handle, panel: u16) -> Answer
     ensures { Called ⟦<Outlet as Sink>⟧ screen.old.value (Call.Stacking (Stacking.DelPanel (record { 0 = panel }))) result screen.new.value }
@@ -58,7 +60,7 @@ pub extern "C" fn curspan_bottom_panel(alloc: Global, screen: &mut Handle, panel
     screen.call(alloc, &Call::bottom_panel(PanelId(panel)))
 }
 
-/// Moves the window of a panel, visible or hidden, to a line and a column of the screen.
+/// Moves the window of a panel, visible or hidden, to a place of the screen.
 #[unsafe(no_mangle)]
 pub extern "C" fn curspan_move_panel(
     alloc: Global,
@@ -86,7 +88,7 @@ pub extern "C" fn curspan_replace_panel(
     screen.call(alloc, &Call::replace_panel(PanelId(panel), WinId(win)))
 }
 
-/// Answers the panel right above a visible one, or of 0 the bottom one; 0 is none.
+/// The panel right above a visible one, or without a panel the bottom one.
 #[unsafe(no_mangle)]
 pub extern "C" fn curspan_panel_above(alloc: Global, screen: &mut Handle, panel: u16) -> Answer
     ensures { Called ⟦<Outlet as Sink>⟧ screen.old.value (Call.Stacking (Stacking.PanelAbove (panel_of panel))) result screen.new.value }
@@ -94,7 +96,7 @@ pub extern "C" fn curspan_panel_above(alloc: Global, screen: &mut Handle, panel:
     screen.call(alloc, &Call::panel_above(panel_of(panel)))
 }
 
-/// Answers the panel right below a visible one, or of 0 the top one; 0 is none.
+/// The panel right below a visible one, or without a panel the top one.
 #[unsafe(no_mangle)]
 pub extern "C" fn curspan_panel_below(alloc: Global, screen: &mut Handle, panel: u16) -> Answer
     ensures { Called ⟦<Outlet as Sink>⟧ screen.old.value (Call.Stacking (Stacking.PanelBelow (panel_of panel))) result screen.new.value }
@@ -102,7 +104,7 @@ pub extern "C" fn curspan_panel_below(alloc: Global, screen: &mut Handle, panel:
     screen.call(alloc, &Call::panel_below(panel_of(panel)))
 }
 
-/// Answers the number of the window of a panel.
+/// The window of a panel.
 #[unsafe(no_mangle)]
 pub extern "C" fn curspan_panel_window(alloc: Global, screen: &mut Handle, panel: u16) -> Answer
     ensures { Called ⟦<Outlet as Sink>⟧ screen.old.value (Call.Stacking (Stacking.PanelWindow (record { 0 = panel }))) result screen.new.value }
@@ -110,10 +112,12 @@ pub extern "C" fn curspan_panel_window(alloc: Global, screen: &mut Handle, panel
     screen.call(alloc, &Call::panel_window(PanelId(panel)))
 }
 
-/// Answers whether a panel is hidden.
+/// Whether a panel is hidden.
 #[unsafe(no_mangle)]
 pub extern "C" fn curspan_panel_hidden(alloc: Global, screen: &mut Handle, panel: u16) -> Answer
     ensures { Called ⟦<Outlet as Sink>⟧ screen.old.value (Call.Stacking (Stacking.PanelHidden (record { 0 = panel }))) result screen.new.value }
 {
     screen.call(alloc, &Call::panel_hidden(PanelId(panel)))
 }
+
+// End of what tools/calls wrote

@@ -9,7 +9,9 @@ use crate::surface::Outlet;
 use desk::{Call, Sink, WinId};
 use std::alloc::Global;
 
-/// Answers the line and the column of the cursor.
+// Written by tools/calls from calls.table: exports
+
+/// The line and the column of the cursor.
 #[unsafe(no_mangle)]
 pub extern "C" fn curspan_getyx(alloc: Global, screen: &mut Handle, win: u16) -> Answer
     ensures { Called ⟦<Outlet as Sink>⟧ screen.old.value (Call.Query (Query.Getyx (record { 0 = win }))) result screen.new.value }
@@ -17,7 +19,7 @@ pub extern "C" fn curspan_getyx(alloc: Global, screen: &mut Handle, win: u16) ->
     screen.call(alloc, &Call::getyx(WinId(win)))
 }
 
-/// Answers the line and the column of the screen where the window begins.
+/// The line and the column of the screen where the window begins.
 #[unsafe(no_mangle)]
 pub extern "C" fn curspan_getbegyx(alloc: Global, screen: &mut Handle, win: u16) -> Answer
     ensures { Called ⟦<Outlet as Sink>⟧ screen.old.value (Call.Query (Query.Getbegyx (record { 0 = win }))) result screen.new.value }
@@ -25,7 +27,7 @@ pub extern "C" fn curspan_getbegyx(alloc: Global, screen: &mut Handle, win: u16)
     screen.call(alloc, &Call::getbegyx(WinId(win)))
 }
 
-/// Answers the number of lines and of columns.
+/// The number of lines, and the number of columns.
 #[unsafe(no_mangle)]
 pub extern "C" fn curspan_getmaxyx(alloc: Global, screen: &mut Handle, win: u16) -> Answer
     ensures { Called ⟦<Outlet as Sink>⟧ screen.old.value (Call.Query (Query.Getmaxyx (record { 0 = win }))) result screen.new.value }
@@ -33,7 +35,7 @@ pub extern "C" fn curspan_getmaxyx(alloc: Global, screen: &mut Handle, win: u16)
     screen.call(alloc, &Call::getmaxyx(WinId(win)))
 }
 
-/// Answers the line and the column of its parent where a derived window begins.
+/// The line and the column of the parent where a derived window begins.
 #[unsafe(no_mangle)]
 pub extern "C" fn curspan_getparyx(alloc: Global, screen: &mut Handle, win: u16) -> Answer
     ensures { Called ⟦<Outlet as Sink>⟧ screen.old.value (Call.Query (Query.Getparyx (record { 0 = win }))) result screen.new.value }
@@ -41,10 +43,12 @@ pub extern "C" fn curspan_getparyx(alloc: Global, screen: &mut Handle, win: u16)
     screen.call(alloc, &Call::getparyx(WinId(win)))
 }
 
-/// Answers the cell at the cursor.
+/// The cell at the cursor.
 #[unsafe(no_mangle)]
 pub extern "C" fn curspan_winch(alloc: Global, screen: &mut Handle, win: u16) -> Answer
     ensures { Called ⟦<Outlet as Sink>⟧ screen.old.value (Call.Query (Query.Inch (record { 0 = win }))) result screen.new.value }
 {
     screen.call(alloc, &Call::winch(WinId(win)))
 }
+
+// End of what tools/calls wrote

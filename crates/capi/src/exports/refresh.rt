@@ -9,7 +9,10 @@ use crate::surface::Outlet;
 use desk::{Call, Sink, WinId};
 use std::alloc::Global;
 
-/// Takes what is touched of a window, and its cursor, into the virtual screen.
+// Written by tools/calls from calls.table: exports
+
+/// Takes what is touched of a window into the virtual screen, at the window's place, with its cursor. Then no place of
+/// it is touched; and if it asked for a clear screen, the virtual screen asks for it instead.
 #[unsafe(no_mangle)]
 pub extern "C" fn curspan_wnoutrefresh(alloc: Global, screen: &mut Handle, win: u16) -> Answer
     ensures { Called ⟦<Outlet as Sink>⟧ screen.old.value (Call.Refresh (Refresh.Noutrefresh (record { 0 = win }))) result screen.new.value }
@@ -17,7 +20,8 @@ pub extern "C" fn curspan_wnoutrefresh(alloc: Global, screen: &mut Handle, win: 
     screen.call(alloc, &Call::wnoutrefresh(WinId(win)))
 }
 
-/// Takes the cells from a line and a column of a pad on into a rectangle of the virtual screen, both ends inclusive.
+/// Takes the cells of a pad from line `pminrow` and column `pmincol` on into the lines from `sminrow` to `smaxrow` and
+/// the columns from `smincol` to `smaxcol` of the virtual screen, all inclusive, whether they are touched or not.
 #[unsafe(no_mangle)]
 pub extern "C" fn curspan_pnoutrefresh(
     alloc: Global,
@@ -30,8 +34,8 @@ pub extern "C" fn curspan_pnoutrefresh(
     smaxrow: u16,
     smaxcol: u16,
 ) -> Answer
-    ensures { Called ⟦<Outlet as Sink>⟧ screen.old.value (Call.Refresh (Refresh.Pnoutrefresh
-        (record { 0 = pad }) pminrow pmincol sminrow smincol smaxrow smaxcol)) result screen.new.value }
+    ensures { Called ⟦<Outlet as Sink>⟧ screen.old.value (Call.Refresh (Refresh.Pnoutrefresh (record { 0 = pad }) pminrow pmincol sminrow smincol smaxrow
+        smaxcol)) result screen.new.value }
 {
     screen.call(
         alloc,
@@ -47,7 +51,8 @@ pub extern "C" fn curspan_pnoutrefresh(
     )
 }
 
-/// Takes the picture of the windows and panels into the virtual screen. It answers how many cells it read.
+/// Takes the picture of windows and panels, and the topmost's cursor, into the virtual screen. It answers how many
+/// cells it read.
 #[unsafe(no_mangle)]
 pub extern "C" fn curspan_update_panels(alloc: Global, screen: &mut Handle) -> Answer
     ensures { Called ⟦<Outlet as Sink>⟧ screen.old.value (Call.Refresh Refresh.UpdatePanels) result screen.new.value }
@@ -55,7 +60,8 @@ pub extern "C" fn curspan_update_panels(alloc: Global, screen: &mut Handle) -> A
     screen.call(alloc, &Call::update_panels())
 }
 
-/// Sends what shows the virtual screen on the terminal. It answers how many bytes that are.
+/// Sends the bytes that show the virtual screen on the terminal: only what changed, or all of it after a clear. It
+/// answers how many they are.
 #[unsafe(no_mangle)]
 pub extern "C" fn curspan_doupdate(alloc: Global, screen: &mut Handle) -> Answer
     ensures { Called ⟦<Outlet as Sink>⟧ screen.old.value (Call.Refresh Refresh.Doupdate) result screen.new.value }
@@ -63,7 +69,8 @@ pub extern "C" fn curspan_doupdate(alloc: Global, screen: &mut Handle) -> Answer
     screen.call(alloc, &Call::doupdate())
 }
 
-/// Gives a colour pair a foreground and a background, each by its number.
+/// Gives a colour pair a foreground and a background: 0 black, 1 red, 2 green, 3 yellow, 4 blue, 5 magenta, 6 cyan, 7
+/// white. What is shown already stays.
 #[unsafe(no_mangle)]
 pub extern "C" fn curspan_init_pair(
     alloc: Global,
@@ -76,3 +83,5 @@ pub extern "C" fn curspan_init_pair(
 {
     screen.call(alloc, &Call::init_pair(pair, foreground, background))
 }
+
+// End of what tools/calls wrote

@@ -10,7 +10,9 @@ use crate::surface::Outlet;
 use desk::{Call, Sink, WinId};
 use std::alloc::Global;
 
-/// Moves the cursor to a line and a column.
+// Written by tools/calls from calls.table: exports
+
+/// Moves the cursor to line `y` and column `x`.
 #[unsafe(no_mangle)]
 pub extern "C" fn curspan_wmove(
     alloc: Global,
@@ -24,7 +26,7 @@ pub extern "C" fn curspan_wmove(
     screen.call(alloc, &Call::wmove(WinId(win), y, x))
 }
 
-/// Writes a character at the cursor.
+/// Writes a character at the cursor, which advances; a newline (10), carriage return (13) or backspace (8) moves it.
 #[unsafe(no_mangle)]
 pub extern "C" fn curspan_waddch(alloc: Global, screen: &mut Handle, win: u16, ch: u8) -> Answer
     ensures { Called ⟦<Outlet as Sink>⟧ screen.old.value (Call.Writing (Writing.Addch (record { 0 = win }) ch)) result screen.new.value }
@@ -32,7 +34,7 @@ pub extern "C" fn curspan_waddch(alloc: Global, screen: &mut Handle, win: u16, c
     screen.call(alloc, &Call::waddch(WinId(win), ch))
 }
 
-/// Writes the characters of a text at the cursor.
+/// Writes the characters of a text in order, each as `waddch` does. No character of a refused text is written.
 #[unsafe(no_mangle)]
 pub extern "C" fn curspan_waddstr(
     alloc: Global,
@@ -45,7 +47,7 @@ pub extern "C" fn curspan_waddstr(
     screen.call(alloc, &Call::waddstr(WinId(win), text))
 }
 
-/// Inserts a character at the cursor.
+/// Inserts a character at the cursor, which stays: the cells from there on go one column right, and the last is lost.
 #[unsafe(no_mangle)]
 pub extern "C" fn curspan_winsch(alloc: Global, screen: &mut Handle, win: u16, ch: u8) -> Answer
     ensures { Called ⟦<Outlet as Sink>⟧ screen.old.value (Call.Writing (Writing.Insch (record { 0 = win }) ch)) result screen.new.value }
@@ -53,7 +55,8 @@ pub extern "C" fn curspan_winsch(alloc: Global, screen: &mut Handle, win: u16, c
     screen.call(alloc, &Call::winsch(WinId(win), ch))
 }
 
-/// Deletes the character at the cursor.
+/// Deletes the character at the cursor, which stays: the cells after it go one column left, and the last is set to the
+/// background.
 #[unsafe(no_mangle)]
 pub extern "C" fn curspan_wdelch(alloc: Global, screen: &mut Handle, win: u16) -> Answer
     ensures { Called ⟦<Outlet as Sink>⟧ screen.old.value (Call.Writing (Writing.Delch (record { 0 = win }))) result screen.new.value }
@@ -61,7 +64,7 @@ pub extern "C" fn curspan_wdelch(alloc: Global, screen: &mut Handle, win: u16) -
     screen.call(alloc, &Call::wdelch(WinId(win)))
 }
 
-/// Inserts a line at the cursor's.
+/// Moves the cursor's line and those below down by one, loses the last, and sets the cursor's line to the background.
 #[unsafe(no_mangle)]
 pub extern "C" fn curspan_winsertln(alloc: Global, screen: &mut Handle, win: u16) -> Answer
     ensures { Called ⟦<Outlet as Sink>⟧ screen.old.value (Call.Writing (Writing.Insertln (record { 0 = win }))) result screen.new.value }
@@ -69,7 +72,7 @@ pub extern "C" fn curspan_winsertln(alloc: Global, screen: &mut Handle, win: u16
     screen.call(alloc, &Call::winsertln(WinId(win)))
 }
 
-/// Deletes the cursor's line.
+/// Moves the lines below the cursor's up by one, and sets the last line to the background.
 #[unsafe(no_mangle)]
 pub extern "C" fn curspan_wdeleteln(alloc: Global, screen: &mut Handle, win: u16) -> Answer
     ensures { Called ⟦<Outlet as Sink>⟧ screen.old.value (Call.Writing (Writing.Deleteln (record { 0 = win }))) result screen.new.value }
@@ -77,7 +80,7 @@ pub extern "C" fn curspan_wdeleteln(alloc: Global, screen: &mut Handle, win: u16
     screen.call(alloc, &Call::wdeleteln(WinId(win)))
 }
 
-/// Clears the window, and moves the cursor to its first place.
+/// Sets all cells to the background, and the cursor to line 0 and column 0.
 #[unsafe(no_mangle)]
 pub extern "C" fn curspan_werase(alloc: Global, screen: &mut Handle, win: u16) -> Answer
     ensures { Called ⟦<Outlet as Sink>⟧ screen.old.value (Call.Writing (Writing.Erase (record { 0 = win }))) result screen.new.value }
@@ -85,7 +88,7 @@ pub extern "C" fn curspan_werase(alloc: Global, screen: &mut Handle, win: u16) -
     screen.call(alloc, &Call::werase(WinId(win)))
 }
 
-/// Clears the window, moves the cursor to its first place, and asks for a clear screen.
+/// Does as `werase`, and asks for a clear screen where the window is next taken into the virtual screen.
 #[unsafe(no_mangle)]
 pub extern "C" fn curspan_wclear(alloc: Global, screen: &mut Handle, win: u16) -> Answer
     ensures { Called ⟦<Outlet as Sink>⟧ screen.old.value (Call.Writing (Writing.Clear (record { 0 = win }))) result screen.new.value }
@@ -93,7 +96,7 @@ pub extern "C" fn curspan_wclear(alloc: Global, screen: &mut Handle, win: u16) -
     screen.call(alloc, &Call::wclear(WinId(win)))
 }
 
-/// Clears from the cursor to the end of the line.
+/// Sets the cells from the cursor to the end of its line to the background.
 #[unsafe(no_mangle)]
 pub extern "C" fn curspan_wclrtoeol(alloc: Global, screen: &mut Handle, win: u16) -> Answer
     ensures { Called ⟦<Outlet as Sink>⟧ screen.old.value (Call.Writing (Writing.Clrtoeol (record { 0 = win }))) result screen.new.value }
@@ -101,7 +104,7 @@ pub extern "C" fn curspan_wclrtoeol(alloc: Global, screen: &mut Handle, win: u16
     screen.call(alloc, &Call::wclrtoeol(WinId(win)))
 }
 
-/// Clears from the cursor to the end of the window.
+/// Sets the cells from the cursor to the end of its line, and all lines below, to the background.
 #[unsafe(no_mangle)]
 pub extern "C" fn curspan_wclrtobot(alloc: Global, screen: &mut Handle, win: u16) -> Answer
     ensures { Called ⟦<Outlet as Sink>⟧ screen.old.value (Call.Writing (Writing.Clrtobot (record { 0 = win }))) result screen.new.value }
@@ -109,7 +112,7 @@ pub extern "C" fn curspan_wclrtobot(alloc: Global, screen: &mut Handle, win: u16
     screen.call(alloc, &Call::wclrtobot(WinId(win)))
 }
 
-/// Scrolls the region up by a number of lines, or down by a negative one.
+/// Moves the lines of the scroll region up by `n`, or down by `-n` for a negative one. The cursor stays.
 #[unsafe(no_mangle)]
 pub extern "C" fn curspan_wscrl(alloc: Global, screen: &mut Handle, win: u16, n: i16) -> Answer
     ensures { Called ⟦<Outlet as Sink>⟧ screen.old.value (Call.Writing (Writing.Scrl (record { 0 = win }) n)) result screen.new.value }
@@ -117,7 +120,7 @@ pub extern "C" fn curspan_wscrl(alloc: Global, screen: &mut Handle, win: u16, n:
     screen.call(alloc, &Call::wscrl(WinId(win), n))
 }
 
-/// Sets the region that scrolls, from a first line to a last.
+/// Sets the scroll region to the lines from `top` to `bottom`, both inclusive.
 #[unsafe(no_mangle)]
 pub extern "C" fn curspan_wsetscrreg(
     alloc: Global,
@@ -131,7 +134,7 @@ pub extern "C" fn curspan_wsetscrreg(
     screen.call(alloc, &Call::wsetscrreg(WinId(win), top, bottom))
 }
 
-/// Sets whether the window scrolls.
+/// Sets whether the window scrolls where the cursor leaves the last line of its region. At first it doesn't.
 #[unsafe(no_mangle)]
 pub extern "C" fn curspan_scrollok(
     alloc: Global,
@@ -157,7 +160,7 @@ pub extern "C" fn curspan_clearok(
     screen.call(alloc, &Call::clearok(WinId(win), flag))
 }
 
-/// Sets the attributes.
+/// Sets the attributes that written characters get.
 #[unsafe(no_mangle)]
 pub extern "C" fn curspan_wattrset(
     alloc: Global,
@@ -170,7 +173,7 @@ pub extern "C" fn curspan_wattrset(
     screen.call(alloc, &Call::wattrset(WinId(win), attrs_of(attrs)))
 }
 
-/// Adds attributes.
+/// Adds attributes to those that written characters get.
 #[unsafe(no_mangle)]
 pub extern "C" fn curspan_wattron(alloc: Global, screen: &mut Handle, win: u16, attrs: u8) -> Answer
     ensures { Called ⟦<Outlet as Sink>⟧ screen.old.value (Call.Writing (Writing.Attron (record { 0 = win }) (attrs_of attrs))) result screen.new.value }
@@ -178,7 +181,7 @@ pub extern "C" fn curspan_wattron(alloc: Global, screen: &mut Handle, win: u16, 
     screen.call(alloc, &Call::wattron(WinId(win), attrs_of(attrs)))
 }
 
-/// Takes attributes away.
+/// Takes attributes from those that written characters get.
 #[unsafe(no_mangle)]
 pub extern "C" fn curspan_wattroff(
     alloc: Global,
@@ -191,7 +194,7 @@ pub extern "C" fn curspan_wattroff(
     screen.call(alloc, &Call::wattroff(WinId(win), attrs_of(attrs)))
 }
 
-/// Sets the background to a character with attributes, of pair 0.
+/// Sets the background to a character with attributes, of pair 0. No cell is written.
 #[unsafe(no_mangle)]
 pub extern "C" fn curspan_wbkgdset(
     alloc: Global,
@@ -205,7 +208,7 @@ pub extern "C" fn curspan_wbkgdset(
     screen.call(alloc, &Call::wbkgdset(WinId(win), attrs_of(attrs), ch))
 }
 
-/// Sets the colour pair.
+/// Sets the colour pair that written characters get.
 #[unsafe(no_mangle)]
 pub extern "C" fn curspan_wcolor_set(
     alloc: Global,
@@ -218,7 +221,7 @@ pub extern "C" fn curspan_wcolor_set(
     screen.call(alloc, &Call::wcolor_set(WinId(win), pair))
 }
 
-/// Sets the background's colour pair.
+/// Sets the colour pair of the background. No cell is written.
 #[unsafe(no_mangle)]
 pub extern "C" fn curspan_wbkgdpair(
     alloc: Global,
@@ -230,3 +233,5 @@ pub extern "C" fn curspan_wbkgdpair(
 {
     screen.call(alloc, &Call::wbkgdpair(WinId(win), pair))
 }
+
+// End of what tools/calls wrote
