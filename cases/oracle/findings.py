@@ -1,6 +1,6 @@
 """What check says of a script. Of a line that explains itself at length only its beginning is said here."""
 from .calls import CALLS
-from .script import BAD_ARGUMENT, BAD_BYTE, LONGEST_LINE, TOO_LONG, UNKNOWN_CALL, faults_of, lines_of, pieces_of
+from .script import BAD_ARGUMENT, BAD_BYTE, LONGEST_LINE, TOO_LONG, UNKNOWN_CALL, faults_of, is_stray, lines_of, pieces_of
 
 
 def finding(number, line, fault):
@@ -14,9 +14,10 @@ def finding(number, line, fault):
     else:
         word = line.split(b' ')[0].decode()
         forms = CALLS[word][0]
-        given = len(pieces_of(line, forms))
+        pieces = pieces_of(line, forms)
         wanted = f'{len(forms)} argument' + ('' if len(forms) == 1 else 's')
-        what = f'{word} wants ' if fault.kind == BAD_ARGUMENT else f'{word} takes {wanted}, {given} given\n'
+        end = ': ' if any(is_stray(piece) for piece in pieces) else '\n'
+        what = f'{word} wants ' if fault.kind == BAD_ARGUMENT else f'{word} takes {wanted}, {len(pieces)} given{end}'
     return f'line {number}, column {fault.column}: {what}'
 
 

@@ -95,6 +95,11 @@ def pieces_of(line, forms):
     return line.split(b' ')[1:]
 
 
+def is_stray(piece):
+    """Whether an argument is none, or would begin a comment."""
+    return piece == b'' or piece.startswith(b'#')
+
+
 def read_line(line):
     """What a line without its newline says: a Call, None for nothing, or a Fault."""
     if len(line) > LONGEST_LINE:
@@ -113,7 +118,8 @@ def read_line(line):
     for piece in pieces:
         starts.append(starts[-1] + len(piece) + 1)
     if len(pieces) != len(forms):
-        return Fault(WRONG_COUNT, starts[min(len(forms), len(pieces))])
+        strays = [start for piece, start in zip(pieces, starts) if is_stray(piece)]
+        return Fault(WRONG_COUNT, strays[0] if strays else starts[min(len(forms), len(pieces))])
     said = []
     for form, piece, start in zip(forms, pieces, starts):
         try:

@@ -1,5 +1,5 @@
 -- What a person reads about a faulty line. The texts are Curspan's own.
-use Rattle.std.specs.Prelude.{◌==◌, ℕ, List, [], ◌∷◌, ◌++◌, codes, decimal, length, slice_index, if◌then◌else◌}
+use Rattle.std.specs.Prelude.{◌==◌, ℕ, List, [], ◌∷◌, ◌++◌, codes, decimal, length, slice_index, Option, Some, None, if◌then◌else◌}
 use Rattle.std.specs.List.{slice_split}
 use Rattle.std.specs.Option.{option_map_or}
 use Rattle.cell.specs.Attributes.{hex_digits}
@@ -7,8 +7,11 @@ use Rattle.script.specs.Characters.{is_space, newline}
 use Rattle.script.specs.declared.fault.TextFault.{TextFault}
 use Rattle.script.specs.declared.fault.TextFault.TheVariants.{LineTooLong, BadByte, UnknownCall, WrongNumberOfArguments, BadArgument}
 use Rattle.explain.specs.Advice.{call_advice}
-use Rattle.explain.specs.Faults.{IllFormed, arguments_in, bad_place, column_of, find_ill_formed_in, forms_of, word_in}
-use Rattle.explain.specs.Reasons.{byte_advice, reason, requirement}
+use Rattle.explain.specs.Faults.{IllFormed, arguments_in, bad_place, column_of, find_ill_formed_in, find_stray_in, forms_of, word_in}
+use Rattle.explain.specs.Reasons.{begins_with, byte_advice, reason, requirement}
+
+abbrev pub byte_order_mark : List ℕ
+byte_order_mark = 239 ∷ 187 ∷ 191 ∷ []
 
 -- `"`
 abbrev pub quotation_mark : ℕ
@@ -35,14 +38,24 @@ unknown_text word = if length word == 0 then codes "the line begins with a space
 abbrev pub number_text : List ℕ → ℕ → ℕ → List ℕ
 number_text word taken given = word ++ codes " takes " ++ count_text taken ++ codes ", " ++ decimal given ++ codes " given"
 
+-- what is said of a stray argument
+abbrev pub stray_text : Option (ℕ × List ℕ) → List ℕ
+stray_text None = []
+stray_text (Some stray) = if length stray.1 == 0 then codes ": single spaces separate words" else codes ": a comment has a line of its own"
+
+-- what is said of a line with a bad byte
+abbrev pub bad_line_text : List ℕ → List ℕ
+bad_line_text line = if begins_with byte_order_mark line then codes "bad byte ef: a script has no byte order mark"
+    else bad_byte_text (slice_index line (bad_place line))
+
 -- what is said of a fault
 abbrev pub explanation : TextFault → List ℕ → List ℕ
 explanation LineTooLong line = codes "the line is longer than 512 bytes"
-explanation BadByte line = bad_byte_text (slice_index line (bad_place line))
+explanation BadByte line = bad_line_text line
 explanation UnknownCall line = unknown_text (word_in (slice_split is_space line))
 explanation WrongNumberOfArguments line =
     let pieces = slice_split is_space line in
-    number_text (word_in pieces) (length (forms_of (word_in pieces))) (length (arguments_in pieces))
+    number_text (word_in pieces) (length (forms_of (word_in pieces))) (length (arguments_in pieces)) ++ stray_text (find_stray_in pieces)
 explanation BadArgument line =
     let pieces = slice_split is_space line in
     option_map_or (ill_formed_text (word_in pieces)) (find_ill_formed_in pieces) []

@@ -1,9 +1,11 @@
 -- What an argument of a form has to be, and why a byte or an argument is faulty. The texts are Curspan's own.
-use Rattle.std.specs.Prelude.{◌==◌, ℕ, List, [], codes, drop, length, nat_le, slice_index, if◌then◌else◌}
-use Rattle.std.specs.Char.{is_ascii_digit}
-use Rattle.std.specs.List.{list_all, take_while}
+use Rattle.std.specs.Prelude.{◌==◌, ◌&&◌, ℕ, Bool, not, List, [], codes, drop, length, nat_le, slice_index, take, if◌then◌else◌}
+use Rattle.std.specs.Char.{is_ascii_digit, is_ascii_hexdigit, is_ascii_uppercase}
+use Rattle.std.specs.List.{list_all, list_any, take_while}
+use Rattle.std.specs.Str.{bytes_eq}
 use Rattle.std.specs.Str.Parse.{digits_value}
 use Rattle.script.specs.Characters.{carriage_return, digit_0}
+use Rattle.explain.specs.Advice.{names_in}
 use Rattle.script.specs.declared.words.Form.{Form}
 use Rattle.script.specs.declared.words.Form.TheVariants.{Number, NumberOrNone, Signed, Attributes, Flag, Character, Text}
 
@@ -24,18 +26,56 @@ requirement Flag = codes "on or off"
 requirement Character = codes "one character, or one of the escapes \\n, \\r, \\b, \\\\ and \\xhh in lower case"
 requirement Text = codes "a text with no escapes but \\n, \\r, \\b, \\\\ and \\xhh in lower case"
 
--- why digits are no number
-abbrev pub digits_reason : List ℕ → List ℕ
-digits_reason argument = if length argument == 0 then codes ": single spaces separate words"
-    else (if list_all is_ascii_digit argument then (if slice_index argument 0 == digit_0 then codes ": a number has no leading 0" else codes ": it is too great")
+-- ---- why an argument is not what it has to be
+
+-- the text begins with the prefix
+abbrev pub begins_with : List ℕ → List ℕ → Bool
+begins_with prefix text = bytes_eq (take (length prefix) text) prefix
+
+abbrev pub are_digits : List ℕ → Bool
+are_digits text = list_all is_ascii_digit text && not (length text == 0)
+
+-- why digits are no number: but for a leading 0 this is said
+abbrev pub digits_reason : List ℕ → List ℕ → List ℕ
+digits_reason said digits = if slice_index digits 0 == digit_0 then codes ": a number has no leading 0" else said
+
+-- of a number without a sign
+abbrev pub unsigned_reason : List ℕ → List ℕ
+unsigned_reason argument = if are_digits argument then digits_reason (codes ": it is too great") argument
+    else (if begins_with (codes "-") argument then codes ": it has no minus"
+    else (if begins_with (codes "0x") argument then codes ": a number is decimal"
+    else []))
+
+-- of one with a minus or without
+abbrev pub signed_reason : List ℕ → List ℕ
+signed_reason argument = if begins_with (codes "-") argument
+    then (if are_digits (drop 1 argument) then digits_reason (codes ": it is too small") (drop 1 argument) else [])
+    else unsigned_reason argument
+
+-- two hexadecimal digits, in lower case or upper case
+abbrev pub are_two_digits : List ℕ → Bool
+are_two_digits text = length text == 2 && list_all is_ascii_hexdigit text
+
+abbrev pub attributes_reason : List ℕ → List ℕ
+attributes_reason argument = if not (are_two_digits argument) then codes ": 01 is bold, 02 dim, 04 underline, 08 blink, 10 reverse, 20 invisible"
+    else (if list_any is_ascii_uppercase argument then codes ": the digits are in lower case"
+    else codes ": it is too great")
+
+abbrev pub flag_reason : List ℕ → List ℕ
+flag_reason argument = if list_any (bytes_eq argument) (names_in (codes "ON On TRUE True true YES Yes yes 1")) then codes ": write on"
+    else (if list_any (bytes_eq argument) (names_in (codes "OFF Off FALSE False false NO No no 0")) then codes ": write off"
     else [])
 
+-- Where there is no argument, two spaces are in a row, or one is at the line's end.
+abbrev pub unless_missing : List ℕ → List ℕ → List ℕ
+unless_missing said argument = if length argument == 0 then codes ": single spaces separate words" else said
+
 abbrev pub reason : Form → List ℕ → List ℕ
-reason Number argument = digits_reason argument
-reason NumberOrNone argument = digits_reason argument
-reason Signed argument = digits_reason argument
-reason Attributes argument = []
-reason Flag argument = []
+reason Number argument = unless_missing (unsigned_reason argument) argument
+reason NumberOrNone argument = unless_missing (unsigned_reason argument) argument
+reason Signed argument = unless_missing (signed_reason argument) argument
+reason Attributes argument = unless_missing (attributes_reason argument) argument
+reason Flag argument = unless_missing (flag_reason argument) argument
 reason Character argument = []
 reason Text argument = []
 

@@ -51,7 +51,7 @@ const ADVICE: [Row; 22] = [
 ];
 
 /// Whether a name is one of some.
-fn is_among(name: &[u8], mut names: &[&[u8]]) -> bool
+pub fn is_among(name: &[u8], mut names: &[&[u8]]) -> bool
     ensures { result ≡ list_any (bytes_eq name.now) (names_now names.entry.now) }
 {
     while let [first, rest @ ..] = names {

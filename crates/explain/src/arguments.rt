@@ -1,9 +1,9 @@
-//! The arguments of a faulty line: how many there are, and the first that lacks its form.
+//! The arguments of a faulty line: how many there are, the first that lacks its form, and the first that is none.
 
 ghost use Rattle.std.specs.Prelude.{◌≡◌, ◌≤◌, ◌+◌, IfSome, length, option_map};
 ghost use Rattle.script.specs.Pieces.{pieces_of, room_of};
 ghost use Rattle.script.specs.Readings.{arguments};
-ghost use Rattle.explain.specs.Faults.{IllFormed as Ill, find_ill_formed, forms_of, has_form};
+ghost use Rattle.explain.specs.Faults.{IllFormed as Ill, find_ill_formed, find_stray, forms_of, has_form, is_stray};
 
 use script::{Arguments, Form, LONGEST_LINE, MOST_ARGUMENTS, Word, next_argument, split_at_space};
 
@@ -73,5 +73,48 @@ pub fn find_ill_formed<'a>(
             }
         }
         _ => None,
+    }
+}
+
+/// An argument that is none, or that would begin a comment, and its column.
+#[derive(Clone, Copy)]
+pub struct Stray<'a> {
+    pub column: usize,
+    pub argument: &'a [u8],
+}
+
+/// Whether an argument is that.
+fn is_stray(argument: &[u8]) -> bool
+    ensures { result ≡ is_stray argument.now }
+{
+    match argument.first() {
+        Some(first) => *first == b'#',
+        None => true,
+    }
+}
+
+/// The first stray argument.
+pub fn find_stray<'a>(column: usize, forms: &[Form], text: Option<&'a [u8]>) -> Option<Stray<'a>>
+    requires short { IfSome text (λ t. column + length t.now ≤ LONGEST_LINE + 2) }
+    ensures { option_map (λ stray. (stray.column, stray.argument.now)) result ≡ find_stray column (arguments forms.now (pieces_of text.entry)) }
+{
+    let Some(text) = text else { return None };
+    match forms.split_first() {
+        Some((form, others)) => {
+            let (argument, rest) = next_argument(*form, text);
+            if is_stray(argument) {
+                Some(Stray { column, argument })
+            } else {
+                find_stray(column + argument.len() + 1, others, rest)
+            }
+        }
+        None => {
+            let (argument, rest) = split_at_space(text);
+            if is_stray(argument) {
+                Some(Stray { column, argument })
+            } else {
+                find_stray(column + argument.len() + 1, &[], rest)
+            }
+        }
     }
 }

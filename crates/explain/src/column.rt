@@ -6,7 +6,7 @@ ghost use Rattle.script.specs.Pieces.{pieces_of};
 ghost use Rattle.script.specs.Readings.{arguments};
 ghost use Rattle.explain.specs.Faults.{bad_place, column_after, column_of};
 
-use crate::arguments::{find_ill_formed, forms_of};
+use crate::arguments::{find_ill_formed, find_stray, forms_of};
 use cell::is_printable;
 use script::{Form, LONGEST_LINE, TextFault, next_argument, split_at_space};
 
@@ -63,7 +63,14 @@ pub fn column_of(fault: TextFault, line: &[u8]) -> usize
         TextFault::LineTooLong => LONGEST_LINE + 1,
         TextFault::BadByte => bad_place(line) + 1,
         TextFault::UnknownCall => 1,
-        TextFault::WrongNumberOfArguments => column_after(word.len() + 2, forms_of(word), text),
+        TextFault::WrongNumberOfArguments => match find_stray(
+            word.len() + 2,
+            forms_of(word),
+            text,
+        ) {
+            Some(stray) => stray.column,
+            None => column_after(word.len() + 2, forms_of(word), text),
+        },
         TextFault::BadArgument => match find_ill_formed(word.len() + 2, forms_of(word), text) {
             Some(ill) => ill.column,
             None => 1,

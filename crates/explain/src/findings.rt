@@ -1,12 +1,12 @@
 //! What a person reads about a faulty line: where its fault is, what is there, and what is wanted.
 
-ghost use Rattle.std.specs.Prelude.{◌≡◌, ◌≤◌, ◌+◌, ◌++◌, ◌<◌, codes, decimal, length};
+ghost use Rattle.std.specs.Prelude.{◌≡◌, ◌≤◌, ◌+◌, ◌++◌, ◌<◌, codes, decimal, length, option_map};
 ghost use Rattle.explain.specs.Advice.{call_advice};
 ghost use Rattle.explain.specs.Faults.{IllFormed as Ill};
-ghost use Rattle.explain.specs.Explanations.{bad_byte_text, count_text, explanation, finding, ill_formed_text, number_text, quotation, unknown_text};
+ghost use Rattle.explain.specs.Explanations.{bad_byte_text, bad_line_text, count_text, explanation, finding, ill_formed_text, number_text, quotation, stray_text, unknown_text};
 
 use crate::advice::{advice_on, call_after_prefix};
-use crate::arguments::{IllFormed, count, find_ill_formed, forms_of};
+use crate::arguments::{IllFormed, Stray, count, find_ill_formed, find_stray, forms_of};
 use crate::column::{bad_byte, column_of};
 use crate::reasons::{byte_advice, reason, requirement};
 use arrayvec::ArrayVec;
@@ -123,7 +123,7 @@ fn append_number(text: &mut Finding, word: &[u8], wanted: usize, given: usize)
     requires room { length text.old.items ≤ 64 }
     requires word { length word.now ≤ LONGEST_LINE }
     ensures text { text.new.items ≡ text.old.items ++ number_text word.now wanted given }
-    ensures short { length text.new.items < FINDING_ROOM }
+    ensures short { length text.new.items < 1024 }
 {
     append(text, word);
     append(text, b" takes ");
@@ -131,6 +131,30 @@ fn append_number(text: &mut Finding, word: &[u8], wanted: usize, given: usize)
     append(text, b", ");
     append_decimal(text, given as u64);
     append(text, b" given");
+}
+
+/// What is said of a stray argument.
+fn stray_text(stray: Option<Stray<'_>>) -> &'static [u8]
+    ensures text { result.now ≡ stray_text (option_map (λ s. (s.column, s.argument.now)) stray.entry) }
+    ensures short { length result.now ≤ 80 }
+{
+    match stray {
+        None => b"",
+        Some(stray) if stray.argument.is_empty() => b": single spaces separate words",
+        Some(_) => b": a comment has a line of its own",
+    }
+}
+
+/// Appends what is said of a line with a bad byte.
+fn append_bad_line(text: &mut Finding, line: &[u8])
+    requires { length text.old.items ≤ 64 }
+    ensures text { text.new.items ≡ text.old.items ++ bad_line_text line.now }
+    ensures short { length text.new.items < FINDING_ROOM }
+{
+    if line.strip_prefix(b"\xef\xbb\xbf").is_some() {
+        return append(text, b"bad byte ef: a script has no byte order mark");
+    }
+    append_bad_byte(text, bad_byte(line));
 }
 
 /// Appends what is said of a fault.
@@ -143,11 +167,15 @@ fn append_explanation(text: &mut Finding, fault: TextFault, line: &[u8])
     let (word, arguments) = split_at_space(line);
     match fault {
         TextFault::LineTooLong => append(text, b"the line is longer than 512 bytes"),
-        TextFault::BadByte => append_bad_byte(text, bad_byte(line)),
+        TextFault::BadByte => append_bad_line(text, line),
         TextFault::UnknownCall => append_unknown(text, word),
         TextFault::WrongNumberOfArguments => {
             let forms = forms_of(word);
             append_number(text, word, forms.len(), count(forms, arguments));
+            append(
+                text,
+                stray_text(find_stray(word.len() + 2, forms, arguments)),
+            );
         }
         TextFault::BadArgument => {
             if let Some(ill) = find_ill_formed(word.len() + 2, forms_of(word), arguments) {

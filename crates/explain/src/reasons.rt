@@ -1,8 +1,11 @@
 //! What an argument of a form has to be, and why a byte or an argument is faulty.
 
 ghost use Rattle.std.specs.Prelude.{◌≡◌, ◌≤◌, length};
-ghost use Rattle.explain.specs.Reasons.{byte_advice, digits_reason, reason, requirement};
+ghost use Rattle.std.specs.Char.{is_ascii_hexdigit, is_ascii_uppercase};
+ghost use Rattle.std.specs.List.{list_all, list_any};
+ghost use Rattle.explain.specs.Reasons.{are_digits, are_two_digits, attributes_reason, byte_advice, digits_reason, flag_reason, reason, requirement, signed_reason, unless_missing, unsigned_reason};
 
+use crate::advice::is_among;
 use script::{Form, has_digits_alone};
 
 /// What is said of a bad byte: a carriage return, a tab, a byte beyond ASCII, or another.
@@ -35,31 +38,133 @@ pub fn requirement(form: Form) -> &'static [u8]
     }
 }
 
-/// Why digits are no number.
-fn digits_reason(argument: &[u8]) -> &'static [u8]
-    ensures text { result.now ≡ digits_reason argument.now }
-    ensures short { length result.now ≤ 40 }
+/// Why digits are no number: but for a leading 0 this is said.
+fn digits_reason(said: &'static [u8], digits: &[u8]) -> &'static [u8]
+    requires { length said.now ≤ 80 }
+    ensures text { result.now ≡ digits_reason said.now digits.now }
+    ensures short { length result.now ≤ 80 }
 {
-    match argument.first() {
-        None => b": single spaces separate words",
-        Some(first) if has_digits_alone(argument) => {
-            if *first == b'0' {
-                b": a number has no leading 0"
-            } else {
-                b": it is too great"
-            }
-        }
+    match digits.first() {
+        Some(first) if *first == b'0' => b": a number has no leading 0",
+        _ => said,
+    }
+}
+
+/// Whether a text has digits, and nothing else.
+fn are_digits(text: &[u8]) -> bool
+    ensures { result ≡ are_digits text.now }
+{
+    has_digits_alone(text) && !text.is_empty()
+}
+
+/// Why an argument is no number without a sign.
+fn unsigned_reason(argument: &[u8]) -> &'static [u8]
+    ensures text { result.now ≡ unsigned_reason argument.now }
+    ensures short { length result.now ≤ 80 }
+{
+    if are_digits(argument) {
+        return digits_reason(b": it is too great", argument);
+    }
+    if argument.strip_prefix(b"-").is_some() {
+        return b": it has no minus";
+    }
+    if argument.strip_prefix(b"0x").is_some() {
+        return b": a number is decimal";
+    }
+    b""
+}
+
+/// Why it is no number with a minus or without.
+fn signed_reason(argument: &[u8]) -> &'static [u8]
+    ensures text { result.now ≡ signed_reason argument.now }
+    ensures short { length result.now ≤ 80 }
+{
+    match argument.strip_prefix(b"-") {
+        Some(digits) if are_digits(digits) => digits_reason(b": it is too small", digits),
         Some(_) => b"",
+        None => unsigned_reason(argument),
+    }
+}
+
+/// Whether all bytes of a text are hexadecimal digits.
+fn are_hexadecimal(text: &[u8]) -> bool
+    ensures { result ≡ list_all is_ascii_hexdigit text.now }
+{
+    text.iter().all(|b| b.is_ascii_hexdigit())
+}
+
+/// Whether a text is two hexadecimal digits, in lower case or upper case.
+fn are_two_digits(text: &[u8]) -> bool
+    ensures { result ≡ are_two_digits text.now }
+{
+    text.len() == 2 && are_hexadecimal(text)
+}
+
+/// Whether a text has a letter in upper case.
+fn has_upper_case(text: &[u8]) -> bool
+    ensures { result ≡ list_any is_ascii_uppercase text.now }
+{
+    text.iter().any(|b| b.is_ascii_uppercase())
+}
+
+/// Why it is no set of attributes.
+fn attributes_reason(argument: &[u8]) -> &'static [u8]
+    ensures text { result.now ≡ attributes_reason argument.now }
+    ensures short { length result.now ≤ 80 }
+{
+    if !are_two_digits(argument) {
+        b": 01 is bold, 02 dim, 04 underline, 08 blink, 10 reverse, 20 invisible"
+    } else if has_upper_case(argument) {
+        b": the digits are in lower case"
+    } else {
+        b": it is too great"
+    }
+}
+
+/// What others write for `on`, and for `off`.
+#[rattlefmt::skip]
+const ON: [&[u8]; 9] = [b"ON", b"On", b"TRUE", b"True", b"true", b"YES", b"Yes", b"yes", b"1"];
+
+#[rattlefmt::skip]
+const OFF: [&[u8]; 9] = [b"OFF", b"Off", b"FALSE", b"False", b"false", b"NO", b"No", b"no", b"0"];
+
+/// Why it is neither `on` nor `off`.
+fn flag_reason(argument: &[u8]) -> &'static [u8]
+    ensures text { result.now ≡ flag_reason argument.now }
+    ensures short { length result.now ≤ 80 }
+{
+    if is_among(argument, &ON) {
+        b": write on"
+    } else if is_among(argument, &OFF) {
+        b": write off"
+    } else {
+        b""
+    }
+}
+
+/// What is said of an argument, unless there is none.
+fn unless_missing(said: &'static [u8], argument: &[u8]) -> &'static [u8]
+    requires { length said.now ≤ 80 }
+    ensures text { result.now ≡ unless_missing said.now argument.now }
+    ensures short { length result.now ≤ 80 }
+{
+    if argument.is_empty() {
+        b": single spaces separate words"
+    } else {
+        said
     }
 }
 
 /// Why an argument lacks its form, where more is to be said than the form.
 pub fn reason(form: Form, argument: &[u8]) -> &'static [u8]
     ensures text { result.now ≡ reason form argument.now }
-    ensures short { length result.now ≤ 40 }
+    ensures short { length result.now ≤ 80 }
 {
     match form {
-        Form::Number | Form::NumberOrNone | Form::Signed => digits_reason(argument),
-        Form::Attributes | Form::Flag | Form::Character | Form::Text => b"",
+        Form::Number | Form::NumberOrNone => unless_missing(unsigned_reason(argument), argument),
+        Form::Signed => unless_missing(signed_reason(argument), argument),
+        Form::Attributes => unless_missing(attributes_reason(argument), argument),
+        Form::Flag => unless_missing(flag_reason(argument), argument),
+        Form::Character | Form::Text => b"",
     }
 }
