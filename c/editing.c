@@ -48,8 +48,8 @@ static bool moves_cursor(uint8_t byte) { return byte == '\n' || byte == '\r' || 
 /* Moves the cursor as in a written text, from behind the line where the row has filled it. It answers whether it is still there. */
 static bool stays_behind(WINDOW *win, const row *row, uint8_t byte) {
     bool is_behind = row->to == row->columns;
+    if (is_behind) win->reach = byte == '\b' ? UNKNOWN : ENDED;
     if (is_behind && byte == '\b') return false;
-    if (is_behind) win->reach = ENDED;
     return curspan_add_any(win, byte) == ERR && is_behind;
 }
 

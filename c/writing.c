@@ -159,10 +159,18 @@ static size_t run_of(const char *text, size_t length) {
     return count;
 }
 
+/* Whether a text surely comes to an end above the last line where its window ends. Each newline, and each line that it fills, is one down. */
+static bool ends_above(const WINDOW *win, const char *text, size_t length) {
+    if (win->begun.count > 0 || win->reach == ENDED) return false;
+    if (win->scrolls && win->bottom == (int)win->lines - 1) return true;
+    curspan_answer place = curspan_getyx(SCREEN_AND(win));
+    size_t lines = (place.second + length) / win->columns;
+    for (const char *at = text; (at = memchr(at, '\n', (size_t)(text + length - at))); at++) lines++;
+    return place.first + lines < (size_t)win->bottom;
+}
+
 /* Writes a text piece by piece. */
-static int add_pieces(WINDOW *win, const char *text, size_t length) {
-    if (is_there(win) == ERR || curspan_tell(win, win->attrs) == ERR) return ERR;
-    curspan_check_begun(win);
+static int add_each_piece(WINDOW *win, const char *text, size_t length) {
     for (size_t from = 0, run; from < length; from += run) {
         run = win->begun.count > 0 ? 0 : run_of(text + from, length - from);
         if (run > 0 && add_run(win, (const uint8_t *)text + from, run) == ERR) return ERR;
@@ -170,6 +178,17 @@ static int add_pieces(WINDOW *win, const char *text, size_t length) {
         if (run == 0) run = 1;
     }
     return OK;
+}
+
+/* Writes a text of lines, or one that isn't printable, or comes to the window's end. */
+static int add_pieces(WINDOW *win, const char *text, size_t length) {
+    if (is_there(win) == ERR || curspan_tell(win, win->attrs) == ERR) return ERR;
+    curspan_check_begun(win);
+    if (ends_above(win, text, length) && curspan_waddstr(SCREEN_AND(win), (const uint8_t *)text, length).status == CURSPAN_OK) {
+        win->reach = UNKNOWN;
+        return OK;
+    }
+    return add_each_piece(win, text, length);
 }
 
 bool curspan_fits_at_end(const WINDOW *win, size_t length) {
