@@ -38,10 +38,7 @@ int wattr_get(WINDOW *win, attr_t *attrs, short *pair, void *none) {
 
 int wcolor_set(WINDOW *win, short pair, void *none) { return is_there(win) == ERR ? ERR : wattr_set(win, win->attrs, pair, none); }
 
-static int set_pair(WINDOW *win, int pair) {
-    curspan_use_pair(pair);
-    return done(curspan_wcolor_set(SCREEN_AND(win), (uint16_t)pair));
-}
+static int set_pair(WINDOW *win, int pair) { return done(curspan_wcolor_set(SCREEN_AND(win), (uint16_t)curspan_use_pair(pair))); }
 
 int curspan_tell_other(WINDOW *win, attr_t attrs) {
     attr_t changed = win->given ^ attrs;
@@ -56,8 +53,7 @@ int curspan_tell_other(WINDOW *win, attr_t attrs) {
 
 int curspan_set_background(WINDOW *win, chtype ch) {
     if (done(curspan_wbkgdset(SCREEN_AND(win), bits_of(ch), (uint8_t)(ch & A_CHARTEXT))) == ERR) return ERR;
-    curspan_use_pair(PAIR_NUMBER(ch));
-    return done(curspan_wbkgdpair(SCREEN_AND(win), (uint16_t)PAIR_NUMBER(ch)));
+    return done(curspan_wbkgdpair(SCREEN_AND(win), (uint16_t)curspan_use_pair(PAIR_NUMBER(ch))));
 }
 
 /* A background's character, where it has one, and else the space. */

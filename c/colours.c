@@ -12,24 +12,40 @@ enum {
 };
 
 static short colours[LAST_PAIR + 1][2]; /* what the program gave */
-static bool is_given[LAST_PAIR + 1], may_be_shown[LAST_PAIR + 1], has_pairs;
+static bool is_given[LAST_PAIR + 1], has_pairs;
+static uint8_t owns[LAST_PAIR + 1]; /* the pair of curspan.h that stands for one which may be shown, or 0 */
+static uint8_t pairs[LAST_OWN + 1]; /* and which one that is */
 bool curspan_has_default_colours;
 
 void curspan_forget_colours(void) {
     memset(colours, 0, sizeof colours);
     memset(is_given, 0, sizeof is_given);
-    memset(may_be_shown, 0, sizeof may_be_shown);
+    memset(owns, 0, sizeof owns);
+    memset(pairs, 0, sizeof pairs);
     has_pairs = curspan_has_default_colours = false;
 }
 
 void curspan_number_pairs(curspan *screen) {
-    for (int pair = 1; pair <= LAST_PAIR; pair++) curspan_init_pair(screen, (uint16_t)pair, (uint16_t)(pair / EIGHT), (uint16_t)(pair % EIGHT));
+    for (int own = 1; own <= LAST_OWN; own++) curspan_init_pair(screen, (uint16_t)own, (uint16_t)(own / EIGHT), (uint16_t)(own % EIGHT));
 }
 
-void curspan_use_pair(int pair) {
-    may_be_shown[pair] = true;
-    has_pairs |= pair > 0;
+/* A pair of curspan.h that stands for none: that of the same number, or the last one. */
+static int free_own(int pair) {
+    int own = pair <= LAST_OWN && !pairs[pair] ? pair : LAST_OWN;
+    while (own > 0 && pairs[own]) own--;
+    return own;
 }
+
+int curspan_use_pair(int pair) {
+    int own = pair == 0 || owns[pair] ? owns[pair] : free_own(pair);
+    if (own == 0) return 0;
+    has_pairs = true;
+    owns[pair] = (uint8_t)own;
+    pairs[own] = (uint8_t)pair;
+    return own;
+}
+
+int curspan_pair_of(int own) { return pairs[own]; }
 
 int start_color(void) { return stdscr ? OK : ERR; }
 bool has_colors(void) { return stdscr != NULL; }
@@ -65,7 +81,7 @@ static bool is_colour(int colour) { return colour < EIGHT && colour >= (curspan_
 int init_pair(short pair, short foreground, short background) {
     if (!stdscr || pair < 1 || pair > LAST_PAIR || !is_colour(foreground) || !is_colour(background)) return ERR;
     bool are_others = colours[pair][0] != foreground || colours[pair][1] != background;
-    if (is_given[pair] && may_be_shown[pair] && are_others) curspan_invalidate(&curspan_the_screen);
+    if (is_given[pair] && owns[pair] && are_others) curspan_invalidate(&curspan_the_screen);
     colours[pair][0] = foreground;
     colours[pair][1] = background;
     is_given[pair] = true;
@@ -95,7 +111,7 @@ static uint8_t digit_of(int pair, int which) {
 /* Gives a selection of a rendition, which ends there, the colours of its pair, if it has one: it ends as 3f;4bm. */
 static void recolour(uint8_t *end) {
     if (end[-6] != ';' || end[-5] != '3' || end[-3] != ';' || end[-2] != '4') return;
-    int pair = (end[-4] - '0') * EIGHT + end[-1] - '0';
+    int pair = pairs[(end[-4] - '0') * EIGHT + end[-1] - '0'];
     end[-4] = digit_of(pair, 0);
     end[-1] = digit_of(pair, 1);
 }

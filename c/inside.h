@@ -9,7 +9,8 @@
 enum {
     MOST = 1001,     /* windows with the standard screen, and panels with none */
     NUMBER = 65535,  /* the greatest number that crosses to curspan.h */
-    LAST_PAIR = 63,
+    LAST_PAIR = 255, /* of a program */
+    LAST_OWN = 63,   /* of curspan.h */
     LONGEST = 1000   /* the longest line of a window or pad */
 };
 
@@ -172,8 +173,10 @@ void curspan_forget_panels(void);
 void curspan_number_pairs(curspan *screen);
 /* Forgets the colours of pairs. */
 void curspan_forget_colours(void);
-/* Notes that cells may have a pair. */
-void curspan_use_pair(int pair);
+/* The pair of curspan.h that stands for one of the program, from then on. There are 63: where all stand for others it is 0. */
+int curspan_use_pair(int pair);
+/* The program's pair that one of curspan.h stands for. */
+int curspan_pair_of(int own);
 /* Puts the colours that pairs have now into bytes for the terminal. */
 void curspan_recolour(uint8_t *bytes, size_t length);
 /* The terminal's own colours are in pairs too, as the colour -1. */

@@ -157,7 +157,7 @@ static int make_all(void) {
 
 static void set_background(curspan *screen, uint16_t number, chtype ch) {
     curspan_wbkgdset(screen, number, CURSPAN_ATTRIBUTES(ch), CURSPAN_CHARACTER(ch));
-    curspan_wbkgdpair(screen, number, CURSPAN_PAIR(ch));
+    curspan_wbkgdpair(screen, number, (uint16_t)curspan_use_pair(PAIR_NUMBER(ch)));
 }
 
 /* Brings n cells of a line to a window of another screen. */

@@ -58,7 +58,8 @@ int curspan_read_cells(WINDOW *win, int y, int x, chtype *cells, int n) {
 
 chtype winch(WINDOW *win) {
     curspan_answer answer = curspan_winch(SCREEN_AND(win));
-    return answer.status == CURSPAN_OK ? answer.first : (chtype)ERR;
+    if (answer.status != CURSPAN_OK) return (chtype)ERR;
+    return (answer.first & ~A_COLOR) | COLOR_PAIR(curspan_pair_of(CURSPAN_PAIR(answer.first)));
 }
 
 int winchnstr(WINDOW *win, chtype *row, int n) {

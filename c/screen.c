@@ -12,7 +12,7 @@
 #include <unistd.h>
 
 int LINES, COLS;
-int COLORS = 8, COLOR_PAIRS = LAST_PAIR + 1;
+int COLORS = 8, COLOR_PAIRS = LAST_OWN + 1;
 curspan curspan_the_screen = CURSPAN_INIT;
 
 static bool ignores_environment;

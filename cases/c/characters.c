@@ -30,6 +30,15 @@ int main(void) {
         mvaddstr(5 + pair, 0, "pair");
         attroff(COLOR_PAIR(pair));
     }
+    /* Pairs above 63, as ncurses has them with the terminal's own colours, and what is read back of them. */
+    for (short pair = 64; pair < 72; pair++) {
+        init_pair(pair, (short)(pair - 64), -1);
+        mvaddch(14, pair - 64, 'p' | COLOR_PAIR(pair));
+    }
+    init_pair(63, COLOR_CYAN, COLOR_RED);
+    mvaddch(14, 10, 'q' | COLOR_PAIR(63));
+    mvchgat(14, 3, 1, A_BOLD, 70, NULL);
+    mvprintw(15, 0, "pairs %d %d %d", PAIR_NUMBER(mvinch(14, 0)), PAIR_NUMBER(mvinch(14, 3)), PAIR_NUMBER(mvinch(14, 10)));
     mvaddstr(11, 0, unctrl('\x01'));
     refresh();
     shot();
