@@ -9,7 +9,8 @@ static chtype laid_over(chtype cell, chtype background) {
     return (cell & A_CHARTEXT) | colour_of(pair) | ((cell | background) & A_ATTRIBUTES & ~A_COLOR);
 }
 
-/* Lays the cells of one line of a window that aren't spaces over one of another: n of them, and each where it is another one. */
+/* Lays the cells of one line of a window that aren't spaces over one of another: n of them, and each where it is
+   another one. */
 static int lay_line(WINDOW *from, int from_y, int from_x, WINDOW *to, int to_y, int to_x, int n) {
     chtype over[LONGEST], under[LONGEST];
     curspan_read_cells(from, from_y, from_x, over, n);

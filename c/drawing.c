@@ -11,7 +11,8 @@ void curspan_begin_map(void) {
     for (size_t i = 0; mapped[i]; i += 2) acs_map[(unsigned char)mapped[i]] = (unsigned char)mapped[i + 1];
 }
 
-/* What a character is in a window: with the window's attributes and those of its background, which a blank one takes whole. */
+/* What a character is in a window: with the window's attributes and those of its background, which a blank one takes
+   whole. */
 static chtype rendered(const WINDOW *win, chtype ch) {
     chtype text = ch == ' ' ? win->background & A_CHARTEXT : ch & A_CHARTEXT;
     chtype pair = ch & A_COLOR ? ch : win->attrs & A_COLOR ? win->attrs : win->background;

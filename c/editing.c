@@ -15,8 +15,8 @@ static void append(row *row, const uint8_t *text, int count) {
     for (int i = 0; i < count && row->to < row->columns; i++) row->text[row->to++] = text[i];
 }
 
-/* Appends a byte as it is spelled: a tab as spaces, another control character as a caret and a letter, and nothing of one that breaks off a
-   character. */
+/* Appends a byte as it is spelled: a tab as spaces, another control character as a caret and a letter, and nothing
+   of one that breaks off a character. */
 static void append_byte(row *row, curspan_unfinished *begun, uint8_t byte) {
     const uint8_t control[2] = {'^', byte ^ 64};
     if (begun->count > 0 || byte > 127) {
@@ -45,7 +45,8 @@ static int insert_row(WINDOW *win, row *row, bool has_attributes) {
 
 static bool moves_cursor(uint8_t byte) { return byte == '\n' || byte == '\r' || byte == '\b'; }
 
-/* Moves the cursor as in a written text, from behind the line where the row has filled it. It answers whether it is still there. */
+/* Moves the cursor as in a written text, from behind the line where the row has filled it. It answers whether it is
+   still there. */
 static bool stays_behind(WINDOW *win, const row *row, uint8_t byte) {
     bool is_behind = row->to == row->columns;
     if (is_behind) win->reach = byte == '\b' ? UNKNOWN : ENDED;

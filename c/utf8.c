@@ -1,5 +1,5 @@
-/* Characters that aren't ASCII. A window has none of them: they come as UTF-8, and each is drawn by a letter or a question mark in as many
-   columns as it takes. Nothing here is proved. */
+/* Characters that aren't ASCII. A window has none of them: they come as UTF-8, and each is drawn by a letter or a
+   question mark in as many columns as it takes. Nothing here is proved. */
 #include "inside.h"
 #include "widths.h"
 
@@ -26,8 +26,8 @@ static bool is_in(const uint32_t ranges[][2], size_t count, uint32_t character) 
 
 #define IS_IN(ranges, character) is_in(ranges, sizeof ranges / sizeof ranges[0], character)
 
-/* How many bytes a character has that begins with this one, and 0 where none does. There were longer ones than there are characters, and what
-   begins as they did is waited for. */
+/* How many bytes a character has that begins with this one, and 0 where none does. There were longer ones than there
+   are characters, and what begins as they did is waited for. */
 static int length_by(uint8_t first) {
     static const uint8_t begins[] = {0xc2, 0xe0, 0xf0, 0xf8, 0xfc};
     int length = 1;
@@ -61,7 +61,8 @@ static curspan_spelling drawn(uint32_t character) {
     return one;
 }
 
-/* A byte that is no part of a character, as ncurses spells it; one that could have been a character by itself is a blank. */
+/* A byte that is no part of a character, as ncurses spells it; one that could have been a character by itself is a
+   blank. */
 static curspan_spelling spelled(uint8_t byte) {
     curspan_spelling blank = {{' '}, 1, false}, control = {{'^', byte ^ 64}, 2, false};
     curspan_spelling high = {{'~', byte == 255 ? '?' : byte - 64}, 2, false}, meta = {{'M', '-', byte & 127}, 3, false};

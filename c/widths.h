@@ -1,5 +1,5 @@
-/* The characters of Unicode 15 that take no column or two, as wcwidth of the GNU C library has them: first and last ones of ranges. What
-   lies between two of a range and is no character is counted with it. */
+/* The characters of Unicode 15 that take no column or two, as wcwidth of the GNU C library has them: first and last
+   ones of ranges. What lies between two of a range and is no character is counted with it. */
 #ifndef CURSPAN_WIDTHS_H
 #define CURSPAN_WIDTHS_H
 

@@ -25,8 +25,8 @@ void curspan_set_limit(WINDOW *win) {
     win->limit = win->given == win->attrs && win->begun.count == 0 ? limit_of(win) : NOT_READY;
 }
 
-/* How many characters fit before the last place, where writing stops: that of the window, or of the scroll region where the cursor is above
-   its end. A region that scrolls has none. */
+/* How many characters fit before the last place, where writing stops: that of the window, or of the scroll region
+   where the cursor is above its end. A region that scrolls has none. */
 static int room_of(const WINDOW *win, int y, int x) {
     int columns = (int)win->columns;
     if (win->scrolls && y <= win->bottom) return MANY;
@@ -67,8 +67,8 @@ static int leave_line(WINDOW *win, int y) {
     return wmove(win, least(y + 1, (int)win->lines - 1), 0);
 }
 
-/* Clears the rest of the line, but not what has ended it, and goes to the next one. On the last line of a window that doesn't scroll the
-   cursor stays. */
+/* Clears the rest of the line, but not what has ended it, and goes to the next one. On the last line of a window
+   that doesn't scroll the cursor stays. */
 static int end_line(WINDOW *win) {
     int y = getcury(win);
     bool has_ended = win->reach == ENDED, stays = y == win->bottom && !win->scrolls;
@@ -117,7 +117,8 @@ static int add_part(WINDOW *win, uint8_t byte) {
     return add_run(win, spelling.text, (size_t)spelling.count);
 }
 
-/* Writes a character that isn't printable, or one after a part of another, with the attributes that Curspan got last. */
+/* Writes a character that isn't printable, or one after a part of another, with the attributes that Curspan got
+   last. */
 static int add_spelled(WINDOW *win, uint8_t ch, bool has_attributes) {
     const uint8_t control[2] = {'^', ch ^ 64};
     if (win->begun.count > 0 || ch > 127) return add_part(win, ch);
@@ -159,7 +160,8 @@ static size_t run_of(const char *text, size_t length) {
     return count;
 }
 
-/* Whether a text surely comes to an end above the last line where its window ends. Each newline, and each line that it fills, is one down. */
+/* Whether a text surely comes to an end above the last line where its window ends. Each newline, and each line that
+   it fills, is one down. */
 static bool ends_above(const WINDOW *win, const char *text, size_t length) {
     if (win->begun.count > 0 || win->reach == ENDED) return false;
     if (win->scrolls && win->bottom == (int)win->lines - 1) return true;
@@ -197,7 +199,8 @@ bool curspan_fits_at_end(const WINDOW *win, size_t length) {
     return length <= (size_t)room_of(win, (int)place.first, (int)place.second);
 }
 
-/* Writes a text of one line at once, where it fits before the last place of a window that is ready, and all its characters are printable. */
+/* Writes a text of one line at once, where it fits before the last place of a window that is ready, and all its
+   characters are printable. */
 static inline bool is_written(WINDOW *win, const char *text, size_t length) {
     bool surely_fits = win && win->reach < win->limit && length <= win->columns;
     if (!surely_fits && !curspan_fits_at_end(win, length)) return false;

@@ -1,5 +1,5 @@
-/* Text that isn't ASCII: over ncurses of wide characters what is seen in each place is made a letter or a question mark before it is
-   compared. */
+/* Text that isn't ASCII: over ncurses of wide characters what is seen in each place is made a letter or a question
+   mark before it is compared. */
 #include "shot.h"
 
 #include <locale.h>

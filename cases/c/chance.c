@@ -1,5 +1,5 @@
-/* Calls by chance, on windows that overlap: what they answer, what is in the windows and what is shown. Where ncurses is known to do otherwise
-   (curspan(3)), no call is made. */
+/* Calls by chance, on windows that overlap: what they answer, what is in the windows and what is shown. Where
+   ncurses is known to do otherwise (curspan(3)), no call is made. */
 #include "shot.h"
 
 enum { WINDOWS = 8, ROUNDS = 12, CALLS = 150 };
