@@ -223,13 +223,20 @@ static void bring(WINDOW *win) {
     curspan_wmove(remake.to, to, (uint16_t)y, (uint16_t)x);
 }
 
+/* Touches the cells of a line from a column on: a copy of them to where they are does that. */
+static void touch_from(uint16_t win, uint16_t y, uint16_t x, uint16_t last) {
+    curspan_copywin(remake.to, win, win, y, x, y, x, y, last, false);
+}
+
 /* Touches what was touched, and what is new. */
 static void bring_touches(const WINDOW *win) {
     const struct shape *before = &remake.before[place_of(win)], *shape = &remake.shapes[place_of(win)];
     uint16_t from = remake.old[place_of(win)], to = remake.numbers[place_of(win)];
+    bool shrinks = shape->is_other && shape->columns < before->columns, grows = shape->is_other && !shrinks;
     for (int y = 0; y < shape->lines; y++) {
-        bool touched = shape->is_other || y >= before->lines || curspan_is_linetouched(remake.from, from, (uint16_t)y).first == 1;
+        bool touched = shrinks || y >= before->lines || curspan_is_linetouched(remake.from, from, (uint16_t)y).first == 1;
         curspan_wtouchln(remake.to, to, (uint16_t)y, 1, touched);
+        if (grows && !touched) touch_from(to, (uint16_t)y, (uint16_t)before->columns, (uint16_t)(shape->columns - 1));
     }
 }
 

@@ -2,7 +2,7 @@
    ncurses is known to do otherwise (curspan(3)), no call is made. */
 #include "shot.h"
 
-enum { WINDOWS = 8, ROUNDS = 12, CALLS = 150 };
+enum { WINDOWS = 8, ROUNDS = 24, CALLS = 150 };
 
 static WINDOW *windows[WINDOWS];
 static int parents[WINDOWS]; /* of a derived window which it derives from, and else -1 */
@@ -112,7 +112,7 @@ static int copy(WINDOW *win) {
 
 /* Makes a window in a place that is free, of its own or of another one. */
 static int make(WINDOW *win) {
-    int i = 1 + below(WINDOWS - 1), lines = 1 + below(10), columns = 1 + below(35), y = below(10), x = below(40);
+    int i = 1 + below(WINDOWS - 1), lines = 1 + below(10), columns = 1 + below(35), y = below(below(3) ? 10 : 30), x = below(below(3) ? 40 : 90);
     bool derives = below(3) == 0;
     if (windows[i]) return ERR;
     parents[i] = derives ? place_of(win) : -1;
@@ -129,10 +129,23 @@ static int unmake(WINDOW *win) {
     return delwin(win);
 }
 
+/* Shown before, so that only what is new is touched. */
+static int change_size(WINDOW *win) {
+    int lines = 1 + below(14), columns = 1 + below(50);
+    if (win == stdscr) return ERR;
+    wrefresh(win);
+    return wresize(win, lines, columns);
+}
+
+static int move_window(WINDOW *win) {
+    int y = below(26), x = below(82);
+    return win == stdscr || parents[place_of(win)] >= 0 ? ERR : mvwin(win, y, x);
+}
+
 static int (*const calls[])(WINDOW *) = {
     add_text, add_text, add_text, add_character, add_character, insert_text, insert_character, go, go, insert_lines, scroll_lines,
     let_scroll, set_attributes, add_attributes, take_attributes, set_background, change_background, draw, draw, change_attributes,
-    read_text, copy, make, make, unmake, show, show, wdelch, wclrtoeol, wclrtobot, touchwin, untouchwin,
+    read_text, copy, make, make, unmake, change_size, move_window, show, show, wdelch, wclrtoeol, wclrtobot, touchwin, untouchwin,
 };
 
 static void play(unsigned seed) {
