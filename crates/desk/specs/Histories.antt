@@ -10,12 +10,12 @@ use Rattle.ecma.specs.Streams.{LeadsWithBreaks}
 use Rattle.streams.specs.Sinks.{Seen}
 use Rattle.streams.specs.declared.sending.WriteFault.{WriteFault}
 use Rattle.paint.specs.Updates.{Agrees}
+use Rattle.compose.specs.Calling.{cells_of_reply}
 use Rattle.compose.specs.Desks.{world}
 use Rattle.world.specs.calls.Dispatch.{is_doupdate}
 use Rattle.world.specs.declared.call.Call.{Call}
 use Rattle.world.specs.declared.call.Reply.{Reply}
 use Rattle.desk.specs.States.{ScreenOver}
-use Rattle.desk.specs.Runs.{cells_of_reply}
 use Rattle.desk.specs.Ends.{cut_of}
 use Rattle.desk.specs.Methods.{CallMade}
 use Rattle.desk.specs.Showing.{EndsInDoupdate, EndsInUpdate, ShowsWorld, showing_virtual}
