@@ -6,7 +6,7 @@ use Rattle.std.specs.Borrow.{Bor}
 use Rattle.std.proofs.lemmas.Bool.Decides.{nat_tests}
 use Rattle.explain.specs.Advice.{advice_in, advice_on, advised}
 
-short-in : (rows : List (List ℕ × List (List ℕ))) (name text : List ℕ) → list_all (λ row. nat_le (length row.0) 80) rows ≡ true
+short-in : (rows : List (List ℕ × List ℕ)) (name text : List ℕ) → list_all (λ row. nat_le (length row.0) 80) rows ≡ true
     → advice_in rows name ≡ Some text → length text ≤ 80
 short-in [] name text short is = cc
 short-in (row ∷ rows) name text short is = grind (arith, nat_tests, (short-in rows name text))

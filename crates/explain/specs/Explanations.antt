@@ -6,9 +6,9 @@ use Rattle.cell.specs.Attributes.{hex_digits}
 use Rattle.script.specs.Characters.{is_space, newline}
 use Rattle.script.specs.declared.fault.TextFault.{TextFault}
 use Rattle.script.specs.declared.fault.TextFault.TheVariants.{LineTooLong, BadByte, UnknownCall, WrongNumberOfArguments, BadArgument}
-use Rattle.explain.specs.Advice.{call_advice}
+use Rattle.explain.specs.Advice.{begins_with, call_advice}
 use Rattle.explain.specs.Faults.{IllFormed, arguments_in, bad_place, column_of, find_ill_formed_in, find_stray_in, forms_of, word_in}
-use Rattle.explain.specs.Reasons.{begins_with, byte_advice, reason, requirement}
+use Rattle.explain.specs.Reasons.{byte_advice, reason, requirement}
 
 abbrev pub byte_order_mark : List ℕ
 byte_order_mark = 239 ∷ 187 ∷ 191 ∷ []

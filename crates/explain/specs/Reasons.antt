@@ -1,11 +1,11 @@
 -- What an argument of a form has to be, and why a byte or an argument is faulty. The texts are Curspan's own.
-use Rattle.std.specs.Prelude.{◌==◌, ◌&&◌, ℕ, Bool, not, List, [], codes, drop, length, nat_le, slice_index, take, if◌then◌else◌}
+use Rattle.std.specs.Prelude.{◌==◌, ◌&&◌, ℕ, Bool, not, List, [], codes, drop, length, nat_le, slice_index, if◌then◌else◌}
 use Rattle.std.specs.Char.{is_ascii_digit, is_ascii_hexdigit, is_ascii_uppercase}
 use Rattle.std.specs.List.{list_all, list_any, take_while}
 use Rattle.std.specs.Str.{bytes_eq}
 use Rattle.std.specs.Str.Parse.{digits_value}
 use Rattle.script.specs.Characters.{carriage_return, digit_0}
-use Rattle.explain.specs.Advice.{names_in}
+use Rattle.explain.specs.Advice.{begins_with, names_in}
 use Rattle.script.specs.declared.words.Form.{Form}
 use Rattle.script.specs.declared.words.Form.TheVariants.{Number, NumberOrNone, Signed, Attributes, Flag, Character, Text}
 
@@ -27,10 +27,6 @@ requirement Character = codes "one character, or one of the escapes \\n, \\r, \\
 requirement Text = codes "a text with no escapes but \\n, \\r, \\b, \\\\ and \\xhh in lower case"
 
 -- ---- why an argument is not what it has to be
-
--- the text begins with the prefix
-abbrev pub begins_with : List ℕ → List ℕ → Bool
-begins_with prefix text = bytes_eq (take (length prefix) text) prefix
 
 abbrev pub are_digits : List ℕ → Bool
 are_digits text = list_all is_ascii_digit text && not (length text == 0)

@@ -1,66 +1,102 @@
-//! What to write for a name of curses that is no word of scripts.
+//! What to write for names of curses that are no words of scripts.
 
-ghost use Rattle.std.specs.Prelude.{◌≡◌, ◌≤◌, IfSome, length, map, option_map};
+ghost use Rattle.std.specs.Prelude.{◌≡◌, ◌≤◌, IfSome, length, option_map};
 ghost use Rattle.std.specs.List.{list_any};
 ghost use Rattle.std.specs.Str.{bytes_eq};
-ghost use Rattle.explain.specs.Advice.{advice_on, advice_in, call_after_prefix};
-ghost use Rattle.explain.specs.steps.Tables.{names_now, rows_now};
+ghost use Rattle.script.specs.Pieces.{pieces_of};
+ghost use Rattle.explain.specs.Advice.{advice_in, advice_on, names_in};
+ghost use Rattle.explain.specs.steps.Tables.{rows_now};
 
-use script::Word;
+use script::split_at_space;
 
-/// What is said of a name, and some names of which it is said.
-type Row = (&'static [u8], &'static [&'static [u8]]);
+/// What is said of names, and the names of which it is said, with a space between any two.
+type Row = (&'static [u8], &'static [u8]);
 
 /// The names of curses that scripts have under another name, or not at all.
 #[rattlefmt::skip]
-const ADVICE: [Row; 22] = [
-    (b"see noutrefresh, doupdate", &[b"refresh", b"wrefresh"]),
-    (b"see pnoutrefresh, doupdate", &[b"prefresh"]),
-    (b"no call reads keys", &[
-        b"getch", b"wgetch", b"mvgetch", b"mvwgetch", b"ungetch", b"getstr", b"wgetstr", b"getnstr", b"wgetnstr",
-        b"scanw", b"wscanw", b"keypad", b"nodelay", b"timeout", b"wtimeout", b"halfdelay", b"cbreak", b"nocbreak",
-        b"echo", b"noecho", b"raw", b"noraw", b"nl", b"nonl", b"flushinp",
-    ]),
-    (b"the screen is there from the first line on, and ends with the script", &[
-        b"initscr", b"newterm", b"endwin", b"delscreen", b"set_term",
-    ]),
-    (b"lines are drawn by the characters of addstr", &[
-        b"box", b"border", b"wborder", b"hline", b"whline", b"vline", b"wvline",
-    ]),
-    (b"no call formats: see addstr", &[b"printw", b"wprintw", b"mvprintw", b"mvwprintw"]),
-    (b"see addstr", &[b"addnstr", b"waddnstr", b"addchstr", b"waddchstr", b"addchnstr", b"waddchnstr"]),
-    (b"see insch", &[b"insstr", b"winsstr", b"insnstr", b"winsnstr"]),
-    (b"see insertln, deleteln", &[b"insdelln", b"winsdelln"]),
-    (b"see inch", &[b"instr", b"winstr", b"innstr", b"winnstr", b"inchstr", b"winchstr"]),
-    (b"see bkgdset, erase", &[b"bkgd", b"wbkgd"]),
-    (b"a window keeps its size", &[b"wresize", b"resizeterm", b"resize_term"]),
-    (b"see newwin, overwrite", &[b"dupwin"]),
-    (b"see attron, with 10", &[b"standout", b"wstandout"]),
-    (b"see attrset, with 00", &[b"standend", b"wstandend"]),
-    (b"see attrset, attron, attroff, color_set", &[
-        b"attr_set", b"wattr_set", b"attr_on", b"wattr_on", b"attr_off", b"wattr_off", b"chgat", b"wchgat",
-    ]),
-    (b"colours are there from the first line on: see init_pair", &[
-        b"start_color", b"init_color", b"use_default_colors",
-    ]),
-    (b"see scrl", &[b"scroll"]),
-    (b"see clearok, touchwin", &[b"redrawwin", b"wredrawln"]),
-    (b"see getyx", &[b"getcurx", b"getcury"]),
-    (b"see getmaxyx", &[b"getmaxx", b"getmaxy"]),
-    (b"no window has this flag", &[b"leaveok", b"immedok", b"syncok", b"idlok", b"idcok"]),
+const ADVICE: [Row; 40] = [
+    (b"see noutrefresh, doupdate", b"refresh"),
+    (b"see pnoutrefresh, doupdate", b"prefresh"),
+    (b"see addch, noutrefresh, doupdate", b"echochar pechochar"),
+    (b"no call reads keys",
+        b"getch ungetch getstr getnstr scanw vwscanw vw_scanw keypad nodelay notimeout timeout halfdelay \
+        cbreak nocbreak echo noecho raw noraw nl nonl flushinp intrflush meta qiflush noqiflush typeahead \
+        has_key keyname keyok keybound key_defined define_key erasechar killchar set_escdelay get_escdelay"),
+    (b"no call reads the mouse", b"getmouse ungetmouse mousemask mouseinterval has_mouse mouse_trafo enclose"),
+    (b"the screen is there from the first line on, and ends with the script",
+        b"initscr newterm new_prescr endwin isendwin delscreen set_term use_screen use_window exit_curses"),
+    (b"lines are drawn by the characters of addstr", b"box border hline vline"),
+    (b"no call formats: see addstr", b"printw vwprintw vw_printw vsscanf"),
+    (b"see addstr", b"addnstr addchstr addchnstr"),
+    (b"see insch", b"insstr insnstr"),
+    (b"see insertln, deleteln", b"insdelln"),
+    (b"see inch", b"instr innstr inchstr inchnstr"),
+    (b"see bkgdset, erase", b"bkgd"),
+    (b"no call answers a background: see inch", b"getbkgd"),
+    (b"a window keeps its size", b"resize resizeterm resize_term is_term_resized"),
+    (b"see newwin, overwrite", b"dupwin"),
+    (b"see attron, with 10", b"standout"),
+    (b"see attrset, with 00", b"standend"),
+    (b"see attrset, attron, attroff, color_set", b"attr_set attr_on attr_off chgat"),
+    (b"no call answers attributes: see inch", b"attr_get getattrs termattrs term_attrs"),
+    (b"colours are there from the first line on: see init_pair",
+        b"start_color init_color init_extended_color init_extended_pair use_default_colors \
+        assume_default_colors reset_color_pairs has_colors can_change_color"),
+    (b"no call answers a colour: see init_pair", b"color_content extended_color_content pair_content extended_pair_content"),
+    (b"a pair is its number: see init_pair, color_set", b"COLOR_PAIR PAIR_NUMBER alloc_pair find_pair free_pair"),
+    (b"see scrl", b"scroll"),
+    (b"see clearok, touchwin", b"redrawwin redrawln"),
+    (b"see move", b"cursyncup"),
+    (b"see getyx", b"getcurx getcury getsyx"),
+    (b"see getbegyx", b"getbegx getbegy"),
+    (b"see getparyx", b"getparx getpary"),
+    (b"see getmaxyx", b"getmaxx getmaxy"),
+    (b"no window has this flag", b"leaveok immedok syncok idlok idcok"),
+    (b"no call answers this",
+        b"is_cleared is_idcok is_idlok is_immedok is_keypad is_leaveok is_nodelay is_notimeout is_pad \
+        is_scrollok is_subwin is_syncok getparent getdelay getscrreg"),
+    (b"see panel_above, with none", b"ground_panel"),
+    (b"see panel_below, with none", b"ceiling_panel"),
+    (b"a panel has no pointer", b"panel_userptr set_panel_userptr"),
+    (b"characters are those of ASCII",
+        b"add_wch add_wchstr add_wchnstr addwstr addnwstr bkgrnd bkgrndset border_set box_set echo_wchar \
+        erasewchar get_wch get_wstr getn_wstr getbkgrnd getcchar hline_set in_wch in_wchstr in_wchnstr \
+        innwstr ins_nwstr ins_wch ins_wstr inwstr key_name killwchar pecho_wchar setcchar unget_wch \
+        vline_set wunctrl"),
+    (b"there are no soft labels",
+        b"slk_attr slk_attr_off slk_attr_on slk_attr_set slk_attroff slk_attron slk_attrset slk_clear \
+        slk_color extended_slk_color slk_init slk_label slk_noutrefresh slk_refresh slk_restore slk_set \
+        slk_touch slk_wset"),
+    (b"nothing is asked of the terminal, nor set there",
+        b"baudrate beep flash curs_set def_prog_mode def_shell_mode reset_prog_mode reset_shell_mode resetty \
+        savetty has_ic has_il longname termname mcprint mvcur napms delay_output putp tigetflag tigetnum \
+        tigetstr tiparm tparm vidattr vidputs vid_attr vid_puts ripoffline set_tabsize setsyx use_env \
+        use_tioctl filter nofilter use_extended_names use_legacy_coding"),
+    (b"nothing is saved or loaded", b"scr_dump scr_init scr_restore scr_set getwin putwin"),
+    (b"no call traces or names a version", b"trace curses_trace curses_version"),
 ];
 
-/// Whether a name is one of some.
-pub fn is_among(name: &[u8], mut names: &[&[u8]]) -> bool
-    ensures { result ≡ list_any (bytes_eq name.now) (names_now names.entry.now) }
+/// Whether a name is one of those in a text.
+fn is_in(name: &[u8], text: Option<&[u8]>) -> bool
+    ensures { result ≡ list_any (bytes_eq name.now) (pieces_of text.entry) }
 {
-    while let [first, rest @ ..] = names {
-        if name == *first {
-            return true;
-        }
-        names = rest;
+    let Some(text) = text else { return false };
+    let (first, rest) = split_at_space(text);
+    if name == first {
+        return true;
     }
-    false
+    is_in(name, rest)
+}
+
+/// Whether a name is one of some, with a space between any two.
+pub fn is_among(name: &[u8], names: &[u8]) -> bool
+    ensures { result ≡ list_any (bytes_eq name.now) (names_in names.now) }
+{
+    let (first, rest) = split_at_space(names);
+    if name == first {
+        return true;
+    }
+    is_in(name, rest)
 }
 
 /// What a table says of a name: the first of its rows that has the name.
@@ -82,17 +118,4 @@ pub fn advice_on(name: &[u8]) -> Option<&'static [u8]>
     ensures short { IfSome result (λ text. length text.now ≤ 80) }
 {
     look_up(&ADVICE, name)
-}
-
-/// The rest of a word after a prefix, if the word has the prefix and the rest is a call.
-pub fn call_after_prefix<'a>(prefix: &[u8], word: &'a [u8]) -> Option<&'a [u8]>
-    ensures rest { option_map (λ rest. rest.now) result ≡ call_after_prefix prefix.now word.now }
-    ensures short { IfSome result (λ rest. length rest.now ≤ length word.now) }
-{
-    let rest = word.strip_prefix(prefix)?;
-    if Word::of(rest).is_some() {
-        Some(rest)
-    } else {
-        None
-    }
 }

@@ -5,10 +5,10 @@ ghost use Rattle.explain.specs.Advice.{call_advice};
 ghost use Rattle.explain.specs.Faults.{IllFormed as Ill};
 ghost use Rattle.explain.specs.Explanations.{bad_byte_text, bad_line_text, count_text, explanation, finding, ill_formed_text, number_text, quotation, stray_text, unknown_text};
 
-use crate::advice::{advice_on, call_after_prefix};
 use crate::arguments::{IllFormed, Stray, count, find_ill_formed, find_stray, forms_of};
 use crate::column::{bad_byte, column_of};
 use crate::reasons::{byte_advice, reason, requirement};
+use crate::suggestions::said_of;
 use arrayvec::ArrayVec;
 use cell::hex_digits;
 use script::{LONGEST_LINE, TextFault, split_at_space};
@@ -76,30 +76,17 @@ fn append_bad_byte(text: &mut Finding, byte: u8)
     append(text, byte_advice(byte));
 }
 
-/// Appends a call to write for a word, after what is said of it.
-fn append_call(text: &mut Finding, said: &[u8], call: &[u8])
-    requires { length text.old.items + length said.now + length call.now ≤ FINDING_ROOM }
-    ensures { text.new.items ≡ text.old.items ++ (said.now ++ call.now) }
-{
-    append(text, said);
-    append(text, call);
-}
-
-/// Appends what to write for a word of curses that is no call.
+/// Appends what to write for a word that is no call.
 fn append_advice(text: &mut Finding, word: &[u8])
     requires room { length text.old.items ≤ 600 }
     requires word { length word.now ≤ LONGEST_LINE }
     ensures text { text.new.items ≡ text.old.items ++ call_advice word.now }
     ensures short { length text.new.items < FINDING_ROOM }
 {
-    if let Some(advice) = advice_on(word) {
-        append_call(text, b": ", advice);
-    } else if let Some(call) = call_after_prefix(b"mvw", word) {
-        append_call(text, b": see move, ", call);
-    } else if let Some(call) = call_after_prefix(b"mv", word) {
-        append_call(text, b": see move, ", call);
-    } else if let Some(call) = call_after_prefix(b"w", word) {
-        append_call(text, b": see ", call);
+    if let Some(said) = said_of(word) {
+        append(text, b": ");
+        append(text, said.text);
+        append(text, said.call);
     }
 }
 

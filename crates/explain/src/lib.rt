@@ -1,11 +1,12 @@
 //! What a person reads about a script's faulty line.
 //!
-//! - `advice`: what to write for a name of curses
+//! - `advice`: the names of curses that are no calls
 //! - `arguments`: the arguments of the line, and the first that lacks its form
 //! - `column`: where the fault is
 //! - `findings`: the line on a fault
 //! - `laws`: the numerals that are printed are the limits
 //! - `reasons`: what an argument has to be, and why it is not
+//! - `suggestions`: what to write for a word that is no call
 #![tactic(auto)]
 
 mod advice;
@@ -14,6 +15,7 @@ mod column;
 mod findings;
 mod laws;
 mod reasons;
+mod suggestions;
 
 pub use findings::{Finding, finding};
 pub use laws::limits_in_texts;

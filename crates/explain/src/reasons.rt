@@ -121,21 +121,14 @@ fn attributes_reason(argument: &[u8]) -> &'static [u8]
     }
 }
 
-/// What others write for `on`, and for `off`.
-#[rattlefmt::skip]
-const ON: [&[u8]; 9] = [b"ON", b"On", b"TRUE", b"True", b"true", b"YES", b"Yes", b"yes", b"1"];
-
-#[rattlefmt::skip]
-const OFF: [&[u8]; 9] = [b"OFF", b"Off", b"FALSE", b"False", b"false", b"NO", b"No", b"no", b"0"];
-
 /// Why it is neither `on` nor `off`.
 fn flag_reason(argument: &[u8]) -> &'static [u8]
     ensures text { result.now ≡ flag_reason argument.now }
     ensures short { length result.now ≤ 80 }
 {
-    if is_among(argument, &ON) {
+    if is_among(argument, b"ON On TRUE True true YES Yes yes 1") {
         b": write on"
-    } else if is_among(argument, &OFF) {
+    } else if is_among(argument, b"OFF Off FALSE False false NO No no 0") {
         b": write off"
     } else {
         b""
