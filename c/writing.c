@@ -51,20 +51,30 @@ static int add_run(WINDOW *win, const uint8_t *text, size_t length) {
     return OK;
 }
 
-/* Writes n blanks, which are the background's or, with attributes of their own, spaces. */
-static int add_blanks(WINDOW *win, int n, bool are_spaces) {
-    bool are_other = are_spaces && (win->background & A_CHARTEXT) != ' ';
-    int answer = OK;
-    if (are_other) curspan_set_background(win, (win->background & A_ATTRIBUTES) | ' ');
-    while (n-- > 0 && answer == OK) answer = add_run(win, (const uint8_t *)" ", 1);
-    if (are_other) curspan_set_background(win, win->background);
-    return answer;
-}
-
 /* Goes to the next line without clearing the rest of this one. */
 static int leave_line(WINDOW *win, int y) {
     if (y == win->bottom) return wscrl(win, 1) == ERR ? ERR : wmove(win, y, 0);
     return wmove(win, least(y + 1, (int)win->lines - 1), 0);
+}
+
+/* Writes a space that isn't the background's character. A line that is scrolled in for it has that character. */
+static int add_space(WINDOW *win) {
+    int y = getcury(win);
+    bool scrolls = win->scrolls && y == win->bottom && getcurx(win) == (int)win->columns - 1;
+    if (scrolls) curspan_scrollok(SCREEN_AND(win), false);
+    curspan_set_background(win, (win->background & A_ATTRIBUTES) | ' ');
+    int answer = scrolls ? done(curspan_waddch(SCREEN_AND(win), ' ')) : add_run(win, (const uint8_t *)" ", 1);
+    curspan_set_background(win, win->background);
+    if (scrolls) curspan_scrollok(SCREEN_AND(win), true);
+    return scrolls && answer == OK ? leave_line(win, y) : answer;
+}
+
+/* Writes n blanks, which are the background's or, with attributes of their own, spaces. */
+static int add_blanks(WINDOW *win, int n, bool are_spaces) {
+    bool are_other = are_spaces && (win->background & A_CHARTEXT) != ' ';
+    int answer = OK;
+    while (n-- > 0 && answer == OK) answer = are_other ? add_space(win) : add_run(win, (const uint8_t *)" ", 1);
+    return answer;
 }
 
 /* Clears the rest of the line, but not what has ended it, and goes to the next one. On the last line of a window

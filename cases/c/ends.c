@@ -67,6 +67,7 @@ static void write_tabs(bool scrolls) {
     wbkgdset(win, '~' | A_BOLD);
     note(mvwaddstr(win, 1, 4, "\tn\t\to"));
     note(mvwaddstr(win, 3, 12, "control \001\002"));
+    note(mvwaddch(win, 3, 18, ' ' | A_UNDERLINE));
     tell(win, 22);
     delwin(win);
 }
