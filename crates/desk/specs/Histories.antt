@@ -110,7 +110,7 @@ module _ {W : Type 0} (seen : W → Seen) (name : W → ℕ) where
     pub composed : end.composed ≡ sum_by cells_in steps
     pub fault : end.fault ≡ last_fault steps
 
-  -- All that is known of a history. Terminals show it after each of its calls.
+  -- All that is known of a history. What `HistoryShows` says holds after each of its calls.
   pub record HistoryEnds (old : ScreenOver W) (calls : List Call) (end : RunAllEnd) (new : ScreenOver W) : Type 0 where
     pub run : RunsAll old calls end new
     pub shown : (first rest : List (Step W)) → run.steps ≡ first ++ rest → HistoryShows seen old (screen_after old first) (calls_in first) (last_fault first)

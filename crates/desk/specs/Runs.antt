@@ -64,7 +64,7 @@ is_accepted outcome = is_ok outcome.answer
 abbrev pub is_refused : Outcome → Bool
 is_refused outcome = not (is_accepted outcome)
 
--- how many cells an answer of update_panels says were read
+-- how many cells an answer says were read, and a refusal none
 abbrev pub cells_of_answer : Result Reply Refusal → ℕ
 cells_of_answer (Ok r) = cells_of_reply r
 cells_of_answer (Err e) = 0
