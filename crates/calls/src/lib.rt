@@ -3,10 +3,13 @@
 //!
 //! - `answer`: what a call answers, as a type
 //! - `methods`: a method for each call
+//! - `queries`: which calls only ask
 #![tactic(auto)]
 
 mod answer;
 mod methods;
+mod queries;
 
 pub use answer::Answer;
 pub use methods::Calls;
+pub use queries::is_query;

@@ -1,6 +1,6 @@
 //! A method for each call that sends nothing, under its name in X/Open Curses or in panel(3).
 
-ghost use Rattle.std.specs.Prelude.{◌≡◌, Ok, Result, false};
+ghost use Rattle.std.specs.Prelude.{◌≡◌, Err, IfOk, Ok, Result, false, true};
 ghost use Rattle.world.specs.World.{World};
 ghost use Rattle.world.specs.calls.Dispatch.{is_doupdate};
 ghost use Rattle.world.specs.declared.call.Call.{Call};
@@ -11,7 +11,8 @@ ghost use Rattle.world.specs.declared.call.Copying.{Copying};
 ghost use Rattle.world.specs.declared.call.Query.{Query};
 ghost use Rattle.world.specs.declared.call.Stacking.{Stacking};
 ghost use Rattle.world.specs.declared.call.Refresh.{Refresh};
-ghost use Rattle.calls.specs.Kinds.{IsAnswerTo, kind_of};
+ghost use Rattle.calls.specs.Kinds.{IsAnswerTo, IsOfKind, kind_of};
+ghost use Rattle.calls.specs.Queries.{is_query};
 ghost use Rattle.world.specs.Replies.{its_panel, no_answer, two_numbers};
 ghost use Rattle.calls.specs.Methods.{as_reply};
 
@@ -33,18 +34,34 @@ pub trait Calls {
         requires { is_doupdate call.now ≡ false }
         ensures { made self.old call.now result self.new };
 
+    /// Makes a call that only asks.
+    fn ask(&self, query: &Call<'_>) -> Result<Reply, Self::Error>
+        requires { is_query query.now ≡ true }
+        ensures { made self.now query.now result self.now };
+
     // Each answer is of the kind that the call has.
     ghost answers: { (old : Self) (call : Call) (reply : Reply) (new : Self) → is_doupdate call ≡ false → made old call (Ok reply) new
         → IsAnswerTo call reply };
 
+    // No update_panels is refused.
+    ghost composes: { (old : Self) (e : Self.Error) (new : Self) → made old (Call.Refresh Refresh.UpdatePanels) (Err e) new → ⊥ };
+
     /// Makes a call whose answers are of one kind.
-    final fn ask<A: Answer>(&mut self, call: &Call<'_>) -> Result<A, Self::Error>
+    final fn make<A: Answer>(&mut self, call: &Call<'_>) -> Result<A, Self::Error>
         requires other { is_doupdate call.now ≡ false }
         requires kind { (world : World) → kind_of world call.now ≡ A.kind }
         ensures { made self.old call.now (as_reply A.reply_of result) self.new }
     {
-        let reply = self.call(call)?;
-        Ok(A::of(reply).unwrap())
+        typed(self.call(call))
+    }
+
+    /// Makes a call that only asks, and whose answers are of one kind.
+    final fn find<A: Answer>(&self, query: &Call<'_>) -> Result<A, Self::Error>
+        requires query { is_query query.now ≡ true }
+        requires kind { (world : World) → kind_of world query.now ≡ A.kind }
+        ensures { made self.now query.now (as_reply A.reply_of result) self.now }
+    {
+        typed(self.ask(query))
     }
 
     /// Makes a window at a place of the screen, with a blank grid of its own. A size of 0 reaches to the edge of the
@@ -56,7 +73,7 @@ pub trait Calls {
     final fn newwin(&mut self, lines: u16, columns: u16, y: u16, x: u16) -> Result<WinId, Self::Error>
         ensures { made self.old (Call.Making (Making.Newwin lines columns y x)) (as_reply Reply.Number result) self.new }
     {
-        self.ask(&Call::newwin(lines, columns, y, x))
+        self.make(&Call::newwin(lines, columns, y, x))
     }
 
     /// Makes a window that shows the part of a window from a place of the screen on. A size of 0 reaches to the
@@ -68,7 +85,7 @@ pub trait Calls {
     final fn subwin(&mut self, win: WinId, lines: u16, columns: u16, y: u16, x: u16) -> Result<WinId, Self::Error>
         ensures { made self.old (Call.Making (Making.Subwin win lines columns y x)) (as_reply Reply.Number result) self.new }
     {
-        self.ask(&Call::subwin(win, lines, columns, y, x))
+        self.make(&Call::subwin(win, lines, columns, y, x))
     }
 
     /// Makes a window that shows the part of a window from a line and a column of it on. A size of 0 reaches to its
@@ -80,7 +97,7 @@ pub trait Calls {
     final fn derwin(&mut self, win: WinId, lines: u16, columns: u16, y: u16, x: u16) -> Result<WinId, Self::Error>
         ensures { made self.old (Call.Making (Making.Derwin win lines columns y x)) (as_reply Reply.Number result) self.new }
     {
-        self.ask(&Call::derwin(win, lines, columns, y, x))
+        self.make(&Call::derwin(win, lines, columns, y, x))
     }
 
     /// Makes a pad of 1 to 1000 lines and columns, with a blank grid of its own.
@@ -90,7 +107,7 @@ pub trait Calls {
     final fn newpad(&mut self, lines: u16, columns: u16) -> Result<WinId, Self::Error>
         ensures { made self.old (Call.Making (Making.Newpad lines columns)) (as_reply Reply.Number result) self.new }
     {
-        self.ask(&Call::newpad(lines, columns))
+        self.make(&Call::newpad(lines, columns))
     }
 
     /// Makes a pad that shows the part of a pad from a line and a column of it on. A size of 0 reaches to its edge.
@@ -101,7 +118,7 @@ pub trait Calls {
     final fn subpad(&mut self, pad: WinId, lines: u16, columns: u16, y: u16, x: u16) -> Result<WinId, Self::Error>
         ensures { made self.old (Call.Making (Making.Subpad pad lines columns y x)) (as_reply Reply.Number result) self.new }
     {
-        self.ask(&Call::subpad(pad, lines, columns, y, x))
+        self.make(&Call::subpad(pad, lines, columns, y, x))
     }
 
     /// Deletes a window or pad that is in no panel, and from which none derives. Its number is free then.
@@ -111,7 +128,7 @@ pub trait Calls {
     final fn delwin(&mut self, win: WinId) -> Result<(), Self::Error>
         ensures { made self.old (Call.Making (Making.Delwin win)) (as_reply no_answer result) self.new }
     {
-        self.ask(&Call::delwin(win))
+        self.make(&Call::delwin(win))
     }
 
     /// Moves a window that is in no panel to a place of the screen. No other window moves.
@@ -121,7 +138,7 @@ pub trait Calls {
     final fn mvwin(&mut self, win: WinId, y: u16, x: u16) -> Result<(), Self::Error>
         ensures { made self.old (Call.Making (Making.Mvwin win y x)) (as_reply no_answer result) self.new }
     {
-        self.ask(&Call::mvwin(win, y, x))
+        self.make(&Call::mvwin(win, y, x))
     }
 
     /// Lets a derived window or pad show the part of its parent from another line and column on. It stays where it is
@@ -132,7 +149,7 @@ pub trait Calls {
     final fn mvderwin(&mut self, win: WinId, y: u16, x: u16) -> Result<(), Self::Error>
         ensures { made self.old (Call.Making (Making.Mvderwin win y x)) (as_reply no_answer result) self.new }
     {
-        self.ask(&Call::mvderwin(win, y, x))
+        self.make(&Call::mvderwin(win, y, x))
     }
 
     /// Moves the cursor to line `y` and column `x`.
@@ -142,7 +159,7 @@ pub trait Calls {
     final fn wmove(&mut self, win: WinId, y: u16, x: u16) -> Result<(), Self::Error>
         ensures { made self.old (Call.Writing (Writing.Move win y x)) (as_reply no_answer result) self.new }
     {
-        self.ask(&Call::wmove(win, y, x))
+        self.make(&Call::wmove(win, y, x))
     }
 
     /// Writes a character at the cursor, which advances; a newline (10), carriage return (13) or backspace (8) moves it.
@@ -152,7 +169,7 @@ pub trait Calls {
     final fn waddch(&mut self, win: WinId, ch: u8) -> Result<(), Self::Error>
         ensures { made self.old (Call.Writing (Writing.Addch win ch)) (as_reply no_answer result) self.new }
     {
-        self.ask(&Call::waddch(win, ch))
+        self.make(&Call::waddch(win, ch))
     }
 
     /// Writes the characters of a text in order, each as `waddch` does. No character of a refused text is written.
@@ -162,7 +179,7 @@ pub trait Calls {
     final fn waddstr(&mut self, win: WinId, text: &[u8]) -> Result<(), Self::Error>
         ensures { made self.old (Call.Writing (Writing.Addstr win text.entry)) (as_reply no_answer result) self.new }
     {
-        self.ask(&Call::waddstr(win, text))
+        self.make(&Call::waddstr(win, text))
     }
 
     /// Inserts a character at the cursor, which stays: the cells from there on go one column right, and the last is
@@ -173,7 +190,7 @@ pub trait Calls {
     final fn winsch(&mut self, win: WinId, ch: u8) -> Result<(), Self::Error>
         ensures { made self.old (Call.Writing (Writing.Insch win ch)) (as_reply no_answer result) self.new }
     {
-        self.ask(&Call::winsch(win, ch))
+        self.make(&Call::winsch(win, ch))
     }
 
     /// Deletes the character at the cursor, which stays: the cells after it go one column left.
@@ -183,7 +200,7 @@ pub trait Calls {
     final fn wdelch(&mut self, win: WinId) -> Result<(), Self::Error>
         ensures { made self.old (Call.Writing (Writing.Delch win)) (as_reply no_answer result) self.new }
     {
-        self.ask(&Call::wdelch(win))
+        self.make(&Call::wdelch(win))
     }
 
     /// Moves the cursor's line and those below down by one, and sets the cursor's line to the background.
@@ -193,7 +210,7 @@ pub trait Calls {
     final fn winsertln(&mut self, win: WinId) -> Result<(), Self::Error>
         ensures { made self.old (Call.Writing (Writing.Insertln win)) (as_reply no_answer result) self.new }
     {
-        self.ask(&Call::winsertln(win))
+        self.make(&Call::winsertln(win))
     }
 
     /// Moves the lines below the cursor's up by one, and sets the last line to the background.
@@ -203,7 +220,7 @@ pub trait Calls {
     final fn wdeleteln(&mut self, win: WinId) -> Result<(), Self::Error>
         ensures { made self.old (Call.Writing (Writing.Deleteln win)) (as_reply no_answer result) self.new }
     {
-        self.ask(&Call::wdeleteln(win))
+        self.make(&Call::wdeleteln(win))
     }
 
     /// Sets all cells to the background, and the cursor to line 0 and column 0.
@@ -213,7 +230,7 @@ pub trait Calls {
     final fn werase(&mut self, win: WinId) -> Result<(), Self::Error>
         ensures { made self.old (Call.Writing (Writing.Erase win)) (as_reply no_answer result) self.new }
     {
-        self.ask(&Call::werase(win))
+        self.make(&Call::werase(win))
     }
 
     /// Does as `werase`, and asks for a clear screen where the window is next taken into the virtual screen.
@@ -223,7 +240,7 @@ pub trait Calls {
     final fn wclear(&mut self, win: WinId) -> Result<(), Self::Error>
         ensures { made self.old (Call.Writing (Writing.Clear win)) (as_reply no_answer result) self.new }
     {
-        self.ask(&Call::wclear(win))
+        self.make(&Call::wclear(win))
     }
 
     /// Sets the cells from the cursor to the end of its line to the background.
@@ -233,7 +250,7 @@ pub trait Calls {
     final fn wclrtoeol(&mut self, win: WinId) -> Result<(), Self::Error>
         ensures { made self.old (Call.Writing (Writing.Clrtoeol win)) (as_reply no_answer result) self.new }
     {
-        self.ask(&Call::wclrtoeol(win))
+        self.make(&Call::wclrtoeol(win))
     }
 
     /// Sets the cells from the cursor to the end of its line, and all lines below, to the background.
@@ -243,7 +260,7 @@ pub trait Calls {
     final fn wclrtobot(&mut self, win: WinId) -> Result<(), Self::Error>
         ensures { made self.old (Call.Writing (Writing.Clrtobot win)) (as_reply no_answer result) self.new }
     {
-        self.ask(&Call::wclrtobot(win))
+        self.make(&Call::wclrtobot(win))
     }
 
     /// Moves the lines of the scroll region up by `n`, or down by `-n` for a negative one. The cursor stays.
@@ -253,7 +270,7 @@ pub trait Calls {
     final fn wscrl(&mut self, win: WinId, n: i16) -> Result<(), Self::Error>
         ensures { made self.old (Call.Writing (Writing.Scrl win n)) (as_reply no_answer result) self.new }
     {
-        self.ask(&Call::wscrl(win, n))
+        self.make(&Call::wscrl(win, n))
     }
 
     /// Sets the scroll region to the lines from `top` to `bottom`, both inclusive.
@@ -263,7 +280,7 @@ pub trait Calls {
     final fn wsetscrreg(&mut self, win: WinId, top: u16, bottom: u16) -> Result<(), Self::Error>
         ensures { made self.old (Call.Writing (Writing.Setscrreg win top bottom)) (as_reply no_answer result) self.new }
     {
-        self.ask(&Call::wsetscrreg(win, top, bottom))
+        self.make(&Call::wsetscrreg(win, top, bottom))
     }
 
     /// Sets whether the window scrolls where the cursor leaves the last line of its region.
@@ -273,7 +290,7 @@ pub trait Calls {
     final fn scrollok(&mut self, win: WinId, flag: bool) -> Result<(), Self::Error>
         ensures { made self.old (Call.Writing (Writing.Scrollok win flag)) (as_reply no_answer result) self.new }
     {
-        self.ask(&Call::scrollok(win, flag))
+        self.make(&Call::scrollok(win, flag))
     }
 
     /// Sets whether the window asks for a clear screen where it is next taken into the virtual screen.
@@ -283,7 +300,7 @@ pub trait Calls {
     final fn clearok(&mut self, win: WinId, flag: bool) -> Result<(), Self::Error>
         ensures { made self.old (Call.Writing (Writing.Clearok win flag)) (as_reply no_answer result) self.new }
     {
-        self.ask(&Call::clearok(win, flag))
+        self.make(&Call::clearok(win, flag))
     }
 
     /// Sets the window's attributes.
@@ -293,7 +310,7 @@ pub trait Calls {
     final fn wattrset(&mut self, win: WinId, attrs: Attr) -> Result<(), Self::Error>
         ensures { made self.old (Call.Writing (Writing.Attrset win attrs)) (as_reply no_answer result) self.new }
     {
-        self.ask(&Call::wattrset(win, attrs))
+        self.make(&Call::wattrset(win, attrs))
     }
 
     /// Adds attributes to the window's.
@@ -303,7 +320,7 @@ pub trait Calls {
     final fn wattron(&mut self, win: WinId, attrs: Attr) -> Result<(), Self::Error>
         ensures { made self.old (Call.Writing (Writing.Attron win attrs)) (as_reply no_answer result) self.new }
     {
-        self.ask(&Call::wattron(win, attrs))
+        self.make(&Call::wattron(win, attrs))
     }
 
     /// Takes attributes from the window's.
@@ -313,7 +330,7 @@ pub trait Calls {
     final fn wattroff(&mut self, win: WinId, attrs: Attr) -> Result<(), Self::Error>
         ensures { made self.old (Call.Writing (Writing.Attroff win attrs)) (as_reply no_answer result) self.new }
     {
-        self.ask(&Call::wattroff(win, attrs))
+        self.make(&Call::wattroff(win, attrs))
     }
 
     /// Sets the window's background to a character with attributes, of pair 0.
@@ -323,7 +340,7 @@ pub trait Calls {
     final fn wbkgdset(&mut self, win: WinId, attrs: Attr, ch: u8) -> Result<(), Self::Error>
         ensures { made self.old (Call.Writing (Writing.Bkgdset win attrs ch)) (as_reply no_answer result) self.new }
     {
-        self.ask(&Call::wbkgdset(win, attrs, ch))
+        self.make(&Call::wbkgdset(win, attrs, ch))
     }
 
     /// Sets the window's colour pair.
@@ -333,7 +350,7 @@ pub trait Calls {
     final fn wcolor_set(&mut self, win: WinId, pair: u16) -> Result<(), Self::Error>
         ensures { made self.old (Call.Writing (Writing.ColorSet win pair)) (as_reply no_answer result) self.new }
     {
-        self.ask(&Call::wcolor_set(win, pair))
+        self.make(&Call::wcolor_set(win, pair))
     }
 
     /// Sets the colour pair of the window's background.
@@ -343,7 +360,7 @@ pub trait Calls {
     final fn wbkgdpair(&mut self, win: WinId, pair: u16) -> Result<(), Self::Error>
         ensures { made self.old (Call.Writing (Writing.Bkgdpair win pair)) (as_reply no_answer result) self.new }
     {
-        self.ask(&Call::wbkgdpair(win, pair))
+        self.make(&Call::wbkgdpair(win, pair))
     }
 
     /// Copies the cells of `src` that aren't spaces to `dst`, at the places of the screen that both cover.
@@ -353,7 +370,7 @@ pub trait Calls {
     final fn overlay(&mut self, src: WinId, dst: WinId) -> Result<(), Self::Error>
         ensures { made self.old (Call.Copying (Copying.Overlay src dst)) (as_reply no_answer result) self.new }
     {
-        self.ask(&Call::overlay(src, dst))
+        self.make(&Call::overlay(src, dst))
     }
 
     /// Copies all cells of `src` to `dst`, at the places of the screen that both cover.
@@ -363,7 +380,7 @@ pub trait Calls {
     final fn overwrite(&mut self, src: WinId, dst: WinId) -> Result<(), Self::Error>
         ensures { made self.old (Call.Copying (Copying.Overwrite src dst)) (as_reply no_answer result) self.new }
     {
-        self.ask(&Call::overwrite(src, dst))
+        self.make(&Call::overwrite(src, dst))
     }
 
     /// Copies the cells of `src` from line `sminrow` and column `smincol` on to the lines from `dminrow` to `dmaxrow`
@@ -387,7 +404,7 @@ pub trait Calls {
         ensures { made self.old (Call.Copying (Copying.Copywin src dst sminrow smincol dminrow dmincol dmaxrow dmaxcol overlay))
             (as_reply no_answer result) self.new }
     {
-        self.ask(&Call::copywin(
+        self.make(&Call::copywin(
             src, dst, sminrow, smincol, dminrow, dmincol, dmaxrow, dmaxcol, overlay,
         ))
     }
@@ -399,7 +416,7 @@ pub trait Calls {
     final fn touchwin(&mut self, win: WinId) -> Result<(), Self::Error>
         ensures { made self.old (Call.Copying (Copying.Touchwin win)) (as_reply no_answer result) self.new }
     {
-        self.ask(&Call::touchwin(win))
+        self.make(&Call::touchwin(win))
     }
 
     /// Untouches all of a window.
@@ -409,7 +426,7 @@ pub trait Calls {
     final fn untouchwin(&mut self, win: WinId) -> Result<(), Self::Error>
         ensures { made self.old (Call.Copying (Copying.Untouchwin win)) (as_reply no_answer result) self.new }
     {
-        self.ask(&Call::untouchwin(win))
+        self.make(&Call::untouchwin(win))
     }
 
     /// Touches all of `n` lines from line `y` on.
@@ -419,7 +436,7 @@ pub trait Calls {
     final fn touchline(&mut self, win: WinId, y: u16, n: u16) -> Result<(), Self::Error>
         ensures { made self.old (Call.Copying (Copying.Touchline win y n)) (as_reply no_answer result) self.new }
     {
-        self.ask(&Call::touchline(win, y, n))
+        self.make(&Call::touchline(win, y, n))
     }
 
     /// Touches all of `n` lines from line `y` on, or without the flag untouches them.
@@ -429,7 +446,7 @@ pub trait Calls {
     final fn wtouchln(&mut self, win: WinId, y: u16, n: u16, flag: bool) -> Result<(), Self::Error>
         ensures { made self.old (Call.Copying (Copying.Touchln win y n flag)) (as_reply no_answer result) self.new }
     {
-        self.ask(&Call::wtouchln(win, y, n, flag))
+        self.make(&Call::wtouchln(win, y, n, flag))
     }
 
     /// Touches each ancestor of a window where it shows what is touched of the window.
@@ -439,7 +456,7 @@ pub trait Calls {
     final fn wsyncup(&mut self, win: WinId) -> Result<(), Self::Error>
         ensures { made self.old (Call.Copying (Copying.Syncup win)) (as_reply no_answer result) self.new }
     {
-        self.ask(&Call::wsyncup(win))
+        self.make(&Call::wsyncup(win))
     }
 
     /// Touches a window where it shows what is touched of an ancestor.
@@ -449,77 +466,77 @@ pub trait Calls {
     final fn wsyncdown(&mut self, win: WinId) -> Result<(), Self::Error>
         ensures { made self.old (Call.Copying (Copying.Syncdown win)) (as_reply no_answer result) self.new }
     {
-        self.ask(&Call::wsyncdown(win))
+        self.make(&Call::wsyncdown(win))
     }
 
     /// Whether line `y` of a window is touched.
     ///
     /// # Errors
     /// `NoSuchWindow`; `OutsideWindow` if the window hasn't line `y`.
-    final fn is_linetouched(&mut self, win: WinId, y: u16) -> Result<bool, Self::Error>
-        ensures { made self.old (Call.Copying (Copying.IsLinetouched win y)) (as_reply Reply.Flag result) self.new }
+    final fn is_linetouched(&self, win: WinId, y: u16) -> Result<bool, Self::Error>
+        ensures { made self.now (Call.Copying (Copying.IsLinetouched win y)) (as_reply Reply.Flag result) self.now }
     {
-        self.ask(&Call::is_linetouched(win, y))
+        self.find(&Call::is_linetouched(win, y))
     }
 
     /// Whether some line of a window is touched.
     ///
     /// # Errors
     /// `NoSuchWindow`.
-    final fn is_wintouched(&mut self, win: WinId) -> Result<bool, Self::Error>
-        ensures { made self.old (Call.Copying (Copying.IsWintouched win)) (as_reply Reply.Flag result) self.new }
+    final fn is_wintouched(&self, win: WinId) -> Result<bool, Self::Error>
+        ensures { made self.now (Call.Copying (Copying.IsWintouched win)) (as_reply Reply.Flag result) self.now }
     {
-        self.ask(&Call::is_wintouched(win))
+        self.find(&Call::is_wintouched(win))
     }
 
     /// The line and the column of the cursor.
     ///
     /// # Errors
     /// `NoSuchWindow`.
-    final fn getyx(&mut self, win: WinId) -> Result<(u16, u16), Self::Error>
-        ensures { made self.old (Call.Query (Query.Getyx win)) (as_reply two_numbers result) self.new }
+    final fn getyx(&self, win: WinId) -> Result<(u16, u16), Self::Error>
+        ensures { made self.now (Call.Query (Query.Getyx win)) (as_reply two_numbers result) self.now }
     {
-        self.ask(&Call::getyx(win))
+        self.find(&Call::getyx(win))
     }
 
     /// The line and the column of the screen where the window begins.
     ///
     /// # Errors
     /// `NoSuchWindow`, `IsPad`.
-    final fn getbegyx(&mut self, win: WinId) -> Result<(u16, u16), Self::Error>
-        ensures { made self.old (Call.Query (Query.Getbegyx win)) (as_reply two_numbers result) self.new }
+    final fn getbegyx(&self, win: WinId) -> Result<(u16, u16), Self::Error>
+        ensures { made self.now (Call.Query (Query.Getbegyx win)) (as_reply two_numbers result) self.now }
     {
-        self.ask(&Call::getbegyx(win))
+        self.find(&Call::getbegyx(win))
     }
 
     /// The number of lines, and the number of columns.
     ///
     /// # Errors
     /// `NoSuchWindow`.
-    final fn getmaxyx(&mut self, win: WinId) -> Result<(u16, u16), Self::Error>
-        ensures { made self.old (Call.Query (Query.Getmaxyx win)) (as_reply two_numbers result) self.new }
+    final fn getmaxyx(&self, win: WinId) -> Result<(u16, u16), Self::Error>
+        ensures { made self.now (Call.Query (Query.Getmaxyx win)) (as_reply two_numbers result) self.now }
     {
-        self.ask(&Call::getmaxyx(win))
+        self.find(&Call::getmaxyx(win))
     }
 
     /// The line and the column of the parent where a derived window begins.
     ///
     /// # Errors
     /// `NoSuchWindow`, `NotDerived`.
-    final fn getparyx(&mut self, win: WinId) -> Result<(u16, u16), Self::Error>
-        ensures { made self.old (Call.Query (Query.Getparyx win)) (as_reply two_numbers result) self.new }
+    final fn getparyx(&self, win: WinId) -> Result<(u16, u16), Self::Error>
+        ensures { made self.now (Call.Query (Query.Getparyx win)) (as_reply two_numbers result) self.now }
     {
-        self.ask(&Call::getparyx(win))
+        self.find(&Call::getparyx(win))
     }
 
     /// The cell at the cursor.
     ///
     /// # Errors
     /// `NoSuchWindow`.
-    final fn winch(&mut self, win: WinId) -> Result<Cell, Self::Error>
-        ensures { made self.old (Call.Query (Query.Inch win)) (as_reply Reply.Cell result) self.new }
+    final fn winch(&self, win: WinId) -> Result<Cell, Self::Error>
+        ensures { made self.now (Call.Query (Query.Inch win)) (as_reply Reply.Cell result) self.now }
     {
-        self.ask(&Call::winch(win))
+        self.find(&Call::winch(win))
     }
 
     /// Puts a window into a new panel, visible on top. The number is the least free one from 1 on.
@@ -529,7 +546,7 @@ pub trait Calls {
     final fn new_panel(&mut self, win: WinId) -> Result<PanelId, Self::Error>
         ensures { made self.old (Call.Stacking (Stacking.NewPanel win)) (as_reply its_panel result) self.new }
     {
-        self.ask(&Call::new_panel(win))
+        self.make(&Call::new_panel(win))
     }
 
     /// Deletes a panel. Its window stays, and is in no panel any more.
@@ -539,7 +556,7 @@ pub trait Calls {
     final fn del_panel(&mut self, panel: PanelId) -> Result<(), Self::Error>
         ensures { made self.old (Call.Stacking (Stacking.DelPanel panel)) (as_reply no_answer result) self.new }
     {
-        self.ask(&Call::del_panel(panel))
+        self.make(&Call::del_panel(panel))
     }
 
     /// Puts a panel on top, whether it was hidden or visible.
@@ -549,7 +566,7 @@ pub trait Calls {
     final fn show_panel(&mut self, panel: PanelId) -> Result<(), Self::Error>
         ensures { made self.old (Call.Stacking (Stacking.ShowPanel panel)) (as_reply no_answer result) self.new }
     {
-        self.ask(&Call::show_panel(panel))
+        self.make(&Call::show_panel(panel))
     }
 
     /// Takes a visible panel out of the order.
@@ -559,7 +576,7 @@ pub trait Calls {
     final fn hide_panel(&mut self, panel: PanelId) -> Result<(), Self::Error>
         ensures { made self.old (Call.Stacking (Stacking.HidePanel panel)) (as_reply no_answer result) self.new }
     {
-        self.ask(&Call::hide_panel(panel))
+        self.make(&Call::hide_panel(panel))
     }
 
     /// Moves a visible panel to the top.
@@ -569,7 +586,7 @@ pub trait Calls {
     final fn top_panel(&mut self, panel: PanelId) -> Result<(), Self::Error>
         ensures { made self.old (Call.Stacking (Stacking.TopPanel panel)) (as_reply no_answer result) self.new }
     {
-        self.ask(&Call::top_panel(panel))
+        self.make(&Call::top_panel(panel))
     }
 
     /// Moves a visible panel to the bottom.
@@ -579,7 +596,7 @@ pub trait Calls {
     final fn bottom_panel(&mut self, panel: PanelId) -> Result<(), Self::Error>
         ensures { made self.old (Call.Stacking (Stacking.BottomPanel panel)) (as_reply no_answer result) self.new }
     {
-        self.ask(&Call::bottom_panel(panel))
+        self.make(&Call::bottom_panel(panel))
     }
 
     /// Moves the window of a panel, visible or hidden, to a place of the screen.
@@ -589,7 +606,7 @@ pub trait Calls {
     final fn move_panel(&mut self, panel: PanelId, y: u16, x: u16) -> Result<(), Self::Error>
         ensures { made self.old (Call.Stacking (Stacking.MovePanel panel y x)) (as_reply no_answer result) self.new }
     {
-        self.ask(&Call::move_panel(panel, y, x))
+        self.make(&Call::move_panel(panel, y, x))
     }
 
     /// Gives a panel another window. The panel keeps its depth, or stays hidden.
@@ -599,47 +616,47 @@ pub trait Calls {
     final fn replace_panel(&mut self, panel: PanelId, win: WinId) -> Result<(), Self::Error>
         ensures { made self.old (Call.Stacking (Stacking.ReplacePanel panel win)) (as_reply no_answer result) self.new }
     {
-        self.ask(&Call::replace_panel(panel, win))
+        self.make(&Call::replace_panel(panel, win))
     }
 
     /// The panel right above a visible one, or without a panel the bottom one.
     ///
     /// # Errors
     /// `NoSuchPanel`, `Hidden`.
-    final fn panel_above(&mut self, panel: Option<PanelId>) -> Result<Option<PanelId>, Self::Error>
-        ensures { made self.old (Call.Stacking (Stacking.PanelAbove panel)) (as_reply Reply.Panel result) self.new }
+    final fn panel_above(&self, panel: Option<PanelId>) -> Result<Option<PanelId>, Self::Error>
+        ensures { made self.now (Call.Stacking (Stacking.PanelAbove panel)) (as_reply Reply.Panel result) self.now }
     {
-        self.ask(&Call::panel_above(panel))
+        self.find(&Call::panel_above(panel))
     }
 
     /// The panel right below a visible one, or without a panel the top one.
     ///
     /// # Errors
     /// `NoSuchPanel`, `Hidden`.
-    final fn panel_below(&mut self, panel: Option<PanelId>) -> Result<Option<PanelId>, Self::Error>
-        ensures { made self.old (Call.Stacking (Stacking.PanelBelow panel)) (as_reply Reply.Panel result) self.new }
+    final fn panel_below(&self, panel: Option<PanelId>) -> Result<Option<PanelId>, Self::Error>
+        ensures { made self.now (Call.Stacking (Stacking.PanelBelow panel)) (as_reply Reply.Panel result) self.now }
     {
-        self.ask(&Call::panel_below(panel))
+        self.find(&Call::panel_below(panel))
     }
 
     /// The window of a panel.
     ///
     /// # Errors
     /// `NoSuchPanel`.
-    final fn panel_window(&mut self, panel: PanelId) -> Result<WinId, Self::Error>
-        ensures { made self.old (Call.Stacking (Stacking.PanelWindow panel)) (as_reply Reply.Number result) self.new }
+    final fn panel_window(&self, panel: PanelId) -> Result<WinId, Self::Error>
+        ensures { made self.now (Call.Stacking (Stacking.PanelWindow panel)) (as_reply Reply.Number result) self.now }
     {
-        self.ask(&Call::panel_window(panel))
+        self.find(&Call::panel_window(panel))
     }
 
     /// Whether a panel is hidden.
     ///
     /// # Errors
     /// `NoSuchPanel`.
-    final fn panel_hidden(&mut self, panel: PanelId) -> Result<bool, Self::Error>
-        ensures { made self.old (Call.Stacking (Stacking.PanelHidden panel)) (as_reply Reply.Flag result) self.new }
+    final fn panel_hidden(&self, panel: PanelId) -> Result<bool, Self::Error>
+        ensures { made self.now (Call.Stacking (Stacking.PanelHidden panel)) (as_reply Reply.Flag result) self.now }
     {
-        self.ask(&Call::panel_hidden(panel))
+        self.find(&Call::panel_hidden(panel))
     }
 
     /// Takes what is touched of a window into the virtual screen, at the window's place, with its cursor. Then no place
@@ -650,7 +667,7 @@ pub trait Calls {
     final fn wnoutrefresh(&mut self, win: WinId) -> Result<(), Self::Error>
         ensures { made self.old (Call.Refresh (Refresh.Noutrefresh win)) (as_reply no_answer result) self.new }
     {
-        self.ask(&Call::wnoutrefresh(win))
+        self.make(&Call::wnoutrefresh(win))
     }
 
     /// Takes the cells of a pad from line `pminrow` and column `pmincol` on into the lines from `sminrow` to `smaxrow`
@@ -673,15 +690,18 @@ pub trait Calls {
         ensures { made self.old (Call.Refresh (Refresh.Pnoutrefresh pad pminrow pmincol sminrow smincol smaxrow smaxcol))
             (as_reply no_answer result) self.new }
     {
-        self.ask(&Call::pnoutrefresh(pad, pminrow, pmincol, sminrow, smincol, smaxrow, smaxcol))
+        self.make(&Call::pnoutrefresh(pad, pminrow, pmincol, sminrow, smincol, smaxrow, smaxcol))
     }
 
     /// Takes the picture of windows and panels, and the topmost's cursor, into the virtual screen. It answers how many
     /// cells it read.
-    final fn update_panels(&mut self) -> Result<Composed, Self::Error>
-        ensures { made self.old (Call.Refresh Refresh.UpdatePanels) (as_reply Reply.Composed result) self.new }
+    final fn update_panels(&mut self) -> Composed
+        ensures { made self.old (Call.Refresh Refresh.UpdatePanels) (Ok (Reply.Composed result)) self.new }
     {
-        self.ask(&Call::update_panels())
+        match self.make(&Call::update_panels()) {
+            Ok(composed) => composed,
+            Err(_) => unreachable!(),
+        }
     }
 
     /// Gives a colour pair a foreground and a background. What is shown already stays.
@@ -696,6 +716,15 @@ pub trait Calls {
     ) -> Result<(), Self::Error>
         ensures { made self.old (Call.Refresh (Refresh.InitPair pair foreground background)) (as_reply no_answer result) self.new }
     {
-        self.ask(&Call::init_pair(pair, foreground, background))
+        self.make(&Call::init_pair(pair, foreground, background))
     }
+}
+
+/// An answer, as the type that all of its kind have.
+fn typed<A: Answer, E>(made: Result<Reply, E>) -> Result<A, E>
+    requires { IfOk made (IsOfKind A.kind) }
+    ensures { made ≡ as_reply A.reply_of result }
+{
+    let reply = made?;
+    Ok(A::of(reply).unwrap())
 }

@@ -63,7 +63,7 @@ impl Handle {
         }
     }
 
-    /// Frees what it owns, which is mostly nothing.
+    /// Frees what it owns, which is mostly nothing. No clause can say that: `cases/library_memory` looks for leaks.
     #[inline(always)]
     fn free(self, alloc: Global) {
         if let Some(loose) = self.into_loose(alloc) {
@@ -100,7 +100,7 @@ impl Handle {
         replace(self, Handle::of(Loose::of(surface))).discard();
     }
 
-    /// Consumes a closed handle, which owns nothing.
+    /// Consumes a closed handle, which owns nothing: there is nothing that a clause could say.
     #[inline(always)]
     fn discard(self)
         requires { self.value ≡ None }
@@ -176,6 +176,7 @@ impl Handle {
     }
 }
 
+/// Frees a screen. No clause can say that: `cases/library_memory` looks for leaks.
 #[cold]
 #[inline(never)]
 fn free_surface(loose: Loose<Surface, Global>) {

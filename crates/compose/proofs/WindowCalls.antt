@@ -1,25 +1,27 @@
 -- A call on windows, made on a desk: it leaves a desk, and was made.
-use Rattle.std.proofs.Common.{◌≡◌, false, Option, List, Result, Ok, Err, refl, sym, subst, arith}
+use Rattle.std.proofs.Common.{◌≡◌, ℕ, Bool, true, false, Option, List, Result, Ok, Err, inl, refl, sym, subst, arith}
 use Rattle.std.specs.Prelude.{IfOk}
-use Rattle.std.specs.Result.{result_err}
 use Rattle.cell.specs.declared.refusal.Refusal.{Refusal}
 use Rattle.world.specs.Effects.{Change, Effect, arranges, changes}
 use Rattle.world.specs.Sound.{IsSound}
 use Rattle.world.specs.calls.Affected.{effect_shows_at}
-use Rattle.world.specs.calls.Dispatch.{effect_of, is_update_panels, refusal, world_after}
-use Rattle.world.specs.calls.Queries.{query_refusal, query_reply}
+use Rattle.world.specs.calls.Dispatch.{effect_of, is_update_panels, refusal, reply_of, world_after}
 use Rattle.world.specs.declared.call.Call.{Call}
 use Rattle.world.specs.declared.call.Call.TheVariants as calls
-use Rattle.world.specs.declared.call.Query.{Query}
+use Rattle.world.specs.declared.call.Copying.TheVariants.{IsLinetouched, IsWintouched}
+use Rattle.world.specs.declared.call.Refresh.TheVariants.{UpdatePanels}
+use Rattle.world.specs.declared.call.Stacking.TheVariants.{PanelAbove, PanelBelow, PanelHidden, PanelWindow}
 use Rattle.world.specs.declared.call.Reply.{Reply}
 use Rattle.world.specs.declared.settings.Columns.{Columns}
-use Rattle.grids.specs.Tables.{WindowTable, windows}
+use Rattle.world.specs.World.{World}
+use Rattle.calls.specs.Queries.{is_query}
+use Rattle.grids.specs.Tables.{WindowTable}
 use Rattle.stack.specs.Tables.{panels}
 use Rattle.picture.specs.Damages.{Damages}
-use Rattle.compose.specs.Calling.{Called, MayLeave, MayTell}
+use Rattle.compose.specs.Calling.{Called, CountsReads, DamagesFew, MayLeave, MayTell}
 use Rattle.compose.specs.Covers.{IsDesk}
 use Rattle.compose.specs.Desks.{DeskTable, is_damaged_line, world}
-use Rattle.compose.specs.steps.Outcomes.{ChangedDamaging}
+use Rattle.compose.specs.steps.Outcomes.{Answered, ChangedDamaging}
 use Rattle.compose.proofs.DamageCovers.{call-accepted}
 use Rattle.compose.proofs.DeskLemmas.{accepted-by, call-refused}
 
@@ -34,7 +36,32 @@ module _ (old : DeskTable) (w : WindowTable) (d : List (Option Columns)) (call :
       (subst (λ (e : Effect). Damages old.windows.columns (effect_shows_at (world old) e) old.damage d) (sym is) m.damaged) refl reply tells
   change-made (Err e) m other tells leaves = grind (arith, call-refused)
 
--- a query leaves the desk as it was
-pub query-made : (old : DeskTable) (query : Query) (r : Result Reply Refusal) → IsSound (world old) → result_err r ≡ query_refusal (windows old.windows) query
-    → IfOk r (λ reply. reply ≡ query_reply (windows old.windows) query) → Called old (calls.Query query) r old
-query-made old query r sound refused says = grind arith
+-- ---- a call that only asks
+
+query-tells : (w : World) (damaged : ℕ → Bool) (query : Call) (reply : Reply) → is_query query ≡ true → reply ≡ reply_of w query → MayTell w damaged query reply
+query-tells w damaged (calls.Refresh UpdatePanels) reply asks is = cc
+query-tells w damaged query reply asks is = is
+
+query-leaves : (old : DeskTable) (query : Call) → is_query query ≡ true → MayLeave old query old
+query-leaves old (calls.Query query) asks = refl
+query-leaves old (calls.Copying (IsLinetouched win y)) asks = refl
+query-leaves old (calls.Copying (IsWintouched win)) asks = refl
+query-leaves old (calls.Stacking (PanelAbove panel)) asks = refl
+query-leaves old (calls.Stacking (PanelBelow panel)) asks = refl
+query-leaves old (calls.Stacking (PanelWindow panel)) asks = refl
+query-leaves old (calls.Stacking (PanelHidden panel)) asks = refl
+query-leaves old call asks = cc
+
+query-damages : (old : DeskTable) (query : Call) → is_query query ≡ true → DamagesFew old query old
+query-damages old (calls.Refresh UpdatePanels) asks = cc
+query-damages old query asks = λ line damaged. grind arith
+
+query-counts : (old : DeskTable) (query : Call) (reply : Reply) → is_query query ≡ true → CountsReads old query reply old
+query-counts old (calls.Refresh UpdatePanels) reply asks = cc
+query-counts old query reply asks = refl
+
+-- it leaves the desk as it was
+pub query-made : (old : DeskTable) (query : Call) (r : Result Reply Refusal) → is_query query ≡ true → IsSound (world old) → Answered (refusal (world old) query) (reply_of (world old) query) r
+    → Called old query r old
+query-made old query (Ok reply) asks sound h = (sym h.refused, query-tells (world old) (is_damaged_line old) query reply asks h.reply, query-leaves old query asks, query-damages old query asks, sound, query-counts old query reply asks)
+query-made old query (Err e) asks sound h = (inl (sym h.refused), refl)

@@ -1,16 +1,17 @@
--- The answer of each call is of the kind that Kinds has for it.
-use Rattle.std.proofs.Common.{◌≡◌, ℕ, Bool, true, false, Option, Some, None, [], ◌∷◌, Ok, refl, subst, sym}
+-- The answer of each call is of the kind that Kinds has for it, and no update_panels is refused.
+use Rattle.std.proofs.Common.{◌≡◌, ℕ, Bool, true, false, Option, Some, None, [], ◌∷◌, Ok, Err, inl, inr, refl, subst, sym}
 use Rattle.std.specs.Prelude.{is_none, option_and_then}
 use Rattle.std.specs.Option.{option_map, option_map_or}
 use Rattle.cell.specs.Glyphs.{Glyph}
 use Rattle.cell.specs.Pictures.{Place}
 use Rattle.cell.specs.Refusals.{first_of}
+use Rattle.cell.specs.declared.refusal.Refusal.{Refusal}
 use Rattle.cell.specs.declared.refusal.Refusal.TheVariants.{IsPad, NoSuchWindow, NotDerived}
 use Rattle.world.specs.World.{World}
 use Rattle.world.specs.Windows.{Backing, own_grid, part_of, Window, Windows}
 use Rattle.world.specs.Effects.{Change, asks, edits, marks, makes, deletes, moves, shifts, Order, changes, adds, orders, carries, Effect, arranges, refreshes, composes, shows, colours}
 use Rattle.world.specs.Effects.{change_reply, effect_reply, order_reply}
-use Rattle.world.specs.calls.Dispatch.{effect_of, is_doupdate, refusal}
+use Rattle.world.specs.calls.Dispatch.{effect_of, is_doupdate, refusal, takes_memory}
 use Rattle.world.specs.calls.Queries.{query_refusal, query_reply, offset_of}
 use Rattle.world.specs.calls.Making.{is_own}
 use Rattle.world.specs.declared.call.Call.{Call}
@@ -20,7 +21,7 @@ use Rattle.world.specs.declared.call.Query.TheVariants.{Getbegyx, Getparyx, Inch
 use Rattle.world.specs.declared.call.Refresh.TheVariants.{UpdatePanels, Doupdate}
 use Rattle.world.specs.declared.call.Reply.{Reply}
 use Rattle.world.specs.declared.call.Reply.TheVariants.{Nothing, Number, Pair, Cell, Flag, Panel, Composed, Sent}
-use Rattle.compose.specs.Calling.{Called, MayTell}
+use Rattle.compose.specs.Calling.{Called, MayRefuse, MayTell}
 use Rattle.compose.specs.Desks.{DeskTable, is_damaged_line, world}
 use Rattle.calls.specs.Kinds.{IsAnswerTo, IsOfKind, kind_of, kind_of_change, kind_of_effect, kind_of_order, kind_of_query, kind_of_reply, pair, cell}
 
@@ -118,3 +119,12 @@ kind-of-answer w damaged call reply other h is = subst (IsOfKind (kind_of w call
 
 pub answers-called : (old : DeskTable) (call : Call) (reply : Reply) (new : DeskTable) → is_doupdate call ≡ false → Called old call (Ok reply) new → IsAnswerTo call reply
 answers-called old call reply new other h = (world old, kind-of-answer (world old) (is_damaged_line old) call reply other h.0 h.1)
+
+-- ---- a call that has no test and takes no memory is never refused
+
+pub never-refused : (w : World) (call : Call) (e : Refusal) → refusal w call ≡ None → takes_memory w call ≡ false → MayRefuse w call e → ⊥
+never-refused w call e none no_memory (inl tested) = cc
+never-refused w call e none no_memory (inr lacking) = let takes = lacking.1 in cc
+
+pub composes-called : (old : DeskTable) (e : Refusal) (new : DeskTable) → Called old (calls.Refresh UpdatePanels) (Err e) new → ⊥
+composes-called old e new h = never-refused (world old) (calls.Refresh UpdatePanels) e refl refl h.0

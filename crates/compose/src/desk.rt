@@ -16,16 +16,19 @@ ghost use Rattle.cell.specs.Refusals.{RefusedBy, first_of};
 ghost use Rattle.grids.specs.Tables.{windows as windows_of};
 ghost use Rattle.stack.specs.Tables.{panels};
 ghost use Rattle.picture.specs.Spans.{IsSpan};
+ghost use Rattle.world.specs.calls.Dispatch.{is_doupdate};
 ghost use Rattle.world.specs.declared.call.Call.{Call};
 ghost use Rattle.world.specs.declared.call.Refresh.{Refresh};
+ghost use Rattle.calls.specs.Queries.{is_query};
 ghost use Rattle.compose.specs.Desks.{damaged_columns, is_damaged_line, world};
 ghost use Rattle.compose.specs.Calling.{Called};
 
 use crate::damaging::damage_part;
 use crate::damaging_calls::{arrange_damaging, copy_damaging, make_damaging, write_damaging};
-use crate::dispatch::{query, refresh};
+use crate::dispatch::refresh;
 use crate::marks::{clear_asked, unmark_composed};
-use calls::Calls;
+use crate::queries::answer;
+use calls::{Calls, is_query};
 use cell::{Cell, Colour, Grid, PairId, Pairs, Refusal, Shown, VirtualScreen, WinId};
 use grids::Grids;
 use picture::{
@@ -243,33 +246,27 @@ impl Desk {
     {
         self.clear = false;
     }
-}
 
-impl VirtualScreen for Desk {
-    ghost shown = { λ desk. desk.virtual };
-
-    fn virtual_screen(&self) -> &Grid<Shown> {
-        &self.picture
-    }
-
-    fn wanted_cursor(&self) -> (u16, u16) {
-        self.cursor
-    }
-
-    fn clear_wanted(&self) -> bool {
-        self.clear
-    }
-}
-
-impl Calls for Desk {
-    ghost use Rattle.compose.specs.KindLaws.{answers-called};
-
-    type Error = Refusal;
-
-    ghost made = { Called };
-
+    /// Makes a call, which may only ask.
     #[inline(always)]
-    fn call(&mut self, call: &Call<'_>) -> Result<Reply, Refusal> {
+    fn ask_or_change(&mut self, call: &Call<'_>) -> Result<Reply, Refusal>
+        requires { is_doupdate call.now ≡ false }
+        ensures { Called self.old call.now result self.new }
+    {
+        if is_query(call) {
+            self.ask(call)
+        } else {
+            self.change(call)
+        }
+    }
+
+    /// Makes a call that doesn't only ask.
+    #[inline(always)]
+    fn change(&mut self, call: &Call<'_>) -> Result<Reply, Refusal>
+        requires sends { is_doupdate call.now ≡ false }
+        requires changes { is_query call.now ≡ false }
+        ensures { Called self.old call.now result self.new }
+    {
         match *call {
             Call::Making(making) => make_damaging(
                 &mut self.windows.table,
@@ -289,7 +286,7 @@ impl Calls for Desk {
                 &mut self.damage,
                 copying,
             ),
-            Call::Query(asked) => query(&self.windows, asked),
+            Call::Query(_) => unreachable!(),
             Call::Stacking(stacking) => arrange_damaging(
                 &mut self.windows.table,
                 &mut self.stack,
@@ -299,8 +296,50 @@ impl Calls for Desk {
             Call::Refresh(asked) => refresh(self, asked),
         }
     }
+}
+
+impl VirtualScreen for Desk {
+    ghost shown = { λ desk. desk.virtual };
+
+    fn virtual_screen(&self) -> &Grid<Shown> {
+        &self.picture
+    }
+
+    fn wanted_cursor(&self) -> (u16, u16) {
+        self.cursor
+    }
+
+    fn clear_wanted(&self) -> bool {
+        self.clear
+    }
+}
+
+impl Calls for Desk {
+    ghost use Rattle.compose.specs.KindLaws.{answers-called, composes-called};
+
+    type Error = Refusal;
+
+    ghost made = { Called };
+
+    #[inline(always)]
+    fn call(&mut self, call: &Call<'_>) -> Result<Reply, Refusal> {
+        match *call {
+            Call::Making(_) => self.change(call),
+            Call::Writing(_) => self.change(call),
+            Call::Copying(_) => self.ask_or_change(call),
+            Call::Query(_) => self.ask(call),
+            Call::Stacking(_) => self.ask_or_change(call),
+            Call::Refresh(_) => self.change(call),
+        }
+    }
+
+    fn ask(&self, query: &Call<'_>) -> Result<Reply, Refusal> {
+        answer(&self.windows, &self.stack, query)
+    }
 
     ghost answers = { answers-called };
+
+    ghost composes = { composes-called };
 }
 
 /// A pair that can be set, and two colours.

@@ -7,20 +7,21 @@ ghost use Rattle.world.specs.Panels.{is_in_panel, Panels};
 ghost use Rattle.world.specs.Sound.{AreSoundPanels};
 ghost use Rattle.world.specs.calls.Copying.{copying_refusal, copying_change};
 ghost use Rattle.world.specs.calls.Making.{making_refusal, making_change};
-ghost use Rattle.world.specs.calls.Stacking.{numbered_panel, panel_number, stacking_order};
+ghost use Rattle.world.specs.calls.Stacking.{panel_number, stacking_order};
 ghost use Rattle.world.specs.calls.Dispatch.{is_doupdate};
 ghost use Rattle.world.specs.calls.Writing.{writing_refusal, writing_edit};
-ghost use Rattle.world.specs.Effects.{Change, asks, edits, makes, shifts, Edit, edit_window, order_reply};
+ghost use Rattle.world.specs.Effects.{Change, edits, makes, shifts, Edit, edit_window, order_reply};
 ghost use Rattle.world.specs.Windows.{Window};
 ghost use Rattle.world.specs.declared.call.Call.{Call};
 ghost use Rattle.world.specs.declared.call.Reply.{Reply};
+ghost use Rattle.calls.specs.Queries.{is_query};
 ghost use Rattle.grids.specs.Calls.{Changed};
 ghost use Rattle.grids.specs.Tables.{WindowTable, windows as windows_of};
 ghost use Rattle.windows.specs.Calls.{Drew, its_frame, no_frame};
-ghost use Rattle.world.specs.Replies.{its_flag, its_number, its_panel, no_answer};
+ghost use Rattle.world.specs.Replies.{its_number, its_panel, no_answer};
 ghost use Rattle.stack.specs.Tables.{panels};
 ghost use Rattle.compose.specs.steps.Changes.{affected_by, named_panel, order_panel, ordered_panel};
-ghost use Rattle.compose.specs.steps.Outcomes.{Affects, Answered, AnswersCall, AnswersOrder, AnswersQuery, Rearranges};
+ghost use Rattle.compose.specs.steps.Outcomes.{Affects, AnswersCall, AnswersOrder, Rearranges};
 ghost use Rattle.compose.specs.Calling.{Called};
 
 use crate::damaging::Affected;
@@ -30,7 +31,7 @@ use cell::{Rect, Refusal, WinId};
 use grids::Grids;
 use stack::Stack;
 use windows::Windows;
-use world::{Copying, Making, PanelId, Query, Refresh, Reply, Stacking, Writing};
+use world::{Copying, Making, PanelId, Refresh, Reply, Stacking, Writing};
 
 /// The outcome of a call on windows: its answer, and what it affects of what they show.
 #[derive(Clone, Copy)]
@@ -91,9 +92,10 @@ pub(crate) fn write(windows: &mut Windows, writing: Writing<'_>) -> Result<Outco
     }
 }
 
-/// Makes a call that copies cells or is on what is touched.
+/// Makes a call that copies cells or touches places.
 #[rattlefmt::skip]
 pub(crate) fn copy(windows: &mut Windows, copying: Copying) -> Result<Outcome, Refusal>
+    requires { is_query (Call.Copying copying) ≡ false }
     ensures { Affects windows.old.table (copying_refusal (windows_of windows.old.table) copying)
         (copying_change (windows_of windows.old.table) copying) result windows.new.table }
 {
@@ -108,8 +110,8 @@ pub(crate) fn copy(windows: &mut Windows, copying: Copying) -> Result<Outcome, R
         Copying::Touchln { win, y, n, flag } => Outcome::unseen(windows.table.wtouchln(win, y, n, flag)),
         Copying::Syncup { win } => Outcome::unseen(windows.table.wsyncup(win)),
         Copying::Syncdown { win } => Outcome::unseen(windows.table.wsyncdown(win)),
-        Copying::IsLinetouched { win, y } => Outcome::flag(windows.table.is_linetouched(win, y)),
-        Copying::IsWintouched { win } => Outcome::flag(windows.table.is_wintouched(win)),
+        Copying::IsLinetouched { .. } => unreachable!(),
+        Copying::IsWintouched { .. } => unreachable!(),
     }
 }
 
@@ -178,36 +180,13 @@ impl Outcome {
             affected: None,
         })
     }
-
-    /// Of a call that asks whether something is touched.
-    fn flag(is: Result<bool, Refusal>) -> Result<Outcome, Refusal>
-        ensures { (old new : WindowTable) (refusal : Option Refusal) (reply : Reply)
-            → Changed its_flag old refusal (asks reply) is new → Affects old refusal (asks reply) result new }
-    {
-        Ok(Outcome {
-            reply: Reply::Flag(is?),
-            affected: None,
-        })
-    }
 }
 
-/// Makes a call that asks about a window or pad.
-pub(crate) fn query(windows: &Windows, query: Query) -> Result<Reply, Refusal>
-    ensures { Answered windows.now.table query result }
-{
-    match query {
-        Query::Getyx { win } => pair(windows.table.getyx(win)?),
-        Query::Getbegyx { win } => pair(windows.table.getbegyx(win)?),
-        Query::Getmaxyx { win } => pair(windows.table.getmaxyx(win)?),
-        Query::Getparyx { win } => pair(windows.table.getparyx(win)?),
-        Query::Inch { win } => Ok(Reply::Cell(windows.winch(win)?)),
-    }
-}
-
-/// Makes a call on panels.
+/// Makes a call that makes, deletes, orders or moves a panel, or gives it a window.
 #[rattlefmt::skip]
 pub(crate) fn arrange(table: &mut Grids, stack: &mut Stack, stacking: Stacking) -> Result<Reply, Refusal>
-    requires { AreSoundPanels (windows_of table.old).window (panels stack.old) }
+    requires panels { AreSoundPanels (windows_of table.old).window (panels stack.old) }
+    requires changes { is_query (Call.Stacking stacking) ≡ false }
     ensures { Rearranges table.old stack.old stacking result table.new stack.new }
 {
     match stacking {
@@ -219,10 +198,10 @@ pub(crate) fn arrange(table: &mut Grids, stack: &mut Stack, stacking: Stacking) 
         Stacking::BottomPanel { panel } => nothing(stack.bottom(panel)),
         Stacking::MovePanel { panel, y, x } => nothing(move_panel(table, stack, panel, y, x)),
         Stacking::ReplacePanel { panel, win } => nothing(replace_panel(table, stack, panel, win)),
-        Stacking::PanelAbove { panel: above } => panel(stack.above(above)),
-        Stacking::PanelBelow { panel: below } => panel(stack.below(below)),
-        Stacking::PanelWindow { panel } => number(stack.window(panel)),
-        Stacking::PanelHidden { panel } => flag(stack.is_hidden(panel)),
+        Stacking::PanelAbove { .. } => unreachable!(),
+        Stacking::PanelBelow { .. } => unreachable!(),
+        Stacking::PanelWindow { .. } => unreachable!(),
+        Stacking::PanelHidden { .. } => unreachable!(),
     }
 }
 
@@ -288,41 +267,10 @@ fn nothing(end: Result<(), Refusal>) -> Result<Reply, Refusal>
     Ok(Reply::Nothing)
 }
 
-/// The answer of a call that asked for a panel's window.
-#[tactic(auto, unfolding(crate::specs::steps::Outcomes::Rearranges))]
-fn number(win: Result<WinId, Refusal>) -> Result<Reply, Refusal>
-    ensures { AnswersQuery Reply.Number win result }
-{
-    Ok(Reply::Number(win?))
-}
-
 /// The answer of a call that made a panel.
 #[tactic(auto, unfolding(crate::specs::steps::Outcomes::Rearranges))]
 fn new_number(made: Result<PanelId, Refusal>) -> Result<Reply, Refusal>
     ensures { AnswersCall its_panel made result }
 {
     Ok(Reply::Panel(Some(made?)))
-}
-
-/// The answer of a call that asked for a panel.
-#[tactic(auto, unfolding(crate::specs::steps::Outcomes::Rearranges))]
-fn panel(panel: Result<Option<PanelId>, Refusal>) -> Result<Reply, Refusal>
-    ensures { AnswersQuery (λ p. Reply.Panel (numbered_panel (panel_number p))) panel result }
-{
-    Ok(Reply::Panel(panel?))
-}
-
-/// The answer of a call that asked whether something is so.
-#[tactic(auto, unfolding(crate::specs::steps::Outcomes::Rearranges))]
-fn flag(is: Result<bool, Refusal>) -> Result<Reply, Refusal>
-    ensures { AnswersQuery Reply.Flag is result }
-{
-    Ok(Reply::Flag(is?))
-}
-
-/// The answer of a call that answers two numbers.
-fn pair(pair: (u16, u16)) -> Result<Reply, Refusal>
-    ensures { result ≡ Ok (Reply.Pair pair.0 pair.1) }
-{
-    Ok(Reply::Pair(pair.0, pair.1))
 }

@@ -4,9 +4,10 @@
 //! - `damaging_calls`: a call with what it damages
 //! - `damaging`: what a call damages
 //! - `desk`: the `Desk` and what can be read of it
-//! - `dispatch`: a call of each group, made
+//! - `dispatch`: a call of each group that changes something, made
 //! - `marks`: touched columns and clear flags of what makes up the picture
 //! - `panels`: the calls that look at windows and panels together
+//! - `queries`: the calls that only ask
 //! - `refresh`: what a window or a pad puts into the virtual screen
 #![tactic(auto)]
 
@@ -16,6 +17,7 @@ mod desk;
 mod dispatch;
 mod marks;
 mod panels;
+mod queries;
 mod refresh;
 
 pub use desk::Desk;

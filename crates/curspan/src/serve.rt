@@ -84,10 +84,7 @@ fn run<'a, R: Source, O: Sink, L: Sink>(
 fn take_picture<W: Sink>(screen: &mut Screen<W>)
     ensures { world screen.new.desk ≡ world_after (world screen.old.desk) (Call.Refresh Refresh.UpdatePanels) }
 {
-    match screen.call(&Call::update_panels()) {
-        Ok(_) => {}
-        Err(_) => unreachable!(),
-    }
+    screen.update_panels();
 }
 
 /// Prints the virtual screen of a desk and flushes, and answers whether all of it went out.

@@ -30,7 +30,7 @@ use Rattle.desk.specs.declared.screen.Fault.{Fault}
 use Rattle.desk.specs.declared.screen.Fault.TheVariants.{Refused, Write}
 use Rattle.desk.specs.declared.history.RunAllEnd.{RunAllEnd}
 use Rattle.desk.proofs.ShowingLemmas.{EndsShown, VirtualIsKnown, after_update_panels, shows-shown, then-keeps_size}
-use Rattle.desk.proofs.WriterLemmas.{never-refused}
+use Rattle.compose.specs.KindLaws.{never-refused}
 
 -- ---- the last calls of a history
 
@@ -128,16 +128,16 @@ module _ {W : Type 0} (seen : W → Seen) (name : W → ℕ) where
   known-after : (mid new : ScreenOver W) (end : Result Reply Fault) → CallEnds seen mid (Refresh Doupdate) end new → cut_of end ≡ None
       → VirtualIsKnown (state_of new)
   known-after mid new (Ok reply) h whole = grind arith
-  known-after mid new (Err (Refused e)) h whole = absurd (never-refused (world mid.desk) Doupdate e refl refl h.0)
+  known-after mid new (Err (Refused e)) h whole = absurd (never-refused (world mid.desk) (Refresh Doupdate) e refl refl h.0)
   known-after mid new (Err (Write fault)) h whole = cc
 
   shown-after : (first mid new : ScreenOver W) (one other : Result Reply Fault) → CallEnds seen first (Refresh UpdatePanels) one mid
       → CallEnds seen mid (Refresh Doupdate) other new
       → cut_of other ≡ None → EndsShown (state_of new)
   shown-after first mid new (Ok one) (Ok other) h k whole = record { before = world first.desk; world_is = grind arith; last_is = grind arith }
-  shown-after first mid new (Err (Refused e)) other h k whole = absurd (never-refused (world first.desk) UpdatePanels e refl refl h.0)
+  shown-after first mid new (Err (Refused e)) other h k whole = absurd (never-refused (world first.desk) (Refresh UpdatePanels) e refl refl h.0)
   shown-after first mid new (Err (Write fault)) other h k whole = cc
-  shown-after first mid new one (Err (Refused e)) h k whole = absurd (never-refused (world mid.desk) Doupdate e refl refl k.0)
+  shown-after first mid new one (Err (Refused e)) h k whole = absurd (never-refused (world mid.desk) (Refresh Doupdate) e refl refl k.0)
   shown-after first mid new one (Err (Write fault)) h k whole = cc
 
   known-split : (old : ScreenOver W) (front : List (Step W)) (last : Step W) → AreMade seen name old (front ++ last ∷ []) → last.call ≡ Refresh Doupdate

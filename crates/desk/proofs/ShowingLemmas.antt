@@ -9,7 +9,8 @@ use Rattle.world.specs.World.{World, picture}
 use Rattle.world.specs.calls.Dispatch.{world_after}
 use Rattle.world.specs.Effects.{composed_windows}
 use Rattle.cell.specs.declared.refusal.Refusal.{Refusal}
-use Rattle.desk.proofs.WriterLemmas.{Writes-refused, never-refused}
+use Rattle.desk.proofs.WriterLemmas.{Writes-refused}
+use Rattle.compose.specs.KindLaws.{never-refused}
 use Rattle.cell.proofs.PictureLemmas.{HasSize-lines_from, cell_or-lines_from}
 use Rattle.world.proofs.RefreshLaws.{found-unmarked, cursor-unmarked}
 use Rattle.ecma.specs.Terminals.{Terminal}

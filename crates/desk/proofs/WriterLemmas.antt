@@ -1,13 +1,11 @@
 -- What calls do to the writer of a screen.
-use Rattle.std.proofs.Common.{arith, ◌≡◌, ℕ, Bool, false, ◌||◌, List, [], ◌∷◌, ◌++◌, None, Ok, Err, refl, sym}
+use Rattle.std.proofs.Common.{arith, ◌≡◌, ℕ, Bool, false, ◌||◌, List, [], ◌∷◌, ◌++◌, Ok, Err, refl, sym}
 use Rattle.std.proofs.KnownBytes.{Appends-nil, Appends-trans}
 use Rattle.std.proofs.lemmas.List.Folds.{list_any-append}
 use Rattle.cell.specs.declared.refusal.Refusal.{Refusal}
 use Rattle.streams.specs.Counts.{count_after}
 use Rattle.streams.specs.Sinks.{Seen}
-use Rattle.world.specs.World.{World}
-use Rattle.world.specs.calls.Dispatch.{takes_memory, is_doupdate, world_after}
-use Rattle.world.specs.calls.Refresh.{refresh_refusal}
+use Rattle.world.specs.calls.Dispatch.{is_doupdate, world_after}
 use Rattle.world.specs.declared.call.Call.{Call}
 use Rattle.world.specs.declared.call.Call.TheVariants as calls
 use Rattle.world.specs.declared.call.Refresh.{Refresh}
@@ -16,17 +14,13 @@ use Rattle.world.specs.declared.call.Reply.{Reply}
 use Rattle.compose.specs.Desks.{DeskTable, world}
 use Rattle.desk.specs.States.{IsWithin, ScreenOver, after, state_of}
 use Rattle.compose.specs.Calling.{Called, DamagesFew, MayRefuse}
+use Rattle.compose.specs.KindLaws.{never-refused}
 use Rattle.desk.specs.Runs.{flushes_after}
 use Rattle.desk.specs.steps.Quiet.{each-call, quiet-reply}
 use Rattle.desk.proofs.StateLemmas.{painter-quiet}
 use Rattle.compose.proofs.DeskLemmas.{world-left}
 use Rattle.desk.specs.Ends.{CallEnds, Writes}
 use Rattle.desk.specs.declared.screen.Fault.TheVariants.{Refused}
-
--- a call that has no test and takes no memory is never refused
-pub never-refused : (w : World) (refresh : Refresh) (e : Refusal) → refresh_refusal w refresh ≡ None → takes_memory w (calls.Refresh refresh) ≡ false → MayRefuse w (calls.Refresh refresh) e
-    → ⊥
-never-refused w refresh e none no_memory refused = grind arith
 
 flushes_after-append : (flushes : ℕ) (calls more : List Call) → flushes_after flushes (calls ++ more) ≡ flushes_after (flushes_after flushes calls) more
 flushes_after-append flushes [] more = refl
@@ -51,7 +45,7 @@ module _ {W : Type 0} (seen : W → Seen) where
   Writes-refused old call e h =
       each-call (λ call. MayRefuse (world old.desk) call e → Writes seen old old (call ∷ []) [])
       (λ call other h. quiet old old call other refl)
-      (λ h. absurd (never-refused (world old.desk) Doupdate e refl refl h)) call h
+      (λ h. absurd (never-refused (world old.desk) (calls.Refresh Doupdate) e refl refl h)) call h
 
   -- ---- one call
 

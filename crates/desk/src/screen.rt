@@ -217,7 +217,7 @@ impl<W: Sink> Screen<W> {
 
 impl<W: Sink> Calls for Screen<W> {
     ghost use Rattle.desk.specs.Methods.{CallMade};
-    ghost use Rattle.desk.specs.steps.AnswerLaws.{answers-made};
+    ghost use Rattle.desk.specs.steps.AnswerLaws.{answers-made, composes-made};
 
     type Error = Fault;
 
@@ -237,7 +237,14 @@ impl<W: Sink> Calls for Screen<W> {
         }
     }
 
+    /// Makes a call that only asks: the desk answers it.
+    fn ask(&self, query: &Call<'_>) -> Result<Reply, Fault> {
+        Ok(self.desk.ask(query)?)
+    }
+
     ghost answers = { answers-made W.seen W.name };
+
+    ghost composes = { composes-made W.seen W.name };
 }
 
 /// How many cells an answer says were read.

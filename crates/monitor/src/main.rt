@@ -109,7 +109,7 @@ impl<W: Sink> Monitor<W> {
 
     /// Shows the windows and the panel as they are now.
     fn show(&mut self) -> Result<(), Fault> {
-        let composed = self.screen.update_panels()?;
+        let composed = self.screen.update_panels();
         let sent = self.screen.doupdate()?;
         self.counters.calls = self.counters.calls.saturating_add(2);
         self.counters.cells = self

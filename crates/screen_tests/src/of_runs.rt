@@ -138,18 +138,21 @@ fn panel_that_says_hi(screen: &mut Tried) -> Result<WinId, Fault> {
 /// The cursor of a window, and the panel at the bottom.
 type Answers = ((u16, u16), Option<PanelId>);
 
-fn ask(screen: &mut Tried, win: WinId) -> Result<Answers, Fault> {
-    Ok((screen.getyx(win)?, screen.panel_above(None)?))
+/// What a screen answers, and what its desk does.
+fn ask(screen: &Tried, win: WinId) -> Result<[Answers; 2], Fault> {
+    let answers = (screen.getyx(win)?, screen.panel_above(None)?);
+    let desk = screen.desk();
+    Ok([answers, (desk.getyx(win)?, desk.panel_above(None)?)])
 }
 
 /// What is asked of a window in a panel, which is shown.
-fn ask_all(screen: &mut Tried) -> Result<Answers, Fault> {
+fn ask_all(screen: &mut Tried) -> Result<[Answers; 2], Fault> {
     let win = panel_that_says_hi(screen)?;
     run(screen, &[UPDATE, SHOW]);
     ask(screen, win)
 }
 
-fn asked_of_screen(alloc: Global) -> Result<(Result<Answers, Fault>, Vec<u8>), Refusal> {
+fn asked_of_screen(alloc: Global) -> Result<(Result<[Answers; 2], Fault>, Vec<u8>), Refusal> {
     let mut screen = screen(alloc, usize::MAX)?;
     let answers = ask_all(&mut screen);
     Ok((answers, stream(screen)))
@@ -158,7 +161,8 @@ fn asked_of_screen(alloc: Global) -> Result<(Result<Answers, Fault>, Vec<u8>), R
 #[test]
 fn each_method_answers_what_its_call_does(rt: HostRuntime) -> Result<(), Fail> {
     let (answers, stream) = asked_of_screen(rt.alloc())?;
-    assert!(rt; answers == Ok(((0, 2), Some(PanelId(1)))));
+    let both = [((0, 2), Some(PanelId(1))); 2];
+    assert!(rt; answers == Ok(both));
     assert_eq!(rt; stream.as_slice(), HI);
     Ok(())
 }

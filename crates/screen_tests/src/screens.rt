@@ -68,9 +68,7 @@ fn shows(terminal: &mut Terminal, stream: &[u8], text: &[u8]) -> bool {
             }
         }
     }
-    fed.is_ok()
-        && is_after(text, terminal.cursor())
-        && terminal.rendition() == Rendition::NONE
+    fed.is_ok() && is_after(text, terminal.cursor()) && terminal.rendition() == Rendition::NONE
 }
 
 /// Whether the cursor is known to be after a text in the first line.

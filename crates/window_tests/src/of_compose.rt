@@ -102,11 +102,11 @@ fn pictures_are_taken(rt: HostRuntime) -> Result<(), Fail> {
 /// for, done, and no more asked for.
 fn update_twice(desk: &mut Desk, alloc: Global) -> Result<([Composed; 2], [bool; 2]), Fail> {
     run(desk, alloc, "addch 0 a\nclearok 0 on")?;
-    let first = desk.update_panels()?;
+    let first = desk.update_panels();
     let asked = desk.clear_wanted();
     desk.clear_done();
     run(desk, alloc, "clearok 0 on\nclearok 0 off")?;
-    let second = desk.update_panels()?;
+    let second = desk.update_panels();
     Ok(([first, second], [asked, desk.clear_wanted()]))
 }
 

@@ -2,14 +2,12 @@
 use Rattle.std.specs.Prelude.{◌≡◌, IfOk, OnErr, OnOk, Option, List, Result}
 use Rattle.std.specs.Result.{result_err}
 use Rattle.cell.specs.declared.refusal.Refusal.{Refusal}
-use Rattle.world.specs.Effects.{Change, asks, changes, order_reply, order_takes_memory, windows_after}
+use Rattle.world.specs.Effects.{Change, order_reply, order_takes_memory, windows_after}
 use Rattle.world.specs.Panels.{Panels}
 use Rattle.world.specs.Replies.{no_answer}
 use Rattle.world.specs.calls.Affected.{change_shows_at, order_shows_at}
-use Rattle.world.specs.calls.Queries.{query_refusal, query_reply}
 use Rattle.world.specs.calls.Refused.{Refused}
 use Rattle.world.specs.calls.Stacking.{after_stacking, stacking_order, stacking_refusal, stacking_tests}
-use Rattle.world.specs.declared.call.Query.{Query}
 use Rattle.world.specs.declared.call.Reply.{Reply}
 use Rattle.world.specs.declared.call.Stacking.{Stacking}
 use Rattle.world.specs.declared.settings.Columns.{Columns}
@@ -48,10 +46,10 @@ pub record Ordered {T : Type 0} (reply_of : T → Reply) (old : WindowTable) (ol
 unfoldable pub Rearranges : WindowTable → PanelTable → Stacking → Result Reply Refusal → WindowTable → PanelTable → Type 0
 Rearranges old old_panels stacking r new new_panels = Ordered (λ (reply : Reply). reply) old old_panels stacking r new new_panels
 
--- a query was refused exactly by its tests; else this is its answer
-pub record Answered (table : WindowTable) (query : Query) (r : Result Reply Refusal) : Type 0 where
-  pub refused : result_err r ≡ query_refusal (windows table) query
-  pub reply : IfOk r (λ reply. reply ≡ query_reply (windows table) query)
+-- a call that only asks was refused exactly so; else this is its answer
+pub record Answered (refusal : Option Refusal) (answer : Reply) (r : Result Reply Refusal) : Type 0 where
+  pub refused : result_err r ≡ refusal
+  pub reply : IfOk r (λ reply. reply ≡ answer)
 
 -- this is the answer of any call on panels that a method made, whose answer is r
 abbrev pub AnswersCall : {T : Type 0} → (T → Reply) → Result T Refusal → Result Reply Refusal → Type 0
@@ -63,13 +61,6 @@ abbrev pub AnswersOrder : Result (Unit {0}) Refusal → Result Reply Refusal →
 AnswersOrder r answer =
     (table : WindowTable) (ps after : PanelTable) (stacking : Stacking) → Arranged no_answer (stacking_tests (windows table) (panels ps) stacking) ps stacking r after
     → windows_after (windows table) (panels ps) (stacking_order (panels ps) stacking) ≡ windows table → Rearranges table ps stacking answer table after
-
--- of one that asks about panels
-abbrev pub AnswersQuery : {T : Type 0} → (T → Reply) → Result T Refusal → Result Reply Refusal → Type 0
-AnswersQuery reply_of r answer =
-    (table : WindowTable) (ps : PanelTable) (query : Stacking)
-    → result_err r ≡ stacking_refusal (windows table) (panels ps) query → stacking_order (panels ps) query ≡ changes (asks (order_reply (stacking_order (panels ps) query)))
-    → IfOk r (λ t. reply_of t ≡ order_reply (stacking_order (panels ps) query)) → Rearranges table ps query answer table ps
 
 -- it was made, and what is damaged is what windows show of its order; a refused one damages nothing
 pub record OrderedDamaging (old : WindowTable) (old_panels : PanelTable) (stacking : Stacking) (damage : List (Option Columns)) (r : Result Reply Refusal)

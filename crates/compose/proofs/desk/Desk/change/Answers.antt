@@ -1,10 +1,10 @@
--- `call`: a call on windows leaves a desk as its relation says (`WindowCalls`), and so does one on panels (`Arranging`).
+-- `change`: a call on windows leaves a desk as its relation says (`WindowCalls`), and so does one on panels (`Arranging`).
 use Rattle.std.proofs.Common.{refl}
 use Rattle.world.specs.declared.call.Call.TheVariants as calls
 use Rattle.compose.specs.contracts.desk.Desk.{the_view}
 use Rattle.compose.proofs.Arranging.{order-made}
-use Rattle.compose.proofs.WindowCalls.{change-made, query-made}
-use Rattle.compose.proofs.desk.DeskCalls.call.Goals as goal
+use Rattle.compose.proofs.WindowCalls.{change-made}
+use Rattle.compose.proofs.desk.Desk.change.Goals as goal
 
 pub returns-in-Making : goal.returns-in-Making
 returns-in-Making c =
@@ -25,11 +25,6 @@ returns-in-Copying c =
     let m = c.copy_damaging in
     rw (← s.view_is, c.in-Copying.is)
     (change-made (the_view s.inside) m.new.windows.table m.new.damage (calls.Copying c.in-Copying.copying) _ s.invariant refl m.result m.ensures refl m.ensures.call.reply (λ left. left)).1
-
-pub returns-in-Query : goal.returns-in-Query
-returns-in-Query c =
-    let s = c.self-in-Query in
-    rw (← s.view_is, c.in-Query.is) (query-made (the_view s.inside) c.in-Query.asked c.query.result s.invariant.sound c.query.ensures.refused c.query.ensures.reply)
 
 pub returns-in-Stacking : goal.returns-in-Stacking
 returns-in-Stacking c =

@@ -1,0 +1,2 @@
+-- The answers of a call are of its kind; for `make`, `find`
+pub mod AnswerKinds
