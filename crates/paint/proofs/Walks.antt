@@ -70,6 +70,21 @@ pub line-kept : {before now : Seen} {old pen : Pen} {line x : ℕ} {shown wanted
     → IsLinePainted before now old pen line (x + 1) shown wanted
 line-kept same inside h alike = grind (arith, left, line_bytes-same, with_prefix-same, same_shown-equal)
 
+line-skipped-by : (n : ℕ) {before now : Seen} {old pen : Pen} {line x : ℕ} {shown wanted : List Shown} → length shown ≡ length wanted → x + n ≤ length shown
+    → IsLinePainted before now old pen line x shown wanted
+    → ((v : ℕ) → x ≤ v → v < x + n → same_shown (get_or shown v shown_blank) (get_or wanted v shown_blank) ≡ true) → IsLinePainted before now old pen line (x + n) shown wanted
+line-skipped-by zero same inside h alike = grind arith
+line-skipped-by (suc n) {x = x} same inside h alike =
+    grind (arith, line-kept, line-skipped-by n same (omega arith) (line-kept same (omega arith) h (alike x (omega arith) (omega arith))) (λ v from to. alike v (omega arith) (omega arith)))
+
+-- and so are all up to another one
+pub line-skipped : {before now : Seen} {old pen : Pen} {line x : ℕ} {shown wanted : List Shown} (end : ℕ) → length shown ≡ length wanted → x ≤ end → end ≤ length shown
+    → IsLinePainted before now old pen line x shown wanted
+    → ((v : ℕ) → x ≤ v → v < end → same_shown (get_or shown v shown_blank) (get_or wanted v shown_blank) ≡ true) → IsLinePainted before now old pen line end shown wanted
+line-skipped {before} {now} {old} {pen} {line} {x} {shown} {wanted} end same ordered inside h alike =
+    let split : x + (end - x) ≡ end = omega arith in
+    subst (λ k. IsLinePainted before now old pen line k shown wanted) split (line-skipped-by (end - x) same (omega arith) h (λ v from to. alike v from (omega arith)))
+
 -- a line whose other cells are shown already
 pub line-painted : {before now : Seen} {old pen : Pen} {line x : ℕ} {shown wanted : List Shown} → IsLinePainted before now old pen line x shown wanted → drop x shown ≡ drop x wanted
     → (picture : Picture) → line < length picture → line_of picture line ≡ shown → Strokes (line_bytes shown wanted) before now old pen picture (set picture line wanted)

@@ -142,7 +142,7 @@ fn paint_cells<W: Sink>(
 }
 
 /// Where the run of changed cells of one rendition ends that begins at a column, before an end.
-fn run_end(shown: &[Shown], wanted: &[Shown], start: usize, end: usize) -> usize
+pub fn run_end(shown: &[Shown], wanted: &[Shown], start: usize, end: usize) -> usize
     requires same { length shown.now ≡ length wanted.now }
     requires begun { start < end }
     requires inside { end ≤ length wanted.now }

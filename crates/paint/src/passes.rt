@@ -7,7 +7,7 @@ ghost use Rattle.paint.specs.steps.Strokes.{SameTerminals, Strokes, all_have, li
 ghost use Rattle.paint.specs.steps.Walks.{DifferWithin, StrokesLine};
 
 use crate::changes::Frame;
-use crate::line::{Row, paint_run};
+use crate::line::{Row, paint_run, run_end};
 use crate::page::paint_picture;
 use crate::pen::Pen;
 use crate::tail::first_changed;
@@ -123,7 +123,7 @@ fn paint_part<W: Sink>(
             continue;
         }
         if !is_drawn_in(order, pass, wanted[x].rendition()) {
-            x += 1;
+            x = run_end(shown, wanted, x, end);
             gap = x;
             continue;
         }

@@ -11,7 +11,7 @@ use Rattle.paint.specs.steps.Walks.{cells_between}
 use Rattle.paint.proofs.Choices.{choices-alike, choices-back, choices-prefix, get-alike, get-in, get-kept, get-out, length-choose, not-yet, now-drawn, other-pass, part-kept, same-cells}
 use Rattle.paint.proofs.Prefixes.{between, drop-later}
 use Rattle.paint.proofs.CellRuns.{same_shown-at, line-run, part-of}
-use Rattle.paint.proofs.Walks.{length-between, line-begun, line-kept, line-painted}
+use Rattle.paint.proofs.Walks.{length-between, line-begun, line-kept, line-painted, line-skipped}
 use Rattle.paint.proofs.passes.paint_part.Goals as goal
 
 pub loop-x-init : goal.loop-x-init
@@ -48,9 +48,16 @@ loop-x-preserved-then-eq g c =
       same = c.loop-x.invariant.same;
     }
 
+pub run_end-x-requires-clause-differs : goal.run_end-x-requires-clause-differs
+run_end-x-requires-clause-differs g c =
+    let inside : c.loop-x.x < length c.args.row.now.wanted.now = omega (arith, c.loop-x-test.true, c.requires.part.inside) in
+    same_shown-at c.args.row.now.shown.now c.args.row.now.wanted.now c.loop-x.x c.index-shown-x.is c.index-wanted-x.is (omega (arith, inside, c.args.row.now.same)) inside c.if-eq.ensures
+
 pub loop-x-preserved-then-not-is_drawn_in : goal.loop-x-preserved-then-not-is_drawn_in
 loop-x-preserved-then-not-is_drawn_in g c =
     let x = c.loop-x.x in
+    let stop = c.run_end-x.result in
+    let run = c.run_end-x.ensures in
     let order = c.args.order.now in
     let pass = c.args.pass in
     let shown = c.args.row.now.shown.now in
@@ -58,17 +65,18 @@ loop-x-preserved-then-not-is_drawn_in g c =
     let p = is_drawn order pass in
     let q = is_drawn order (pass + 1) in
     let same : length shown ≡ length wanted = c.args.row.now.same in
-    let inside : x < length shown = omega (arith, c.loop-x-test.true, c.requires.part.inside) in
-    let new = c.index-wanted-x-in-loop-x.is ∙ get_or_default wanted x c.index-wanted-x-in-loop-x.result shown_blank (omega arith) in
+    let inside : stop ≤ length shown = omega (arith, run.within, same, c.requires.part.inside) in
+    let high : x < length wanted = omega (arith, c.loop-x-test.true, c.requires.part.inside) in
+    let new = c.index-wanted-x-in-loop-x.is ∙ get_or_default wanted x c.index-wanted-x-in-loop-x.result shown_blank high in
     let drawn_in : pass_in order c.rendition.result ≡ pass_in order (get_or wanted x shown_blank).rendition =
     ap (pass_in order) (c.rendition.ensures.value ∙ ap (λ (cell : Shown). cell.rendition) new) in
     let other = eqb-false (pass_in order c.rendition.result) pass (sym c.is_drawn_in.ensures ∙ c.if-not-is_drawn_in.true) in
-    let alike : p (get_or wanted x shown_blank).rendition ≡ q (get_or wanted x shown_blank).rendition =
-    other-pass (pass_in order (get_or wanted x shown_blank).rendition) pass (λ e. other (drawn_in ∙ e)) in
+    let alike = λ (v : ℕ) (from : x ≤ v) (to : v < stop).
+    other-pass (pass_in order (get_or wanted v shown_blank).rendition) pass (λ e. other (drawn_in ∙ sym (ap (pass_in order) (run.rendition v from to)) ∙ e)) in
     let long = length-choose p shown wanted same in
     record {
-      painted = line-kept (long ∙ sym (length-choose q shown wanted same)) (omega (arith, long, inside)) c.loop-x.invariant.painted
-          (same-cells _ _ (get-alike p q x shown wanted same inside alike));
+      painted = line-skipped stop (long ∙ sym (length-choose q shown wanted same)) (omega (arith, run.some)) (omega (arith, long, inside)) c.loop-x.invariant.painted
+          (λ v from to. same-cells _ _ (get-alike p q v shown wanted same (omega (arith, to, inside)) (alike v from to)));
       gap = omega arith;
       kept = λ v from to. absurd (omega arith);
       same = c.loop-x.invariant.same;
