@@ -1,7 +1,6 @@
 -- `append_characters`: piece by piece (`Narrowing`).
-use Rattle.std.proofs.Common.{◌+◌, ◌++◌, ◌∙◌, ap, arith, length, subst, take, ◌≡◌, ◌<◌, ℕ, ◌-◌, drop, get_or, length-drop, length-take-le}
+use Rattle.std.proofs.Common.{◌+◌, ◌++◌, ◌∙◌, ap, arith, length, take, ◌≡◌, ◌-◌, drop, length-drop, length-take-le}
 use Rattle.std.proofs.Math.Seq.{take-length}
-use Rattle.cell.specs.Shown.{IsShown, shown_blank}
 use Rattle.paint.specs.steps.Strokes.{characters}
 use Rattle.paint.proofs.Narrowing.{characters-further, sound-further}
 use Rattle.paint.proofs.outbox.append_characters.Goals as goal
