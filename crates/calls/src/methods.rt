@@ -64,13 +64,31 @@ pub trait Calls {
         typed(self.ask(query))
     }
 
+    /// Takes the picture of windows and panels, and the topmost's cursor, into the virtual screen. It answers how many
+    /// cells it read.
+    final fn update_panels(&mut self) -> Composed
+        ensures { made self.old (Call.Refresh Refresh.UpdatePanels) (Ok (Reply.Composed result)) self.new }
+    {
+        match self.make(&Call::update_panels()) {
+            Ok(composed) => composed,
+            Err(_) => unreachable!(),
+        }
+    }
+
+    // Written by tools/calls from calls.table: methods
+
     /// Makes a window at a place of the screen, with a blank grid of its own. A size of 0 reaches to the edge of the
     /// screen.
     ///
     /// # Errors
     /// `OffScreen`, `TooMany`, `NoMemory`.
-    #[rattlefmt::skip]
-    final fn newwin(&mut self, lines: u16, columns: u16, y: u16, x: u16) -> Result<WinId, Self::Error>
+    final fn newwin(
+        &mut self,
+        lines: u16,
+        columns: u16,
+        y: u16,
+        x: u16,
+    ) -> Result<WinId, Self::Error>
         ensures { made self.old (Call.Making (Making.Newwin lines columns y x)) (as_reply Reply.Number result) self.new }
     {
         self.make(&Call::newwin(lines, columns, y, x))
@@ -81,8 +99,14 @@ pub trait Calls {
     ///
     /// # Errors
     /// `NoSuchWindow`, `IsPad`, `OutsideParent`, `TooMany`, `NoMemory`.
-    #[rattlefmt::skip]
-    final fn subwin(&mut self, win: WinId, lines: u16, columns: u16, y: u16, x: u16) -> Result<WinId, Self::Error>
+    final fn subwin(
+        &mut self,
+        win: WinId,
+        lines: u16,
+        columns: u16,
+        y: u16,
+        x: u16,
+    ) -> Result<WinId, Self::Error>
         ensures { made self.old (Call.Making (Making.Subwin win lines columns y x)) (as_reply Reply.Number result) self.new }
     {
         self.make(&Call::subwin(win, lines, columns, y, x))
@@ -93,14 +117,20 @@ pub trait Calls {
     ///
     /// # Errors
     /// `NoSuchWindow`, `IsPad`, `OutsideParent`, `TooMany`, `NoMemory`.
-    #[rattlefmt::skip]
-    final fn derwin(&mut self, win: WinId, lines: u16, columns: u16, y: u16, x: u16) -> Result<WinId, Self::Error>
+    final fn derwin(
+        &mut self,
+        win: WinId,
+        lines: u16,
+        columns: u16,
+        y: u16,
+        x: u16,
+    ) -> Result<WinId, Self::Error>
         ensures { made self.old (Call.Making (Making.Derwin win lines columns y x)) (as_reply Reply.Number result) self.new }
     {
         self.make(&Call::derwin(win, lines, columns, y, x))
     }
 
-    /// Makes a pad of 1 to 1000 lines and columns, with a blank grid of its own.
+    /// Makes a pad of 1 to 1000 lines and columns, which has no place on the screen, with a blank grid of its own.
     ///
     /// # Errors
     /// `BadSize`, `TooMany`, `NoMemory`.
@@ -114,8 +144,14 @@ pub trait Calls {
     ///
     /// # Errors
     /// `NoSuchWindow`, `NotPad`, `OutsideParent`, `TooMany`, `NoMemory`.
-    #[rattlefmt::skip]
-    final fn subpad(&mut self, pad: WinId, lines: u16, columns: u16, y: u16, x: u16) -> Result<WinId, Self::Error>
+    final fn subpad(
+        &mut self,
+        pad: WinId,
+        lines: u16,
+        columns: u16,
+        y: u16,
+        x: u16,
+    ) -> Result<WinId, Self::Error>
         ensures { made self.old (Call.Making (Making.Subpad pad lines columns y x)) (as_reply Reply.Number result) self.new }
     {
         self.make(&Call::subpad(pad, lines, columns, y, x))
@@ -162,7 +198,8 @@ pub trait Calls {
         self.make(&Call::wmove(win, y, x))
     }
 
-    /// Writes a character at the cursor, which advances; a newline (10), carriage return (13) or backspace (8) moves it.
+    /// Writes a character at the cursor, which advances; a newline (10), carriage return (13) or backspace (8) moves
+    /// it.
     ///
     /// # Errors
     /// `NoSuchWindow`; `BadCharacter` for another character outside 32 to 126.
@@ -193,7 +230,8 @@ pub trait Calls {
         self.make(&Call::winsch(win, ch))
     }
 
-    /// Deletes the character at the cursor, which stays: the cells after it go one column left.
+    /// Deletes the character at the cursor, which stays: the cells after it go one column left, and the last is set to
+    /// the background.
     ///
     /// # Errors
     /// `NoSuchWindow`.
@@ -203,7 +241,8 @@ pub trait Calls {
         self.make(&Call::wdelch(win))
     }
 
-    /// Moves the cursor's line and those below down by one, and sets the cursor's line to the background.
+    /// Moves the cursor's line and those below down by one, loses the last, and sets the cursor's line to the
+    /// background.
     ///
     /// # Errors
     /// `NoSuchWindow`.
@@ -283,7 +322,7 @@ pub trait Calls {
         self.make(&Call::wsetscrreg(win, top, bottom))
     }
 
-    /// Sets whether the window scrolls where the cursor leaves the last line of its region.
+    /// Sets whether the window scrolls where the cursor leaves the last line of its region. At first it doesn't.
     ///
     /// # Errors
     /// `NoSuchWindow`.
@@ -303,7 +342,7 @@ pub trait Calls {
         self.make(&Call::clearok(win, flag))
     }
 
-    /// Sets the window's attributes.
+    /// Sets the attributes that written characters get.
     ///
     /// # Errors
     /// `NoSuchWindow`.
@@ -313,7 +352,7 @@ pub trait Calls {
         self.make(&Call::wattrset(win, attrs))
     }
 
-    /// Adds attributes to the window's.
+    /// Adds attributes to those that written characters get.
     ///
     /// # Errors
     /// `NoSuchWindow`.
@@ -323,7 +362,7 @@ pub trait Calls {
         self.make(&Call::wattron(win, attrs))
     }
 
-    /// Takes attributes from the window's.
+    /// Takes attributes from those that written characters get.
     ///
     /// # Errors
     /// `NoSuchWindow`.
@@ -333,7 +372,7 @@ pub trait Calls {
         self.make(&Call::wattroff(win, attrs))
     }
 
-    /// Sets the window's background to a character with attributes, of pair 0.
+    /// Sets the background to a character with attributes, of pair 0. No cell is written.
     ///
     /// # Errors
     /// `NoSuchWindow`; `BadCharacter` for a character outside 32 to 126.
@@ -343,20 +382,20 @@ pub trait Calls {
         self.make(&Call::wbkgdset(win, attrs, ch))
     }
 
-    /// Sets the window's colour pair.
+    /// Sets the colour pair that written characters get.
     ///
     /// # Errors
-    /// `NoSuchWindow`; `BadPair` for a number past `LAST_PAIR`.
+    /// `NoSuchWindow`; `BadPair` for a number past 63.
     final fn wcolor_set(&mut self, win: WinId, pair: u16) -> Result<(), Self::Error>
         ensures { made self.old (Call.Writing (Writing.ColorSet win pair)) (as_reply no_answer result) self.new }
     {
         self.make(&Call::wcolor_set(win, pair))
     }
 
-    /// Sets the colour pair of the window's background.
+    /// Sets the colour pair of the background. No cell is written.
     ///
     /// # Errors
-    /// `NoSuchWindow`; `BadPair` for a number past `LAST_PAIR`.
+    /// `NoSuchWindow`; `BadPair` for a number past 63.
     final fn wbkgdpair(&mut self, win: WinId, pair: u16) -> Result<(), Self::Error>
         ensures { made self.old (Call.Writing (Writing.Bkgdpair win pair)) (as_reply no_answer result) self.new }
     {
@@ -384,7 +423,8 @@ pub trait Calls {
     }
 
     /// Copies the cells of `src` from line `sminrow` and column `smincol` on to the lines from `dminrow` to `dmaxrow`
-    /// and the columns from `dmincol` to `dmaxcol` of `dst`, all inclusive; with `overlay`, all but the spaces.
+    /// and the columns from `dmincol` to `dmaxcol` of `dst`, all inclusive; with `overlay`, all but the spaces. Windows
+    /// and pads may be mixed.
     ///
     /// # Errors
     /// `NoSuchWindow` for either window; `BadRectangle` if a last line or column comes before its first;
@@ -401,15 +441,15 @@ pub trait Calls {
         dmaxcol: u16,
         overlay: bool,
     ) -> Result<(), Self::Error>
-        ensures { made self.old (Call.Copying (Copying.Copywin src dst sminrow smincol dminrow dmincol dmaxrow dmaxcol overlay))
-            (as_reply no_answer result) self.new }
+        ensures { made self.old (Call.Copying (Copying.Copywin src dst sminrow smincol dminrow dmincol dmaxrow dmaxcol overlay)) (as_reply no_answer result)
+            self.new }
     {
         self.make(&Call::copywin(
             src, dst, sminrow, smincol, dminrow, dmincol, dmaxrow, dmaxcol, overlay,
         ))
     }
 
-    /// Touches all of a window.
+    /// Touches all of a window, as if it had been written.
     ///
     /// # Errors
     /// `NoSuchWindow`.
@@ -687,27 +727,17 @@ pub trait Calls {
         smaxrow: u16,
         smaxcol: u16,
     ) -> Result<(), Self::Error>
-        ensures { made self.old (Call.Refresh (Refresh.Pnoutrefresh pad pminrow pmincol sminrow smincol smaxrow smaxcol))
-            (as_reply no_answer result) self.new }
+        ensures { made self.old (Call.Refresh (Refresh.Pnoutrefresh pad pminrow pmincol sminrow smincol smaxrow smaxcol)) (as_reply no_answer result)
+            self.new }
     {
         self.make(&Call::pnoutrefresh(pad, pminrow, pmincol, sminrow, smincol, smaxrow, smaxcol))
     }
 
-    /// Takes the picture of windows and panels, and the topmost's cursor, into the virtual screen. It answers how many
-    /// cells it read.
-    final fn update_panels(&mut self) -> Composed
-        ensures { made self.old (Call.Refresh Refresh.UpdatePanels) (Ok (Reply.Composed result)) self.new }
-    {
-        match self.make(&Call::update_panels()) {
-            Ok(composed) => composed,
-            Err(_) => unreachable!(),
-        }
-    }
-
-    /// Gives a colour pair a foreground and a background. What is shown already stays.
+    /// Gives a colour pair a foreground and a background: 0 black, 1 red, 2 green, 3 yellow, 4 blue, 5 magenta, 6 cyan,
+    /// 7 white. What is shown already stays.
     ///
     /// # Errors
-    /// `BadPair` for pair 0, for one past `LAST_PAIR`, and for a colour past `LAST_COLOUR`.
+    /// `BadPair` for pair 0, for one past 63, and for a colour past 7.
     final fn init_pair(
         &mut self,
         pair: u16,
@@ -718,6 +748,8 @@ pub trait Calls {
     {
         self.make(&Call::init_pair(pair, foreground, background))
     }
+
+    // End of what tools/calls wrote
 }
 
 /// An answer, as the type that all of its kind have.

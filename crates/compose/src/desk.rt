@@ -91,6 +91,7 @@ impl Desk {
         ensures world { IfOk result (λ desk. world desk ≡ first_world lines cols) }
         ensures sound { IfOk result (λ desk. IsSound (world desk)) }
         ensures damage { IfOk result (λ desk. (line : ℕ) → is_damaged_line desk line ≡ false) }
+        ensures reads { IfOk result (λ desk. desk.cells_read ≡ 0) }
         ensures refused { RefusedBy (new_refusal lines cols) result }
     {
         let windows = Windows::new(alloc, lines, cols)?;

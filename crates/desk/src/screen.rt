@@ -78,6 +78,7 @@ impl<W: Sink + Drop> Screen<W> {
     pub fn new(alloc: Global, lines: u16, cols: u16, writer: W) -> Result<Screen<W>, Refusal>
         ensures world { IfOk result (λ screen. world screen.desk ≡ first_world lines cols) }
         ensures damage { IfOk result (λ screen. (line : ℕ) → is_damaged_line screen.desk line ≡ false) }
+        ensures reads { IfOk result (λ screen. screen.desk.cells_read ≡ 0) }
         ensures painter { IfOk result (λ screen. screen.painter ≡ first_painter lines cols) }
         ensures writer { IfOk result (λ screen. screen.writer ≡ writer) }
         ensures refused { RefusedBy (new_refusal lines cols) result }
