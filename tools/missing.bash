@@ -1,7 +1,10 @@
 # What tests use besides the kit, a line each: a command, or a header in angle brackets; the packages of Debian that have
 # it; and the parts of ./test that are skipped without it, wholly or not.
-used_by_tests='gcc:gcc libc6-dev:library for C, budgets, refused allocations, small frames, faulty streams, C programs, keys of C programs, memory of C programs
-ar:binutils:library for C, C programs, keys of C programs, memory of C programs
+used_by_tests='gcc:gcc libc6-dev:library for C, budgets, refused allocations, small frames, faulty streams, C programs, keys of C programs, memory of C programs, packages
+ar:binutils:library for C, C programs, keys of C programs, memory of C programs, packages
+pkg-config:pkg-config:packages
+dpkg-deb:dpkg:packages
+lintian:lintian:packages
 valgrind:valgrind libc6-dbg:budgets, memory, small frames, memory of C programs
 python3:python3:random, small frames, terminal, interrupted scripts, building, C programs, keys of C programs
 tmux:tmux:shell scripts, terminal, C programs, keys of C programs
