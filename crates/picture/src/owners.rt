@@ -38,7 +38,7 @@ impl Owners {
     }
 
     /// Makes them those of no line again.
-    pub fn forget(&mut self)
+    pub fn start_over(&mut self)
         ensures { (window : WindowMap) (panels : Panels) → KnowsOwners window panels self.new }
     {
         self.top = 1;

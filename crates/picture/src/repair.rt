@@ -44,7 +44,7 @@ pub fn show_damaged<'a, R: Rows<'a>>(
     ensures read { result ≡ cells_above damage.old (R.windows rows.old).lines }
     ensures count { GrewBy result (R.cells_read rows.old) (R.cells_read rows.new) }
 {
-    owners.forget();
+    owners.start_over();
     let mut cells = 0;
     let mut y = damage.next(0);
     while y < lines {

@@ -57,7 +57,7 @@ loop-y-init g c =
     let inside = c.next-y.ensures.inside (omega arith) in
     record {
       windows = refl;
-      known = c.forget.ensures old.window (panels c.args.stack.now);
+      known = c.start_over.ensures old.window (panels c.args.stack.now);
       read = sym (no-more-to before 0 c.next-y.result (omega arith) none);
       count = search rules;
       composed = composed-to f old.lines old.columns before c.args.picture.now c.requires.covered 0 c.next-y.result before c.args.picture.now
