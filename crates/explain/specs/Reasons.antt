@@ -45,7 +45,8 @@ unsigned_reason argument = if are_digits argument then digits_reason (codes ": i
 -- of one with a minus or without
 abbrev pub signed_reason : List ℕ → List ℕ
 signed_reason argument = if begins_with (codes "-") argument
-    then (if are_digits (drop 1 argument) then digits_reason (codes ": it is too small") (drop 1 argument) else [])
+    then (if bytes_eq argument (codes "-0") then codes ": 0 has no minus"
+    else (if are_digits (drop 1 argument) then digits_reason (codes ": it is too small") (drop 1 argument) else []))
     else unsigned_reason argument
 
 -- two hexadecimal digits, in lower case or upper case

@@ -79,6 +79,9 @@ fn signed_reason(argument: &[u8]) -> &'static [u8]
     ensures text { result.now ≡ signed_reason argument.now }
     ensures short { length result.now ≤ 80 }
 {
+    if argument == b"-0".as_slice() {
+        return b": 0 has no minus";
+    }
     match argument.strip_prefix(b"-") {
         Some(digits) if are_digits(digits) => digits_reason(b": it is too small", digits),
         Some(_) => b"",
