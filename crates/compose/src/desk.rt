@@ -249,7 +249,7 @@ impl Desk {
     }
 
     /// Makes a call, which may only ask.
-    #[inline(always)]
+    #[inline(never)]
     fn ask_or_change(&mut self, call: &Call<'_>) -> Result<Reply, Refusal>
         requires { is_doupdate call.now ≡ false }
         ensures { Called self.old call.now result self.new }

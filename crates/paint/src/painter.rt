@@ -31,8 +31,6 @@ pub struct Painter {
     // All columns of all lines: those of a picture of which nothing is said.
     whole: Changes,
     pen: Pen,
-    // Draws a frame another way, to be compared.
-    other: Pen,
 }
 
 impl Model for Painter {
@@ -52,7 +50,7 @@ impl Model for Painter {
     } };
 
     ghost invariant = { λ p. (p.lines ≤ LARGEST_SCREEN) × (p.columns ≤ LARGEST_SCREEN) × HasSize p.lines p.columns p.picture
-        × IsWhole p.lines p.columns p.whole × (p.pen.columns ≡ p.columns) × (p.other.columns ≡ p.columns) };
+        × IsWhole p.lines p.columns p.whole × (p.pen.columns ≡ p.columns) };
 }
 
 impl Painter {
@@ -69,7 +67,6 @@ impl Painter {
         let picture = Grid::new(alloc, lines, columns)?;
         let whole = Changes::whole(alloc, lines, columns)?;
         let pen = Pen::new(alloc, columns)?;
-        let other = Pen::new(alloc, columns)?;
         Ok(Painter {
             lines,
             columns,
@@ -77,7 +74,6 @@ impl Painter {
             cursor: None,
             whole,
             pen,
-            other,
         })
     }
 
@@ -105,7 +101,6 @@ impl Painter {
         self.cursor = None;
         let sent = show(
             &mut self.pen,
-            &mut self.other,
             sink,
             (self.lines, self.columns),
             known,
@@ -141,7 +136,6 @@ impl Painter {
         self.cursor = None;
         let sent = show(
             &mut self.pen,
-            &mut self.other,
             sink,
             (self.lines, self.columns),
             known,
@@ -160,7 +154,6 @@ impl Painter {
 /// only.
 fn show<W: Sink>(
     pen: &mut Pen,
-    other: &mut Pen,
     sink: &mut W,
     size: (u16, u16),
     known: Option<(u16, u16)>,
@@ -170,7 +163,6 @@ fn show<W: Sink>(
     changes: &Changes,
 ) -> Result<Sent, WriteFault>
     requires can { CanDraw pen.old size.0 size.1 cursor }
-    requires other { other.old.columns ≡ size.1 }
     requires lines { size.0 ≤ LARGEST_SCREEN }
     requires columns { size.1 ≤ LARGEST_SCREEN }
     requires shown { HasSize size.0 size.1 shown.old }
@@ -183,7 +175,6 @@ fn show<W: Sink>(
     ensures shown { shown.new ≡ (start_from (first_painter size.0 size.1) (last_shown shown.old known)).picture }
     ensures size { HasSize size.0 size.1 shown.new }
     ensures same { SameTerminals (W.name sink.old) (W.name sink.new) pen.old pen.new }
-    ensures other { other.new.columns ≡ other.old.columns }
 {
     let (lines, columns) = size;
     match known {
@@ -195,7 +186,7 @@ fn show<W: Sink>(
                 wanted: picture,
                 changes,
             };
-            draw_frame(pen, other, sink, &frame, from, cursor);
+            draw_frame(pen, sink, &frame, from, cursor);
             send_text(pen, sink)
         }
         None => {
