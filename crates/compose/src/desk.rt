@@ -250,7 +250,7 @@ impl Desk {
 
     /// Makes a call, which may only ask.
     #[inline(never)]
-    pub(crate) fn ask_or_change(&mut self, call: &Call<'_>) -> Result<Reply, Refusal>
+    fn ask_or_change(&mut self, call: &Call<'_>) -> Result<Reply, Refusal>
         requires { is_doupdate call.now ≡ false }
         ensures { Called self.old call.now result self.new }
     {
@@ -263,7 +263,7 @@ impl Desk {
 
     /// Makes a call that doesn't only ask.
     #[inline(always)]
-    pub(crate) fn change(&mut self, call: &Call<'_>) -> Result<Reply, Refusal>
+    fn change(&mut self, call: &Call<'_>) -> Result<Reply, Refusal>
         requires sends { is_doupdate call.now ≡ false }
         requires changes { is_query call.now ≡ false }
         ensures { Called self.old call.now result self.new }
