@@ -1,6 +1,6 @@
 -- Runs of cells: printed one after another, and drawn in a line.
 use Rattle.std.proofs.Common.{◌≡◌, Bool, ℕ, zero, suc, ◌+◌, ◌-◌, ◌<◌, ◌≤◌, true, false, List, [], ◌∷◌, ◌++◌, length, get_or, set, take, drop}
-use Rattle.std.proofs.Common.{Some, refl, sym, ap, ◌∙◌, subst, arith, length-append, length-set}
+use Rattle.std.proofs.Common.{Some, inl, inr, refl, sym, ap, ◌∙◌, subst, arith, length-append, length-set}
 use Rattle.std.specs.Prelude.{not}
 use Rattle.std.proofs.lemmas.Bool.{cases_lt, lt-ltb}
 use Rattle.std.proofs.lemmas.List.{get_or_default, get_or_past, get_or-drop, get_or-set_same, get_or-take, length-map}
@@ -18,7 +18,7 @@ use Rattle.streams.specs.Sinks.{Seen}
 use Rattle.paint.specs.declared.pen.Pen.{Pen}
 use Rattle.paint.specs.steps.Gathering.{Gathers}
 use Rattle.paint.specs.steps.Strokes.{Draws, Strokes, cell_bytes, characters, line_bytes, most_approach, run_bytes, with_cells, within}
-use Rattle.paint.specs.steps.Walks.{cells_between, with_prefix, IsLinePainted}
+use Rattle.paint.specs.steps.Walks.{cells_between, with_prefix, AreOfRun, IsLinePainted, IsRun}
 use Rattle.paint.proofs.Prefixes.{length-with_prefix, take-with_prefix}
 use Rattle.paint.proofs.PenStrokes.{Draws-then, Strokes-then, spelled-print}
 use Rattle.paint.proofs.Walks.{left, line_bytes-other, one-drawn}
@@ -144,3 +144,37 @@ not-other same h = grind arith
 
 pub not-same : (same : Bool) → not same ≡ true → same ≡ false
 not-same same h = grind arith
+
+-- a run before an end is one before a later end
+pub run-longer : {shown wanted : List Shown} {start end stop later : ℕ} → IsRun shown wanted start end stop → end ≤ later → IsRun shown wanted start later stop
+run-longer h few = record { some = h.some; within = omega (arith, h.within, few); changed = h.changed; rendition = h.rendition }
+
+-- the first cell of one
+pub run-begun : (shown wanted : List Shown) (start end : ℕ) → start < end → same_shown (get_or shown start shown_blank) (get_or wanted start shown_blank) ≡ false
+    → IsRun shown wanted start end (start + 1)
+run-begun shown wanted start end some differs = record {
+  some = omega arith;
+  within = omega arith;
+  changed = λ v from to. let is : v ≡ start = omega arith in rw is differs;
+  rendition = λ v from to. let is : v ≡ start = omega arith in ap (λ n. (get_or wanted n shown_blank).rendition) is;
+}
+
+-- and further cells
+pub run-further : (n : ℕ) {shown wanted : List Shown} {start end x : ℕ} {rendition : Rendition} → IsRun shown wanted start end x → rendition ≡ (get_or wanted start shown_blank).rendition
+    → AreOfRun (take n (drop x shown)) (take n (drop x wanted)) rendition n → x + n ≤ end → IsRun shown wanted start end (x + n)
+run-further n {shown} {wanted} {x} h is more inside =
+    let at = λ (l : List Shown) (v : ℕ) (from : x ≤ v) (to : v < x + n).
+    let split : x + (v - x) ≡ v = omega arith in
+    get_or-take n (drop x l) (v - x) shown_blank (omega arith) ∙ get_or-drop x l (v - x) shown_blank ∙ ap (λ k. get_or l k shown_blank) split in
+    record {
+      some = omega (arith, h.some);
+      within = inside;
+      changed = λ v from to. elim (cases_lt v x) [
+        | inl early ↦ h.changed v from early
+        | inr late ↦ (λ i. same_shown (sym (at shown v late to) i) (sym (at wanted v late to) i)) ∙ more.changed (v - x) (omega arith)
+      ];
+      rendition = λ v from to. elim (cases_lt v x) [
+        | inl early ↦ h.rendition v from early
+        | inr late ↦ ap (λ (cell : Shown). cell.rendition) (sym (at wanted v late to)) ∙ more.rendition_of (v - x) (omega arith) ∙ is
+      ];
+    }

@@ -35,3 +35,5 @@ pub mod Choices
 pub mod PassOrders
 -- The characters of cells, gathered piece by piece; for `append_characters`
 pub mod Narrowing
+-- The runs of changed cells of a frame, one after another, and what is drawn of them; for `add_line`, `list`, `paint_pass`
+pub mod Listing

@@ -1,9 +1,9 @@
 -- The strokes of a pen, one after another, and what each shows.
 use Rattle.std.proofs.Common.{◌≡◌, ℕ, ◌+◌, ◌-◌, ◌<◌, ◌≤◌, Bool, true, false, List, [], ◌∷◌, ◌++◌, length, Option, Some, inl, inr, get_or, take, drop, add-zero, refl, sym, ap, ◌∙◌}
 use Rattle.std.proofs.Common.{subst, arith, append_assoc, append-nil, length-append}
-use Rattle.std.specs.Prelude.{◌&&◌, ◌||◌, ◌==◌, if◌then◌else◌, min, nat_lt}
+use Rattle.std.specs.Prelude.{◌&&◌, ◌||◌, ◌==◌, if◌then◌else◌, min, nat_le, nat_lt}
 use Rattle.std.proofs.Math.Nat.{le-min, min-eq_left, min-le_right}
-use Rattle.std.proofs.lemmas.Bool.{and_parts, cases_Bool, cases_lt, eqb-true, le-ltb, lt-ltb, ne_eqb}
+use Rattle.std.proofs.lemmas.Bool.{and_parts, cases_Bool, cases_eq, cases_lt, eq-eqb, eqb-true, le-leb, le-ltb, lt-leb, lt-ltb, ne_eqb}
 use Rattle.std.proofs.lemmas.List.{drop_all, drop_more, get_or-drop, get_or-take, length-drop, length-take-le, nil_from_length, set-get_or}
 use Rattle.cell.specs.Shown.{shown_blank, no_rendition, Shown, Rendition, IsRendition, IsShown}
 use Rattle.cell.specs.Pictures.{Picture, Place, line_of, with_shown}
@@ -249,6 +249,20 @@ again-least : (rendition : Rendition) (gap : List Shown) (wanted : Rendition) �
 again-least rendition [] wanted = omega arith
 again-least rendition (cell ∷ gap) wanted = grind (arith, change-through, again-least cell.rendition gap wanted)
 
+-- a gap that has the rendition in force takes its characters alone
+plain-again : (rendition : Rendition) (gap : List Shown) (wanted : Rendition) → all_have rendition gap ≡ true
+    → again_bytes rendition gap wanted ≡ length gap + length (change rendition wanted)
+plain-again rendition [] wanted all = omega arith
+plain-again rendition (cell ∷ gap) wanted all =
+    let parts = and_parts (same_rendition cell.rendition rendition) (all_have rendition gap) all in
+    let is : cell.rendition ≡ rendition = same_rendition-equal cell.rendition rendition parts.0 in
+    let first : length (change rendition cell.rendition) ≡ 0 = ap length (change-same rendition cell.rendition parts.0) in
+    let rest : again_bytes cell.rendition gap wanted ≡ again_bytes rendition gap wanted = ap (λ r. again_bytes r gap wanted) is in
+    omega (arith, first, rest, plain-again rendition gap wanted parts.1)
+
+not-further : (cursor : Option Place) (line column n : ℕ) → 0 < n → is_at cursor (line, column) ≡ true → is_at cursor (line, column + n) ≡ false
+not-further cursor line column n some at = rw (is_at-known cursor (line, column) at) (grind (arith, ne_eqb))
+
 -- ---- whether a gap is printed again
 
 module _ (cursor : Option Place) (rendition : Rendition) (start : Place) (gap : List Shown) (wanted : Rendition) where
@@ -270,6 +284,18 @@ module _ (cursor : Option Place) (rendition : Rendition) (start : Place) (gap : 
 
   pub again-far : is_at cursor start ≡ false → is_printed_again cursor rendition start gap wanted ≡ false
   again-far far = grind (arith, cases_lt, lt-ltb, again-none)
+
+  -- where all of it has the rendition in force, it is where it is no longer than a position
+  pub again-plain : 0 < length gap → is_at cursor start ≡ true → all_have rendition gap ≡ true → (n : ℕ) → n ≡ length (spelling (Cup start.0 (start.1 + length gap)))
+      → nat_le (length gap) n ≡ is_printed_again cursor rendition start gap wanted
+  again-plain some here all n is =
+      let one = plain-again rendition gap wanted all in
+      let other : length (move_from cursor (start.0, start.1 + length gap)) ≡ n =
+      length-go cursor (start.0, start.1 + length gap) (not-further cursor start.0 start.1 (length gap) some here) ∙ sym is in
+      elim (cases_lt n (length gap)) [
+        | inl longer ↦ grind (arith, again-here, le-ltb, ne_eqb, lt-leb)
+        | inr short ↦ grind (arith, again-here, cases_eq, lt-ltb, eq-eqb, le-leb)
+      ]
 
   -- a long gap isn't
   pub again-long : start.0 < LARGEST_SCREEN → start.1 + length gap < LARGEST_SCREEN → 10 < length gap → is_printed_again cursor rendition start gap wanted ≡ false

@@ -3,3 +3,5 @@ pub mod Strokes
 pub mod Walks
 pub mod Holding
 pub mod Passes
+pub mod Listing
+pub mod Counting

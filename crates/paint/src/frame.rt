@@ -1,18 +1,26 @@
 //! A frame over what is shown: drawn in one walk or in passes, whichever takes fewer bytes.
 
+ghost use Rattle.std.specs.Prelude.{◌≤◌, length};
+ghost use Rattle.paint.specs.declared.passes.TheConstants.{MOST};
 ghost use Rattle.paint.specs.steps.Holding.{CanDraw, HoldsFrame};
+ghost use Rattle.paint.specs.steps.Listing.{AreRuns};
 ghost use Rattle.paint.specs.steps.Strokes.{SameTerminals};
 
 use crate::changes::Frame;
-use crate::passes::{Order, order_of, paint};
+use crate::counting::are_passes_shorter;
+use crate::page::paint_picture;
+use crate::passes::{order_of, paint_passes};
 use crate::pen::Pen;
+use crate::runs::{Run, Runs};
+use cell::Rendition;
 use streams::{Discard, Sink};
 
 /// Draws the wanted picture of a frame over the one that is shown, from where the cursor is, and goes to a place. Where passes may take
-/// fewer bytes than one walk over all lines, both are drawn into the pen's room first. If the passes took fewer, their text stays where all
-/// of it is in the room still, and else they are drawn again for the sink. If not, the walk is.
+/// fewer bytes than one walk over all lines, the walk is drawn into the pen's room first, and what passes take is counted. If that is
+/// fewer, they are drawn. If not, the walk's text stays where all of it is in the room still, and else it is drawn again for the sink.
 pub fn draw_frame<W: Sink>(
     pen: &mut Pen,
+    runs: &mut Runs,
     sink: &mut W,
     frame: &Frame<'_>,
     from: (u16, u16),
@@ -22,38 +30,60 @@ pub fn draw_frame<W: Sink>(
     ensures holds { HoldsFrame frame.now from to (W.seen sink.old) (W.seen sink.new) pen.new.outbox }
     ensures same { SameTerminals (W.name sink.old) (W.name sink.new) pen.old pen.new }
 {
-    let walk = Order::new();
     let order = order_of(frame);
-    if order.renditions().is_empty() {
-        draw(pen, sink, frame, from, to, &walk);
+    let order = order.renditions();
+    if order.is_empty() {
+        draw_walk(pen, sink, frame, from, to);
+        return;
+    }
+    if !runs.list(frame, order) {
+        draw_walk(pen, sink, frame, from, to);
         return;
     }
     let mut discard = Discard::new();
-    let nowhere = &mut discard;
-    draw(pen, nowhere, frame, from, to, &walk);
-    let bytes = pen.bytes();
-    draw(pen, nowhere, frame, from, to, &order);
-    if bytes <= pen.bytes() {
-        draw(pen, sink, frame, from, to, &walk);
+    draw_walk(pen, &mut discard, frame, from, to);
+    let passes = order.len() as u16 + 1;
+    if are_passes_shorter(frame, runs.as_slice(), passes, from, to, pen.bytes()) {
+        draw_passes(pen, sink, frame, runs.as_slice(), order, from, to);
     } else if !pen.holds_all() {
-        draw(pen, sink, frame, from, to, &order);
+        draw_walk(pen, sink, frame, from, to);
     }
 }
 
-/// The same in the passes of an order, or, where it has none, in one walk.
-fn draw<W: Sink>(
+/// The same in one walk over all lines.
+fn draw_walk<W: Sink>(
     pen: &mut Pen,
     sink: &mut W,
     frame: &Frame<'_>,
     from: (u16, u16),
     to: (u16, u16),
-    order: &Order,
 )
     requires { CanDraw pen.old frame.now.lines frame.now.columns to }
     ensures holds { HoldsFrame frame.now from to (W.seen sink.old) (W.seen sink.new) pen.new.outbox }
     ensures same { SameTerminals (W.name sink.old) (W.name sink.new) pen.old pen.new }
 {
     pen.begin(from);
-    paint(pen, sink, frame, order);
+    paint_picture(pen, sink, frame);
+    pen.end(sink, to);
+}
+
+/// The same in passes.
+fn draw_passes<W: Sink>(
+    pen: &mut Pen,
+    sink: &mut W,
+    frame: &Frame<'_>,
+    runs: &[Run],
+    order: &[Rendition],
+    from: (u16, u16),
+    to: (u16, u16),
+)
+    requires can { CanDraw pen.old frame.now.lines frame.now.columns to }
+    requires few { length order.now ≤ MOST }
+    requires runs { AreRuns order.now frame.now.shown.now frame.now.wanted.now runs.now (frame.now.lines, 0) }
+    ensures holds { HoldsFrame frame.now from to (W.seen sink.old) (W.seen sink.new) pen.new.outbox }
+    ensures same { SameTerminals (W.name sink.old) (W.name sink.new) pen.old pen.new }
+{
+    pen.begin(from);
+    paint_passes(pen, sink, frame, runs, order);
     pen.end(sink, to);
 }

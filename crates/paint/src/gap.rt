@@ -4,7 +4,7 @@ ghost use Rattle.std.specs.Prelude.{◌≡◌, ◌+◌, ◌<◌, ◌≤◌, Some
 ghost use Rattle.cell.specs.Pictures.{Picture, line_of};
 ghost use Rattle.paint.specs.steps.Strokes.{SameTerminals, Strokes, again_bytes, all_have, approach_bytes, change, is_printed_again, moved_bytes};
 
-use crate::pen::Pen;
+use crate::pen::{Pen, PenState};
 use cell::{LARGEST_SCREEN, Rendition, Shown};
 use ecma::{position_length, selection_length};
 use streams::Sink;
@@ -33,7 +33,7 @@ pub fn approach<W: Sink>(
     ensures cursor { pen.new.cursor ≡ Some (line, start + length gap.now) }
     ensures same { SameTerminals (W.name sink.old) (W.name sink.new) pen.old pen.new }
 {
-    if is_printed_again(pen, line, start, gap, rendition) {
+    if is_printed_again(&pen.state(), line, start, gap, rendition) {
         pen.print_again(sink, line, start, gap);
         pen.select(sink, rendition);
         return;
@@ -44,7 +44,7 @@ pub fn approach<W: Sink>(
 
 /// How many bytes an approach takes.
 pub fn approach_length(
-    pen: &Pen,
+    pen: &PenState,
     line: u16,
     start: u16,
     gap: &[Shown],
@@ -56,15 +56,21 @@ pub fn approach_length(
     ensures short { result ≤ 300 }
 {
     if is_printed_again(pen, line, start, gap, rendition) {
-        again_length(gap, pen.rendition(), rendition)
+        again_length(gap, pen.rendition, rendition)
     } else {
         moved_length(pen, line, start + gap.len() as u16, rendition)
     }
 }
 
 /// Whether the cells of a gap, which begins at the pen, are printed again: where that takes fewer bytes than a move, or as many
-/// and all of them have the rendition in force, or all the wanted one.
-fn is_printed_again(pen: &Pen, line: u16, start: u16, gap: &[Shown], rendition: Rendition) -> bool
+/// and all of them have the rendition in force, or all the wanted one. Most gaps have the one in force, and nothing is selected in them.
+fn is_printed_again(
+    pen: &PenState,
+    line: u16,
+    start: u16,
+    gap: &[Shown],
+    rendition: Rendition,
+) -> bool
     requires line { line < LARGEST_SCREEN }
     requires inside { start + length gap.now < LARGEST_SCREEN }
     ensures { result ≡ is_printed_again pen.now.cursor pen.now.rendition (line, start) gap.now rendition }
@@ -78,10 +84,14 @@ fn is_printed_again(pen: &Pen, line: u16, start: u16, gap: &[Shown], rendition: 
     if !pen.is_at(line, start) {
         return false;
     }
-    let again = again_length(gap, pen.rendition(), rendition);
-    let moved = moved_length(pen, line, start + gap.len() as u16, rendition);
+    let end = start + gap.len() as u16;
+    if are_all(gap, pen.rendition) {
+        return gap.len() <= position_length(line, end);
+    }
+    let again = again_length(gap, pen.rendition, rendition);
+    let moved = moved_length(pen, line, end, rendition);
     if again == moved {
-        return are_all(gap, pen.rendition()) || are_all(gap, rendition);
+        return are_all(gap, rendition);
     }
     again < moved
 }
@@ -102,13 +112,13 @@ fn again_length(gap: &[Shown], from: Rendition, wanted: Rendition) -> usize
 }
 
 /// How many bytes it takes to go to a place and to select a rendition.
-fn moved_length(pen: &Pen, line: u16, column: u16, rendition: Rendition) -> usize
+pub fn moved_length(pen: &PenState, line: u16, column: u16, rendition: Rendition) -> usize
     requires line { line < LARGEST_SCREEN }
     requires column { column < LARGEST_SCREEN }
     ensures exact { result ≡ moved_bytes pen.now.cursor pen.now.rendition (line, column) rendition }
     ensures short { result ≤ 32 }
 {
-    let selection = change_length(pen.rendition(), rendition);
+    let selection = change_length(pen.rendition, rendition);
     if pen.is_at(line, column) {
         selection
     } else {

@@ -1,6 +1,7 @@
 //! The `Painter`, which sends pictures to a terminal; the crate is named for what it does.
 //!
 //! - `changes`: of each line the columns in which a picture may differ from the last one, and a frame of both
+//! - `counting`: how many bytes passes take
 //! - `frame`: a frame, in one walk or in passes
 //! - `gap`: what is printed again between changed cells
 //! - `laws`: laws of agreement
@@ -10,10 +11,12 @@
 //! - `painter`: the `Painter`
 //! - `passes`: drawing rendition by rendition
 //! - `pen`: strokes: move, select, print, erase
+//! - `runs`: the runs of changed cells of a frame
 //! - `tail`: what is erased at the end of a line
 #![tactic(auto)]
 
 mod changes;
+mod counting;
 mod frame;
 mod gap;
 pub mod laws;
@@ -23,6 +26,7 @@ mod page;
 mod painter;
 mod passes;
 mod pen;
+mod runs;
 mod tail;
 
 pub use changes::{Changes, Stretch};

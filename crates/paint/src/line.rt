@@ -1,13 +1,13 @@
 //! The walk over the cells of a line: a pen draws where the wanted one differs from the one that is shown.
 
-ghost use Rattle.std.specs.Prelude.{◌≡◌, ◌+◌, ◌<◌, ◌≤◌, ⊤, MatchOption, None, false, length, slice_index_or, take};
+ghost use Rattle.std.specs.Prelude.{◌≡◌, ◌+◌, ◌<◌, ◌≤◌, ⊤, MatchOption, None, false, true, length, slice_index_or, take};
 ghost use Rattle.cell.specs.Differences.{same_shown};
 ghost use Rattle.cell.specs.Pictures.{Picture, line_of};
 ghost use Rattle.cell.specs.Shown.{shown_blank};
 ghost use Rattle.cell.specs.declared.limits.TheConstants.{LARGEST_SCREEN};
 ghost use Rattle.streams.specs.Sinks.{Seen};
 ghost use Rattle.paint.specs.steps.Strokes.{IsPlainAt, SameTerminals, Strokes, line_bytes, reach_bytes, run_bytes, with_cells};
-ghost use Rattle.paint.specs.steps.Walks.{DifferWithin, IsLinePainted, IsReadyToErase, IsRun, StrokesLine, cells_between};
+ghost use Rattle.paint.specs.steps.Walks.{AreOfRun, DifferWithin, IsLinePainted, IsReadyToErase, IsRun, StrokesLine, cells_between};
 
 use crate::gap::approach;
 use crate::pen::Pen;
@@ -16,6 +16,12 @@ use crate::tail::{
 };
 use cell::{Rendition, Shown};
 use streams::Sink;
+
+/// How many cells of a run are looked at one after another.
+const SHORT: usize = 8;
+
+/// How many are looked at together then.
+const LANES: usize = 16;
 
 /// A wanted line over the one that is shown, of a screen.
 #[derive(Drop)]
@@ -135,13 +141,16 @@ fn paint_cells<W: Sink>(
             x += 1;
             continue;
         }
-        x = paint_run(pen, sink, row, gap, x, end);
-        gap = x;
+        let stop = run_end(shown, wanted, x, end);
+        paint_run(pen, sink, row, gap, x, stop);
+        x = stop;
+        gap = stop;
     }
     gap
 }
 
-/// Where the run of changed cells of one rendition ends that begins at a column, before an end.
+/// Where the run of changed cells of one rendition ends that begins at a column, before an end. Of a long one many cells are looked at
+/// together.
 pub fn run_end(shown: &[Shown], wanted: &[Shown], start: usize, end: usize) -> usize
     requires same { length shown.now ≡ length wanted.now }
     requires begun { start < end }
@@ -149,8 +158,27 @@ pub fn run_end(shown: &[Shown], wanted: &[Shown], start: usize, end: usize) -> u
     requires differs { same_shown (slice_index_or shown.now start shown_blank) (slice_index_or wanted.now start shown_blank) ≡ false }
     ensures { IsRun shown.now wanted.now start end result }
 {
+    let near = end.min(start + SHORT);
+    let mut x = run_end_from(shown, wanted, start, start + 1, near);
+    if x < near {
+        return x;
+    }
     let rendition = wanted[start].rendition();
-    for x in start + 1..end {
+    while end - x >= LANES && are_of_run(&shown[x..x + LANES], &wanted[x..x + LANES], rendition) {
+        x += LANES;
+    }
+    run_end_from(shown, wanted, start, x, end)
+}
+
+/// Where a run ends, before an end, whose cells up to a column are known.
+fn run_end_from(shown: &[Shown], wanted: &[Shown], start: usize, from: usize, end: usize) -> usize
+    requires same { length shown.now ≡ length wanted.now }
+    requires inside { end ≤ length wanted.now }
+    requires run { IsRun shown.now wanted.now start end from }
+    ensures { IsRun shown.now wanted.now start end result }
+{
+    let rendition = wanted[start].rendition();
+    for x in from..end {
         if shown[x] == wanted[x] {
             return x;
         }
@@ -161,8 +189,21 @@ pub fn run_end(shown: &[Shown], wanted: &[Shown], start: usize, end: usize) -> u
     end
 }
 
-/// Draws the run of changed cells of one rendition that begins at a column, before an end, after a gap of cells that are shown already.
-/// It answers where the run ends. It is inlined, as a picture of many renditions has many runs.
+/// Whether some cells are changed and have a rendition, all of them, by a loop with one exit, which the compiler vectorizes.
+fn are_of_run(shown: &[Shown], wanted: &[Shown], rendition: Rendition) -> bool
+    requires { length shown.now ≡ length wanted.now }
+    ensures { result ≡ true → AreOfRun shown.now wanted.now rendition (length wanted.now) }
+{
+    let mut all = true;
+    for x in 0..wanted.len() {
+        all &= shown[x] != wanted[x];
+        all &= wanted[x].rendition() == rendition;
+    }
+    all
+}
+
+/// Draws a run of changed cells of one rendition, from a column up to another, after a gap of cells that are shown already. It is
+/// inlined, as a picture of many renditions has many runs.
 #[inline(always)]
 pub fn paint_run<W: Sink>(
     pen: &mut Pen,
@@ -171,21 +212,17 @@ pub fn paint_run<W: Sink>(
     gap: usize,
     start: usize,
     end: usize,
-) -> usize
+)
     requires width { pen.old.columns ≡ length row.now.wanted.now }
     requires gap { gap ≤ start }
-    requires begun { start < end }
-    requires inside { end ≤ length row.now.wanted.now }
-    requires differs { same_shown (slice_index_or row.now.shown.now start shown_blank) (slice_index_or row.now.wanted.now start shown_blank) ≡ false }
-    ensures run { IsRun row.now.shown.now row.now.wanted.now start end result }
+    requires run { IsRun row.now.shown.now row.now.wanted.now start (length row.now.wanted.now) end }
     ensures strokes { (picture : Picture) → length (line_of picture row.now.line) ≡ pen.old.columns
         → cells_between gap start (line_of picture row.now.line) ≡ cells_between gap start row.now.wanted.now
-        → Strokes (run_bytes (cells_between start result row.now.wanted.now)) (W.seen sink.old) (W.seen sink.new) pen.old pen.new picture
-        (with_cells picture (row.now.line, start) (cells_between start result row.now.wanted.now)) }
+        → Strokes (run_bytes (cells_between start end row.now.wanted.now)) (W.seen sink.old) (W.seen sink.new) pen.old pen.new picture
+        (with_cells picture (row.now.line, start) (cells_between start end row.now.wanted.now)) }
     ensures same { SameTerminals (W.name sink.old) (W.name sink.new) pen.old pen.new }
 {
     let wanted = row.wanted;
-    let stop = run_end(row.shown, wanted, start, end);
     approach(
         pen,
         sink,
@@ -194,6 +231,5 @@ pub fn paint_run<W: Sink>(
         &wanted[gap..start],
         wanted[start].rendition(),
     );
-    pen.print_run(sink, row.line, start as u16, &wanted[start..stop]);
-    stop
+    pen.print_run(sink, row.line, start as u16, &wanted[start..end]);
 }

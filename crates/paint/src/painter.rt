@@ -15,10 +15,14 @@ use crate::changes::{Changes, Frame};
 use crate::frame::draw_frame;
 use crate::page::paint_picture;
 use crate::pen::Pen;
+use crate::runs::Runs;
 use cell::{Grid, LARGEST_SCREEN, Refusal, Shown, VirtualScreen, is_no_size};
 use std::alloc::Global;
 use std::marker::Model;
 use streams::{Sent, Sink, WriteFault};
+
+/// For how many runs there is room, a line of the screen. A frame of more is drawn in one walk.
+const RUNS_OF_LINE: usize = 16;
 
 /// Sends pictures to terminals of one size, and knows which picture and cursor it showed there last.
 #[derive(Drop)]
@@ -31,6 +35,8 @@ pub struct Painter {
     // All columns of all lines: those of a picture of which nothing is said.
     whole: Changes,
     pen: Pen,
+    // Room for the runs of a frame.
+    runs: Runs,
 }
 
 impl Model for Painter {
@@ -67,6 +73,7 @@ impl Painter {
         let picture = Grid::new(alloc, lines, columns)?;
         let whole = Changes::whole(alloc, lines, columns)?;
         let pen = Pen::new(alloc, columns)?;
+        let runs = Runs::new(alloc, usize::from(lines) * RUNS_OF_LINE)?;
         Ok(Painter {
             lines,
             columns,
@@ -74,6 +81,7 @@ impl Painter {
             cursor: None,
             whole,
             pen,
+            runs,
         })
     }
 
@@ -101,6 +109,7 @@ impl Painter {
         self.cursor = None;
         let sent = show(
             &mut self.pen,
+            &mut self.runs,
             sink,
             (self.lines, self.columns),
             known,
@@ -136,6 +145,7 @@ impl Painter {
         self.cursor = None;
         let sent = show(
             &mut self.pen,
+            &mut self.runs,
             sink,
             (self.lines, self.columns),
             known,
@@ -154,6 +164,7 @@ impl Painter {
 /// only.
 fn show<W: Sink>(
     pen: &mut Pen,
+    runs: &mut Runs,
     sink: &mut W,
     size: (u16, u16),
     known: Option<(u16, u16)>,
@@ -186,7 +197,7 @@ fn show<W: Sink>(
                 wanted: picture,
                 changes,
             };
-            draw_frame(pen, sink, &frame, from, cursor);
+            draw_frame(pen, runs, sink, &frame, from, cursor);
             send_text(pen, sink)
         }
         None => {

@@ -1,16 +1,15 @@
 //! Drawing in passes: of a picture first the cells of one rendition, then those of another, where that takes fewer bytes.
 
-ghost use Rattle.std.specs.Prelude.{◌≡◌, ◌+◌, ◌≤◌, ◌==◌, ◌++◌, ◌∷◌, [], List, if◌then◌else◌, length, nat_lt};
+ghost use Rattle.std.specs.Prelude.{◌≡◌, ◌+◌, ◌<◌, ◌≤◌, ◌++◌, ◌∷◌, [], List, if◌then◌else◌, length, nat_lt};
 ghost use Rattle.cell.specs.Shown.{Rendition as AnyRendition};
-ghost use Rattle.paint.specs.steps.Passes.{HasNoted, changed_renditions, line_after, line_renditions, order_for, pass_of, picture_after, saturating_usize, selections, with_pass};
-ghost use Rattle.paint.specs.steps.Strokes.{SameTerminals, Strokes, all_have, line_bytes, picture_bytes};
-ghost use Rattle.paint.specs.steps.Walks.{DifferWithin, StrokesLine};
+ghost use Rattle.paint.specs.steps.Listing.{AreRuns};
+ghost use Rattle.paint.specs.steps.Passes.{HasNoted, changed_renditions, line_renditions, order_for, pass_of, picture_after, saturating_usize, selections, with_pass};
+ghost use Rattle.paint.specs.steps.Strokes.{SameTerminals, Strokes, all_have, picture_bytes};
 
 use crate::changes::Frame;
-use crate::line::{Row, paint_run, run_end};
-use crate::page::paint_picture;
+use crate::line::{Row, paint_run};
 use crate::pen::Pen;
-use crate::tail::first_changed;
+use crate::runs::Run;
 use cell::{Rendition, Shown};
 use std::marker::Model;
 use streams::Sink;
@@ -71,8 +70,9 @@ impl Order {
 }
 
 /// The pass in which a rendition is drawn.
-fn pass_of(order: &[Rendition], rendition: Rendition) -> usize
-    ensures { result ≡ pass_of order.now rendition }
+pub fn pass_of(order: &[Rendition], rendition: Rendition) -> usize
+    ensures value { result ≡ pass_of order.now rendition }
+    ensures within { result ≤ length order.now }
 {
     let mut pass = 0;
     while pass < order.len() {
@@ -84,108 +84,58 @@ fn pass_of(order: &[Rendition], rendition: Rendition) -> usize
     pass
 }
 
-/// Whether a pass draws what has a rendition. The pass's own rendition, if it has one, rules out most others at once.
-fn is_drawn_in(order: &[Rendition], pass: usize, rendition: Rendition) -> bool
-    ensures { result ≡ (pass_of order.now rendition == pass) }
-{
-    if pass < order.len() && order[pass] != rendition {
-        return false;
-    }
-    pass_of(order, rendition) == pass
-}
-
-/// Draws what a pass draws of a line, which may differ from the one that is shown from a column on, up to another, only.
-fn paint_part<W: Sink>(
-    pen: &mut Pen,
-    sink: &mut W,
-    row: &Row<'_>,
-    start: usize,
-    end: usize,
-    order: &[Rendition],
-    pass: usize,
-)
-    requires width { pen.old.columns ≡ length row.now.wanted.now }
-    requires part { DifferWithin start end row.now.shown.now row.now.wanted.now }
-    ensures strokes { let before = line_after order.now pass row.now.shown.now row.now.wanted.now in
-        let after = line_after order.now (pass + 1) row.now.shown.now row.now.wanted.now in
-        StrokesLine (line_bytes before after) (W.seen sink.old) (W.seen sink.new) pen.old pen.new row.now.line before after }
-    ensures same { SameTerminals (W.name sink.old) (W.name sink.new) pen.old pen.new }
-{
-    let (shown, wanted) = (row.shown, row.wanted);
-    let Some(first) = first_changed(shown, wanted, start, end) else {
-        return;
-    };
-    let mut gap = first;
-    let mut x = first;
-    while x < end {
-        if shown[x] == wanted[x] {
-            x += 1;
-            continue;
-        }
-        if !is_drawn_in(order, pass, wanted[x].rendition()) {
-            x = run_end(shown, wanted, x, end);
-            gap = x;
-            continue;
-        }
-        x = paint_run(pen, sink, row, gap, x, end);
-        gap = x;
-    }
-}
-
-/// Draws what a pass draws of the wanted picture, over what the passes before it left.
+/// Draws the runs of a pass, over what the passes before it left.
 fn paint_pass<W: Sink>(
     pen: &mut Pen,
     sink: &mut W,
     frame: &Frame<'_>,
+    runs: &[Run],
     order: &[Rendition],
-    pass: usize,
+    pass: u16,
 )
-    requires { pen.old.columns ≡ frame.now.columns }
+    requires width { pen.old.columns ≡ frame.now.columns }
+    requires some { 0 < frame.now.lines }
+    requires runs { AreRuns order.now frame.now.shown.now frame.now.wanted.now runs.now (frame.now.lines, 0) }
     ensures strokes { let before = picture_after order.now pass frame.now.shown.now frame.now.wanted.now in
         let after = picture_after order.now (pass + 1) frame.now.shown.now frame.now.wanted.now in
         Strokes (picture_bytes before after) (W.seen sink.old) (W.seen sink.new) pen.old pen.new before after }
     ensures same { SameTerminals (W.name sink.old) (W.name sink.new) pen.old pen.new }
 {
-    let end = frame.changes.lines().end;
-    let mut line = frame.changes.next(0);
-    while line < end {
-        let at = usize::from(line);
-        let (start, stop) = frame.changes.within(line, usize::from(frame.columns));
+    for i in 0..runs.len() {
+        let run = runs[i];
+        if run.pass != pass {
+            continue;
+        }
+        let at = usize::from(run.line);
         let row = Row {
-            line,
+            line: run.line,
             shown: frame.shown.row(at),
             wanted: frame.wanted.row(at),
         };
-        paint_part(pen, sink, &row, start, stop, order, pass);
-        line = frame.changes.next(line + 1);
+        let (gap, start) = (usize::from(run.gap), usize::from(run.start));
+        paint_run(pen, sink, &row, gap, start, usize::from(run.end));
     }
 }
 
 /// Draws the wanted picture of a frame over the one that is shown, in passes.
-fn paint_passes<W: Sink>(pen: &mut Pen, sink: &mut W, frame: &Frame<'_>, order: &[Rendition])
-    requires { pen.old.columns ≡ frame.now.columns }
+pub fn paint_passes<W: Sink>(
+    pen: &mut Pen,
+    sink: &mut W,
+    frame: &Frame<'_>,
+    runs: &[Run],
+    order: &[Rendition],
+)
+    requires width { pen.old.columns ≡ frame.now.columns }
+    requires some { 0 < frame.now.lines }
+    requires few { length order.now ≤ MOST }
+    requires runs { AreRuns order.now frame.now.shown.now frame.now.wanted.now runs.now (frame.now.lines, 0) }
     ensures strokes { Strokes (picture_bytes frame.now.shown.now frame.now.wanted.now) (W.seen sink.old) (W.seen sink.new) pen.old pen.new
         frame.now.shown.now frame.now.wanted.now }
     ensures same { SameTerminals (W.name sink.old) (W.name sink.new) pen.old pen.new }
 {
-    let mut pass = 0;
-    while pass <= order.len() {
-        paint_pass(pen, sink, frame, order, pass);
-        pass += 1;
-    }
-}
-
-/// Draws the wanted picture of a frame over the one that is shown, in the passes of an order.
-pub fn paint<W: Sink>(pen: &mut Pen, sink: &mut W, frame: &Frame<'_>, order: &Order)
-    requires { pen.old.columns ≡ frame.now.columns }
-    ensures strokes { Strokes (picture_bytes frame.now.shown.now frame.now.wanted.now) (W.seen sink.old) (W.seen sink.new) pen.old pen.new
-        frame.now.shown.now frame.now.wanted.now }
-    ensures same { SameTerminals (W.name sink.old) (W.name sink.new) pen.old pen.new }
-{
-    if order.renditions().is_empty() {
-        paint_picture(pen, sink, frame);
-    } else {
-        paint_passes(pen, sink, frame, order.renditions());
+    let passes = order.len() as u16 + 1;
+    for pass in 0..passes {
+        paint_pass(pen, sink, frame, runs, order, pass);
     }
 }
 

@@ -21,6 +21,46 @@ use ecma::{Erase, LONGEST_SPELLING, Token, spell};
 use std::alloc::{AllocError, Global};
 use streams::{Sink, WriteFault};
 
+/// Where the cursor is, and how characters are printed there.
+#[derive(Drop)]
+pub struct PenState {
+    /// The line and column of the cursor, and none where it is unknown.
+    pub cursor: Option<(u16, u16)>,
+    pub rendition: Rendition,
+}
+
+impl PenState {
+    /// Whether the cursor is known to be at a place.
+    pub fn is_at(&self, line: u16, column: u16) -> bool
+        ensures { result ≡ is_at self.now.cursor (line, column) }
+    {
+        is_at(self.cursor, line, column)
+    }
+}
+
+/// Whether a cursor is known to be at a place.
+fn is_at(cursor: Option<(u16, u16)>, line: u16, column: u16) -> bool
+    ensures { result ≡ is_at cursor (line, column) }
+{
+    match cursor {
+        Some((y, x)) => y == line && x == column,
+        None => false,
+    }
+}
+
+/// Where the cursor is when a line was printed up to a column, and in which rendition.
+pub fn state_after(columns: u16, line: u16, column: u16, rendition: Rendition) -> PenState
+    ensures cursor { result.cursor ≡ within columns (line, column) }
+    ensures rendition { result.rendition ≡ rendition }
+{
+    let cursor = if column < columns {
+        Some((line, column))
+    } else {
+        None
+    };
+    PenState { cursor, rendition }
+}
+
 /// Draws on terminals of some columns.
 #[derive(Drop)]
 pub struct Pen {
@@ -132,13 +172,14 @@ impl Pen {
         Some(line)
     }
 
-    /// Whether the cursor is known to be at a place.
-    pub fn is_at(&self, line: u16, column: u16) -> bool
-        ensures { result ≡ is_at self.now.cursor (line, column) }
+    /// Where the cursor is, and the rendition in which it prints.
+    pub fn state(&self) -> PenState
+        ensures cursor { result.cursor ≡ self.now.cursor }
+        ensures rendition { result.rendition ≡ self.now.rendition }
     {
-        match self.cursor {
-            Some((y, x)) => y == line && x == column,
-            None => false,
+        PenState {
+            cursor: self.cursor,
+            rendition: self.rendition,
         }
     }
 
@@ -165,7 +206,7 @@ impl Pen {
         ensures cursor { self.new.cursor ≡ Some (line, column) }
         ensures same { SameTerminals (W.name sink.old) (W.name sink.new) self.old self.new }
     {
-        if self.is_at(line, column) {
+        if is_at(self.cursor, line, column) {
             return;
         }
         self.put(sink, Token::Cup(line, column));

@@ -90,7 +90,7 @@ fn reach_length(pen: &Pen, line: u16, wanted: &[Shown], gap: usize, column: usiz
 {
     let start = gap.min(column);
     approach_length(
-        pen,
+        &pen.state(),
         line,
         start as u16,
         &wanted[start..column],

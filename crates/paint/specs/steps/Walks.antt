@@ -1,6 +1,6 @@
 -- How far a pen has come in a line, and in a picture.
 use Rattle.std.specs.Prelude.{◌≡◌, ℕ, ◌+◌, ◌-◌, ◌<◌, ◌≤◌, false, List, ◌++◌, length, map, take, drop, slice_index_or, slice_set, Option, Some, None, ⊤}
-use Rattle.cell.specs.Shown.{Shown, shown_blank}
+use Rattle.cell.specs.Shown.{Rendition, Shown, shown_blank}
 use Rattle.cell.specs.Pictures.{Picture, line_of}
 use Rattle.cell.specs.Differences.{DiffersAt, same_shown}
 use Rattle.streams.specs.Sinks.{Seen}
@@ -23,6 +23,11 @@ pub record IsRun (shown wanted : List Shown) (start end stop : ℕ) : Type 0 whe
   pub within : stop ≤ end
   pub changed : (x : ℕ) → start ≤ x → x < stop → same_shown (slice_index_or shown x shown_blank) (slice_index_or wanted x shown_blank) ≡ false
   pub rendition : (x : ℕ) → start ≤ x → x < stop → (slice_index_or wanted x shown_blank).rendition ≡ (slice_index_or wanted start shown_blank).rendition
+
+-- the first cells are changed, so many, and have one rendition
+pub record AreOfRun (shown wanted : List Shown) (rendition : Rendition) (count : ℕ) : Type 0 where
+  pub changed : (k : ℕ) → k < count → same_shown (slice_index_or shown k shown_blank) (slice_index_or wanted k shown_blank) ≡ false
+  pub rendition_of : (k : ℕ) → k < count → (slice_index_or wanted k shown_blank).rendition ≡ rendition
 
 -- two lines of one length differ in no other columns than those from the first up to the second, which isn't one of them
 pub record DifferWithin (start end : ℕ) (shown wanted : List Shown) : Type 0 where

@@ -31,17 +31,17 @@ pub returns-clause-strokes : goal.returns-clause-strokes
 returns-clause-strokes g c = λ picture wide are.
     let x = c.args.start in
     let wanted = c.args.row.now.wanted.now in
-    let run = c.run_end-stop.ensures in
-    let cells = cells_between x c.run_end-stop.result wanted in
-    let some : 0 < length cells = omega (arith, run.some, length-between x c.run_end-stop.result wanted (omega (arith, run.some)) (omega (arith, run.within, c.requires.inside))) in
+    let run = c.requires.run in
+    let cells = cells_between x c.args.end wanted in
+    let some : 0 < length cells = omega (arith, run.some, length-between x c.args.end wanted (omega (arith, run.some)) (omega (arith, run.within))) in
     let here : x + 0 ≡ x = omega arith in
     let first : c.index-wanted-start.result ≡ get_or cells 0 shown_blank =
-    c.index-wanted-start.is ∙ get_or_default wanted x c.index-wanted-start.result shown_blank (omega (arith, c.requires.begun, c.requires.inside))
-    ∙ ap (λ n. get_or wanted n shown_blank) (sym here) ∙ sym (part-of x c.run_end-stop.result 0 wanted (omega (arith, run.some))) in
+    c.index-wanted-start.is ∙ get_or_default wanted x c.index-wanted-start.result shown_blank (omega (arith, run.some, run.within))
+    ∙ ap (λ n. get_or wanted n shown_blank) (sym here) ∙ sym (part-of x c.args.end 0 wanted (omega (arith, run.some))) in
     let is = subst (λ (cell : Shown). IsRendition cell.rendition) first c.rendition.ensures.sound.rendition in
     let gap = cells_between c.args.gap x wanted in
     let column : c.args.gap + length gap < LARGEST_SCREEN =
-    omega (arith, gap-ends c.args.gap x wanted c.requires.gap (omega arith), c.requires.begun, c.requires.inside, c.args.row.now.few_columns) in
+    omega (arith, gap-ends c.args.gap x wanted c.requires.gap (omega arith), run.some, run.within, c.args.row.now.few_columns) in
     let few : approach_bytes c.args.pen.now.cursor c.args.pen.now.rendition (c.args.row.now.line, c.args.gap) gap c.rendition.result ≤ most_approach (get_or cells 0 shown_blank).rendition =
     subst (λ r. approach_bytes c.args.pen.now.cursor c.args.pen.now.rendition (c.args.row.now.line, c.args.gap) gap c.rendition.result ≤ most_approach r)
     (c.rendition.ensures.value ∙ ap (λ (cell : Shown). cell.rendition) first)

@@ -1,41 +1,24 @@
 -- `run_end`: runs of cells: printed one after another, and drawn in a line (`CellRuns`).
-use Rattle.std.proofs.Common.{◌≡◌, ◌<◌, ◌∙◌, get_or, inl, inr, length, sym, ap, arith}
-use Rattle.std.proofs.lemmas.Bool.{cases_lt}
-use Rattle.std.proofs.lemmas.List.{get_or_default}
+use Rattle.std.proofs.Common.{◌≡◌, ◌+◌, ◌-◌, ◌∙◌, drop, length, take, ap, arith}
+use Rattle.std.proofs.lemmas.List.{get_or_default, length-drop, length-take}
 use Rattle.cell.specs.Shown.{Shown, shown_blank}
-use Rattle.ecma.proofs.Difference.{same_rendition-equal}
-use Rattle.paint.proofs.CellRuns.{same_shown-at, not-other}
+use Rattle.paint.proofs.CellRuns.{run-begun, run-further, run-longer}
 use Rattle.paint.proofs.line.run_end.Goals as goal
 
+pub run_end_from-x-requires-clause-run : goal.run_end_from-x-requires-clause-run
+run_end_from-x-requires-clause-run c = run-begun _ _ _ _ (omega arith) c.requires.differs
+
+pub returns-then-x-near : goal.returns-then-x-near
+returns-then-x-near c = run-longer c.run_end_from-x.ensures (omega arith)
+
 pub loop-x-init : goal.loop-x-init
-loop-x-init c = record {
-  some = omega arith;
-  within = omega arith;
-  changed = λ v from to. let is : v ≡ c.args.start = omega arith in rw is c.requires.differs;
-  rendition = λ v from to. let is : v ≡ c.args.start = omega arith in ap (λ n. (get_or c.args.wanted.now n shown_blank).rendition) is;
-}
+loop-x-init c = run-longer c.run_end_from-x.ensures (omega arith)
 
 pub loop-x-preserved : goal.loop-x-preserved
 loop-x-preserved c =
-    let x = c.loop-x.x in
-    let shown = c.args.shown.now in
     let wanted = c.args.wanted.now in
-    let inside : x < length wanted = omega (arith, c.loop-x-test.true, c.requires.inside) in
-    let differs = same_shown-at shown wanted x c.index-shown-x.is c.index-wanted-x.is (omega (arith, inside, c.requires.same)) inside c.if-eq.ensures in
-    let here = c.index-wanted-x-in-loop-x.is ∙ get_or_default wanted x c.index-wanted-x-in-loop-x.result shown_blank inside in
     let first = c.index-wanted-start.is ∙ get_or_default wanted c.args.start c.index-wanted-start.result shown_blank (omega (arith, c.requires.begun, c.requires.inside)) in
-    let same = same_rendition-equal c.rendition.result c.rendition-rendition.result (not-other _ (sym c.ne.ensures ∙ c.if-ne.false)) in
-    let alike : (get_or wanted x shown_blank).rendition ≡ (get_or wanted c.args.start shown_blank).rendition =
-    ap (λ (cell : Shown). cell.rendition) (sym here) ∙ sym c.rendition.ensures.value ∙ same ∙ c.rendition-rendition.ensures.value ∙ ap (λ (cell : Shown). cell.rendition) first in
-    record {
-      some = omega (arith, c.loop-x.invariant.some);
-      within = omega (arith, c.loop-x-test.true);
-      changed = λ v from to. elim (cases_lt v x) [
-        | inl below ↦ c.loop-x.invariant.changed v from below
-        | inr past ↦ let is : v ≡ x = omega arith in rw is differs
-      ];
-      rendition = λ v from to. elim (cases_lt v x) [
-        | inl below ↦ c.loop-x.invariant.rendition v from below
-        | inr past ↦ let is : v ≡ x = omega arith in ap (λ n. (get_or wanted n shown_blank).rendition) is ∙ alike
-      ];
-    }
+    let few : length (take 16 (drop c.loop-x.x wanted)) ≡ 16 = omega (arith, length-take 16 (drop c.loop-x.x wanted), length-drop c.loop-x.x wanted, c.requires.inside) in
+    let piece : c.loop-x.x + 16 - c.loop-x.x ≡ 16 = omega arith in
+    let more = rw (piece, few) at (c.are_of_run.ensures c.if-are_of_run.true) in
+    run-further 16 c.loop-x.invariant (c.rendition-rendition.ensures.value ∙ ap (λ (cell : Shown). cell.rendition) first) more (omega arith)

@@ -1,5 +1,6 @@
 -- `paint_passes`: each pass takes from what is left, and the last leaves nothing (`Choices`).
-use Rattle.std.proofs.Common.{◌≡◌, ◌+◌, ◌∙◌, length, subst, arith}
+use Rattle.std.proofs.Common.{◌≡◌, ◌+◌, ◌∙◌, length, refl, sym, ap, subst, arith}
+use Rattle.cell.specs.Pictures.{Picture}
 use Rattle.paint.specs.steps.Passes.{is_drawn, picture_after}
 use Rattle.paint.specs.steps.Strokes.{Strokes, picture_bytes}
 use Rattle.paint.proofs.Choices.{all-after, lines-all, lines-left, lines-none, none-before, once-drawn}
@@ -7,7 +8,20 @@ use Rattle.paint.proofs.PenStrokes.{Strokes-more, Strokes-nothing, Strokes-then}
 use Rattle.paint.proofs.passes.paint_passes.Goals as goal
 
 pub loop-pass-init : goal.loop-pass-init
-loop-pass-init g c = grind (arith, lines-none, none-before, Strokes-nothing)
+loop-pass-init g c =
+    let f = c.args.frame.now.sound in
+    let shown = c.args.frame.now.shown.now in
+    let wanted = c.args.frame.now.wanted.now in
+    let begun : picture_after c.args.order.now 0 shown wanted ≡ shown = lines-none (is_drawn c.args.order.now 0) f.shown f.wanted (none-before c.args.order.now) in
+    record {
+      passed = record {
+        spent = 0;
+        within = omega (arith, ap (λ (picture : Picture). picture_bytes picture wanted) begun);
+        strokes = subst (Strokes 0 _ _ c.args.pen.now c.args.pen.now shown) (sym begun) (Strokes-nothing _ c.args.pen.now shown);
+        columns = refl;
+      };
+      same = refl;
+    }
 
 pub loop-pass-preserved : goal.loop-pass-preserved
 loop-pass-preserved g c =
@@ -23,7 +37,6 @@ loop-pass-preserved g c =
         strokes = Strokes-then passed.strokes c.paint_pass.ensures.strokes;
         columns = c.paint_pass.ensures.same.columns ∙ passed.columns;
       };
-      few = omega (arith, c.loop-pass-test.true);
       same = c.paint_pass.ensures.same.sink ∙ c.loop-pass.invariant.same;
     }
 
@@ -32,7 +45,7 @@ returns-clause-strokes g c =
     let f = c.args.frame.now.sound in
     let order = c.args.order.now in
     let passed = c.loop-pass.invariant.passed in
-    let last : c.loop-pass.pass ≡ length order + 1 = omega (arith, c.loop-pass.invariant.few, c.loop-pass-test.false) in
+    let last : c.loop-pass.pass ≡ length order + 1 = omega arith in
     let end : picture_after order c.loop-pass.pass c.args.frame.now.shown.now c.args.frame.now.wanted.now ≡ c.args.frame.now.wanted.now =
     (λ i. picture_after order (last i) c.args.frame.now.shown.now c.args.frame.now.wanted.now) ∙ lines-all (is_drawn order (length order + 1)) f.shown f.wanted (all-after order) in
     subst (Strokes (picture_bytes c.args.frame.now.shown.now c.args.frame.now.wanted.now) _ _ c.args.pen.now c.loop-pass.pen c.args.frame.now.shown.now) end

@@ -1,0 +1,5 @@
+use Rattle.paint.specs.steps.Walks.{IsRun}
+use Rattle.paint.proofs.line.run_end_from.Given as goal
+
+abbrev pub invariant-loop-x : goal.invariant-loop-x
+invariant-loop-x l = IsRun l.shown l.wanted l.start l.end l.x

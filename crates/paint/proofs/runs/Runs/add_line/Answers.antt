@@ -1,0 +1,94 @@
+-- `add_line`: what isn't in a run is shown already (`Listing`).
+use Rattle.std.proofs.Common.{◌≡◌, ℕ, ◌+◌, ◌-◌, ◌<◌, ◌++◌, ◌∷◌, [], ◌∙◌, List, drop, get_or, inl, inr, length, take, sym, ap, subst, arith}
+use Rattle.std.specs.Prelude.{if◌then◌else◌}
+use Rattle.std.proofs.lemmas.Bool.{cases_lt}
+use Rattle.std.proofs.lemmas.List.{get_or_default, length-take}
+use Rattle.cell.specs.Shown.{Shown, shown_blank}
+use Rattle.cell.specs.EqualityLaws.{same_shown-equal}
+use Rattle.paint.specs.declared.runs.Run.{Run}
+use Rattle.paint.specs.steps.Listing.{AreRuns}
+use Rattle.paint.specs.steps.Passes.{pass_of as pass_in}
+use Rattle.paint.proofs.CellRuns.{run-longer, same_shown-at}
+use Rattle.paint.proofs.Listing.{line-there, part-same, run-added, runs-further, same-in_line, same-nothing}
+use Rattle.paint.proofs.runs.Runs.add_line.Goals as goal
+
+pub returns-in_default : goal.returns-in_default
+returns-in_default c = λ _ shown wanted old new h.
+    let start = c.args.start in
+    let n = c.args.end - c.args.start in
+    let all = rw c.in_default.is at c.first_diff.ensures in
+    runs-further h (same-in_line shown wanted c.args.row.now.line start c.args.end c.requires.ordered (λ v from to.
+    ap (λ (l : List Shown). get_or l v shown_blank) old
+    ∙ part-same start n n v c.args.row.now.shown.now c.args.row.now.wanted.now (omega arith) (ap (take n) all) from (omega arith)
+    ∙ ap (λ (l : List Shown). get_or l v shown_blank) (sym new)))
+
+pub loop-x-init : goal.loop-x-init
+loop-x-init c =
+    let start = c.args.start in
+    let n = c.args.end - c.args.start in
+    let skipped = c.in-Some.skipped in
+    let few : skipped < n = omega (arith, c.in-Some.ensures.0.inside, length-take n (drop start c.args.row.now.shown.now)) in
+    record {
+      listed = λ shown wanted old new h. runs-further h (same-in_line shown wanted c.args.row.now.line start (start + skipped) (omega arith) (λ v from to.
+          ap (λ (l : List Shown). get_or l v shown_blank) old
+          ∙ part-same start n skipped v c.args.row.now.shown.now c.args.row.now.wanted.now (omega arith) c.in-Some.ensures.1 from to
+          ∙ ap (λ (l : List Shown). get_or l v shown_blank) (sym new)));
+      gap = omega arith;
+      within = omega arith;
+      kept = λ v from to. absurd (omega arith);
+    }
+
+pub loop-x-preserved-then-eq : goal.loop-x-preserved-then-eq
+loop-x-preserved-then-eq c =
+    let x = c.loop-x.x in
+    let shown = c.args.row.now.shown.now in
+    let wanted = c.args.row.now.wanted.now in
+    let inside : x < length wanted = omega (arith, c.loop-x-test.true, c.requires.inside) in
+    let equal : get_or shown x shown_blank ≡ get_or wanted x shown_blank =
+    same_shown-equal _ _ (same_shown-at shown wanted x c.index-shown-x.is c.index-wanted-x.is (omega (arith, inside, c.args.row.now.same)) inside c.if-eq.ensures) in
+    record {
+      listed = λ S W old new h. runs-further (c.loop-x.invariant.listed S W old new h) (same-in_line S W c.args.row.now.line x (x + 1) (omega arith) (λ v from to.
+          let here : x ≡ v = omega arith in
+          ap (λ (l : List Shown). get_or l v shown_blank) old ∙ subst (λ (n : ℕ). get_or shown n shown_blank ≡ get_or wanted n shown_blank) here equal
+          ∙ ap (λ (l : List Shown). get_or l v shown_blank) (sym new)));
+      gap = omega (arith, c.loop-x.invariant.gap);
+      within = omega (arith, c.loop-x-test.true);
+      kept = λ v from to. elim (cases_lt v x) [
+        | inl h ↦ c.loop-x.invariant.kept v from h
+        | inr h ↦ let here : x ≡ v = omega arith in subst (λ (n : ℕ). get_or shown n shown_blank ≡ get_or wanted n shown_blank) here equal
+      ];
+    }
+
+pub run_end-stop-requires-clause-differs : goal.run_end-stop-requires-clause-differs
+run_end-stop-requires-clause-differs c =
+    let inside : c.loop-x.x < length c.args.row.now.wanted.now = omega (arith, c.loop-x-test.true, c.requires.inside) in
+    same_shown-at c.args.row.now.shown.now c.args.row.now.wanted.now c.loop-x.x c.index-shown-x.is c.index-wanted-x.is (omega (arith, inside, c.args.row.now.same)) inside c.if-eq.ensures
+
+pub loop-x-preserved : goal.loop-x-preserved
+loop-x-preserved c =
+    let x = c.loop-x.x in
+    let y = c.args.row.now.line in
+    let stop = c.run_end-stop.result in
+    let shown = c.args.row.now.shown.now in
+    let wanted = c.args.row.now.wanted.now in
+    let order = c.args.order.now in
+    let inside : x < length wanted = omega (arith, c.loop-x-test.true, c.requires.inside) in
+    let run : Run = record { line = y; gap = c.loop-x.gap; start = x; end = stop; pass = c.pass_of.result } in
+    let pushed : c.push.new.self ≡ c.loop-x.self ++ run ∷ [] =
+    c.push.ensures ∙ ap (λ b. if b then c.loop-x.self ++ run ∷ [] else c.loop-x.self) c.if-not-push.false in
+    let cell = c.index-wanted-x-in-loop-x.is ∙ get_or_default wanted x c.index-wanted-x-in-loop-x.result shown_blank inside in
+    record {
+      listed = λ S W old new h. subst (λ (runs : List Run). AreRuns order S W runs (y, stop)) (sym pushed)
+          (run-added c.loop-x.self run (c.loop-x.invariant.listed S W old new h) (record {
+            line = line-there W y x wanted new inside;
+            before = same-nothing S W (y, x);
+            cells = rw (old, new) (run-longer c.run_end-stop.ensures c.requires.inside);
+            gap = c.loop-x.invariant.gap;
+            gap_same = λ v from to. ap (λ (l : List Shown). get_or l v shown_blank) old ∙ c.loop-x.invariant.kept v from to ∙ ap (λ (l : List Shown). get_or l v shown_blank) (sym new);
+            pass = c.pass_of.ensures.value ∙ ap (pass_in order) (c.rendition.ensures.value ∙ ap (λ (cell : Shown). cell.rendition) cell
+                ∙ ap (λ (l : List Shown). (get_or l x shown_blank).rendition) (sym new));
+          }));
+      gap = omega arith;
+      within = c.run_end-stop.ensures.within;
+      kept = λ v from to. absurd (omega arith);
+    }

@@ -1,0 +1,54 @@
+-- `list`: only in the columns that may differ there are runs (`Listing`).
+use Rattle.std.proofs.Common.{◌≡◌, ◌+◌, ◌<◌, ◌∙◌, inl, inr, sym, ap, arith}
+use Rattle.std.proofs.lemmas.Bool.{cases_lt}
+use Rattle.cell.specs.Pictures.{line_of}
+use Rattle.paint.specs.Changes.{is_in, no_stretch}
+use Rattle.paint.specs.declared.changes.Stretch.{Stretch}
+use Rattle.paint.proofs.Changed.{is_out}
+use Rattle.paint.proofs.Listing.{runs-further, runs-none, same-in_line, same-lines, same-past, same-then, same-to_end}
+use Rattle.paint.proofs.runs.Runs.list.Goals as goal
+
+pub loop-line-init : goal.loop-line-init
+loop-line-init c =
+    let f = c.args.frame.now.sound in
+    let next = c.next-line in
+    let shown = c.args.frame.now.shown.now in
+    let wanted = c.args.frame.now.wanted.now in
+    let order = c.args.order.now in
+    record {
+      inside = omega (arith, next.ensures.inside (omega arith), f.height);
+      listed = rw c.clear.ensures (runs-further (runs-none order shown wanted)
+          (same-lines shown wanted 0 next.result (omega arith) (λ v u from to. f.changes.others v u (next.ensures.none v u from to))));
+    }
+
+pub loop-line-preserved : goal.loop-line-preserved
+loop-line-preserved c =
+    let f = c.args.frame.now.sound in
+    let y = c.loop-line.line in
+    let shown = c.args.frame.now.shown.now in
+    let wanted = c.args.frame.now.wanted.now in
+    let below : y < c.args.frame.now.lines = omega (arith, c.loop-line-test.true, c.lines-end.ensures.inside, f.height) in
+    let part = rw c.from.ensures at c.within-start.ensures in
+    let start = c.within-start.result.0 in
+    let stop = c.within-start.result.1 in
+    let next = c.next-line-in-loop-line in
+    let row : line_of shown y ≡ c.row.result.now = sym (c.row.ensures.row ∙ ap (line_of shown) c.from-at.ensures) in
+    let other : line_of wanted y ≡ c.row-in-loop-line.result.now = sym (c.row-in-loop-line.ensures.row ∙ ap (line_of wanted) c.from-at.ensures) in
+    let begun = runs-further c.loop-line.invariant.listed (same-in_line shown wanted y 0 start (omega arith) (λ v from to. f.changes.others y v (part.before v to))) in
+    let added = c.add_line.ensures c.if-not-add_line.false shown wanted row other begun in
+    record {
+      inside = omega (arith, next.ensures.inside (omega (arith, below, f.height)), f.height);
+      listed = runs-further added (same-then
+          (same-to_end shown wanted y stop (λ u from. elim (cases_lt u c.args.frame.now.columns) [
+            | inl few ↦ f.changes.others y u (part.after u from few)
+            | inr past ↦ same-past f.shown f.wanted y u below past
+          ]))
+          (same-lines shown wanted (y + 1) next.result next.ensures.from (λ v u from to. f.changes.others v u (next.ensures.none v u from to))));
+    }
+
+pub returns : goal.returns
+returns c = λ _.
+    let f = c.args.frame.now.sound in
+    runs-further c.loop-line.invariant.listed (same-lines c.args.frame.now.shown.now c.args.frame.now.wanted.now c.loop-line.line c.args.frame.now.lines c.loop-line.invariant.inside
+    (λ v u from to. f.changes.others v u
+    (ap (λ (s : Stretch). is_in s u) (c.lines-end.ensures.others v (is_out c.lines-end.result v (inr (omega arith)))) ∙ is_out no_stretch u (inr (omega arith)))))

@@ -1,0 +1,12 @@
+use Rattle.std.proofs.Common.{◌-◌, ◌≤◌}
+use Rattle.paint.specs.steps.Listing.{AreRuns}
+use Rattle.paint.proofs.runs.Runs.list.Given as goal
+
+abbrev pub invariant-loop-line : goal.invariant-loop-line
+invariant-loop-line l = record {
+  inside : l.line ≤ l.frame.lines;
+  listed : AreRuns l.order l.frame.shown.now l.frame.wanted.now l.self (l.line, 0);
+}
+
+abbrev pub decreases-loop-line : goal.decreases-loop-line
+decreases-loop-line l = l.end - l.line

@@ -1,0 +1,51 @@
+-- How many bytes it takes to draw runs in passes.
+use Rattle.std.specs.Prelude.{ℕ, zero, suc, ◌+◌, ◌-◌, ◌<◌, ◌≤◌, ◌==◌, if◌then◌else◌, List, [], ◌∷◌, length, Some, slice_index_or}
+use Rattle.cell.specs.Shown.{no_rendition}
+use Rattle.cell.specs.Pictures.{Picture, Place, line_of, shown_at}
+use Rattle.paint.specs.declared.counting.Count.{Count}
+use Rattle.paint.specs.declared.runs.Run.{Run}
+use Rattle.paint.specs.steps.Listing.{no_run}
+use Rattle.paint.specs.steps.Passes.{saturating_usize}
+use Rattle.paint.specs.steps.Strokes.{approach_bytes, moved_bytes, within}
+use Rattle.paint.specs.steps.Walks.{cells_between}
+
+-- a run is in a picture of this size
+pub record IsInside (lines columns : ℕ) (run : Run) : Type 0 where
+  pub line : run.line < lines
+  pub gap : run.gap ≤ run.start
+  pub some : run.start < run.end
+  pub end : run.end ≤ columns
+
+abbrev pub AreInside : ℕ → ℕ → List Run → Type 0
+AreInside lines columns runs = (k : ℕ) → k < length runs → IsInside lines columns (slice_index_or runs k no_run)
+
+-- a pen at a place with the empty rendition drew nothing
+abbrev pub count_from : Place → Count
+count_from place = record { pen = record { cursor = Some place; rendition = no_rendition }; bytes = 0 }
+
+-- to draw a run: the approach over the gap before it, and its characters
+abbrev pub with_run : ℕ → Picture → Count → Run → Count
+with_run columns wanted count run =
+    let rendition = (shown_at wanted (run.line, run.start)).rendition in
+    let approach = approach_bytes count.pen.cursor count.pen.rendition (run.line, run.gap) (cells_between run.gap run.start (line_of wanted run.line)) rendition in
+    record {
+      pen = record { cursor = within columns (run.line, run.end); rendition = rendition };
+      bytes = saturating_usize (count.bytes + (approach + (run.end - run.start)));
+    }
+
+-- the runs of one pass
+abbrev pub with_pass : ℕ → Picture → ℕ → Count → List Run → Count
+with_pass columns wanted pass count [] = count
+with_pass columns wanted pass count (run ∷ runs) =
+    with_pass columns wanted pass (if run.pass == pass then with_run columns wanted count run else count) runs
+
+-- the first passes, so many
+abbrev pub with_passes : ℕ → Picture → ℕ → Count → List Run → Count
+with_passes columns wanted zero count runs = count
+with_passes columns wanted (suc passes) count runs = with_pass columns wanted passes (with_passes columns wanted passes count runs) runs
+
+-- Those, from a place on, and then to go to another with the empty rendition. The sum stays at the greatest number of 64 bits.
+abbrev pub passes_bytes : ℕ → Picture → ℕ → List Run → Place → Place → ℕ
+passes_bytes columns wanted passes runs from to =
+    let count = with_passes columns wanted passes (count_from from) runs in
+    saturating_usize (count.bytes + moved_bytes count.pen.cursor count.pen.rendition to no_rendition)

@@ -1,0 +1,154 @@
+//! The runs of changed cells of a frame, as a list.
+
+ghost use Rattle.std.specs.Prelude.{◌≡◌, ◌++◌, ◌∷◌, ◌<◌, ◌≤◌, IfOk, [], if◌then◌else◌, length, true};
+ghost use Rattle.cell.specs.Pictures.{Picture, line_of};
+ghost use Rattle.paint.specs.declared.passes.TheConstants.{MOST};
+ghost use Rattle.paint.specs.steps.Listing.{AreRuns};
+
+use crate::changes::Frame;
+use crate::line::{Row, run_end};
+use crate::passes::pass_of;
+use cell::{Rendition, Shown, first_diff};
+use std::alloc::{AllocError, Global};
+use std::marker::Model;
+
+/// Changed cells of one rendition in a line, from a column up to another.
+#[derive(Clone, Copy, Debug)]
+pub struct Run {
+    pub line: u16,
+    /// Where the gap begins that is before them, of cells that are shown already.
+    pub gap: u16,
+    pub start: u16,
+    /// The column after the last.
+    pub end: u16,
+    /// The pass in which they are drawn.
+    pub pass: u16,
+}
+
+impl Run {
+    /// No cells.
+    const NONE: Run = Run {
+        line: 0,
+        gap: 0,
+        start: 0,
+        end: 0,
+        pass: 0,
+    };
+}
+
+/// Runs, in memory that is allocated once.
+#[derive(Drop)]
+pub struct Runs {
+    room: Vec<Run>,
+    count: usize,
+}
+
+impl Model for Runs {
+    ghost use Rattle.std.specs.Prelude.{List, ◌≤◌, length, take};
+    ghost use Rattle.paint.specs.declared.runs.Run.{Run};
+
+    ghost Value = { List Run };
+
+    ghost view = { λ runs. take runs.count runs.room.items };
+
+    ghost invariant = { λ runs. runs.count ≤ length runs.room.items };
+}
+
+impl Runs {
+    /// None, and memory for so many.
+    pub fn new(alloc: Global, most: usize) -> Result<Runs, AllocError>
+        requires { most ≤ 65536 }
+        ensures { IfOk result (λ runs. runs ≡ []) }
+    {
+        Ok(Runs {
+            room: vec![in alloc; Run::NONE; most]?,
+            count: 0,
+        })
+    }
+
+    /// The runs.
+    pub fn as_slice(&self) -> &[Run]
+        ensures { result.now ≡ self.now }
+    {
+        &self.room[..self.count]
+    }
+
+    /// Leaves none of them.
+    fn clear(&mut self)
+        ensures { self.new ≡ [] }
+    {
+        self.count = 0;
+    }
+
+    /// Adds one, if there is memory for it, and answers whether there was.
+    fn push(&mut self, run: Run) -> bool
+        ensures { self.new ≡ (if result then self.old ++ run ∷ [] else self.old) }
+    {
+        if self.count >= self.room.len() {
+            return false;
+        }
+        self.room[self.count] = run;
+        self.count += 1;
+        true
+    }
+
+    /// Lists the runs of a frame, in the passes of an order, in place of those that were there. It answers whether there was memory for all.
+    pub fn list(&mut self, frame: &Frame<'_>, order: &[Rendition]) -> bool
+        requires { length order.now ≤ MOST }
+        ensures { result ≡ true → AreRuns order.now frame.now.shown.now frame.now.wanted.now self.new (frame.now.lines, 0) }
+    {
+        self.clear();
+        let end = frame.changes.lines().end;
+        let mut line = frame.changes.next(0);
+        while line < end {
+            let at = usize::from(line);
+            let (start, stop) = frame.changes.within(line, usize::from(frame.columns));
+            let row = Row {
+                line,
+                shown: frame.shown.row(at),
+                wanted: frame.wanted.row(at),
+            };
+            if !self.add_line(&row, start, stop, order) {
+                return false;
+            }
+            line = frame.changes.next(line + 1);
+        }
+        true
+    }
+
+    /// Adds those of a line from a column up to another.
+    fn add_line(&mut self, row: &Row<'_>, start: usize, end: usize, order: &[Rendition]) -> bool
+        requires ordered { start ≤ end }
+        requires inside { end ≤ length row.now.wanted.now }
+        requires few { length order.now ≤ MOST }
+        ensures { result ≡ true → (shown wanted : Picture) → line_of shown row.now.line ≡ row.now.shown.now → line_of wanted row.now.line ≡ row.now.wanted.now
+            → AreRuns order.now shown wanted self.old (row.now.line, start) → AreRuns order.now shown wanted self.new (row.now.line, end) }
+    {
+        let (shown, wanted) = (row.shown, row.wanted);
+        let Some(skipped) = first_diff(&shown[start..end], &wanted[start..end]) else {
+            return true;
+        };
+        let mut gap = start + skipped;
+        let mut x = gap;
+        while x < end {
+            if shown[x] == wanted[x] {
+                x += 1;
+                continue;
+            }
+            let stop = run_end(shown, wanted, x, end);
+            let run = Run {
+                line: row.line,
+                gap: gap as u16,
+                start: x as u16,
+                end: stop as u16,
+                pass: pass_of(order, wanted[x].rendition()) as u16,
+            };
+            if !self.push(run) {
+                return false;
+            }
+            x = stop;
+            gap = stop;
+        }
+        true
+    }
+}
