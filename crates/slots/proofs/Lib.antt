@@ -14,3 +14,5 @@ pub mod Settling
 pub mod FreeNumbers
 -- a test of each slot, for has_derived and is_touched
 pub mod Derived
+-- that lines of which none is touched are found so, for TouchedLines
+pub mod Untouched

@@ -1,7 +1,5 @@
 -- The touched columns of a line as a first and a last one, and none where the first is past the last.
-use Rattle.std.specs.Prelude.{◌≡◌, ℕ, ◌⊎◌, ◌≤◌, Option, None, Some, if◌then◌else◌, nat_lt}
-use Rattle.std.proofs.Common.{inl, inr, refl}
-use Rattle.std.proofs.lemmas.Bool.{le-ltb}
+use Rattle.std.specs.Prelude.{◌≡◌, ℕ, ◌⊎◌, ◌≤◌, List, Option, None, Some, if◌then◌else◌, nat_lt, slice_index_or}
 use Rattle.world.specs.declared.settings.Columns.{Columns}
 
 abbrev pub columns_in : ℕ → ℕ → Option Columns
@@ -15,19 +13,14 @@ abbrev pub last_in : Option Columns → ℕ
 last_in None = 0
 last_in (Some columns) = columns.last
 
+-- the touched columns of a line, which a line that isn't there has not
+abbrev pub touched_in : List (Option Columns) → ℕ → Option Columns
+touched_in lines y = slice_index_or lines y None
+
+-- no line is touched
+abbrev pub AreUntouched : List (Option Columns) → Type 0
+AreUntouched lines = (y : ℕ) → touched_in lines y ≡ None
+
 -- a first column that is past the last is 1, and the last is 0 then
 abbrev pub AreEnds : ℕ → ℕ → Type 0
 AreEnds first last = (first ≤ last) ⊎ ((first ≡ 1) × (last ≡ 0))
-
--- the columns of two ends have these ends
-pub first-back : (first last : ℕ) → AreEnds first last → first_in (columns_in first last) ≡ first
-first-back first last ends = elim ends [
-  | inl ordered ↦ rw (le-ltb last first ordered) refl
-  | inr none ↦ rw (none.0, none.1) refl
-]
-
-pub last-back : (first last : ℕ) → AreEnds first last → last_in (columns_in first last) ≡ last
-last-back first last ends = elim ends [
-  | inl ordered ↦ rw (le-ltb last first ordered) refl
-  | inr none ↦ rw (none.0, none.1) refl
-]

@@ -7,6 +7,7 @@
 //! - `place`: a place of a window or a grid
 //! - `slot`: what is kept of one window
 //! - `touched`: the touched columns of a line
+//! - `touched_lines`: those of each line of a window
 #![tactic(auto)]
 
 mod ink;
@@ -16,6 +17,7 @@ pub mod parents;
 mod place;
 mod slot;
 mod touched;
+mod touched_lines;
 
 pub use line::Line;
 pub use place::Place;

@@ -18,6 +18,7 @@ ghost use Rattle.slots.specs.Changes.{with_touched, with_drawing, SameShape, wit
 
 use crate::ink::print_in;
 use crate::touched::Touched;
+use crate::touched_lines::TouchedLines;
 use cell::{Attr, Cell, Grid, LARGEST_PAD, LAST_PAIR, PairId};
 use std::alloc::{AllocError, Global};
 use std::marker::Model;
@@ -68,7 +69,7 @@ pub struct Slot {
     columns: u16,
     place: Option<(u16, u16)>,
     settings: Settings,
-    touched: Vec<Touched>,
+    touched: TouchedLines,
     depth: u16,
     origin: Origin,
     cells: Cells,
@@ -82,13 +83,13 @@ impl Model for Slot {
       columns = a.columns;
       place = a.place;
       settings = a.settings;
-      touched = a.touched.items;
+      touched = a.touched;
       depth = a.depth;
       origin = a.origin;
       cells = a.cells;
     } };
 
-    ghost invariant = { λ a. HasShape a.lines a.columns a.settings a.touched.items a.cells };
+    ghost invariant = { λ a. HasShape a.lines a.columns a.settings a.touched a.cells };
 }
 
 impl Slot {
@@ -113,7 +114,7 @@ impl Slot {
             columns,
             place,
             settings: first_settings(lines),
-            touched: none_touched(alloc, lines)?,
+            touched: TouchedLines::none(alloc, lines)?,
             depth: 0,
             origin: Origin {
                 grid: number,
@@ -147,7 +148,7 @@ impl Slot {
             columns,
             place,
             settings: first_settings(lines),
-            touched: none_touched(alloc, lines)?,
+            touched: TouchedLines::none(alloc, lines)?,
             depth,
             origin,
             cells: Cells::Shared(part),
@@ -187,7 +188,7 @@ impl Slot {
         requires { line < self.now.lines }
         ensures { result ≡ (window_of self.now).touched line }
     {
-        self.touched[usize::from(line)].columns()
+        self.touched.columns(line)
     }
 
     /// How many ancestors the window has.
@@ -321,7 +322,7 @@ impl Slot {
         ensures window { window_of self.new ≡ without_marks (window_of self.old) }
         ensures place { StaysInPlace self.old self.new }
     {
-        self.touched.fill(Touched::none());
+        self.touched.clear();
         self.settings.clear = false;
     }
 
@@ -339,20 +340,14 @@ impl Slot {
         } else {
             None
         };
-        let start = usize::from(first);
-        mark_lines(
-            &mut self.touched,
-            start,
-            start + usize::from(n),
-            Touched::new(columns),
-        );
+        self.touched.set(first, n, Touched::new(columns));
     }
 
     /// Whether some line is touched.
     pub fn is_touched(&self) -> bool
         ensures { result ≡ any_below self.now.lines (λ y. is_some ((window_of self.now).touched y)) }
     {
-        has_columns(&self.touched)
+        self.touched.are_touched()
     }
 
     /// Puts cells into a line of the grid, from column `left` on.
@@ -392,36 +387,8 @@ impl Slot {
         ensures window { window_of self.new ≡ with_touched line left right (window_of self.old) }
         ensures place { StaysInPlace self.old self.new }
     {
-        let at = usize::from(line);
-        self.touched[at] = self.touched[at].join(left, right);
+        self.touched.touch(line, left, right);
     }
-}
-
-/// The touched columns of lines that nothing touched.
-fn none_touched(alloc: Global, lines: u16) -> Result<Vec<Touched>, AllocError>
-    ensures { IfOk result (λ lines_touched. lines_touched.items ≡ replicate lines None) }
-{
-    vec![in alloc; Touched::none(); usize::from(lines)]
-}
-
-/// Sets the touched columns of the lines from `start` on, up to `end`, which it leaves out.
-fn mark_lines(touched: &mut Vec<Touched>, start: usize, end: usize, columns: Touched)
-    requires ordered { start ≤ end }
-    requires there { end ≤ length touched.old.items }
-    ensures length { length touched.new.items ≡ length touched.old.items }
-    ensures each { (y : ℕ) → slice_index_or touched.new.items y None ≡ (if nat_le start y && nat_lt y end then columns else slice_index_or touched.old.items
-        y None) }
-{
-    for y in start..end {
-        touched[y] = columns;
-    }
-}
-
-/// Whether some line has touched columns.
-fn has_columns(touched: &[Touched]) -> bool
-    ensures { result ≡ list_any is_some touched.now }
-{
-    touched.iter().any(|it| it.columns().is_some())
 }
 
 /// The settings of a new window.

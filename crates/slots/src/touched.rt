@@ -17,7 +17,8 @@ pub(crate) struct Touched {
 impl Model for Touched {
     ghost use Rattle.std.specs.Prelude.{Option};
     ghost use Rattle.world.specs.declared.settings.Columns.{Columns};
-    ghost use Rattle.slots.specs.Touches.{AreEnds, columns_in, first_in, last_in, first-back, last-back};
+    ghost use Rattle.slots.specs.Touches.{AreEnds, columns_in, first_in, last_in};
+    ghost use Rattle.slots.specs.steps.Ends.{first-back, last-back};
 
     ghost Value = { Option Columns };
 

@@ -1,6 +1,6 @@
 -- How the numbers that are taken and the panels of windows follow the nodes.
 use Rattle.std.proofs.Common.{◌≡◌, ℕ, zero, suc, ◌+◌, ◌-◌, ◌<◌, ◌≤◌, ◌==◌, if◌then◌else◌, Option, None, rules, []}
-use Rattle.std.proofs.Common.{Some, is_some, MatchOption, List, ◌∷◌, ◌++◌, length, set, take, replicate, slice_index_or, length-set, get_or-set_same, get_or-set_other, refl, arith}
+use Rattle.std.proofs.Common.{Some, is_some, MatchOption, List, ◌∷◌, ◌++◌, length, set, take, replicate, slice_index_or, length-set, get_or-set_same, get_or-set_other, refl, sym, subst, ◌∙◌, inl, inr, arith}
 use Rattle.std.proofs.lemmas.Bool.{cases_eq, eq-eqb, ne_eqb}
 use Rattle.std.proofs.lemmas.List.{length_push, take_all}
 use Rattle.cell.specs.declared.limits.TheConstants.{MOST_PANELS}
@@ -55,6 +55,14 @@ appended-zeros (p ∷ holders) n (suc w) = appended-zeros holders n w
 pub holder-grown : (holders : List ℕ) (n m : ℕ) → length holders ≤ n → (w : ℕ) → holder_at (take n holders ++ replicate m 0) w ≡ holder_at holders w
 holder-grown holders n m few w = rw (take_all n holders few) (appended-zeros holders m w)
 
+-- the node that a search after the end found is the only one with the window
+pub searched-one : (end : Node) (nodes : List Node) (w n : ℕ) → ((p q : ℕ) → window_at (end ∷ nodes) p ≡ Some w → window_at (end ∷ nodes) q ≡ Some w → p ≡ q)
+    → (0 < n → window_at nodes (n - 1) ≡ Some w) → (n ≡ 0 → (k : ℕ) → window_at nodes k ≡ Some w → ⊥) → (p : ℕ) → window_at (end ∷ nodes) p ≡ Some w → n ≡ p
+searched-one end nodes w zero alone found none zero is = refl
+searched-one end nodes w zero alone found none (suc p) is = absurd (none refl p is)
+searched-one end nodes w (suc n) alone found none p is =
+    let before : suc n - 1 ≡ n = omega arith in alone (suc n) p (subst (λ k. window_at nodes k ≡ Some w) before (found (omega arith))) is
+
 -- ---- a window changes
 
 held-same : (o : Option ℕ) (p : ℕ) (holder : ℕ → ℕ) (w : ℕ) → o ≡ Some w → held_by o p holder w ≡ p
@@ -66,13 +74,25 @@ held-other o p holder w other = grind (arith, ne_eqb)
 -- the panel p has the window o now, which was in none
 module _ (old new : List Node) (numbers numbers' holders middle holders' : List ℕ) (p : ℕ) (o : Option ℕ) (h : IsIndexed old numbers holders) (positive : 0 < p) (lt : p < length old) where
   module _ (len : length new ≡ length old) (windows : (q : ℕ) → window_at new q ≡ with_entry (window_at old) p o q) (free : (q w : ℕ) → o ≡ Some w → window_at old q ≡ Some w → ⊥) where
-    module _ (released : (w : ℕ) → holder_at middle w ≡ held_by (window_at old p) 0 (holder_at holders) w) (held : (w : ℕ) → holder_at holders' w ≡ held_by o p (holder_at middle) w) where
-      panel-windowed : (q w : ℕ) → window_at new q ≡ Some w → holder_at holders' w ≡ q
-      panel-windowed q w is = search (rules, cases_eq, held-same, given-same, given-other, held-other)
+    alone-windowed : (q r w : ℕ) → window_at new q ≡ Some w → window_at new r ≡ Some w → q ≡ r
+    alone-windowed q r w is also = elim (cases_eq q p) [
+      | inl here ↦ elim (cases_eq r p) [
+        | inl too ↦ here ∙ sym too
+        | inr other ↦ absurd (free r w (sym (windows q ∙ given-same (window_at old) p o q here) ∙ is) (sym (windows r ∙ given-other (window_at old) p o r other) ∙ also))
+      ]
+      | inr other ↦ elim (cases_eq r p) [
+        | inl too ↦ absurd (free q w (sym (windows r ∙ given-same (window_at old) p o r too) ∙ also) (sym (windows q ∙ given-other (window_at old) p o q other) ∙ is))
+        | inr neither ↦ h.alone q r w (sym (windows q ∙ given-other (window_at old) p o q other) ∙ is) (sym (windows r ∙ given-other (window_at old) p o r neither) ∙ also)
+      ]
+    ]
+
+    module _ (released : (w : ℕ) → w < window_limit → holder_at middle w ≡ held_by (window_at old p) 0 (holder_at holders) w) (held : (w : ℕ) → w < window_limit → holder_at holders' w ≡ held_by o p (holder_at middle) w) where
+      panel-windowed : (q w : ℕ) → w < window_limit → window_at new q ≡ Some w → holder_at holders' w ≡ q
+      panel-windowed q w few is = search (rules, cases_eq, held-same, given-same, given-other, held-other)
 
       pub indexed-windowed : length middle ≡ length holders → length holders' ≡ length middle
           → ((q : ℕ) → contains numbers' q ≡ (if q == p then is_some o else contains numbers q)) → IsIndexed new numbers' holders'
-      indexed-windowed first second taken = grind (arith, cases_eq, eq-eqb, ne_eqb, panel-windowed, held-same, given-same, held-other, given-other)
+      indexed-windowed first second taken = grind (arith, cases_eq, eq-eqb, ne_eqb, panel-windowed, alone-windowed, held-same, given-same, held-other, given-other)
 
 -- as the code has the window
 pub free-window : (nodes : List Node) (win : Option WinId) → MatchOption win (Unit {0}) (λ u. (q : ℕ) → window_at nodes q ≡ Some u.0 → ⊥) → (q w : ℕ) → option_map (λ (u : WinId). u.0) win ≡ Some w

@@ -1,6 +1,6 @@
 //! The nodes of the doubly linked list of the visible panels.
 
-ghost use Rattle.std.specs.Prelude.{◌≡◌, ◌<◌, ◌≤◌, ◌++◌, ◌∷◌, ◌==◌, [], ℕ, false, true, None, Some, MatchOption, length, slice_set, is_ok, if◌then◌else◌, ⊤};
+ghost use Rattle.std.specs.Prelude.{◌≡◌, ◌<◌, ◌≤◌, ◌-◌, ◌++◌, ◌∷◌, ◌==◌, [], ℕ, false, true, None, Some, MatchOption, length, slice_set, is_ok, if◌then◌else◌, ⊤};
 ghost use Rattle.std.specs.Option.{option_map};
 ghost use Rattle.cell.specs.declared.limits.TheConstants.{MOST_PANELS};
 ghost use Rattle.small_set.specs.Sets.{contains};
@@ -9,13 +9,13 @@ ghost use Rattle.stack.specs.Nodes.{no_node, node_at, window_at, window_in};
 ghost use Rattle.stack.specs.steps.Entries.{Windowed};
 
 use crate::holders::Holders;
-use cell::{MOST_PANELS, WinId};
+use cell::{MOST_PANELS, MOST_WINDOWS, WinId};
 use small_set::SmallSet;
 use std::alloc::{AllocError, Global};
 use std::marker::Model;
 
-/// The window of a panel, and the panels right above and below. A node without a panel has no window, and one that isn't in the order names
-/// itself.
+/// The window of a panel, and the numbers of the panels right above and below it. A number that is no panel's has no
+/// window. The node of a hidden panel names itself as both neighbours.
 #[derive(Clone, Copy)]
 pub struct Node {
     pub window: Option<WinId>,
@@ -31,13 +31,13 @@ impl Node {
     };
 }
 
-/// A node for each number that a panel had so far, and before them the node 0, the end of both ways through the order. It
-/// takes no memory as long as no panel was made.
+/// The nodes by number. Node 0 is the end of the list: above it is the bottom panel, and below it the top one. After it
+/// comes a node for each number that a panel has had. No memory is taken until a panel is made.
 #[derive(Drop)]
 pub struct Nodes {
     end: Node,
     panels: Vec<Node>,
-    // Both follow the nodes, so that nothing is looked for among these. The numbers are those of panels, and 0.
+    // Two indexes of the nodes: the numbers of panels, with 0 among them, and the panel of each window.
     numbers: SmallSet,
     holders: Holders,
 }
@@ -90,7 +90,11 @@ impl Nodes {
         ensures panel { 0 < result → window_at self.now result ≡ Some win.0 }
         ensures none { (p : ℕ) → window_at self.now p ≡ Some win.0 → result ≡ p }
     {
-        self.holders.get(win)
+        if win.0 <= MOST_WINDOWS {
+            self.holders.get(win)
+        } else {
+            search(&self.panels, win)
+        }
     }
 
     /// The least number from 1 on that no panel has.
@@ -139,6 +143,21 @@ impl Nodes {
         self.panels.push(node)?;
         Ok(())
     }
+}
+
+/// The panel that a window is in, or 0, by a look at each node from 1 on. Only a window with a number that no screen
+/// gives is looked for like this.
+fn search(panels: &[Node], win: WinId) -> u16
+    requires { length panels.now ≤ MOST_PANELS }
+    ensures panel { 0 < result → window_at panels.now (result - 1) ≡ Some win.0 }
+    ensures none { result ≡ 0 → (k : ℕ) → window_at panels.now k ≡ Some win.0 → ⊥ }
+{
+    for at in 0..panels.len() {
+        if panels[at].window == Some(win) {
+            return at as u16 + 1;
+        }
+    }
+    0
 }
 
 /// The numbers where there is no panel: 0 alone, which no panel has.

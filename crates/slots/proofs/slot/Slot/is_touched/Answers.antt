@@ -5,5 +5,5 @@ use Rattle.slots.proofs.slot.Slot.is_touched.Goals as goal
 
 pub returns : goal.returns
 returns c =
-    rw (← c.self.view_is) (c.has_columns.ensures ∙ rw c.deref.ensures.value (sym (any_below-list {A = Columns} is_some refl c.self.inside.touched.items c.self.inside.lines
-    (omega (arith, c.self.invariant.touched_each)))))
+    rw (← c.self.view_is) (c.are_touched.ensures ∙ sym (any_below-list {A = Columns} is_some refl c.self.inside.touched c.self.inside.lines
+    (omega (arith, c.self.invariant.touched_each))))

@@ -25,7 +25,7 @@ invariant_of-self c =
     (subst (λ (l : List Node). IsIndexed l c.set_taken.new.numbers c.set-2.new.self) (set-past a.end a.panels.items p node c.requires.panel)
     (indexed-windowed nodes (set nodes p node) a.numbers c.set_taken.new.numbers a.holders c.set.new.self c.set-2.new.self p win
     c.self.invariant c.requires.panel within windowed.length windowed.window (free-window nodes c.args.win free)
-    (λ w. c.set.ensures.panel w ∙ ap (λ (n : Node). held_by (window_in n) 0 (holder_at a.holders) w) got)
+    (λ w few. c.set.ensures.panel w few ∙ ap (λ (n : Node). held_by (window_in n) 0 (holder_at a.holders) w) got)
     c.set-2.ensures.panel c.set.ensures.len c.set-2.ensures.len
     (λ q. c.set_taken.ensures q ∙ ap (λ (b : Bool). if q == p then b else contains a.numbers q) (c.is_some.ensures ∙ some-window c.args.win))))
 

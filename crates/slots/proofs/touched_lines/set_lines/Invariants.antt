@@ -1,6 +1,6 @@
 use Rattle.std.proofs.Common.{◌≡◌, ℕ, ◌&&◌, nat_le, nat_lt, if◌then◌else◌, None, length}
 use Rattle.std.specs.Prelude.{slice_index_or}
-use Rattle.slots.proofs.slot.mark_lines.Given as goal
+use Rattle.slots.proofs.touched_lines.set_lines.Given as goal
 
 -- the lines before y are set
 abbrev pub invariant-loop-y : goal.invariant-loop-y

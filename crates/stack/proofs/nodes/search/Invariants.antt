@@ -1,0 +1,7 @@
+use Rattle.std.proofs.Common.{◌≡◌, ℕ, ◌<◌, Some}
+use Rattle.stack.specs.Nodes.{window_at}
+use Rattle.stack.proofs.nodes.search.Given as goal
+
+-- no node so far has the window
+abbrev pub invariant-loop-at : goal.invariant-loop-at
+invariant-loop-at l = (k : ℕ) → k < l.at → window_at l.panels k ≡ Some l.win.0 → ⊥
