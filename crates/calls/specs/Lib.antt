@@ -1,3 +1,4 @@
 pub mod Kinds
 pub mod Queries
 pub mod Methods
+pub mod Refusals

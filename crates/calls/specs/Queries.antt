@@ -2,6 +2,7 @@
 -- X/Open Curses Issue 7: getyx, getbegyx, getmaxyx, getparyx, inch, is_linetouched, is_wintouched.
 -- NetBSD panel(3): panel_above, panel_below, panel_window, panel_hidden.
 use Rattle.std.specs.Prelude.{Bool, true, false}
+use Rattle.world.specs.Effects.{asks, arranges, changes, Effect}
 use Rattle.world.specs.declared.call.Call.{Call}
 use Rattle.world.specs.declared.call.Call.TheVariants as calls
 use Rattle.world.specs.declared.call.Copying.TheVariants.{IsLinetouched, IsWintouched}
@@ -16,3 +17,8 @@ is_query (calls.Stacking (PanelBelow panel)) = true
 is_query (calls.Stacking (PanelWindow panel)) = true
 is_query (calls.Stacking (PanelHidden panel)) = true
 is_query call = false
+
+-- nothing changes, and there is an answer
+abbrev pub only_asks : Effect → Bool
+only_asks (arranges (changes (asks reply))) = true
+only_asks effect = false

@@ -2,14 +2,17 @@
 //! windows: it is proved beside them.
 //!
 //! - `answer`: what a call answers, as a type
+//! - `laws`: what holds of the definitions alone
 //! - `methods`: a method for each call
 //! - `queries`: which calls only ask
 #![tactic(auto)]
 
 mod answer;
+mod laws;
 mod methods;
 mod queries;
 
 pub use answer::Answer;
+pub use laws::{queries_only_ask, refusals_are_named};
 pub use methods::Calls;
 pub use queries::is_query;

@@ -16,27 +16,23 @@ ghost use Rattle.cell.specs.Refusals.{RefusedBy, first_of};
 ghost use Rattle.grids.specs.Tables.{windows as windows_of};
 ghost use Rattle.stack.specs.Tables.{panels};
 ghost use Rattle.picture.specs.Spans.{IsSpan};
-ghost use Rattle.world.specs.calls.Dispatch.{is_doupdate};
 ghost use Rattle.world.specs.declared.call.Call.{Call};
 ghost use Rattle.world.specs.declared.call.Refresh.{Refresh};
-ghost use Rattle.calls.specs.Queries.{is_query};
 ghost use Rattle.compose.specs.Desks.{damaged_columns, is_damaged_line, world};
 ghost use Rattle.compose.specs.Calling.{Called};
 
+use crate::counted::CountedWindows;
 use crate::damaging::damage_part;
 use crate::damaging_calls::{arrange_damaging, copy_damaging, make_damaging, write_damaging};
 use crate::dispatch::refresh;
-use crate::marks::{clear_asked, unmark_composed};
-use crate::queries::answer;
+use crate::queries::{answer, of_marks, of_panels, of_window};
+use crate::update::update_panels;
 use calls::{Calls, is_query};
 use cell::{Cell, Colour, Grid, PairId, Pairs, Refusal, Shown, VirtualScreen, WinId};
 use grids::Grids;
-use picture::{
-    Damage, Owners, Span, TableRows, cell_found, owner_span, show_damaged, wanted_cursor,
-    window_part,
-};
+use picture::{Damage, Owners, Span, TableRows, cell_found, owner_span, window_part};
 use stack::Stack;
-use std::alloc::Global;
+use std::alloc::{AllocError, Global};
 use std::marker::Model;
 use windows::Windows;
 use world::{Call, Columns, Composed, Reply};
@@ -54,7 +50,7 @@ pub struct Desk {
     pub(crate) damage: Damage,
     pub(crate) cells_read: u64,
     // Room for the search.
-    owners: Owners,
+    owners: Box<Owners>,
 }
 
 impl Model for Desk {
@@ -97,6 +93,7 @@ impl Desk {
         let windows = Windows::new(alloc, lines, cols)?;
         let picture = Grid::new(alloc, lines, cols)?;
         let damage = Damage::new(alloc, lines)?;
+        let owners = room_for_search(alloc)?;
         Ok(Desk {
             windows,
             stack: Stack::new(alloc),
@@ -106,7 +103,7 @@ impl Desk {
             clear: false,
             damage,
             cells_read: 0,
-            owners: Owners::none(),
+            owners,
         })
     }
 
@@ -122,22 +119,19 @@ impl Desk {
     pub(crate) fn compose(&mut self) -> Composed
         ensures { Called self.old (Call.Refresh Refresh.UpdatePanels) (Ok (Reply.Composed result)) self.new }
     {
-        let (lines, _) = self.windows.table.screen_size();
-        let mut rows = TableRows::of(&self.windows.table, self.cells_read);
-        let cells = show_damaged(
-            &mut rows,
+        let mut windows = CountedWindows::of(&mut self.windows.table, self.cells_read);
+        let composed = update_panels(
+            &mut windows,
             &self.stack,
             &self.pairs,
             &mut self.owners,
-            lines,
             &mut self.damage,
             &mut self.picture,
+            &mut self.cursor,
+            &mut self.clear,
         );
-        self.cells_read = rows.cells_read();
-        self.cursor = wanted_cursor(&self.windows.table, &self.stack);
-        self.clear |= clear_asked(&self.windows.table, &self.stack);
-        unmark_composed(&mut self.windows.table, &self.stack);
-        Composed { cells }
+        self.cells_read = windows.cells_read();
+        composed
     }
 
     /// The damaged columns of a line, or none: everywhere else the virtual screen shows what the search from the top finds.
@@ -247,56 +241,6 @@ impl Desk {
     {
         self.clear = false;
     }
-
-    /// Makes a call, which may only ask.
-    #[inline(never)]
-    fn ask_or_change(&mut self, call: &Call<'_>) -> Result<Reply, Refusal>
-        requires { is_doupdate call.now ≡ false }
-        ensures { Called self.old call.now result self.new }
-    {
-        if is_query(call) {
-            self.ask(call)
-        } else {
-            self.change(call)
-        }
-    }
-
-    /// Makes a call that doesn't only ask.
-    #[inline(always)]
-    fn change(&mut self, call: &Call<'_>) -> Result<Reply, Refusal>
-        requires sends { is_doupdate call.now ≡ false }
-        requires changes { is_query call.now ≡ false }
-        ensures { Called self.old call.now result self.new }
-    {
-        match *call {
-            Call::Making(making) => make_damaging(
-                &mut self.windows.table,
-                &self.stack,
-                &mut self.damage,
-                making,
-            ),
-            Call::Writing(writing) => write_damaging(
-                &mut self.windows,
-                &self.stack,
-                &mut self.damage,
-                writing,
-            ),
-            Call::Copying(copying) => copy_damaging(
-                &mut self.windows,
-                &self.stack,
-                &mut self.damage,
-                copying,
-            ),
-            Call::Query(_) => unreachable!(),
-            Call::Stacking(stacking) => arrange_damaging(
-                &mut self.windows.table,
-                &mut self.stack,
-                &mut self.damage,
-                stacking,
-            ),
-            Call::Refresh(asked) => refresh(self, asked),
-        }
-    }
 }
 
 impl VirtualScreen for Desk {
@@ -325,12 +269,37 @@ impl Calls for Desk {
     #[inline(always)]
     fn call(&mut self, call: &Call<'_>) -> Result<Reply, Refusal> {
         match *call {
-            Call::Making(_) => self.change(call),
-            Call::Writing(_) => self.change(call),
-            Call::Copying(_) => self.ask_or_change(call),
-            Call::Query(_) => self.ask(call),
-            Call::Stacking(_) => self.ask_or_change(call),
-            Call::Refresh(_) => self.change(call),
+            Call::Making(making) => make_damaging(
+                &mut self.windows.table,
+                &self.stack,
+                &mut self.damage,
+                making,
+            ),
+            Call::Writing(writing) => write_damaging(
+                &mut self.windows,
+                &self.stack,
+                &mut self.damage,
+                writing,
+            ),
+            Call::Copying(copying) => {
+                if is_query(call) {
+                    return of_marks(&self.windows.table, copying);
+                }
+                copy_damaging(&mut self.windows, &self.stack, &mut self.damage, copying)
+            }
+            Call::Query(asked) => of_window(&self.windows, asked),
+            Call::Stacking(stacking) => {
+                if is_query(call) {
+                    return of_panels(&self.stack, stacking);
+                }
+                arrange_damaging(
+                    &mut self.windows.table,
+                    &mut self.stack,
+                    &mut self.damage,
+                    stacking,
+                )
+            }
+            Call::Refresh(asked) => refresh(self, asked),
         }
     }
 
@@ -341,6 +310,12 @@ impl Calls for Desk {
     ghost answers = { answers-called };
 
     ghost composes = { composes-called };
+}
+
+/// Room for the search. It is made in a function of its own, so that what makes a desk has no such room on the stack.
+#[inline(never)]
+fn room_for_search(alloc: Global) -> Result<Box<Owners>, AllocError> {
+    Ok(Box::new(alloc, Owners::none())?)
 }
 
 /// A pair that can be set, and two colours.

@@ -1,6 +1,7 @@
 //! The `Desk`: windows, panels, colour pairs and the virtual screen together, with each call and what it damages of the screen. The crate is
 //! named for its chief work, which is to compose the picture.
 //!
+//! - `counted`: the windows as what composes has them, which counts the cells that are read
 //! - `damaging_calls`: a call with what it damages
 //! - `damaging`: what a call damages
 //! - `desk`: the `Desk` and what can be read of it
@@ -9,8 +10,10 @@
 //! - `panels`: the calls that look at windows and panels together
 //! - `queries`: the calls that only ask
 //! - `refresh`: what a window or a pad puts into the virtual screen
+//! - `update`: the step that composes the picture
 #![tactic(auto)]
 
+mod counted;
 mod damaging;
 mod damaging_calls;
 mod desk;
@@ -19,6 +22,7 @@ mod marks;
 mod panels;
 mod queries;
 mod refresh;
+mod update;
 
 pub use desk::Desk;
 pub use picture::{Rows, Span, compose_row};

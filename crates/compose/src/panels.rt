@@ -83,6 +83,10 @@ pub(crate) fn move_window(
         (making_change (windows_of table.old) (Making.Mvwin win y x)) result table.new }
 {
     prove!(table.has_window(WinId::STANDARD));
+    if !table.has_window(win) {
+        return Err(Refusal::NoSuchWindow);
+    }
+    // No panel has the standard screen or a pad, so what refuses these may come later.
     if stack.panel_of(win).is_some() {
         return Err(Refusal::InPanel);
     }
@@ -99,6 +103,10 @@ pub(crate) fn delete_window(table: &mut Grids, stack: &Stack, win: WinId) -> Res
         (making_change (windows_of table.old) (Making.Delwin win)) result table.new }
 {
     prove!(table.has_window(WinId::STANDARD));
+    if !table.has_window(win) {
+        return Err(Refusal::NoSuchWindow);
+    }
+    // No panel has the standard screen, so what refuses it may come later.
     if stack.panel_of(win).is_some() {
         return Err(Refusal::InPanel);
     }

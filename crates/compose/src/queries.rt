@@ -36,7 +36,7 @@ pub(crate) fn answer(windows: &Windows, stack: &Stack, query: &Call<'_>) -> Resu
 }
 
 /// What is asked about a window or pad.
-fn of_window(windows: &Windows, query: Query) -> Result<Reply, Refusal>
+pub(crate) fn of_window(windows: &Windows, query: Query) -> Result<Reply, Refusal>
     ensures { Answered (query_refusal (windows_of windows.now.table) query) (query_reply (windows_of windows.now.table) query) result }
 {
     match query {
@@ -49,7 +49,7 @@ fn of_window(windows: &Windows, query: Query) -> Result<Reply, Refusal>
 }
 
 /// What is asked about what is touched.
-fn of_marks(table: &Grids, query: Copying) -> Result<Reply, Refusal>
+pub(crate) fn of_marks(table: &Grids, query: Copying) -> Result<Reply, Refusal>
     requires { is_query (Call.Copying query) ≡ true }
     ensures { Answered (copying_refusal (windows_of table.now) query) (change_reply (copying_change (windows_of table.now) query)) result }
 {
@@ -61,7 +61,7 @@ fn of_marks(table: &Grids, query: Copying) -> Result<Reply, Refusal>
 }
 
 /// What is asked about panels.
-fn of_panels(stack: &Stack, query: Stacking) -> Result<Reply, Refusal>
+pub(crate) fn of_panels(stack: &Stack, query: Stacking) -> Result<Reply, Refusal>
     requires { is_query (Call.Stacking query) ≡ true }
     ensures { Answered (stacking_refusal no_windows (panels stack.now) query) (order_reply (stacking_order (panels stack.now) query)) result }
 {

@@ -4,5 +4,6 @@ pub use Rattle.slots.specs.Changes
 pub use Rattle.slots.specs.Inks
 pub mod Tables
 pub mod Calls
+pub mod Questions
 pub mod Copies
 pub mod steps

@@ -5,6 +5,7 @@ ghost use Rattle.world.specs.Sound.{AreSoundWindows};
 ghost use Rattle.world.specs.calls.Queries.{cursor_of, place_on_screen, window_size, offset_in_parent};
 ghost use Rattle.world.specs.declared.call.Query.{Query};
 ghost use Rattle.grids.specs.Calls.{Asked};
+ghost use Rattle.grids.specs.Questions.{parent_answer};
 ghost use Rattle.grids.specs.Tables.{windows};
 
 use crate::table::Grids;
@@ -69,5 +70,17 @@ impl Grids {
         let slot = self.slot(win)?;
         let part = slot.part().ok_or(Refusal::NotDerived)?;
         Ok((part.line, part.column))
+    }
+
+    /// The window or pad from which a window or pad derives.
+    ///
+    /// # Errors
+    /// `NoSuchWindow`, `NotDerived`.
+    pub fn parent(&self, win: WinId) -> Result<WinId, Refusal>
+        ensures { result ≡ parent_answer (windows self.now).window win.0 }
+    {
+        let slot = self.slot(win)?;
+        let part = slot.part().ok_or(Refusal::NotDerived)?;
+        Ok(WinId(part.parent))
     }
 }

@@ -72,7 +72,8 @@ impl Grids {
         }
     }
 
-    /// Touches a window where it shows what is touched of another. Both are parts of a third, of which they begin at these places.
+    /// Touches a window where it shows a touched place of another one, `source`. Both are parts of one window, or one
+    /// is a part of the other: `at` and `source_at` are the places of it at which the two begin.
     fn touch_shown(&mut self, win: u16, at: (u16, u16), source: u16, source_at: (u16, u16))
         requires other { win ≢ source }
         requires window { EndsWithin (windows self.old).window win at }
@@ -92,7 +93,8 @@ impl Grids {
         }
     }
 
-    /// The columns of a line of a window in which it shows what is touched of another.
+    /// The columns of a line of a window in which it shows touched places of another one, `source`, as `touch_shown`
+    /// has it.
     fn shown_columns(
         &self,
         win: u16,
@@ -155,8 +157,8 @@ impl Grids {
     }
 }
 
-/// The columns of a line, of so many, that are given columns of another line. The other begins at column `from` of a third, and the line at
-/// column `to` of it.
+/// The columns of a line that show touched columns of another line. Both are parts of one longer line: the other begins
+/// at its column `from`, and the line at its column `to`. The line has `columns` columns.
 pub fn clip(touched: Option<Columns>, from: u16, to: u16, columns: u16) -> Option<Columns>
     requires some { 0 < columns }
     requires source { MatchOption touched ⊤ (λ r. (r.first ≤ r.last) × (from + r.last < LARGEST_PAD)) }

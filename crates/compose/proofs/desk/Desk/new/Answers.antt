@@ -1,10 +1,9 @@
 use Rattle.std.proofs.Common.{rules}
 use Rattle.compose.proofs.DamageCovers.{IsDesk-new}
-use Rattle.compose.proofs.DeskLemmas.{IsSound-first}
 use Rattle.compose.proofs.desk.Desk.new.Goals as goal
 
 pub invariant_of-result : goal.invariant_of-result
 invariant_of-result c = IsDesk-new _ c.args.lines c.args.cols (search rules) c.in_ok-windows.ensures.sound c.in_ok-damage.ensures
 
 pub returns-clause-sound : goal.returns-clause-sound
-returns-clause-sound c = IsSound-first _ c.args.lines c.args.cols (search rules) c.in_ok-windows.ensures.sound
+returns-clause-sound c = (invariant_of-result c).sound

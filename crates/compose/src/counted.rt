@@ -1,0 +1,103 @@
+//! The windows that a picture is composed of, as what composes has them: it reads no cell of them that isn't counted.
+
+ghost use Rattle.std.specs.Prelude.{◌≡◌, ◌∷◌, ◌+◌, ◌<◌, ◌%◌, ◌^◌, ℕ, None, false, length};
+ghost use Rattle.std.specs.List.{list_any};
+ghost use Rattle.cell.specs.Pictures.{HasSize, picture_of, shown_at};
+ghost use Rattle.cell.specs.Shown.{shown};
+ghost use Rattle.world.specs.Effects.{asks_for_clear, with_unmarked};
+ghost use Rattle.world.specs.Panels.{cursor_of_topmost, found_from_top, standard_screen, windows_from_top};
+ghost use Rattle.world.specs.Sound.{AreColumnsWithin, AreSoundPanels, AreSoundWindows};
+ghost use Rattle.grids.specs.Tables.{windows as windows_of};
+ghost use Rattle.stack.specs.Tables.{panels};
+ghost use Rattle.picture.specs.Damages.{cells_above, columns_of, has_damage_at};
+
+use crate::marks::{clear_asked, unmark_composed};
+use cell::{Grid, Pairs, Shown};
+use grids::Grids;
+use picture::{Damage, Owners, TableRows, show_damaged, wanted_cursor};
+use stack::Stack;
+
+/// A table of windows, and how many of their cells were read, modulo 2^64. Only what is here has the table: all else reads cells by
+/// `show_damaged`, which counts them.
+#[derive(Drop)]
+pub(crate) struct CountedWindows<'a> {
+    table: &'a mut Grids,
+    cells: u64,
+}
+
+impl<'a> CountedWindows<'a> {
+    /// The windows of a table, of which so many cells were read before.
+    pub(crate) fn of(table: &'a mut Grids, cells: u64) -> CountedWindows<'a>
+        ensures same { result.table.ghost_name ≡ table.entry.ghost_name }
+        ensures table { result.table.now ≡ table.old }
+        ensures cells { result.cells ≡ cells }
+    {
+        CountedWindows { table, cells }
+    }
+
+    /// How many cells were read, modulo 2^64.
+    pub(crate) fn cells_read(&self) -> u64
+        ensures { result ≡ self.now.cells }
+    {
+        self.cells
+    }
+
+    /// Puts what a search from the top finds at each damaged place into a picture, and clears the damage. It answers how many cells it
+    /// read, and counts them.
+    pub(crate) fn show_damaged(
+        &mut self,
+        stack: &Stack,
+        pairs: &Pairs,
+        owners: &mut Owners,
+        damage: &mut Damage,
+        picture: &mut Grid<Shown>,
+    ) -> u32
+        requires windows { AreSoundWindows (windows_of self.old.table.now) }
+        requires panels { AreSoundPanels (windows_of self.old.table.now).window (panels stack.now) }
+        requires height { length damage.old ≡ self.old.table.now.lines }
+        requires within { (y : ℕ) → AreColumnsWithin self.old.table.now.columns (columns_of damage.old y) }
+        requires size { HasSize self.old.table.now.lines self.old.table.now.columns picture.old }
+        requires covered { (y x : ℕ) → y < self.old.table.now.lines → x < self.old.table.now.columns → has_damage_at damage.old y x ≡ false
+            → shown_at picture.old (y, x) ≡ shown pairs.now (found_from_top (windows_of self.old.table.now).window (panels stack.now) y x) }
+        ensures shown { picture.new ≡ picture_of self.old.table.now.lines self.old.table.now.columns
+            (λ y x. shown pairs.now (found_from_top (windows_of self.old.table.now).window (panels stack.now) y x)) }
+        ensures height { length damage.new ≡ self.old.table.now.lines }
+        ensures none { (y : ℕ) → columns_of damage.new y ≡ None }
+        ensures read { result ≡ cells_above damage.old self.old.table.now.lines }
+        ensures count { self.new.cells ≡ (self.old.cells + result) % 2 ^ 64 }
+        ensures same { self.new.table.ghost_name ≡ self.old.table.ghost_name }
+        ensures table { self.new.table.now ≡ self.old.table.now }
+    {
+        let (lines, _) = self.table.screen_size();
+        let mut rows = TableRows::of(self.table, self.cells);
+        let cells = show_damaged(&mut rows, stack, pairs, owners, lines, damage, picture);
+        self.cells = rows.cells_read();
+        cells
+    }
+
+    /// Where the cursor of the top visible panel's window is on the screen, or the standard screen's if no panel is visible.
+    pub(crate) fn wanted_cursor(&self, stack: &Stack) -> (u16, u16)
+        ensures { result ≡ cursor_of_topmost (windows_of self.now.table.now).window (panels stack.now) }
+    {
+        wanted_cursor(self.table, stack)
+    }
+
+    /// Whether the standard screen or a visible panel's window asks for a clear screen.
+    pub(crate) fn clear_asked(&self, stack: &Stack) -> bool
+        ensures { result ≡ list_any (asks_for_clear (windows_of self.now.table.now).window) (standard_screen ∷ windows_from_top (panels stack.now)) }
+    {
+        clear_asked(self.table, stack)
+    }
+
+    /// Clears the touched columns and clear flags of the standard screen and of the windows of visible panels.
+    pub(crate) fn unmark_composed(&mut self, stack: &Stack)
+        ensures unmarked { windows_of self.new.table.now ≡ record (windows_of self.old.table.now) {
+          window = with_unmarked (windows_of self.old.table.now).window
+              (standard_screen ∷ windows_from_top (panels stack.now));
+        } }
+        ensures cells { self.new.cells ≡ self.old.cells }
+        ensures same { self.new.table.ghost_name ≡ self.old.table.ghost_name }
+    {
+        unmark_composed(self.table, stack);
+    }
+}
