@@ -164,5 +164,5 @@ reported_ends first old new before lines after false r written h = record {
 
 -- with how many lines after them
 pub counted_ends : (first old new : Seen) (before : Report) (written : Bool) (count : List ℕ) (lines : List (List ℕ)) → count ≡ count_line before.faulty
-    → before.is_written ≡ true → WritingEnds written old new count → IsReported first old before lines → WritingEnds written first new (report true lines)
+    → before.is_written ≡ true → WritingEnds written old new count → IsReported first old before lines → WritingEnds written first new (report lines)
 counted_ends first old new before written count lines is all h r = grind (arith, reported_ends)

@@ -45,9 +45,9 @@ count_of lines = min (length lines) (2 ^ 64 - 1)
 abbrev pub count_line : ℕ → List ℕ
 count_line n = if n == 0 then [] else decimal n ++ (if n == 1 then codes " faulty line" else codes " faulty lines") ++ newline ∷ []
 
--- the lines, and after those of a whole script how many they are, if there is one
-abbrev pub report : Bool → List (List ℕ) → List ℕ
-report is_whole lines = flat_map (λ line. line) lines ++ (if is_whole then count_line (count_of lines) else [])
+-- the lines, and after them how many they are, if there is one
+abbrev pub report : List (List ℕ) → List ℕ
+report lines = flat_map (λ line. line) lines ++ count_line (count_of lines)
 
 -- A script that was read to its end is judged by whether it has a finding. Of another the log gets a line.
 abbrev pub Judges : Bool → List (List ℕ) → Seen → Seen → ℕ → Type 0
@@ -57,8 +57,8 @@ Judges false lines log after status = (status ≡ 3) × TriesToLog log after (la
 -- The output took the report; or that failed, and the log gets a line.
 abbrev pub Reports : Bool → List (List ℕ) → Outputs → Outputs → ℕ → Type 0
 Reports is_whole lines old new status =
-    (IsWritten old.output new.output (report is_whole lines) × Judges is_whole lines old.log new.log status)
-    ⊎ ((status ≡ 3) × IsNotWritten old.output new.output (report is_whole lines) × TriesToLog old.log new.log (last_line Log))
+    (IsWritten old.output new.output (report lines) × Judges is_whole lines old.log new.log status)
+    ⊎ ((status ≡ 3) × IsNotWritten old.output new.output (report lines) × TriesToLog old.log new.log (last_line Log))
 
 -- The script was read, and its findings are reported.
 pub record Checks (input rest : SourceSeen) (old new : Outputs) (status : ℕ) : Type 0 where

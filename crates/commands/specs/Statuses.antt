@@ -21,7 +21,7 @@ status_of end = option_map_or status_of_fault end.fault (if end.refused then 1 e
 -- ---- lack of memory
 
 abbrev pub no_memory_line : List ℕ
-no_memory_line = codes "no memory for the screen" ++ newline ∷ []
+no_memory_line = codes "no memory" ++ newline ∷ []
 
 -- The log gets the line, and nothing went to the output.
 pub record LacksMemory (old new : Outputs) (status : ℕ) : Type 0 where

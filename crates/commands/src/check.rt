@@ -1,7 +1,6 @@
 //! Says of each faulty line of a script what is wrong with it. No call is made.
 
 ghost use Rattle.std.specs.Prelude.{◌≡◌, ◌≤◌, ◌<◌, ◌∷◌, [], length};
-ghost use Rattle.std.specs.Option.{option_map_or};
 ghost use Rattle.script.specs.Readings.{parse_line};
 ghost use Rattle.commands.specs.Checks.{Checks, count_line, finding_of};
 ghost use Rattle.commands.specs.Written.{outputs};
@@ -10,7 +9,7 @@ ghost use Rattle.commands.specs.steps.Checking.{EndsReport, ReportsMore, Reports
 use crate::put::{put, write_out};
 use crate::status::{ACCEPTED, BAD_TEXT, log_failure};
 use arrayvec::ArrayVec;
-use explain::{Finding, finding};
+use explain::finding;
 use script::{Arguments, LONGEST_LINE, LineEnd, Lines, ScriptFault, TextFault, read_line};
 use streams::{Sink, Source, append, append_decimal};
 
@@ -34,38 +33,6 @@ struct Checked {
     report: Report,
 }
 
-/// The line about a line's fault, if it has one.
-fn finding_of(number: u64, line: &[u8], taken: &mut Arguments) -> Option<Finding>
-    requires { length line.now ≤ LONGEST_LINE }
-    ensures { finding_of number line.now (parse_line line.now) ≡ option_map_or (λ text. text.items ∷ []) result [] }
-{
-    match read_line(line, taken) {
-        Ok(_) => None,
-        Err(fault) => Some(finding(number, fault, line)),
-    }
-}
-
-/// The same of a line as it was read: it may be too long, or end where a read failed.
-fn finding_of_read(
-    number: u64,
-    end: LineEnd,
-    is_kept: bool,
-    line: &[u8],
-    taken: &mut Arguments,
-) -> Option<Finding>
-    requires { length line.now ≤ LONGEST_LINE }
-    ensures { finding_of_read number line.now is_kept end ≡ option_map_or (λ text. text.items ∷ []) result [] }
-{
-    if !is_kept {
-        return Some(finding(number, TextFault::LineTooLong, b""));
-    }
-    match end {
-        LineEnd::Newline => finding_of(number, line, taken),
-        LineEnd::ScriptEnd => finding_of(number, line, taken),
-        LineEnd::ReadFailed => None,
-    }
-}
-
 /// Writes one line more of a report, unless a write failed before.
 fn report_text<O: Sink>(out: &mut O, report: Report, text: &[u8]) -> Report
     ensures { ReportsMore (O.seen out.old) (O.seen out.new) report result (text.now ∷ []) }
@@ -77,13 +44,47 @@ fn report_text<O: Sink>(out: &mut O, report: Report, text: &[u8]) -> Report
     }
 }
 
-/// Writes the line about a fault, if there is one.
-fn report_finding<O: Sink>(out: &mut O, report: Report, finding: Option<Finding>) -> Report
-    ensures { ReportsMore (O.seen out.old) (O.seen out.new) report result (option_map_or (λ text. text.items ∷ []) finding []) }
+/// Reports a line, if it has a fault.
+fn report_line<O: Sink>(
+    out: &mut O,
+    report: Report,
+    number: u64,
+    line: &[u8],
+    taken: &mut Arguments,
+) -> Report
+    requires { length line.now ≤ LONGEST_LINE }
+    ensures { ReportsMore (O.seen out.old) (O.seen out.new) report result (finding_of number line.now (parse_line line.now)) }
 {
-    match finding {
-        Some(text) => report_text(out, report, text.as_slice()),
-        None => report,
+    match read_line(line, taken) {
+        Ok(_) => report,
+        Err(fault) => report_text(out, report, finding(number, fault, line).as_slice()),
+    }
+}
+
+/// The same of a line as it was read: it may be too long, or end where a read failed.
+fn report_read<O: Sink>(
+    out: &mut O,
+    report: Report,
+    number: u64,
+    end: LineEnd,
+    is_kept: bool,
+    line: &[u8],
+    taken: &mut Arguments,
+) -> Report
+    requires { length line.now ≤ LONGEST_LINE }
+    ensures { ReportsMore (O.seen out.old) (O.seen out.new) report result (finding_of_read number line.now is_kept end) }
+{
+    if !is_kept {
+        return report_text(
+            out,
+            report,
+            finding(number, TextFault::LineTooLong, b"").as_slice(),
+        );
+    }
+    match end {
+        LineEnd::Newline => report_line(out, report, number, line, taken),
+        LineEnd::ScriptEnd => report_line(out, report, number, line, taken),
+        LineEnd::ReadFailed => report,
     }
 }
 
@@ -100,8 +101,7 @@ fn report_lines<R: Source, O: Sink>(input: &mut R, out: &mut O) -> Checked
     };
     loop {
         let (end, is_kept) = lines.next_whole_line(input);
-        let finding = finding_of_read(number, end, is_kept, lines.line(), &mut taken);
-        report = report_finding(out, report, finding);
+        report = report_read(out, report, number, end, is_kept, lines.line(), &mut taken);
         match end {
             LineEnd::Newline => number = number.saturating_add(1),
             LineEnd::ScriptEnd => {
@@ -141,21 +141,17 @@ fn count_line(n: u64) -> ArrayVec<u8, COUNT_ROOM>
     text
 }
 
-/// Writes what follows the lines of a report and flushes, and answers whether all of it went out.
+/// Writes how many lines a report has, and flushes, and answers whether all of it went out.
 fn end_report<O: Sink>(out: &mut O, checked: Checked) -> bool
-    ensures { EndsReport (O.seen out.old) (O.seen out.new) checked.is_whole checked.report result }
+    ensures { EndsReport (O.seen out.old) (O.seen out.new) checked.report result }
 {
     if !checked.report.is_written {
         return false;
     }
-    if checked.is_whole {
-        write_out(out, count_line(checked.report.faulty).as_slice())
-    } else {
-        write_out(out, b"")
-    }
+    write_out(out, count_line(checked.report.faulty).as_slice())
 }
 
-/// Reads a script to its end, says on the output of each faulty line where it is and what is wrong, and after them how
+/// Reads a script to its end or until a read fails, says on the output of each faulty line where it is and what is wrong, and after them how
 /// many they are, and answers the status.
 pub fn check_script<R: Source, O: Sink, L: Sink>(input: &mut R, out: &mut O, log: &mut L) -> u8
     ensures checked { Checks (R.seen input.old) (R.seen input.new) (outputs (O.seen out.old) (L.seen log.old))

@@ -17,7 +17,7 @@ pub const REFUSED: u8 = 1;
 pub const BAD_TEXT: u8 = 2;
 /// Reading or writing failed.
 pub const FAILED: u8 = 3;
-/// There is no memory for the screen.
+/// There is no memory.
 const NO_MEMORY: u8 = 4;
 
 /// Says on the log that there is no memory, and answers that status.
@@ -25,7 +25,7 @@ pub fn no_memory<L: Sink>(log: &mut L) -> u8
     ensures status { result ≡ 4 }
     ensures logs { TriesToLog (L.seen log.old) (L.seen log.new) no_memory_line }
 {
-    write_log(log, b"no memory for the screen\n");
+    write_log(log, b"no memory\n");
     NO_MEMORY
 }
 

@@ -5,7 +5,7 @@
 
 mod serve;
 
-use commands::{no_memory, write_log};
+use commands::{BAD_TEXT, no_memory, write_log};
 use desk::{Counted, CountedReader, Sink};
 use serve::serve;
 use std::io::{BufReader, BufWriter, ErrorKind};
@@ -25,7 +25,7 @@ fn main(rt: HostRuntime) -> ExitCode {
         Err(error) if error.kind() == ErrorKind::OutOfMemory => no_memory(&mut log),
         Err(_) => {
             write_log(&mut log, b"a word of the command line is not in UTF-8\n");
-            2
+            BAD_TEXT
         }
     };
     ExitCode::from(status)

@@ -29,7 +29,7 @@ use std::alloc::Global;
 use std::convert::AsStr;
 use streams::Discard;
 
-/// A screen of the job's size, over a sink that keeps nothing.
+/// A blank screen of the job's size. What it sends is discarded.
 fn blank_screen(alloc: Global, job: Job) -> Result<Screen<Discard>, Refusal>
     requires { IsSize job.lines × IsSize job.cols }
     ensures world { IfOk result (λ screen. world screen.desk ≡ first_world job.lines job.cols) }
@@ -75,7 +75,7 @@ fn run<'a, R: Source, O: Sink, L: Sink>(
         Err(_) => return no_memory(log),
     };
     let end = run_and_log(&mut screen, input, log);
-    // This shows the proof that the output is what the screen sent.
+    // Taken apart, so that the proof knows the output again: it has what the screen sent.
     screen.into_writer();
     status_of(end)
 }
@@ -139,15 +139,15 @@ fn paint<R: Source, O: Sink, L: Sink>(
         Err(_) => return no_memory(log),
     };
     let status = paint_screen(&mut screen, input, out, log);
-    // The screen is taken apart, and so no way out of here drops one.
+    // Taken apart, since no clause says what a drop would do.
     let _ = screen.into_writer();
     status
 }
 
 /// Does what the words ask for, and answers the status. Where clap refuses the words, nothing is read, and help is on the
 /// output, with status 0, or a usage fault on the log, with status 2. Else the status is that of how the script ended, 3
-/// where its picture can't be written, or 4 where there is no memory. The first word is the program's name. A status below 2 means that no
-/// write or flush of the log failed.
+/// where its picture can't be written, or 4 where there is no memory. The first word is the program's name. A status below
+/// 2 means that no write or flush of the log failed.
 pub fn serve<'a, S: AsStr, R: Source, O: Sink, L: Sink>(
     alloc: Global,
     words: &[S],

@@ -1,2 +1,8 @@
 -- that the texts of the table of advice are short, for advice_on
 pub mod TableLemmas
+-- that the names of a letter are among its rows alone, for advice_on
+pub mod Letters
+-- that the table has for each letter the rows of the definition, for advice_on
+pub mod LetterTable
+-- that the words of calls are short, for nearest
+pub mod NearestLemmas

@@ -4,6 +4,7 @@ use Rattle.std.specs.List.{list_any, slice_split}
 use Rattle.std.specs.Option.{option_map_or}
 use Rattle.std.specs.Str.{bytes_eq}
 use Rattle.script.specs.Characters.{is_space}
+use Rattle.explain.specs.Nearest.{nearest}
 use Rattle.script.specs.Words.{word_of}
 
 -- names with a space between any two
@@ -114,13 +115,18 @@ abbrev pub or_else : Option (List ℕ) → Option (List ℕ) → Option (List �
 or_else None other = other
 or_else (Some said) other = Some said
 
--- what the table has; else, of a word with the prefix `mvw`, `mv` or `w`, what is said of the rest
+-- the call whose letters are the word's, but for one at most
+abbrev pub see_nearest : List ℕ → Option (List ℕ)
+see_nearest word = option_map (λ name. codes "see " ++ name) (nearest word)
+
+-- what the table has; else, of a word with the prefix `mvw`, `mv` or `w`, what is said of the rest; else the nearest call
 abbrev pub said_of : List ℕ → Option (List ℕ)
 said_of word =
     or_else (advice_on word)
     (or_else (after_prefix (codes "mvw") (codes "see move, ") word)
     (or_else (after_prefix (codes "mv") (codes "see move, ") word)
-    (after_prefix (codes "w") (codes "see ") word)))
+    (or_else (after_prefix (codes "w") (codes "see ") word)
+    (see_nearest word))))
 
 abbrev pub call_advice : List ℕ → List ℕ
 call_advice word = option_map_or (λ said. codes ": " ++ said) (said_of word) []

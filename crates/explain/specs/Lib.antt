@@ -1,4 +1,5 @@
 pub mod Faults
+pub mod Nearest
 pub mod Advice
 pub mod Reasons
 pub mod Explanations

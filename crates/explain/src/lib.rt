@@ -5,6 +5,7 @@
 //! - `column`: where the fault is
 //! - `findings`: the line on a fault
 //! - `laws`: the numerals that are printed are the limits
+//! - `nearest`: the call that a word was meant to be
 //! - `reasons`: what an argument has to be, and why it is not
 //! - `suggestions`: what to write for a word that is no call
 #![tactic(auto)]
@@ -14,6 +15,7 @@ mod arguments;
 mod column;
 mod findings;
 mod laws;
+mod nearest;
 mod reasons;
 mod suggestions;
 

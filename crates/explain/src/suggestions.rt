@@ -1,10 +1,11 @@
 //! What to write for a word that is no call.
 
-ghost use Rattle.std.specs.Prelude.{◌≡◌, ◌≤◌, IfSome, length};
-ghost use Rattle.explain.specs.Advice.{advice_on_rest, after_prefix, said_of};
+ghost use Rattle.std.specs.Prelude.{◌≡◌, ◌≤◌, ◌+◌, IfSome, length};
+ghost use Rattle.explain.specs.Advice.{advice_on_rest, after_prefix, said_of, see_nearest};
 ghost use Rattle.explain.specs.steps.Suggestions.{said_now};
 
 use crate::advice::advice_on;
+use crate::nearest::nearest;
 use script::Word;
 
 /// What is said of a word, and a call that ends it, if it names one.
@@ -46,11 +47,26 @@ fn after_prefix<'a>(prefix: &[u8], said: &'static [u8], word: &'a [u8]) -> Optio
     }
 }
 
+/// The call that is nearest to a word.
+fn see_nearest<'a>(word: &[u8]) -> Option<Said<'a>>
+    ensures said { said_now result ≡ see_nearest word.now }
+    ensures short { IfSome result (λ s. length s.text.now ≤ 80) }
+    ensures call { IfSome result (λ s. length s.call.now ≤ 80) }
+{
+    match nearest(word) {
+        Some(call) => Some(Said {
+            text: b"see ",
+            call,
+        }),
+        None => None,
+    }
+}
+
 /// What is said of a word that is no call.
 pub fn said_of<'a>(word: &'a [u8]) -> Option<Said<'a>>
     ensures said { said_now result ≡ said_of word.now }
     ensures short { IfSome result (λ s. length s.text.now ≤ 80) }
-    ensures call { IfSome result (λ s. length s.call.now ≤ length word.now) }
+    ensures call { IfSome result (λ s. length s.call.now ≤ length word.now + 80) }
 {
     if let Some(text) = advice_on(word) {
         return Some(Said { text, call: b"" });
@@ -61,5 +77,8 @@ pub fn said_of<'a>(word: &'a [u8]) -> Option<Said<'a>>
     if let Some(said) = after_prefix(b"mv", b"see move, ", word) {
         return Some(said);
     }
-    after_prefix(b"w", b"see ", word)
+    if let Some(said) = after_prefix(b"w", b"see ", word) {
+        return Some(said);
+    }
+    see_nearest(word)
 }

@@ -38,6 +38,6 @@ pub record ReportsScript (old new : SourceSeen) (output after : Seen) (is_whole 
   pub reported : IsReported output after report (findings (not is_whole) text)
 
 -- What was reported is ended and flushed, or that failed.
-abbrev pub EndsReport : Seen → Seen → Bool → Report → Bool → Type 0
-EndsReport old new is_whole before written =
-    (first : Seen) (lines : List (List ℕ)) → IsReported first old before lines → WritingEnds written first new (report is_whole lines)
+abbrev pub EndsReport : Seen → Seen → Report → Bool → Type 0
+EndsReport old new before written =
+    (first : Seen) (lines : List (List ℕ)) → IsReported first old before lines → WritingEnds written first new (report lines)

@@ -1,5 +1,5 @@
 -- `report_lines`: the findings of a script, a line at a time (`CheckLemmas`).
-use Rattle.std.proofs.Common.{ap, refl, sym}
+use Rattle.std.proofs.Common.{ap, refl}
 use Rattle.script.specs.Lines.{Held, has_newline, met_end}
 use Rattle.commands.proofs.CheckLemmas.{checked, checking_next, checking_none}
 use Rattle.commands.proofs.check.report_lines.Goals as goal
@@ -11,18 +11,18 @@ pub loop-number-preserved : goal.loop-number-preserved
 loop-number-preserved g c =
     let read = c.next_whole_line-end.ensures in
     rw c.saturating_add-number.ensures (checking_next _ _ _ _ _ _ _ _ _ _ _ _ _ _
-    c.loop-number.invariant read.line.reads read.line.keeps c.in-Newline.is read.ends (rw (sym c.finding_of_read-finding.ensures, c.line.ensures.line) at c.report_finding-report.ensures))
+    c.loop-number.invariant read.line.reads read.line.keeps c.in-Newline.is read.ends (rw c.line.ensures.line at c.report_read-report.ensures))
 
 pub returns-in-ScriptEnd : goal.returns-in-ScriptEnd
 returns-in-ScriptEnd g c =
     let read = c.next_whole_line-end.ensures in
-    let more = rw (sym c.finding_of_read-finding.ensures, c.line.ensures.line) at c.report_finding-report.ensures in
+    let more = rw c.line.ensures.line at c.report_read-report.ensures in
     checked _ _ _ _ _ _ _ _ _ _ _ _ _ _ _
     c.loop-number.invariant read.line.reads read.line.keeps (ap has_newline c.in-ScriptEnd.is) (ap met_end c.in-ScriptEnd.is) read.ends more
 
 pub returns-in-ReadFailed : goal.returns-in-ReadFailed
 returns-in-ReadFailed g c =
     let read = c.next_whole_line-end.ensures in
-    let more = rw (sym c.finding_of_read-finding.ensures, c.line.ensures.line) at c.report_finding-report.ensures in
+    let more = rw c.line.ensures.line at c.report_read-report.ensures in
     checked _ _ _ _ _ _ _ _ _ _ _ _ _ _ _
     c.loop-number.invariant read.line.reads read.line.keeps (ap has_newline c.in-ReadFailed.is) (ap met_end c.in-ReadFailed.is) read.ends more

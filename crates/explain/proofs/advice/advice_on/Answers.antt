@@ -1,11 +1,19 @@
--- `advice_on`: the table of the code is that of the definition, and its texts are short (`TableLemmas`).
-use Rattle.explain.specs.Advice.{advised}
+-- `advice_on`: the rows of each letter are those of the definition (`Letters`), and its texts are short (`TableLemmas`).
+use Rattle.std.proofs.Common.{ap, ◌∙◌}
+use Rattle.explain.specs.Advice.{advice_in}
+use Rattle.explain.proofs.Letters.{first-advises, none-advises}
+use Rattle.explain.proofs.LetterTable.{letters, table-all, table-rows}
 use Rattle.explain.proofs.TableLemmas.{advice-short}
 use Rattle.explain.proofs.advice.advice_on.Goals as goal
 
-pub returns-clause-text : goal.returns-clause-text
-unfolding advised
-returns-clause-text c = c.look_up.ensures
+pub returns-in-Some-clause-text : goal.returns-in-Some-clause-text
+returns-in-Some-clause-text c =
+    let name = c.args.name.now in
+    c.look_up.ensures ∙ ap (λ rows. advice_in rows name) c.rows_of.ensures
+    ∙ first-advises letters table-rows table-all name c.in-Some.first.now c.in-Some.ensures.value
 
-pub returns-clause-short : goal.returns-clause-short
-returns-clause-short c = advice-short _ _ (returns-clause-text c)
+pub returns-in-Some-clause-short : goal.returns-in-Some-clause-short
+returns-in-Some-clause-short c = advice-short c.args.name.now c.look_up.result (returns-in-Some-clause-text c)
+
+pub returns-in-None-clause-text : goal.returns-in-None-clause-text
+returns-in-None-clause-text c = none-advises c.args.name.now c.in-None.ensures.value
