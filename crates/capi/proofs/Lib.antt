@@ -1,2 +1,8 @@
 -- The machine values of a handle, and what it owns; for `empty`, `into_loose`, `of`
 pub mod Handles
+-- A buffer into which numbers are put one by one; for `put_cells`
+pub mod Lines
+-- A line of a window has the columns that it says; for `line_of_window`
+pub mod Rows
+-- No window and no panel has a number past the last that there may be; for `next_window`, `next_panel`
+pub mod Numbers

@@ -7,7 +7,6 @@ use Rattle.world.specs.declared.call.Reply.{Reply}
 use Rattle.world.specs.declared.call.Reply.TheVariants as replies
 use Rattle.desk.specs.declared.screen.Fault.{Fault}
 use Rattle.desk.specs.declared.screen.Fault.TheVariants as faults
-use Rattle.world.specs.declared.panel.PanelId.{PanelId}
 use Rattle.capi.specs.declared.answer.Answer.{Answer}
 
 abbrev pub write_failed : ℕ
@@ -62,10 +61,6 @@ of_end (Err (faults.Write fault)) = record { status = write_failed; first = faul
 -- what X/Open's calls answer: 0 where it is done, and else -1
 abbrev pub end_of : Answer → ℤ
 end_of answer = if answer.status == 0 then pos 0 else negsuc 0
-
--- 0 is no panel
-abbrev pub panel_of : ℕ → Option PanelId
-panel_of panel = if panel == 0 then None else Some (record { 0 = panel })
 
 -- the set of some bits
 abbrev pub attrs_of : ℕ → Attr

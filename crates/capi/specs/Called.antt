@@ -22,6 +22,10 @@ module _ (sink : Ghosts Outlet) where
   Called None call answer new = (answer ≡ closed) × (new ≡ None)
   Called (Some old) call answer new = (after : Surface) × Makes old call answer after × (new ≡ Some after)
 
+  -- A call that only asks was made, and the handle has what it had.
+  abbrev pub Asked : Option Surface → Call → Answer → Option Surface → Type 0
+  Asked old query answer new = Called old query answer new × (new ≡ old)
+
   -- The call was made, and C gets no more than whether it is done.
   pub record Ended (old : Option Surface) (call : Call) (end : ℤ) (new : Option Surface) : Type 0 where
     pub answer : Answer

@@ -2,5 +2,8 @@ pub mod Outlets
 pub mod Owned
 pub mod Held
 pub mod Answers
+pub mod Numbers
 pub mod Called
 pub mod Lives
+pub mod Questions
+pub mod Lines

@@ -1,17 +1,21 @@
 //! A handle for C: the pointer of a box with a surface, or null.
 
-ghost use Rattle.std.specs.Prelude.{◌≡◌, IfOk, None, Option, Some};
+ghost use Rattle.std.specs.Prelude.{◌≡◌, IfOk, None, Option, Some, true};
 ghost use Rattle.std.specs.Option.{MatchOption};
 ghost use Rattle.cell.specs.Refusals.{RefusedBy};
 ghost use Rattle.world.specs.calls.Making.{new_refusal};
-ghost use Rattle.capi.specs.Called.{Called, Ended};
+ghost use Rattle.calls.specs.Queries.{is_query};
+ghost use Rattle.capi.specs.Called.{Asked, Called, Ended};
 ghost use Rattle.capi.specs.Held.{IsBlank};
+ghost use Rattle.capi.specs.Lines.{LineTold, screen_line, window_line};
 ghost use Rattle.capi.specs.Lives.{Forgotten, Opened, Taken};
+ghost use Rattle.capi.specs.Questions.{Told};
 ghost use Rattle.capi.specs.declared.surface.Surface.{Surface as TheSurface};
 
 use crate::answer::{Answer, refusal_answer};
+use crate::question::Question;
 use crate::surface::{Outlet, Surface};
-use desk::{Call, Refusal, Reply, Sink};
+use desk::{Call, Refusal, Reply, Sink, WinId};
 use loose::Loose;
 use std::alloc::Global;
 use std::marker::Model;
@@ -136,6 +140,68 @@ impl Handle {
         match self.lift(alloc) {
             Some(mut surface) => {
                 let answer = surface.call(call);
+                self.put_back(surface);
+                answer
+            }
+            None => Answer::of_closed_handle(),
+        }
+    }
+
+    /// Makes a call that only asks. The handle has the same box after it.
+    #[inline(always)]
+    pub fn ask(&mut self, alloc: Global, query: &Call<'_>) -> Answer
+        requires { is_query query.now ≡ true }
+        ensures { Asked ⟦<Outlet as Sink>⟧ self.old.value query.now result self.new.value }
+    {
+        match self.lift(alloc) {
+            Some(surface) => {
+                let answer = surface.ask(query);
+                self.put_back(surface);
+                answer
+            }
+            None => Answer::of_closed_handle(),
+        }
+    }
+
+    /// Answers a question.
+    #[inline(always)]
+    pub fn tell(&mut self, alloc: Global, question: Question) -> Answer
+        ensures told { Told self.old.value question result }
+        ensures same { self.new.value ≡ self.old.value }
+    {
+        match self.lift(alloc) {
+            Some(surface) => {
+                let answer = surface.tell(question);
+                self.put_back(surface);
+                answer
+            }
+            None => Answer::of_closed_handle(),
+        }
+    }
+
+    /// Puts the cells of a line of a window into a buffer, as many as it has room for, and answers how many the line has.
+    pub fn tell_row(&mut self, alloc: Global, win: WinId, y: u16, cells: &mut [u32]) -> Answer
+        ensures told { LineTold self.old.value (window_line win.0 y) cells.old result cells.new }
+        ensures same { self.new.value ≡ self.old.value }
+    {
+        match self.lift(alloc) {
+            Some(surface) => {
+                let answer = surface.tell_row(win, y, cells);
+                self.put_back(surface);
+                answer
+            }
+            None => Answer::of_closed_handle(),
+        }
+    }
+
+    /// Puts the cells of a line of the virtual screen into a buffer, as many as it has room for, and answers how many the line has.
+    pub fn tell_shown_row(&mut self, alloc: Global, y: u16, cells: &mut [u32]) -> Answer
+        ensures told { LineTold self.old.value (screen_line y) cells.old result cells.new }
+        ensures same { self.new.value ≡ self.old.value }
+    {
+        match self.lift(alloc) {
+            Some(surface) => {
+                let answer = surface.tell_shown_row(y, cells);
                 self.put_back(surface);
                 answer
             }

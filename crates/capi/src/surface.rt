@@ -1,14 +1,19 @@
 //! A screen whose bytes are kept until C takes them.
 
-ghost use Rattle.std.specs.Prelude.{◌≡◌, ◌≤◌, ◌<◌, ◌++◌, [], drop, length, IfOk, None};
+ghost use Rattle.std.specs.Prelude.{◌≡◌, ◌≤◌, ◌<◌, ◌++◌, [], drop, length, IfOk, None, Some, true};
 ghost use Rattle.cell.specs.Refusals.{RefusedBy};
 ghost use Rattle.world.specs.calls.Making.{new_refusal};
 ghost use Rattle.desk.specs.Methods.{CallMade};
+ghost use Rattle.calls.specs.Queries.{is_query};
 ghost use Rattle.capi.specs.Called.{Makes};
 ghost use Rattle.capi.specs.Held.{IsBlank, pending};
+ghost use Rattle.capi.specs.Lines.{LineTold, screen_line, window_line};
+ghost use Rattle.capi.specs.Questions.{Told};
 
-use crate::answer::Answer;
-use desk::{Call, Calls, Counted, Fault, Refusal, Reply, Screen, Sink};
+use crate::answer::{Answer, refusal_answer};
+use crate::line::{line_of_screen, line_of_window, tell_line};
+use crate::question::Question;
+use desk::{Call, Calls, Counted, Fault, Refusal, Reply, Screen, Sink, WinId};
 use std::alloc::Global;
 
 /// Where a screen sends its bytes.
@@ -44,6 +49,55 @@ impl Surface {
         ensures { Makes ⟦<Outlet as Sink>⟧ self.old call.now result self.new }
     {
         Answer::of(self.make(call))
+    }
+
+    /// Makes a call that only asks, and answers C how it ended.
+    #[inline(always)]
+    pub fn ask(&self, query: &Call<'_>) -> Answer
+        requires { is_query query.now ≡ true }
+        ensures { Makes ⟦<Outlet as Sink>⟧ self.now query.now result self.now }
+    {
+        Answer::of(self.find(query))
+    }
+
+    /// Makes a call that only asks, and says all that is known of it.
+    #[inline(always)]
+    fn find(&self, query: &Call<'_>) -> Result<Reply, Fault>
+        requires { is_query query.now ≡ true }
+        ensures { CallMade ⟦<Outlet as Sink>⟧.seen ⟦<Outlet as Sink>⟧.name self.now.screen query.now result self.now.screen }
+    {
+        self.screen.ask(query)
+    }
+
+    /// Answers C a question.
+    #[inline(always)]
+    pub fn tell(&self, question: Question) -> Answer
+        ensures { Told (Some self.now) question result }
+    {
+        match question.ask(self.screen.desk()) {
+            Ok(reply) => Answer::of(Ok(reply)),
+            Err(refusal) => refusal_answer(refusal),
+        }
+    }
+
+    /// Puts the cells of a line of a window into a buffer, as many as it has room for, and answers how many the line has.
+    pub fn tell_row(&self, win: WinId, y: u16, cells: &mut [u32]) -> Answer
+        ensures { LineTold (Some self.now) (window_line win.0 y) cells.old result cells.new }
+    {
+        match line_of_window(self.screen.desk(), win, y) {
+            Ok(row) => tell_line(row, cells),
+            Err(refusal) => refusal_answer(refusal),
+        }
+    }
+
+    /// Puts the cells of a line of the virtual screen into a buffer, as many as it has room for, and answers how many the line has.
+    pub fn tell_shown_row(&self, y: u16, cells: &mut [u32]) -> Answer
+        ensures { LineTold (Some self.now) (screen_line y) cells.old result cells.new }
+    {
+        match line_of_screen(self.screen.desk(), y) {
+            Ok(row) => tell_line(row, cells),
+            Err(refusal) => refusal_answer(refusal),
+        }
     }
 
     /// Moves the bytes that were sent into a buffer, and says how many they are. Where the buffer is too short, they stay.

@@ -1,22 +1,24 @@
 //! The calls that copy cells from window to window, and those on what is touched of a window.
 
 ghost use Rattle.world.specs.declared.call.Copying.{Copying};
-ghost use Rattle.capi.specs.Called.{Called};
+ghost use Rattle.capi.specs.Called.{Asked, Called};
+ghost use Rattle.capi.specs.Numbers.{saturated, window_of};
 
 use crate::answer::Answer;
 use crate::handle::Handle;
+use crate::number::{saturated, window_of};
 use crate::surface::Outlet;
-use desk::{Call, Sink, WinId};
+use desk::{Call, Sink};
 use std::alloc::Global;
 
 // Written by tools/calls from calls.table: exports
 
 /// Copies the cells of `src` that aren't spaces to `dst`, at the places of the screen that both cover.
 #[unsafe(no_mangle)]
-pub extern "C" fn curspan_overlay(alloc: Global, screen: &mut Handle, src: u16, dst: u16) -> Answer
-    ensures { Called ⟦<Outlet as Sink>⟧ screen.old.value (Call.Copying (Copying.Overlay (record { 0 = src }) (record { 0 = dst }))) result screen.new.value }
+pub extern "C" fn curspan_overlay(alloc: Global, screen: &mut Handle, src: u32, dst: u32) -> Answer
+    ensures { Called ⟦<Outlet as Sink>⟧ screen.old.value (Call.Copying (Copying.Overlay (window_of src) (window_of dst))) result screen.new.value }
 {
-    screen.call(alloc, &Call::overlay(WinId(src), WinId(dst)))
+    screen.call(alloc, &Call::overlay(window_of(src), window_of(dst)))
 }
 
 /// Copies all cells of `src` to `dst`, at the places of the screen that both cover.
@@ -24,13 +26,12 @@ pub extern "C" fn curspan_overlay(alloc: Global, screen: &mut Handle, src: u16, 
 pub extern "C" fn curspan_overwrite(
     alloc: Global,
     screen: &mut Handle,
-    src: u16,
-    dst: u16,
+    src: u32,
+    dst: u32,
 ) -> Answer
-    ensures { Called ⟦<Outlet as Sink>⟧ screen.old.value (Call.Copying (Copying.Overwrite (record { 0 = src }) (record { 0 = dst }))) result
-        screen.new.value }
+    ensures { Called ⟦<Outlet as Sink>⟧ screen.old.value (Call.Copying (Copying.Overwrite (window_of src) (window_of dst))) result screen.new.value }
 {
-    screen.call(alloc, &Call::overwrite(WinId(src), WinId(dst)))
+    screen.call(alloc, &Call::overwrite(window_of(src), window_of(dst)))
 }
 
 /// Copies the cells of `src` from line `sminrow` and column `smincol` on to the lines from `dminrow` to `dmaxrow` and
@@ -40,30 +41,30 @@ pub extern "C" fn curspan_overwrite(
 pub extern "C" fn curspan_copywin(
     alloc: Global,
     screen: &mut Handle,
-    src: u16,
-    dst: u16,
-    sminrow: u16,
-    smincol: u16,
-    dminrow: u16,
-    dmincol: u16,
-    dmaxrow: u16,
-    dmaxcol: u16,
+    src: u32,
+    dst: u32,
+    sminrow: u32,
+    smincol: u32,
+    dminrow: u32,
+    dmincol: u32,
+    dmaxrow: u32,
+    dmaxcol: u32,
     overlay: bool,
 ) -> Answer
-    ensures { Called ⟦<Outlet as Sink>⟧ screen.old.value (Call.Copying (Copying.Copywin (record { 0 = src }) (record { 0 = dst }) sminrow smincol dminrow
-        dmincol dmaxrow dmaxcol overlay)) result screen.new.value }
+    ensures { Called ⟦<Outlet as Sink>⟧ screen.old.value (Call.Copying (Copying.Copywin (window_of src) (window_of dst) (saturated sminrow) (saturated
+        smincol) (saturated dminrow) (saturated dmincol) (saturated dmaxrow) (saturated dmaxcol) overlay)) result screen.new.value }
 {
     screen.call(
         alloc,
         &Call::copywin(
-            WinId(src),
-            WinId(dst),
-            sminrow,
-            smincol,
-            dminrow,
-            dmincol,
-            dmaxrow,
-            dmaxcol,
+            window_of(src),
+            window_of(dst),
+            saturated(sminrow),
+            saturated(smincol),
+            saturated(dminrow),
+            saturated(dmincol),
+            saturated(dmaxrow),
+            saturated(dmaxcol),
             overlay,
         ),
     )
@@ -71,18 +72,18 @@ pub extern "C" fn curspan_copywin(
 
 /// Touches all of a window, as if it had been written.
 #[unsafe(no_mangle)]
-pub extern "C" fn curspan_touchwin(alloc: Global, screen: &mut Handle, win: u16) -> Answer
-    ensures { Called ⟦<Outlet as Sink>⟧ screen.old.value (Call.Copying (Copying.Touchwin (record { 0 = win }))) result screen.new.value }
+pub extern "C" fn curspan_touchwin(alloc: Global, screen: &mut Handle, win: u32) -> Answer
+    ensures { Called ⟦<Outlet as Sink>⟧ screen.old.value (Call.Copying (Copying.Touchwin (window_of win))) result screen.new.value }
 {
-    screen.call(alloc, &Call::touchwin(WinId(win)))
+    screen.call(alloc, &Call::touchwin(window_of(win)))
 }
 
 /// Untouches all of a window.
 #[unsafe(no_mangle)]
-pub extern "C" fn curspan_untouchwin(alloc: Global, screen: &mut Handle, win: u16) -> Answer
-    ensures { Called ⟦<Outlet as Sink>⟧ screen.old.value (Call.Copying (Copying.Untouchwin (record { 0 = win }))) result screen.new.value }
+pub extern "C" fn curspan_untouchwin(alloc: Global, screen: &mut Handle, win: u32) -> Answer
+    ensures { Called ⟦<Outlet as Sink>⟧ screen.old.value (Call.Copying (Copying.Untouchwin (window_of win))) result screen.new.value }
 {
-    screen.call(alloc, &Call::untouchwin(WinId(win)))
+    screen.call(alloc, &Call::untouchwin(window_of(win)))
 }
 
 /// Touches all of `n` lines from line `y` on.
@@ -90,13 +91,17 @@ pub extern "C" fn curspan_untouchwin(alloc: Global, screen: &mut Handle, win: u1
 pub extern "C" fn curspan_touchline(
     alloc: Global,
     screen: &mut Handle,
-    win: u16,
-    y: u16,
-    n: u16,
+    win: u32,
+    y: u32,
+    n: u32,
 ) -> Answer
-    ensures { Called ⟦<Outlet as Sink>⟧ screen.old.value (Call.Copying (Copying.Touchline (record { 0 = win }) y n)) result screen.new.value }
+    ensures { Called ⟦<Outlet as Sink>⟧ screen.old.value (Call.Copying (Copying.Touchline (window_of win) (saturated y) (saturated n))) result
+        screen.new.value }
 {
-    screen.call(alloc, &Call::touchline(WinId(win), y, n))
+    screen.call(
+        alloc,
+        &Call::touchline(window_of(win), saturated(y), saturated(n)),
+    )
 }
 
 /// Touches all of `n` lines from line `y` on, or without the flag untouches them.
@@ -104,30 +109,34 @@ pub extern "C" fn curspan_touchline(
 pub extern "C" fn curspan_wtouchln(
     alloc: Global,
     screen: &mut Handle,
-    win: u16,
-    y: u16,
-    n: u16,
+    win: u32,
+    y: u32,
+    n: u32,
     flag: bool,
 ) -> Answer
-    ensures { Called ⟦<Outlet as Sink>⟧ screen.old.value (Call.Copying (Copying.Touchln (record { 0 = win }) y n flag)) result screen.new.value }
+    ensures { Called ⟦<Outlet as Sink>⟧ screen.old.value (Call.Copying (Copying.Touchln (window_of win) (saturated y) (saturated n) flag)) result
+        screen.new.value }
 {
-    screen.call(alloc, &Call::wtouchln(WinId(win), y, n, flag))
+    screen.call(
+        alloc,
+        &Call::wtouchln(window_of(win), saturated(y), saturated(n), flag),
+    )
 }
 
 /// Touches each ancestor of a window where it shows what is touched of the window.
 #[unsafe(no_mangle)]
-pub extern "C" fn curspan_wsyncup(alloc: Global, screen: &mut Handle, win: u16) -> Answer
-    ensures { Called ⟦<Outlet as Sink>⟧ screen.old.value (Call.Copying (Copying.Syncup (record { 0 = win }))) result screen.new.value }
+pub extern "C" fn curspan_wsyncup(alloc: Global, screen: &mut Handle, win: u32) -> Answer
+    ensures { Called ⟦<Outlet as Sink>⟧ screen.old.value (Call.Copying (Copying.Syncup (window_of win))) result screen.new.value }
 {
-    screen.call(alloc, &Call::wsyncup(WinId(win)))
+    screen.call(alloc, &Call::wsyncup(window_of(win)))
 }
 
 /// Touches a window where it shows what is touched of an ancestor.
 #[unsafe(no_mangle)]
-pub extern "C" fn curspan_wsyncdown(alloc: Global, screen: &mut Handle, win: u16) -> Answer
-    ensures { Called ⟦<Outlet as Sink>⟧ screen.old.value (Call.Copying (Copying.Syncdown (record { 0 = win }))) result screen.new.value }
+pub extern "C" fn curspan_wsyncdown(alloc: Global, screen: &mut Handle, win: u32) -> Answer
+    ensures { Called ⟦<Outlet as Sink>⟧ screen.old.value (Call.Copying (Copying.Syncdown (window_of win))) result screen.new.value }
 {
-    screen.call(alloc, &Call::wsyncdown(WinId(win)))
+    screen.call(alloc, &Call::wsyncdown(window_of(win)))
 }
 
 /// Whether line `y` of a window is touched.
@@ -135,20 +144,20 @@ pub extern "C" fn curspan_wsyncdown(alloc: Global, screen: &mut Handle, win: u16
 pub extern "C" fn curspan_is_linetouched(
     alloc: Global,
     screen: &mut Handle,
-    win: u16,
-    y: u16,
+    win: u32,
+    y: u32,
 ) -> Answer
-    ensures { Called ⟦<Outlet as Sink>⟧ screen.old.value (Call.Copying (Copying.IsLinetouched (record { 0 = win }) y)) result screen.new.value }
+    ensures { Asked ⟦<Outlet as Sink>⟧ screen.old.value (Call.Copying (Copying.IsLinetouched (window_of win) (saturated y))) result screen.new.value }
 {
-    screen.call(alloc, &Call::is_linetouched(WinId(win), y))
+    screen.ask(alloc, &Call::is_linetouched(window_of(win), saturated(y)))
 }
 
 /// Whether some line of a window is touched.
 #[unsafe(no_mangle)]
-pub extern "C" fn curspan_is_wintouched(alloc: Global, screen: &mut Handle, win: u16) -> Answer
-    ensures { Called ⟦<Outlet as Sink>⟧ screen.old.value (Call.Copying (Copying.IsWintouched (record { 0 = win }))) result screen.new.value }
+pub extern "C" fn curspan_is_wintouched(alloc: Global, screen: &mut Handle, win: u32) -> Answer
+    ensures { Asked ⟦<Outlet as Sink>⟧ screen.old.value (Call.Copying (Copying.IsWintouched (window_of win))) result screen.new.value }
 {
-    screen.call(alloc, &Call::is_wintouched(WinId(win)))
+    screen.ask(alloc, &Call::is_wintouched(window_of(win)))
 }
 
 // End of what tools/calls wrote

@@ -2,9 +2,11 @@
 
 ghost use Rattle.std.specs.Prelude.{◌≡◌, None};
 ghost use Rattle.capi.specs.Lives.{Forgotten, Opened, Taken};
+ghost use Rattle.capi.specs.Numbers.{saturated};
 
 use crate::answer::Answer;
 use crate::handle::Handle;
+use crate::number::saturated;
 use std::alloc::Global;
 
 /// Puts a blank screen of 1 to 999 lines and columns into a handle, in place of one that was there.
@@ -12,12 +14,12 @@ use std::alloc::Global;
 pub extern "C" fn curspan_open(
     alloc: Global,
     screen: &mut Handle,
-    lines: u16,
-    columns: u16,
+    lines: u32,
+    columns: u32,
 ) -> Answer
-    ensures { Opened lines columns screen.old.value result screen.new.value }
+    ensures { Opened (saturated lines) (saturated columns) screen.old.value result screen.new.value }
 {
-    screen.open(alloc, lines, columns)
+    screen.open(alloc, saturated(lines), saturated(columns))
 }
 
 /// Frees the screen of a handle and closes it. A closed one stays closed.

@@ -2,11 +2,13 @@
 
 ghost use Rattle.world.specs.declared.call.Making.{Making};
 ghost use Rattle.capi.specs.Called.{Called};
+ghost use Rattle.capi.specs.Numbers.{saturated, window_of};
 
 use crate::answer::Answer;
 use crate::handle::Handle;
+use crate::number::{saturated, window_of};
 use crate::surface::Outlet;
-use desk::{Call, Sink, WinId};
+use desk::{Call, Sink};
 use std::alloc::Global;
 
 // Written by tools/calls from calls.table: exports
@@ -17,14 +19,23 @@ use std::alloc::Global;
 pub extern "C" fn curspan_newwin(
     alloc: Global,
     screen: &mut Handle,
-    lines: u16,
-    columns: u16,
-    y: u16,
-    x: u16,
+    lines: u32,
+    columns: u32,
+    y: u32,
+    x: u32,
 ) -> Answer
-    ensures { Called ⟦<Outlet as Sink>⟧ screen.old.value (Call.Making (Making.Newwin lines columns y x)) result screen.new.value }
+    ensures { Called ⟦<Outlet as Sink>⟧ screen.old.value (Call.Making (Making.Newwin (saturated lines) (saturated columns) (saturated y) (saturated x)))
+        result screen.new.value }
 {
-    screen.call(alloc, &Call::newwin(lines, columns, y, x))
+    screen.call(
+        alloc,
+        &Call::newwin(
+            saturated(lines),
+            saturated(columns),
+            saturated(y),
+            saturated(x),
+        ),
+    )
 }
 
 /// Makes a window that shows the part of a window from a place of the screen on. A size of 0 reaches to the window's
@@ -33,15 +44,25 @@ pub extern "C" fn curspan_newwin(
 pub extern "C" fn curspan_subwin(
     alloc: Global,
     screen: &mut Handle,
-    win: u16,
-    lines: u16,
-    columns: u16,
-    y: u16,
-    x: u16,
+    win: u32,
+    lines: u32,
+    columns: u32,
+    y: u32,
+    x: u32,
 ) -> Answer
-    ensures { Called ⟦<Outlet as Sink>⟧ screen.old.value (Call.Making (Making.Subwin (record { 0 = win }) lines columns y x)) result screen.new.value }
+    ensures { Called ⟦<Outlet as Sink>⟧ screen.old.value (Call.Making (Making.Subwin (window_of win) (saturated lines) (saturated columns) (saturated y)
+        (saturated x))) result screen.new.value }
 {
-    screen.call(alloc, &Call::subwin(WinId(win), lines, columns, y, x))
+    screen.call(
+        alloc,
+        &Call::subwin(
+            window_of(win),
+            saturated(lines),
+            saturated(columns),
+            saturated(y),
+            saturated(x),
+        ),
+    )
 }
 
 /// Makes a window that shows the part of a window from a line and a column of it on. A size of 0 reaches to its edge.
@@ -49,15 +70,25 @@ pub extern "C" fn curspan_subwin(
 pub extern "C" fn curspan_derwin(
     alloc: Global,
     screen: &mut Handle,
-    win: u16,
-    lines: u16,
-    columns: u16,
-    y: u16,
-    x: u16,
+    win: u32,
+    lines: u32,
+    columns: u32,
+    y: u32,
+    x: u32,
 ) -> Answer
-    ensures { Called ⟦<Outlet as Sink>⟧ screen.old.value (Call.Making (Making.Derwin (record { 0 = win }) lines columns y x)) result screen.new.value }
+    ensures { Called ⟦<Outlet as Sink>⟧ screen.old.value (Call.Making (Making.Derwin (window_of win) (saturated lines) (saturated columns) (saturated y)
+        (saturated x))) result screen.new.value }
 {
-    screen.call(alloc, &Call::derwin(WinId(win), lines, columns, y, x))
+    screen.call(
+        alloc,
+        &Call::derwin(
+            window_of(win),
+            saturated(lines),
+            saturated(columns),
+            saturated(y),
+            saturated(x),
+        ),
+    )
 }
 
 /// Makes a pad of 1 to 1000 lines and columns, which has no place on the screen, with a blank grid of its own.
@@ -65,12 +96,12 @@ pub extern "C" fn curspan_derwin(
 pub extern "C" fn curspan_newpad(
     alloc: Global,
     screen: &mut Handle,
-    lines: u16,
-    columns: u16,
+    lines: u32,
+    columns: u32,
 ) -> Answer
-    ensures { Called ⟦<Outlet as Sink>⟧ screen.old.value (Call.Making (Making.Newpad lines columns)) result screen.new.value }
+    ensures { Called ⟦<Outlet as Sink>⟧ screen.old.value (Call.Making (Making.Newpad (saturated lines) (saturated columns))) result screen.new.value }
 {
-    screen.call(alloc, &Call::newpad(lines, columns))
+    screen.call(alloc, &Call::newpad(saturated(lines), saturated(columns)))
 }
 
 /// Makes a pad that shows the part of a pad from a line and a column of it on. A size of 0 reaches to its edge.
@@ -78,23 +109,33 @@ pub extern "C" fn curspan_newpad(
 pub extern "C" fn curspan_subpad(
     alloc: Global,
     screen: &mut Handle,
-    pad: u16,
-    lines: u16,
-    columns: u16,
-    y: u16,
-    x: u16,
+    pad: u32,
+    lines: u32,
+    columns: u32,
+    y: u32,
+    x: u32,
 ) -> Answer
-    ensures { Called ⟦<Outlet as Sink>⟧ screen.old.value (Call.Making (Making.Subpad (record { 0 = pad }) lines columns y x)) result screen.new.value }
+    ensures { Called ⟦<Outlet as Sink>⟧ screen.old.value (Call.Making (Making.Subpad (window_of pad) (saturated lines) (saturated columns) (saturated y)
+        (saturated x))) result screen.new.value }
 {
-    screen.call(alloc, &Call::subpad(WinId(pad), lines, columns, y, x))
+    screen.call(
+        alloc,
+        &Call::subpad(
+            window_of(pad),
+            saturated(lines),
+            saturated(columns),
+            saturated(y),
+            saturated(x),
+        ),
+    )
 }
 
 /// Deletes a window or pad that is in no panel, and from which none derives. Its number is free then.
 #[unsafe(no_mangle)]
-pub extern "C" fn curspan_delwin(alloc: Global, screen: &mut Handle, win: u16) -> Answer
-    ensures { Called ⟦<Outlet as Sink>⟧ screen.old.value (Call.Making (Making.Delwin (record { 0 = win }))) result screen.new.value }
+pub extern "C" fn curspan_delwin(alloc: Global, screen: &mut Handle, win: u32) -> Answer
+    ensures { Called ⟦<Outlet as Sink>⟧ screen.old.value (Call.Making (Making.Delwin (window_of win))) result screen.new.value }
 {
-    screen.call(alloc, &Call::delwin(WinId(win)))
+    screen.call(alloc, &Call::delwin(window_of(win)))
 }
 
 /// Moves a window that is in no panel to a place of the screen. No other window moves.
@@ -102,13 +143,16 @@ pub extern "C" fn curspan_delwin(alloc: Global, screen: &mut Handle, win: u16) -
 pub extern "C" fn curspan_mvwin(
     alloc: Global,
     screen: &mut Handle,
-    win: u16,
-    y: u16,
-    x: u16,
+    win: u32,
+    y: u32,
+    x: u32,
 ) -> Answer
-    ensures { Called ⟦<Outlet as Sink>⟧ screen.old.value (Call.Making (Making.Mvwin (record { 0 = win }) y x)) result screen.new.value }
+    ensures { Called ⟦<Outlet as Sink>⟧ screen.old.value (Call.Making (Making.Mvwin (window_of win) (saturated y) (saturated x))) result screen.new.value }
 {
-    screen.call(alloc, &Call::mvwin(WinId(win), y, x))
+    screen.call(
+        alloc,
+        &Call::mvwin(window_of(win), saturated(y), saturated(x)),
+    )
 }
 
 /// Lets a derived window or pad show the part of its parent from another line and column on. It stays where it is on
@@ -117,13 +161,16 @@ pub extern "C" fn curspan_mvwin(
 pub extern "C" fn curspan_mvderwin(
     alloc: Global,
     screen: &mut Handle,
-    win: u16,
-    y: u16,
-    x: u16,
+    win: u32,
+    y: u32,
+    x: u32,
 ) -> Answer
-    ensures { Called ⟦<Outlet as Sink>⟧ screen.old.value (Call.Making (Making.Mvderwin (record { 0 = win }) y x)) result screen.new.value }
+    ensures { Called ⟦<Outlet as Sink>⟧ screen.old.value (Call.Making (Making.Mvderwin (window_of win) (saturated y) (saturated x))) result screen.new.value }
 {
-    screen.call(alloc, &Call::mvderwin(WinId(win), y, x))
+    screen.call(
+        alloc,
+        &Call::mvderwin(window_of(win), saturated(y), saturated(x)),
+    )
 }
 
 // End of what tools/calls wrote

@@ -1,54 +1,56 @@
 //! The calls that ask about a window or pad.
 
 ghost use Rattle.world.specs.declared.call.Query.{Query};
-ghost use Rattle.capi.specs.Called.{Called};
+ghost use Rattle.capi.specs.Called.{Asked};
+ghost use Rattle.capi.specs.Numbers.{window_of};
 
 use crate::answer::Answer;
 use crate::handle::Handle;
+use crate::number::window_of;
 use crate::surface::Outlet;
-use desk::{Call, Sink, WinId};
+use desk::{Call, Sink};
 use std::alloc::Global;
 
 // Written by tools/calls from calls.table: exports
 
 /// The line and the column of the cursor.
 #[unsafe(no_mangle)]
-pub extern "C" fn curspan_getyx(alloc: Global, screen: &mut Handle, win: u16) -> Answer
-    ensures { Called ⟦<Outlet as Sink>⟧ screen.old.value (Call.Query (Query.Getyx (record { 0 = win }))) result screen.new.value }
+pub extern "C" fn curspan_getyx(alloc: Global, screen: &mut Handle, win: u32) -> Answer
+    ensures { Asked ⟦<Outlet as Sink>⟧ screen.old.value (Call.Query (Query.Getyx (window_of win))) result screen.new.value }
 {
-    screen.call(alloc, &Call::getyx(WinId(win)))
+    screen.ask(alloc, &Call::getyx(window_of(win)))
 }
 
 /// The line and the column of the screen where the window begins.
 #[unsafe(no_mangle)]
-pub extern "C" fn curspan_getbegyx(alloc: Global, screen: &mut Handle, win: u16) -> Answer
-    ensures { Called ⟦<Outlet as Sink>⟧ screen.old.value (Call.Query (Query.Getbegyx (record { 0 = win }))) result screen.new.value }
+pub extern "C" fn curspan_getbegyx(alloc: Global, screen: &mut Handle, win: u32) -> Answer
+    ensures { Asked ⟦<Outlet as Sink>⟧ screen.old.value (Call.Query (Query.Getbegyx (window_of win))) result screen.new.value }
 {
-    screen.call(alloc, &Call::getbegyx(WinId(win)))
+    screen.ask(alloc, &Call::getbegyx(window_of(win)))
 }
 
 /// The number of lines, and the number of columns.
 #[unsafe(no_mangle)]
-pub extern "C" fn curspan_getmaxyx(alloc: Global, screen: &mut Handle, win: u16) -> Answer
-    ensures { Called ⟦<Outlet as Sink>⟧ screen.old.value (Call.Query (Query.Getmaxyx (record { 0 = win }))) result screen.new.value }
+pub extern "C" fn curspan_getmaxyx(alloc: Global, screen: &mut Handle, win: u32) -> Answer
+    ensures { Asked ⟦<Outlet as Sink>⟧ screen.old.value (Call.Query (Query.Getmaxyx (window_of win))) result screen.new.value }
 {
-    screen.call(alloc, &Call::getmaxyx(WinId(win)))
+    screen.ask(alloc, &Call::getmaxyx(window_of(win)))
 }
 
 /// The line and the column of the parent where a derived window begins.
 #[unsafe(no_mangle)]
-pub extern "C" fn curspan_getparyx(alloc: Global, screen: &mut Handle, win: u16) -> Answer
-    ensures { Called ⟦<Outlet as Sink>⟧ screen.old.value (Call.Query (Query.Getparyx (record { 0 = win }))) result screen.new.value }
+pub extern "C" fn curspan_getparyx(alloc: Global, screen: &mut Handle, win: u32) -> Answer
+    ensures { Asked ⟦<Outlet as Sink>⟧ screen.old.value (Call.Query (Query.Getparyx (window_of win))) result screen.new.value }
 {
-    screen.call(alloc, &Call::getparyx(WinId(win)))
+    screen.ask(alloc, &Call::getparyx(window_of(win)))
 }
 
 /// The cell at the cursor.
 #[unsafe(no_mangle)]
-pub extern "C" fn curspan_winch(alloc: Global, screen: &mut Handle, win: u16) -> Answer
-    ensures { Called ⟦<Outlet as Sink>⟧ screen.old.value (Call.Query (Query.Inch (record { 0 = win }))) result screen.new.value }
+pub extern "C" fn curspan_winch(alloc: Global, screen: &mut Handle, win: u32) -> Answer
+    ensures { Asked ⟦<Outlet as Sink>⟧ screen.old.value (Call.Query (Query.Inch (window_of win))) result screen.new.value }
 {
-    screen.call(alloc, &Call::winch(WinId(win)))
+    screen.ask(alloc, &Call::winch(window_of(win)))
 }
 
 // End of what tools/calls wrote

@@ -2,11 +2,13 @@
 
 ghost use Rattle.world.specs.declared.call.Refresh.{Refresh};
 ghost use Rattle.capi.specs.Called.{Called};
+ghost use Rattle.capi.specs.Numbers.{saturated, window_of};
 
 use crate::answer::Answer;
 use crate::handle::Handle;
+use crate::number::{saturated, window_of};
 use crate::surface::Outlet;
-use desk::{Call, Sink, WinId};
+use desk::{Call, Sink};
 use std::alloc::Global;
 
 // Written by tools/calls from calls.table: exports
@@ -14,10 +16,10 @@ use std::alloc::Global;
 /// Takes what is touched of a window into the virtual screen, at the window's place, with its cursor. Then no place of
 /// it is touched; and if it asked for a clear screen, the virtual screen asks for it instead.
 #[unsafe(no_mangle)]
-pub extern "C" fn curspan_wnoutrefresh(alloc: Global, screen: &mut Handle, win: u16) -> Answer
-    ensures { Called ⟦<Outlet as Sink>⟧ screen.old.value (Call.Refresh (Refresh.Noutrefresh (record { 0 = win }))) result screen.new.value }
+pub extern "C" fn curspan_wnoutrefresh(alloc: Global, screen: &mut Handle, win: u32) -> Answer
+    ensures { Called ⟦<Outlet as Sink>⟧ screen.old.value (Call.Refresh (Refresh.Noutrefresh (window_of win))) result screen.new.value }
 {
-    screen.call(alloc, &Call::wnoutrefresh(WinId(win)))
+    screen.call(alloc, &Call::wnoutrefresh(window_of(win)))
 }
 
 /// Takes the cells of a pad from line `pminrow` and column `pmincol` on into the lines from `sminrow` to `smaxrow` and
@@ -26,27 +28,27 @@ pub extern "C" fn curspan_wnoutrefresh(alloc: Global, screen: &mut Handle, win: 
 pub extern "C" fn curspan_pnoutrefresh(
     alloc: Global,
     screen: &mut Handle,
-    pad: u16,
-    pminrow: u16,
-    pmincol: u16,
-    sminrow: u16,
-    smincol: u16,
-    smaxrow: u16,
-    smaxcol: u16,
+    pad: u32,
+    pminrow: u32,
+    pmincol: u32,
+    sminrow: u32,
+    smincol: u32,
+    smaxrow: u32,
+    smaxcol: u32,
 ) -> Answer
-    ensures { Called ⟦<Outlet as Sink>⟧ screen.old.value (Call.Refresh (Refresh.Pnoutrefresh (record { 0 = pad }) pminrow pmincol sminrow smincol smaxrow
-        smaxcol)) result screen.new.value }
+    ensures { Called ⟦<Outlet as Sink>⟧ screen.old.value (Call.Refresh (Refresh.Pnoutrefresh (window_of pad) (saturated pminrow) (saturated pmincol)
+        (saturated sminrow) (saturated smincol) (saturated smaxrow) (saturated smaxcol))) result screen.new.value }
 {
     screen.call(
         alloc,
         &Call::pnoutrefresh(
-            WinId(pad),
-            pminrow,
-            pmincol,
-            sminrow,
-            smincol,
-            smaxrow,
-            smaxcol,
+            window_of(pad),
+            saturated(pminrow),
+            saturated(pmincol),
+            saturated(sminrow),
+            saturated(smincol),
+            saturated(smaxrow),
+            saturated(smaxcol),
         ),
     )
 }
@@ -75,13 +77,21 @@ pub extern "C" fn curspan_doupdate(alloc: Global, screen: &mut Handle) -> Answer
 pub extern "C" fn curspan_init_pair(
     alloc: Global,
     screen: &mut Handle,
-    pair: u16,
-    foreground: u16,
-    background: u16,
+    pair: u32,
+    foreground: u32,
+    background: u32,
 ) -> Answer
-    ensures { Called ⟦<Outlet as Sink>⟧ screen.old.value (Call.Refresh (Refresh.InitPair pair foreground background)) result screen.new.value }
+    ensures { Called ⟦<Outlet as Sink>⟧ screen.old.value (Call.Refresh (Refresh.InitPair (saturated pair) (saturated foreground) (saturated background)))
+        result screen.new.value }
 {
-    screen.call(alloc, &Call::init_pair(pair, foreground, background))
+    screen.call(
+        alloc,
+        &Call::init_pair(
+            saturated(pair),
+            saturated(foreground),
+            saturated(background),
+        ),
+    )
 }
 
 // End of what tools/calls wrote
