@@ -10,10 +10,12 @@ static bool has(const WINDOW *win, bool option) { return is_there(win) == OK && 
 bool is_cleared(const WINDOW *win) { return win && has(win, win->clears); }
 bool is_idcok(const WINDOW *win) { return win && has(win, !win->no_idcok); }
 bool is_idlok(const WINDOW *win) { return win && has(win, win->idlok); }
+bool is_immedok(const WINDOW *win) { return win && has(win, win->is_immediate); }
 bool is_leaveok(const WINDOW *win) { return win && has(win, win->leaveok); }
 bool is_pad(const WINDOW *win) { return win && has(win, win->is_pad && !win->outlies); }
 bool is_scrollok(const WINDOW *win) { return win && has(win, win->scrolls); }
 bool is_subwin(const WINDOW *win) { return win && has(win, win->parent != NULL); }
+bool is_syncok(const WINDOW *win) { return win && has(win, win->synchronizes); }
 
 WINDOW *wgetparent(const WINDOW *win) { return is_there(win) == OK ? win->parent : NULL; }
 
@@ -32,7 +34,7 @@ int use_window(WINDOW *win, NCURSES_WINDOW_CB call, void *argument) { return is_
 
 bool has_ic(void) { return stdscr != NULL; }
 bool has_il(void) { return stdscr != NULL; }
-chtype termattrs(void) { return stdscr ? A_BOLD | A_DIM | A_UNDERLINE | A_BLINK | A_REVERSE | A_INVIS | A_COLOR : A_NORMAL; }
+chtype termattrs(void) { return stdscr ? A_BOLD | A_DIM | A_UNDERLINE | A_BLINK | A_REVERSE | A_INVIS | A_COLOR | (curspan_has_alternates ? A_ALTCHARSET : A_NORMAL) : A_NORMAL; }
 const char *curses_version(void) { return "curspan " CURSPAN_VERSION; }
 
 SCREEN *set_term(SCREEN *screen) { return stdscr && screen == (SCREEN *)&curspan_the_screen ? screen : NULL; }

@@ -7,6 +7,7 @@ static uint8_t bits_of(chtype ch) { return (uint8_t)(ch >> 8 & 0xff); }
 
 int wattrset(WINDOW *win, int attrs) {
     attr_t wanted = (attr_t)attrs & A_ATTRIBUTES;
+    if (!curspan_has_alternates) wanted &= ~A_ALTCHARSET;
     if (is_there(win) == ERR || PAIR_NUMBER(wanted) > LAST_PAIR) return ERR;
     win->attrs = wanted;
     curspan_set_limit(win);
@@ -38,12 +39,16 @@ int wattr_get(WINDOW *win, attr_t *attrs, short *pair, void *none) {
 
 int wcolor_set(WINDOW *win, short pair, void *none) { return is_there(win) == ERR ? ERR : wattr_set(win, win->attrs, pair, none); }
 
-static int set_pair(WINDOW *win, int pair) { return done(curspan_wcolor_set(SCREEN_AND(win), (uint16_t)curspan_use_pair(pair))); }
+/* Sets the pair of some attributes. An alternate character has a pair of its own where it takes that of the background too. */
+static int set_pair(WINDOW *win, attr_t attrs) {
+    if (attrs & A_ALTCHARSET && !(attrs & A_COLOR)) attrs |= win->background & A_COLOR;
+    return done(curspan_wcolor_set(SCREEN_AND(win), (uint16_t)curspan_use_pair(attrs)));
+}
 
 int curspan_tell_other(WINDOW *win, attr_t attrs) {
     attr_t changed = win->given ^ attrs;
-    if (changed & ~A_COLOR && done(curspan_wattrset(SCREEN_AND(win), bits_of(attrs))) == ERR) return ERR;
-    if (changed & A_COLOR && set_pair(win, PAIR_NUMBER(attrs)) == ERR) return ERR;
+    if (bits_of(changed) && done(curspan_wattrset(SCREEN_AND(win), bits_of(attrs))) == ERR) return ERR;
+    if (changed & (A_COLOR | A_ALTCHARSET) && set_pair(win, attrs) == ERR) return ERR;
     win->given = attrs;
     curspan_set_limit(win);
     return OK;
@@ -53,17 +58,23 @@ int curspan_tell_other(WINDOW *win, attr_t attrs) {
 
 int curspan_set_background(WINDOW *win, chtype ch) {
     if (done(curspan_wbkgdset(SCREEN_AND(win), bits_of(ch), (uint8_t)(ch & A_CHARTEXT))) == ERR) return ERR;
-    return done(curspan_wbkgdpair(SCREEN_AND(win), (uint16_t)curspan_use_pair(PAIR_NUMBER(ch))));
+    if (done(curspan_wbkgdpair(SCREEN_AND(win), (uint16_t)curspan_use_pair(ch))) == ERR) return ERR;
+    return win->given & A_ALTCHARSET ? set_pair(win, win->given) : OK;
 }
 
 /* A background's character, where it has one, and else the space. */
 static chtype with_character(chtype ch) { return ch & A_CHARTEXT ? ch : ch | ' '; }
 
 int curspan_change_background(WINDOW *win, chtype ch) {
-    chtype background = with_character(ch);
-    if (is_there(win) == ERR || PAIR_NUMBER(ch) > LAST_PAIR || curspan_set_background(win, background) == ERR) return ERR;
-    win->attrs = curspan_with(without(win->attrs, win->background & A_ATTRIBUTES), ch & A_ATTRIBUTES);
+    ch = curspan_as_drawn(ch);
+    chtype old = win ? win->background : ' ', background = with_character(ch);
+    if (is_there(win) == ERR || PAIR_NUMBER(ch) > LAST_PAIR) return ERR;
     win->background = background;
+    if (curspan_set_background(win, background) == ERR) {
+        win->background = old;
+        return ERR;
+    }
+    win->attrs = curspan_with(without(win->attrs, old & A_ATTRIBUTES), ch & A_ATTRIBUTES);
     curspan_set_limit(win);
     return OK;
 }
@@ -83,6 +94,7 @@ int wbkgd(WINDOW *win, chtype ch) {
     chtype cells[LONGEST];
     if (is_there(win) == ERR) return ERR;
     chtype old = win->background;
+    ch = curspan_as_drawn(ch);
     if (with_character(ch) == old) return OK;
     if (curspan_change_background(win, ch) == ERR || wattrset(win, (int)(ch & A_ATTRIBUTES)) == ERR) return ERR;
     for (int y = 0; y < (int)win->lines; y++) {
@@ -90,5 +102,5 @@ int wbkgd(WINDOW *win, chtype ch) {
         for (int i = 0; i < count; i++) cells[i] = on_other(cells[i], old, win->background);
         if (curspan_put_cells(win, y, 0, cells, count) == ERR) return ERR;
     }
-    return OK;
+    return curspan_changed(win, OK);
 }

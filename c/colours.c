@@ -1,6 +1,6 @@
 /* Colours. Cells keep their pair, but a picture keeps the colours that a pair had when a cell came into it. So that a pair on the screen can get
    others, Curspan knows each pair by two colours of its own, and those that the program gave it are put into the bytes on their way to the
-   terminal. Nothing here is proved. */
+   terminal. Alternate characters are of pairs of their own, by which it is known where the terminal draws with them. Nothing here is proved. */
 #include "inside.h"
 
 #include <string.h>
@@ -12,17 +12,22 @@ enum {
 };
 
 static short colours[LAST_PAIR + 1][2]; /* what the program gave */
-static bool is_given[LAST_PAIR + 1], has_pairs;
-static uint8_t owns[LAST_PAIR + 1]; /* the pair of curspan.h that stands for one which may be shown, or 0 */
-static uint8_t pairs[LAST_OWN + 1]; /* and which one that is */
-bool curspan_has_default_colours;
+static bool is_given[LAST_PAIR + 1];
+static uint8_t owns[2][LAST_PAIR + 1]; /* the pair of curspan.h that stands for one which may be shown, alternate or not, or 0 */
+static attr_t stands_for[LAST_OWN + 1]; /* and which one that is */
+static bool has_pairs;                 /* some of them may be shown */
+static short defaults[2] = {OWN, OWN}; /* the colours of pair 0, and those that -1 is */
+static bool has_defaults;              /* they are set */
+static bool is_own_colour;             /* -1 is a colour */
+static bool is_alternate;               /* the terminal draws alternate characters now */
 
 void curspan_forget_colours(void) {
     memset(colours, 0, sizeof colours);
     memset(is_given, 0, sizeof is_given);
     memset(owns, 0, sizeof owns);
-    memset(pairs, 0, sizeof pairs);
-    has_pairs = curspan_has_default_colours = false;
+    memset(stands_for, 0, sizeof stands_for);
+    has_pairs = has_defaults = is_own_colour = is_alternate = false;
+    defaults[0] = defaults[1] = OWN;
 }
 
 void curspan_number_pairs(curspan *screen) {
@@ -31,33 +36,44 @@ void curspan_number_pairs(curspan *screen) {
 
 /* A pair of curspan.h that stands for none: that of the same number, or the last one. */
 static int free_own(int pair) {
-    int own = pair <= LAST_OWN && !pairs[pair] ? pair : LAST_OWN;
-    while (own > 0 && pairs[own]) own--;
+    int own = pair <= LAST_OWN && !stands_for[pair] ? pair : LAST_OWN;
+    while (own > 0 && stands_for[own]) own--;
     return own;
 }
 
-int curspan_use_pair(int pair) {
-    int own = pair == 0 || owns[pair] ? owns[pair] : free_own(pair);
-    if (own == 0) return 0;
+int curspan_use_pair(attr_t attrs) {
+    int pair = PAIR_NUMBER(attrs);
+    uint8_t *of = owns[(attrs & A_ALTCHARSET) != 0];
+    if ((attrs & (A_COLOR | A_ALTCHARSET)) == 0) return 0;
+    if (!of[pair]) of[pair] = (uint8_t)free_own(attrs & A_ALTCHARSET ? LAST_OWN : pair);
+    if (!of[pair]) return attrs & A_ALTCHARSET ? of[0] : 0;
     has_pairs = true;
-    owns[pair] = (uint8_t)own;
-    pairs[own] = (uint8_t)pair;
-    return own;
+    stands_for[of[pair]] = attrs & (A_COLOR | A_ALTCHARSET);
+    return of[pair];
 }
 
-int curspan_pair_of(int own) { return pairs[own]; }
+attr_t curspan_attributes_of(int own) { return stands_for[own]; }
 
-int start_color(void) { return stdscr ? OK : ERR; }
-bool has_colors(void) { return stdscr != NULL; }
-bool can_change_color(void) { return false; }
-
-int use_default_colors(void) {
+/* Sets the colours of pair 0, and what -1 is in others. */
+static int set_defaults(int foreground, int background) {
     if (!stdscr) return ERR;
-    curspan_has_default_colours = true;
+    defaults[0] = (short)foreground;
+    defaults[1] = (short)background;
+    has_defaults = true;
     return OK;
 }
 
-int assume_default_colors(int foreground, int background) { return foreground == OWN && background == OWN ? use_default_colors() : ERR; }
+int start_color(void) { return has_defaults ? OK : set_defaults(COLOR_WHITE, COLOR_BLACK); }
+bool has_colors(void) { return stdscr != NULL; }
+bool can_change_color(void) { return false; }
+
+int assume_default_colors(int foreground, int background) {
+    if (!stdscr || foreground < OWN || foreground >= EIGHT || background < OWN || background >= EIGHT) return ERR;
+    is_own_colour = true;
+    return set_defaults(foreground, background);
+}
+
+int use_default_colors(void) { return assume_default_colors(OWN, OWN); }
 
 int init_color(short color, short red, short green, short blue) {
     (void)color;
@@ -76,12 +92,15 @@ int color_content(short color, short *red, short *green, short *blue) {
     return OK;
 }
 
-static bool is_colour(int colour) { return colour < EIGHT && colour >= (curspan_has_default_colours ? OWN : 0); }
+static bool is_colour(int colour) { return colour < EIGHT && colour >= (is_own_colour ? OWN : 0); }
+
+/* Whether something of a pair may be on the screen. */
+static bool is_shown(int pair) { return owns[0][pair] || owns[1][pair]; }
 
 int init_pair(short pair, short foreground, short background) {
     if (!stdscr || pair < 1 || pair > LAST_PAIR || !is_colour(foreground) || !is_colour(background)) return ERR;
     bool are_others = colours[pair][0] != foreground || colours[pair][1] != background;
-    if (is_given[pair] && owns[pair] && are_others) curspan_invalidate(&curspan_the_screen);
+    if (is_given[pair] && is_shown(pair) && are_others) curspan_invalidate(&curspan_the_screen);
     colours[pair][0] = foreground;
     colours[pair][1] = background;
     is_given[pair] = true;
@@ -90,37 +109,64 @@ int init_pair(short pair, short foreground, short background) {
 
 int pair_content(short pair, short *foreground, short *background) {
     if (!stdscr || pair < 0 || pair > LAST_PAIR || !foreground || !background) return ERR;
-    if (pair == 0) {
-        *foreground = curspan_has_default_colours ? OWN : COLOR_WHITE;
-        *background = curspan_has_default_colours ? OWN : COLOR_BLACK;
-        return OK;
-    }
-    *foreground = colours[pair][0];
-    *background = colours[pair][1];
+    *foreground = pair == 0 ? defaults[0] : colours[pair][0];
+    *background = pair == 0 ? defaults[1] : colours[pair][1];
     return OK;
 }
 
 /* ---- the bytes */
 
-/* The digit that selects a colour of a pair. */
-static uint8_t digit_of(int pair, int which) {
+/* A colour of a pair: the foreground or the background. */
+static int colour_of(int pair, int which) {
     int colour = is_given[pair] ? colours[pair][which] : OWN;
-    return (uint8_t)('0' + (colour == OWN ? 9 : colour));
+    return colour == OWN ? defaults[which] : colour;
 }
 
-/* Gives a selection of a rendition, which ends there, the colours of its pair, if it has one: it ends as 3f;4bm. */
-static void recolour(uint8_t *end) {
-    if (end[-6] != ';' || end[-5] != '3' || end[-3] != ';' || end[-2] != '4') return;
-    int pair = pairs[(end[-4] - '0') * EIGHT + end[-1] - '0'];
-    end[-4] = digit_of(pair, 0);
-    end[-1] = digit_of(pair, 1);
+static uint8_t digit_of(int colour) { return (uint8_t)('0' + (colour == OWN ? 9 : colour)); }
+
+static uint8_t *append(uint8_t *out, const void *text, size_t length) {
+    memmove(out, text, length);
+    return out + length;
 }
 
-void curspan_recolour(uint8_t *bytes, size_t length) {
-    const uint8_t *last = bytes + length;
-    uint8_t *at = bytes, *begin;
-    while (has_pairs && at < last && (begin = memchr(at, '\033', (size_t)(last - at)))) {
-        for (at = begin + 1; at < last && (*at < '@' || *at == '['); at++) continue;
-        if (at < last && *at == 'm' && at - begin >= SHORTEST) recolour(at);
+/* Lets the terminal draw alternate characters from there on, or the others. */
+static uint8_t *switch_to(uint8_t *out, bool flag) {
+    if (flag == is_alternate) return out;
+    is_alternate = flag;
+    return append(out, flag ? "\033(0" : CURSPAN_PLAIN_SET, 3);
+}
+
+/* Appends a selection of a rendition with the colours that its pair has for the program: it ends as 3f;4bm where it has one. */
+static uint8_t *append_selection(uint8_t *out, const uint8_t *bytes, size_t length) {
+    const uint8_t *end = bytes + length - 1;
+    bool has_colours = length > SHORTEST && end[-6] == ';' && end[-5] == '3' && end[-3] == ';' && end[-2] == '4';
+    attr_t attrs = has_colours ? stands_for[(end[-4] - '0') * EIGHT + end[-1] - '0'] : A_NORMAL;
+    int pair = PAIR_NUMBER(attrs), foreground = colour_of(pair, 0), background = colour_of(pair, 1);
+    const uint8_t selected[] = {';', '3', digit_of(foreground), ';', '4', digit_of(background)};
+    if (has_colours) length -= sizeof selected;
+    out = append(switch_to(out, attrs & A_ALTCHARSET), bytes, length - 1);
+    if (foreground != OWN || background != OWN) out = append(out, selected, sizeof selected);
+    return append(out, "m", 1);
+}
+
+/* Where a control sequence ends that begins there. */
+static const uint8_t *end_of(const uint8_t *begin, const uint8_t *last) {
+    const uint8_t *at = begin + 1;
+    while (at < last && (*at < '@' || *at == '[')) at++;
+    return at < last ? at + 1 : last;
+}
+
+size_t curspan_recolour(const uint8_t *bytes, size_t length, uint8_t *out) {
+    const uint8_t *last = bytes + length, *begin, *end;
+    uint8_t *to = out;
+    bool changes = has_pairs || defaults[0] != OWN || defaults[1] != OWN;
+    while (changes && bytes < last && (begin = memchr(bytes, '\033', (size_t)(last - bytes)))) {
+        end = end_of(begin, last);
+        to = append(to, bytes, (size_t)(begin - bytes));
+        to = end[-1] == 'm' ? append_selection(to, begin, (size_t)(end - begin)) : append(to, begin, (size_t)(end - begin));
+        bytes = end;
     }
+    return (size_t)(append(to, bytes, (size_t)(last - bytes)) - out);
 }
+
+void curspan_note_alternate(bool flag) { is_alternate = flag; }

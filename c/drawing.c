@@ -3,17 +3,10 @@
 
 #include <stddef.h>
 
-chtype acs_map[128];
-
-void curspan_begin_map(void) {
-    static const char mapped[] = "`+a:f'g#h#i#j+k+l+m+n+o~p-q-r-s_t+u+v+w+x|y<z>{*|!}f~o,<+>.v-^0#"; /* pairs of a letter and its character */
-    for (unsigned char ch = 0; ch < 128; ch++) acs_map[ch] = ch;
-    for (size_t i = 0; mapped[i]; i += 2) acs_map[(unsigned char)mapped[i]] = (unsigned char)mapped[i + 1];
-}
-
 /* What a character is in a window: with the window's attributes and those of its background, which a blank one takes
    whole. */
 static chtype rendered(const WINDOW *win, chtype ch) {
+    ch = curspan_as_drawn(ch);
     chtype text = ch == ' ' ? win->background & A_CHARTEXT : ch & A_CHARTEXT;
     chtype pair = ch & A_COLOR ? ch : win->attrs & A_COLOR ? win->attrs : win->background;
     return text | (pair & A_COLOR) | ((ch | win->attrs | win->background) & A_ATTRIBUTES & ~A_COLOR);
@@ -32,12 +25,12 @@ static int draw(WINDOW *win, int y, int x, int n, chtype ch, bool down) {
 
 int whline(WINDOW *win, chtype ch, int n) {
     int y = getcury(win), x = getcurx(win);
-    return y == ERR ? ERR : draw(win, y, x, least(n, getmaxx(win) - x), drawn(ch, ACS_HLINE), false);
+    return y == ERR ? ERR : curspan_changed(win, draw(win, y, x, least(n, getmaxx(win) - x), drawn(ch, ACS_HLINE), false));
 }
 
 int wvline(WINDOW *win, chtype ch, int n) {
     int y = getcury(win), x = getcurx(win);
-    return y == ERR ? ERR : draw(win, y, x, least(n, getmaxy(win) - y), drawn(ch, ACS_VLINE), true);
+    return y == ERR ? ERR : curspan_changed(win, draw(win, y, x, least(n, getmaxy(win) - y), drawn(ch, ACS_VLINE), true));
 }
 
 int wborder(WINDOW *win, chtype left, chtype right, chtype top, chtype bottom, chtype top_left, chtype top_right,
@@ -51,7 +44,7 @@ int wborder(WINDOW *win, chtype left, chtype right, chtype top, chtype bottom, c
     if (draw(win, 0, 0, 1, drawn(top_left, ACS_ULCORNER), false) == ERR) return ERR;
     if (draw(win, 0, last_x, 1, drawn(top_right, ACS_URCORNER), false) == ERR) return ERR;
     if (draw(win, last_y, 0, 1, drawn(bottom_left, ACS_LLCORNER), false) == ERR) return ERR;
-    return draw(win, last_y, last_x, 1, drawn(bottom_right, ACS_LRCORNER), false);
+    return curspan_changed(win, draw(win, last_y, last_x, 1, drawn(bottom_right, ACS_LRCORNER), false));
 }
 
 int wchgat(WINDOW *win, int n, attr_t attrs, short pair, const void *none) {
@@ -60,5 +53,5 @@ int wchgat(WINDOW *win, int n, attr_t attrs, short pair, const void *none) {
     if (y == ERR || none || pair < 0 || pair > LAST_PAIR) return ERR;
     int count = n < -1 ? 0 : curspan_read_cells(win, y, x, cells, n);
     for (int i = 0; i < count; i++) cells[i] = (cells[i] & A_CHARTEXT) | (attrs & A_ATTRIBUTES & ~A_COLOR) | COLOR_PAIR(pair);
-    return curspan_put_cells(win, y, x, cells, count);
+    return curspan_changed(win, curspan_put_cells(win, y, x, cells, count));
 }

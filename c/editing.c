@@ -15,6 +15,10 @@ static void append(row *row, const uint8_t *text, int count) {
     for (int i = 0; i < count && row->to < row->columns; i++) row->text[row->to++] = text[i];
 }
 
+static void append_blanks(row *row, int count) {
+    while (count-- > 0) append(row, (const uint8_t *)" ", 1);
+}
+
 /* Appends a byte as it is spelled: a tab as spaces, another control character as a caret and a letter, and nothing
    of one that breaks off a character. */
 static void append_byte(row *row, curspan_unfinished *begun, uint8_t byte) {
@@ -23,7 +27,7 @@ static void append_byte(row *row, curspan_unfinished *begun, uint8_t byte) {
         curspan_spelling spelling = curspan_spell_part(begun, byte);
         if (byte < ' ' || byte > 126) append(row, spelling.text, spelling.count);
     } else if (byte == '\t') {
-        append(row, (const uint8_t *)"        ", 8 - row->to % 8);
+        append_blanks(row, TABSIZE - row->to % TABSIZE);
     } else if (byte >= ' ' && byte != 127) {
         append(row, &byte, 1);
     } else {
@@ -73,10 +77,11 @@ static int insert(WINDOW *win, const uint8_t *text, size_t length, bool has_attr
 }
 
 int winsch(WINDOW *win, chtype ch) {
+    ch = curspan_as_drawn(ch);
     uint8_t text = ch & A_CHARTEXT;
     if (is_there(win) == ERR || PAIR_NUMBER(ch) > LAST_PAIR || curspan_tell(win, curspan_with(win->attrs, ch)) == ERR) return ERR;
     curspan_check_begun(win);
-    return insert(win, &text, 1, (ch & A_ATTRIBUTES) != 0);
+    return curspan_changed(win, insert(win, &text, 1, (ch & A_ATTRIBUTES) != 0));
 }
 
 int winsnstr(WINDOW *win, const char *text, int n) {
@@ -87,14 +92,14 @@ int winsnstr(WINDOW *win, const char *text, int n) {
     int answer = insert(win, (const uint8_t *)text, length, false);
     win->begun.count = 0;
     curspan_set_limit(win);
-    return answer;
+    return curspan_changed(win, answer);
 }
 
 /* ---- deleted and inserted lines, and what is cleared */
 
-int wdelch(WINDOW *win) { return done(curspan_wdelch(SCREEN_AND(win))); }
-int winsertln(WINDOW *win) { return done(curspan_winsertln(SCREEN_AND(win))); }
-int wdeleteln(WINDOW *win) { return done(curspan_wdeleteln(SCREEN_AND(win))); }
+int wdelch(WINDOW *win) { return curspan_changed(win, done(curspan_wdelch(SCREEN_AND(win)))); }
+int winsertln(WINDOW *win) { return curspan_changed(win, done(curspan_winsertln(SCREEN_AND(win)))); }
+int wdeleteln(WINDOW *win) { return curspan_changed(win, done(curspan_wdeleteln(SCREEN_AND(win)))); }
 
 int winsdelln(WINDOW *win, int n) {
     int lines = getmaxy(win), answer = is_there(win);
@@ -105,22 +110,22 @@ int winsdelln(WINDOW *win, int n) {
 
 int werase(WINDOW *win) {
     if (win) win->reach = 0;
-    return done(curspan_werase(SCREEN_AND(win)));
+    return curspan_changed(win, done(curspan_werase(SCREEN_AND(win))));
 }
 
 int wclear(WINDOW *win) {
     if (done(curspan_wclear(SCREEN_AND(win))) == ERR) return ERR;
     win->reach = 0;
     win->clears = true;
-    return OK;
+    return curspan_changed(win, OK);
 }
 
 /* A character that was just written in the last place isn't to the right of the cursor, which stayed on it. */
-int wclrtoeol(WINDOW *win) { return win && win->reach == ENDED ? ERR : done(curspan_wclrtoeol(SCREEN_AND(win))); }
+int wclrtoeol(WINDOW *win) { return win && win->reach == ENDED ? ERR : curspan_changed(win, done(curspan_wclrtoeol(SCREEN_AND(win)))); }
 
-int wclrtobot(WINDOW *win) { return done(curspan_wclrtobot(SCREEN_AND(win))); }
+int wclrtobot(WINDOW *win) { return curspan_changed(win, done(curspan_wclrtobot(SCREEN_AND(win)))); }
 
 int wscrl(WINDOW *win, int n) {
     int lines = getmaxy(win), most = n < -lines ? -lines : n > lines ? lines : n;
-    return done(curspan_wscrl(SCREEN_AND(win), (int16_t)most));
+    return curspan_changed(win, done(curspan_wscrl(SCREEN_AND(win), (int16_t)most)));
 }

@@ -4,7 +4,7 @@
 #include "terminal.h"
 
 #include <errno.h>
-#include <poll.h>
+#include <fcntl.h>
 #include <stdlib.h>
 #include <string.h>
 #include <time.h>
@@ -70,24 +70,31 @@ static long since(const struct timespec *then) {
     return (long)(now.tv_sec - then->tv_sec) * 1000 + (now.tv_nsec - then->tv_nsec) / 1000000;
 }
 
-/* Waits until there is something to read, without end where the time is negative, and answers whether there is. A signal ends it. */
+/* Waits until there is something to read, without end where the time is negative, and answers whether there is. A signal ends it, but for the one
+   that stops the program. */
 static bool wait_for_input(int milliseconds) {
-    struct pollfd input = {curspan_terminal.in, POLLIN, 0};
     struct timespec begun;
-    int left = milliseconds, found;
+    int left = milliseconds;
+    bool found = false;
     clock_gettime(CLOCK_MONOTONIC, &begun);
-    while ((found = poll(&input, 1, left)) < 0 && errno == EINTR && curspan_redraw_after_stop())
+    while (curspan_wait(curspan_terminal.in, left, &found) == WAIT_STOPPED) {
+        curspan_redraw_after_stop();
         if (milliseconds >= 0) left = since(&begun) < milliseconds ? milliseconds - (int)since(&begun) : 0;
-    return found > 0;
+    }
+    return found;
+}
+
+/* Whether reading waits for a byte: not from a descriptor that the program has so. */
+static bool is_blocking(void) {
+    int flags = fcntl(curspan_terminal.in, F_GETFL);
+    return flags >= 0 && !(flags & O_NONBLOCK);
 }
 
 /* A byte of the input: ERR where there is none, or a signal came first. */
 static int read_byte(void) {
     unsigned char byte;
     ssize_t count;
-    curspan_interrupt_by_stop(true);
     while ((count = read(curspan_terminal.in, &byte, 1)) < 0 && errno == EINTR && curspan_redraw_after_stop()) continue;
-    curspan_interrupt_by_stop(false);
     return count == 1 ? byte : ERR;
 }
 
@@ -142,9 +149,9 @@ static bool wants_line(void) {
 
 /* The key that comes next, or ERR where none comes in time. */
 static int next_key(const WINDOW *win) {
-    bool is_timed = win->no_timeout || win->delay >= 0 || curspan_modes.half_delay > 0;
-    if (is_timed && queue.count == 0 && !wait_for_input(curspan_modes.half_delay > 0 ? curspan_modes.half_delay * 100 : win->delay))
-        return ERR;
+    int delay = curspan_modes.half_delay > 0 ? curspan_modes.half_delay * 100 : win->delay;
+    bool waits = delay >= 0 || is_blocking();
+    if (waits && queue.count == 0 && !wait_for_input(delay)) return ERR;
     if (win->keypad) return pull_key(win->no_timeout);
     if (queue.count == 0) push_byte();
     return pull();

@@ -47,6 +47,7 @@ struct curspan_window {
     int top, bottom; /* the scroll region */
     curspan_unfinished begun;
     bool clears, idlok, no_idcok, leaveok; /* the options that are set */
+    bool is_immediate, synchronizes;       /* each change refreshes it, or touches its ancestors */
     unsigned long shown; /* when it was last taken into the virtual screen, or 0 */
     WINDOW *parent;
     int begin_y, begin_x; /* of a pad, where on the screen copies take it to be, and of one that outlies, where it is */
@@ -91,6 +92,15 @@ static inline void curspan_set_end(WINDOW *win) {
     curspan_set_limit(win);
 }
 
+/* Refreshes a window that was changed, or touches its ancestors, where that is to be. */
+void curspan_follow(WINDOW *win);
+
+/* Answers for a call that has changed a window. */
+static inline int curspan_changed(WINDOW *win, int answer) {
+    if (win && (win->is_immediate || win->synchronizes)) curspan_follow(win);
+    return answer;
+}
+
 /* Notes the size that a window has. */
 void curspan_measure(WINDOW *win);
 
@@ -114,11 +124,12 @@ static inline attr_t curspan_with(attr_t attrs, attr_t more) {
     return attrs | (more & A_ATTRIBUTES);
 }
 
-/* Fills acs_map. */
+/* Fills acs_map by the terminal's type. */
 void curspan_begin_map(void);
-
-/* A character of the alternate set as it is drawn, with its attributes. */
-static inline chtype curspan_alternative(chtype ch) { return (ch & A_ATTRIBUTES) | ((ch & A_CHARTEXT) < 128 ? acs_map[ch & A_CHARTEXT] : '?'); }
+/* The terminal has alternate characters. */
+extern bool curspan_has_alternates;
+/* A character as it is drawn: an alternate one where the terminal has none is another. */
+chtype curspan_as_drawn(chtype ch);
 
 /* Writes a character as waddch does, whatever attributes it has, however it is spelled, and wherever the window ends. It is a function of
    its own, so that waddch keeps no registers for it. */
@@ -144,6 +155,9 @@ static inline int curspan_put_cursor(const WINDOW *win, int y, int x) {
 }
 
 
+/* The lines and the columns of the screen, which wresize may give the standard screen no more. */
+static inline int curspan_lines(void) { return (int)curspan_getmaxyx(&curspan_the_screen, 0).first; }
+static inline int curspan_columns(void) { return (int)curspan_getmaxyx(&curspan_the_screen, 0).second; }
 /* Whether so many lines and columns from a place on are on the screen. */
 bool curspan_fits(int lines, int columns, int y, int x);
 /* Takes what is touched of a window that outlies, and its cursor, into the virtual screen. */
@@ -173,14 +187,19 @@ void curspan_forget_panels(void);
 void curspan_number_pairs(curspan *screen);
 /* Forgets the colours of pairs. */
 void curspan_forget_colours(void);
-/* The pair of curspan.h that stands for one of the program, from then on. There are 63: where all stand for others it is 0. */
-int curspan_use_pair(int pair);
-/* The program's pair that one of curspan.h stands for. */
-int curspan_pair_of(int own);
-/* Puts the colours that pairs have now into bytes for the terminal. */
-void curspan_recolour(uint8_t *bytes, size_t length);
-/* The terminal's own colours are in pairs too, as the colour -1. */
-extern bool curspan_has_default_colours;
+/* The pair of curspan.h that stands for the program's in some attributes, and for A_ALTCHARSET in them, from then on. There are 63: where all
+   stand for others it is 0, or that of alternate characters of pair 0. */
+int curspan_use_pair(attr_t attrs);
+/* What a pair of curspan.h stands for. */
+attr_t curspan_attributes_of(int own);
+/* Appends some bytes for the terminal to others, with the colours that pairs have now, and answers how many were appended: not more than
+   CURSPAN_RECOLOURED times as many. They may be behind the others with room for all between. */
+size_t curspan_recolour(const uint8_t *bytes, size_t length, uint8_t *out);
+enum { CURSPAN_RECOLOURED = 4 };
+/* Lets the terminal draw no alternate characters. */
+#define CURSPAN_PLAIN_SET "\033(B"
+/* Notes whether the terminal may draw alternate characters. */
+void curspan_note_alternate(bool flag);
 
 static inline bool is_number(int n) { return n >= 0 && n <= NUMBER; }
 

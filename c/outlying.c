@@ -5,7 +5,7 @@
 #include <stddef.h>
 
 bool curspan_fits(int lines, int columns, int y, int x) {
-    return stdscr && y >= 0 && x >= 0 && y + lines <= getmaxy(stdscr) && x + columns <= getmaxx(stdscr);
+    return stdscr && y >= 0 && x >= 0 && y + lines <= curspan_lines() && x + columns <= curspan_columns();
 }
 
 /* A window of one cell that isn't touched has nothing to show but its cursor. */
@@ -19,7 +19,7 @@ int curspan_show_cursor(int y, int x) {
 }
 
 int curspan_show_outlying(WINDOW *win) {
-    int lines = least(getmaxy(win), getmaxy(stdscr) - win->begin_y), right = least(win->begin_x + getmaxx(win), getmaxx(stdscr)) - 1;
+    int lines = least(getmaxy(win), curspan_lines() - win->begin_y), right = least(win->begin_x + getmaxx(win), curspan_columns()) - 1;
     for (int y = 0; y < lines && right >= win->begin_x; y++) {
         uint16_t line = (uint16_t)(win->begin_y + y);
         if (is_linetouched(win, y))

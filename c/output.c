@@ -12,8 +12,8 @@
 struct curspan_terminal curspan_terminal = {.in = -1, .out = -1, .line = -1};
 int curspan_visibility = 1;
 
-static uint8_t *bytes; /* the bytes on their way */
-static size_t room;
+static uint8_t *bytes; /* the bytes on their way, and behind them those that Curspan sent */
+static size_t room;    /* for the latter */
 
 static const char enter[] = "\033[?1049h", leave[] = "\033[?1049l";
 static const char hide_cursor[] = "\033[?25l", show_cursor[] = "\033[?25h";
@@ -57,19 +57,25 @@ int curspan_give_back(void) {
     return answer;
 }
 
-/* Writes what Curspan sent. Where there is no memory for it, it stays there for the next time; where it can't be written it is lost, and
-   the next doupdate clears the terminal and sends all. */
-static int hand_on(void) {
+/* Takes what Curspan sent. Where there is no memory for it, it stays there for the next time. */
+static bool take(size_t *length) {
     uint8_t none;
-    size_t length;
-    while ((length = curspan_take(&curspan_the_screen, room > 0 ? bytes : &none, room)) > room) {
-        uint8_t *more = realloc(bytes, length);
-        if (!more) return ERR;
+    while ((*length = curspan_take(&curspan_the_screen, room > 0 ? bytes + CURSPAN_RECOLOURED * room : &none, room)) > room) {
+        uint8_t *more = realloc(bytes, (CURSPAN_RECOLOURED + 1) * *length);
+        if (!more) return false;
         bytes = more;
-        room = length;
+        room = *length;
     }
-    curspan_recolour(bytes, length);
+    return true;
+}
+
+/* Writes what Curspan sent. Where it can't be written it is lost, and the next doupdate clears the terminal and sends all. */
+static int hand_on(void) {
+    size_t length;
+    if (!take(&length)) return ERR;
+    length = curspan_recolour(bytes + CURSPAN_RECOLOURED * room, length, bytes);
     if (put(bytes, length) == OK) return OK;
+    curspan_note_alternate(curspan_has_alternates);
     curspan_invalidate(&curspan_the_screen);
     return ERR;
 }
@@ -84,6 +90,7 @@ static int come_back(void) {
     }
     if (terminal->page == PAGE_ENTERED) return OK;
     terminal->page = PAGE_ENTERING;
+    curspan_note_alternate(false);
     if (curspan_put_text(enter) == ERR || (curspan_visibility == 0 && curspan_put_text(hide_cursor) == ERR)) return ERR;
     curspan_invalidate(&curspan_the_screen);
     terminal->page = PAGE_ENTERED;
@@ -97,10 +104,9 @@ static int update(void) {
 }
 
 int doupdate(void) {
-    sigset_t before;
-    curspan_hold_stop(&before);
+    curspan_hold_stop();
     int answer = update();
-    curspan_let_stop(&before);
+    curspan_let_stop();
     return answer;
 }
 
@@ -118,15 +124,14 @@ int curs_set(int visibility) {
     return before;
 }
 
-/* The cursor comes elsewhere than Curspan knows, so that the next refresh draws all. */
+/* The cursor comes elsewhere than Curspan knows, so that the next refresh draws all. As over ncurses the stream may keep the bytes until it is
+   flushed, as at the program's end. */
 int mvcur(int old_y, int old_x, int y, int x) {
-    char text[32];
     (void)old_y;
     (void)old_x;
     if (!stdscr || y < 0 || y >= LINES || x < 0 || x >= COLS) return ERR;
     curspan_invalidate(&curspan_the_screen);
-    snprintf(text, sizeof text, "\033[%d;%dH", y + 1, x + 1);
-    return curspan_put_text(text);
+    return fprintf(curspan_terminal.stream, "\033[%d;%dH", y + 1, x + 1) < 0 ? ERR : OK;
 }
 
 int beep(void) { return stdscr ? curspan_put_text("\a") : ERR; }

@@ -104,7 +104,15 @@ int set_panel_userptr(PANEL *panel, const void *pointer) {
 
 const void *panel_userptr(const PANEL *panel) { return panel_hidden(panel) == ERR ? NULL : panel->pointer; }
 
+/* Puts a standard screen of another size than the screen's where update_panels takes it from. */
+static void put_standard(void) {
+    uint16_t lines = (uint16_t)(least(getmaxy(stdscr), curspan_lines()) - 1), columns = (uint16_t)(least(getmaxx(stdscr), curspan_columns()) - 1);
+    curspan_werase(&curspan_the_screen, 0);
+    curspan_copywin(SCREEN_AND(stdscr), 0, 0, 0, 0, 0, lines, columns, false);
+}
+
 void update_panels(void) {
+    if (stdscr && stdscr->number > 0) put_standard();
     curspan_update_panels(&curspan_the_screen);
     if (stdscr) stdscr->moved = false;
     for (PANEL *panel = panels; panel < end; panel++)

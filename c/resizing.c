@@ -111,8 +111,8 @@ static void plan_all(void) {
         const WINDOW *win = remake.family[i];
         struct shape *shape = &remake.shapes[place_of(win)];
         if (is_pad(win)) continue;
-        shape->lines = size_on(shape->lines, getmaxy(stdscr), remake.lines);
-        shape->columns = size_on(shape->columns, getmaxx(stdscr), remake.columns);
+        shape->lines = size_on(shape->lines, curspan_lines(), remake.lines);
+        shape->columns = size_on(shape->columns, curspan_columns(), remake.columns);
         shape->is_other = shape->columns != getmaxx(win);
         if (!win->parent) settle(win);
     }
@@ -131,7 +131,7 @@ static curspan_answer make(const WINDOW *win) {
     const struct shape *shape = &remake.shapes[place_of(win)];
     uint16_t lines = (uint16_t)shape->lines, columns = (uint16_t)shape->columns, y = (uint16_t)shape->y, x = (uint16_t)shape->x;
     bool as_pad = is_pad(win) || shape->outlies;
-    if (win == stdscr) return standard;
+    if (win == stdscr && shape->lines == remake.lines && shape->columns == remake.columns) return standard;
     if (!win->parent) return as_pad ? curspan_newpad(remake.to, lines, columns) : curspan_newwin(remake.to, lines, columns, y, x);
     return as_pad ? curspan_subpad(remake.to, parent_of(win), lines, columns, y, x)
                        : curspan_derwin(remake.to, parent_of(win), lines, columns, y, x);
@@ -157,7 +157,7 @@ static int make_all(void) {
 
 static void set_background(curspan *screen, uint16_t number, chtype ch) {
     curspan_wbkgdset(screen, number, CURSPAN_ATTRIBUTES(ch), CURSPAN_CHARACTER(ch));
-    curspan_wbkgdpair(screen, number, (uint16_t)curspan_use_pair(PAIR_NUMBER(ch)));
+    curspan_wbkgdpair(screen, number, (uint16_t)curspan_use_pair(ch));
 }
 
 /* Brings n cells of a line to a window of another screen. */
@@ -275,8 +275,8 @@ static int remake_family(void) {
 /* Begins to make a window anew in the same screen. It answers the shape that it has. */
 static struct shape *begin_family(WINDOW *win) {
     remake.from = remake.to = &curspan_the_screen;
-    remake.lines = getmaxy(stdscr);
-    remake.columns = getmaxx(stdscr);
+    remake.lines = curspan_lines();
+    remake.columns = curspan_columns();
     remake.family[0] = win;
     remake.count = 1;
     add_derived();
@@ -288,7 +288,6 @@ static struct shape *begin_family(WINDOW *win) {
 int wresize(WINDOW *win, int lines, int columns) {
     if (is_there(win) == ERR || lines < 1 || columns < 1 || lines > LONGEST || columns > LONGEST) return ERR;
     if (lines == getmaxy(win) && columns == getmaxx(win)) return OK;
-    if (win == stdscr) return ERR;
     struct shape *shape = begin_family(win);
     shape->is_other = shape->columns != columns;
     shape->lines = lines;
@@ -391,14 +390,14 @@ static void take_screen(void) {
 }
 
 bool is_term_resized(int lines, int columns) {
-    return stdscr && lines > 0 && columns > 0 && (lines != getmaxy(stdscr) || columns != getmaxx(stdscr));
+    return stdscr && lines > 0 && columns > 0 && (lines != curspan_lines() || columns != curspan_columns());
 }
 
 int resize_term(int lines, int columns) {
     curspan other = CURSPAN_INIT;
     if (!stdscr || lines < 1 || columns < 1 || lines > CURSPAN_LARGEST_SCREEN || columns > CURSPAN_LARGEST_SCREEN) return ERR;
-    LINES = getmaxy(stdscr);
-    COLS = getmaxx(stdscr);
+    LINES = curspan_lines();
+    COLS = curspan_columns();
     if (!is_term_resized(lines, columns)) return OK;
     remake.from = &curspan_the_screen;
     remake.to = &other;

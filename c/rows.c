@@ -11,21 +11,22 @@ static bool are_cells(const chtype *cells, int n) {
     return true;
 }
 
-static bool is_plain(const WINDOW *win) { return win->background == ' '; }
-
-/* Takes away what else than its attributes has a part in how a window writes, or gives it back. */
-static void write_plainly(WINDOW *win, bool plainly) {
+/* Takes away what else than its attributes has a part in how a window writes, or gives it back, with a background. */
+static void write_plainly(WINDOW *win, bool plainly, chtype background) {
     if (win->scrolls) curspan_scrollok(SCREEN_AND(win), !plainly);
-    if (!is_plain(win)) curspan_set_background(win, plainly ? ' ' : win->background);
+    if (background == ' ') return;
+    win->background = plainly ? ' ' : background;
+    curspan_set_background(win, win->background);
 }
 
 /* Writes cells of one line, those with the same attributes together. */
 static int put_runs(WINDOW *win, const chtype *cells, int n) {
     uint8_t text[LONGEST];
     for (int from = 0, to; from < n; from = to) {
-        for (to = from; to < n && (cells[to] & A_ATTRIBUTES) == (cells[from] & A_ATTRIBUTES); to++)
-            text[to] = (uint8_t)(cells[to] & A_CHARTEXT);
-        if (curspan_tell(win, cells[from] & A_ATTRIBUTES) == ERR) return ERR;
+        attr_t attrs = curspan_as_drawn(cells[from]) & A_ATTRIBUTES;
+        for (to = from; to < n && (curspan_as_drawn(cells[to]) & A_ATTRIBUTES) == attrs; to++)
+            text[to] = (uint8_t)(curspan_as_drawn(cells[to]) & A_CHARTEXT);
+        if (curspan_tell(win, attrs) == ERR) return ERR;
         if (done(curspan_waddstr(SCREEN_AND(win), text + from, (size_t)(to - from))) == ERR) return ERR;
     }
     return OK;
@@ -35,12 +36,13 @@ static int put_runs(WINDOW *win, const chtype *cells, int n) {
 static int put_rows(WINDOW *win, int y, int x, int lines, const chtype *cells, int n) {
     int old_y = getcury(win), old_x = getcurx(win), answer = OK;
     if (old_y == ERR || !are_cells(cells, n)) return ERR;
-    write_plainly(win, true);
+    chtype background = win->background;
+    write_plainly(win, true, background);
     for (int i = 0; i < lines && answer == OK; i++) {
         answer = curspan_put_cursor(win, y + i, x);
         if (answer == OK) answer = put_runs(win, cells, n);
     }
-    write_plainly(win, false);
+    write_plainly(win, false, background);
     return curspan_put_cursor(win, old_y, old_x) == OK ? answer : ERR;
 }
 
@@ -48,18 +50,20 @@ int curspan_put_cells(WINDOW *win, int y, int x, const chtype *cells, int n) { r
 
 int curspan_put_column(WINDOW *win, int y, int x, int n, chtype cell) { return put_rows(win, y, x, n, &cell, 1); }
 
+/* A cell of curspan.h with the program's pair. */
+static chtype cell_of(uint32_t cell) { return (cell & ~A_COLOR) | curspan_attributes_of(CURSPAN_PAIR(cell)); }
+
 int curspan_read_cells(WINDOW *win, int y, int x, chtype *cells, int n) {
-    int old_y = getcury(win), old_x = getcurx(win), columns = getmaxx(win), count;
-    for (count = 0; x + count < columns && (n < 0 || count < n); count++)
-        cells[count] = curspan_put_cursor(win, y, x + count) == ERR ? (chtype)ERR : winch(win);
-    if (columns != ERR) curspan_put_cursor(win, old_y, old_x);
-    return count;
+    uint32_t row[LONGEST];
+    int room = n < 0 || n > LONGEST - x ? LONGEST : x + n;
+    int count = least(first_of(curspan_row(SCREEN_AND(win), (uint32_t)y, row, (size_t)room)), room) - x;
+    for (int i = 0; i < count; i++) cells[i] = cell_of(row[x + i]);
+    return count < 0 ? 0 : count;
 }
 
 chtype winch(WINDOW *win) {
     curspan_answer answer = curspan_winch(SCREEN_AND(win));
-    if (answer.status != CURSPAN_OK) return (chtype)ERR;
-    return (answer.first & ~A_COLOR) | COLOR_PAIR(curspan_pair_of(CURSPAN_PAIR(answer.first)));
+    return answer.status == CURSPAN_OK ? cell_of(answer.first) : (chtype)ERR;
 }
 
 int winchnstr(WINDOW *win, chtype *row, int n) {

@@ -47,21 +47,24 @@ void curspan_find_size(int *lines, int *columns) {
 }
 
 void curspan_tell_size(int lines) {
-    snprintf(curspan_terminal.last_line, sizeof curspan_terminal.last_line, "\033[0m\033[?25h\033[%d;1H", lines);
+    snprintf(curspan_terminal.last_line, sizeof curspan_terminal.last_line, "%s\033[0m\033[?25h\033[%d;1H",
+             curspan_has_alternates ? CURSPAN_PLAIN_SET : "", lines);
 }
 
 SCREEN *newterm(const char *type, FILE *out, FILE *in) {
     const struct curspan_terminal none = {.in = -1, .out = -1, .line = -1};
     if (!out || stdscr || fileno(out) < 0 || fflush(out) != 0) return NULL;
     curspan_terminal = none;
+    curspan_terminal.stream = out;
     curspan_terminal.out = fileno(out);
     curspan_terminal.in = in ? fileno(in) : -1;
     curspan_find_size(&LINES, &COLS);
     curspan_answer answer = curspan_open(&curspan_the_screen, (uint16_t)LINES, (uint16_t)COLS);
     if (answer.status != CURSPAN_OK) return NULL;
     curspan_begin(answer);
-    curspan_tell_size(LINES);
     curspan_forget_keys(type);
+    curspan_begin_map();
+    curspan_tell_size(LINES);
     curspan_forget_input();
     curspan_terminal.owner = getpid();
     curspan_catch_signals();
@@ -78,11 +81,10 @@ WINDOW *initscr(void) {
 }
 
 int endwin(void) {
-    sigset_t before;
     if (!stdscr) return ERR;
-    curspan_hold_stop(&before);
+    curspan_hold_stop();
     int answer = curspan_give_back();
-    curspan_let_stop(&before);
+    curspan_let_stop();
     return answer;
 }
 

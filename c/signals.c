@@ -1,20 +1,21 @@
 /* Signals: the terminal is given back before one of them ends or stops the program, and at its exit. A handler calls only what the standard
    allows in one. Nothing here is proved. */
-#define _XOPEN_SOURCE 700
+#define _GNU_SOURCE
 #include "inside.h"
 #include "terminal.h"
 
 #include <errno.h>
+#include <poll.h>
 #include <stdlib.h>
 #include <string.h>
 #include <unistd.h>
 
 static const int ending[] = {SIGINT, SIGTERM, SIGQUIT};
 
-enum { ENDING = sizeof ending / sizeof ending[0] };
+enum { ENDING = sizeof ending / sizeof ending[0], LAST_SIGNAL = 64 };
 
 static volatile sig_atomic_t was_stopped, was_resized;
-static volatile sig_atomic_t restarts = SA_RESTART; /* whether a call that waits goes on after the program was stopped */
+static volatile sig_atomic_t is_held, stop_is_due; /* the program is not to be stopped now; it is to be then */
 
 /* Sets what a signal does. Meanwhile the terminal may be changed from behind, and where the signal ends the program, no other comes. */
 static void on(int number, void (*handler)(int), int flags) {
@@ -49,6 +50,10 @@ static void stop(int number) {
     int before = errno;
     bool is_owed = has_terminal() && curspan_is_owed(), is_keypad = terminal->is_keypad;
     (void)number;
+    if (is_held) {
+        stop_is_due = true;
+        return;
+    }
     if (is_owed) {
         if (is_in_front()) tcgetattr(terminal->line, &terminal->program);
         curspan_give_back();
@@ -73,7 +78,7 @@ static void stop_now(void) {
     sigaddset(&through, SIGTTOU);
     raise(SIGTSTP);
     sigprocmask(SIG_UNBLOCK, &through, NULL);
-    on(SIGTSTP, stop, restarts);
+    on(SIGTSTP, stop, SA_RESTART);
 }
 
 static void note_size(int number) {
@@ -97,11 +102,6 @@ static void leave(int number, void (*handler)(int)) {
     if (has(number, handler)) on(number, SIG_DFL, 0);
 }
 
-void curspan_interrupt_by_stop(bool flag) {
-    restarts = flag ? 0 : SA_RESTART;
-    if (has(SIGTSTP, stop)) on(SIGTSTP, stop, restarts);
-}
-
 static void give_back_at_exit(void) {
     if (has_terminal() && curspan_is_owed()) curspan_give_back();
 }
@@ -109,9 +109,9 @@ static void give_back_at_exit(void) {
 void curspan_catch_signals(void) {
     static bool is_registered;
     if (!is_registered) is_registered = atexit(give_back_at_exit) == 0;
-    was_stopped = was_resized = false;
+    was_stopped = was_resized = is_held = stop_is_due = false;
     for (int i = 0; i < ENDING; i++) catch_default(ending[i], end, 0);
-    catch_default(SIGTSTP, stop, restarts);
+    catch_default(SIGTSTP, stop, SA_RESTART);
     if (has(SIGWINCH, SIG_IGN)) on(SIGWINCH, SIG_DFL, 0);
     catch_default(SIGWINCH, note_size, 0);
 }
@@ -122,15 +122,6 @@ void curspan_leave_signals(void) {
     leave(SIGWINCH, note_size);
 }
 
-void curspan_hold_stop(sigset_t *before) {
-    sigset_t stops;
-    sigemptyset(&stops);
-    sigaddset(&stops, SIGTSTP);
-    sigprocmask(SIG_BLOCK, &stops, before);
-}
-
-void curspan_let_stop(const sigset_t *before) { sigprocmask(SIG_SETMASK, before, NULL); }
-
 /* Takes a flag that a handler set. */
 static bool taken(volatile sig_atomic_t *flag) {
     bool was = *flag;
@@ -140,3 +131,56 @@ static bool taken(volatile sig_atomic_t *flag) {
 
 bool curspan_was_stopped(void) { return taken(&was_stopped); }
 bool curspan_was_resized(void) { return taken(&was_resized); }
+
+void curspan_hold_stop(void) { is_held = true; }
+
+void curspan_let_stop(void) {
+    is_held = false;
+    if (taken(&stop_is_due)) raise(SIGTSTP);
+}
+
+/* ---- waiting */
+
+static bool is_of_program(void (*handler)(int)) {
+    return handler != SIG_DFL && handler != SIG_IGN && handler != end && handler != stop && handler != note_size;
+}
+
+/* A fault of the program, whose handler ends no wait. */
+static bool is_fault(int number) { return number == SIGSEGV || number == SIGBUS || number == SIGFPE || number == SIGILL; }
+
+/* Whether all handlers of the program let calls go on that they interrupt. */
+static bool handlers_restart(void) {
+    for (int number = 1; number <= LAST_SIGNAL; number++) {
+        struct sigaction now;
+        if (is_fault(number) || sigaction(number, NULL, &now) != 0 || now.sa_flags & SA_RESTART) continue;
+        if (now.sa_flags & SA_SIGINFO || is_of_program(now.sa_handler)) return false;
+    }
+    return true;
+}
+
+/* How a wait ended that a signal interrupted. */
+static int how_interrupted(void) { return was_stopped ? WAIT_STOPPED : was_resized ? WAIT_RESIZED : WAIT_INTERRUPTED; }
+
+int curspan_wait(int descriptor, int milliseconds, bool *found) {
+    const struct timespec time = {milliseconds / 1000, milliseconds % 1000 * 1000000L};
+    struct pollfd input = {descriptor, POLLIN, 0};
+    sigset_t ours, before;
+    int answer = WAIT_INTERRUPTED;
+    if (milliseconds == 0) {
+        *found = poll(&input, 1, 0) > 0;
+        return WAIT_ENDED;
+    }
+    sigemptyset(&ours);
+    sigaddset(&ours, SIGTSTP);
+    sigaddset(&ours, SIGWINCH);
+    sigprocmask(SIG_BLOCK, &ours, &before);
+    while (answer == WAIT_INTERRUPTED && !was_stopped && !was_resized) {
+        int count = ppoll(&input, 1, milliseconds < 0 ? NULL : &time, &before);
+        answer = count < 0 && errno == EINTR ? how_interrupted() : WAIT_ENDED;
+        *found = count > 0;
+        if (milliseconds >= 0 || !handlers_restart()) break;
+    }
+    if (answer == WAIT_INTERRUPTED) answer = how_interrupted();
+    sigprocmask(SIG_SETMASK, &before, NULL);
+    return answer;
+}

@@ -4,6 +4,7 @@
 
 #include <signal.h>
 #include <stdbool.h>
+#include <stdio.h>
 #include <sys/types.h>
 #include <termios.h>
 
@@ -13,6 +14,7 @@ enum { PAGE_LEFT, PAGE_ENTERING, PAGE_ENTERED };
 /* The terminal, as handlers of signals read it too. */
 struct curspan_terminal {
     int in, out;                     /* the descriptors that newterm was given */
+    FILE *stream;                    /* the output, for what isn't of the picture */
     int line;                        /* that of both whose modes are set: -1 where neither is a terminal */
     pid_t owner;                     /* the process that has the screen, or 0 */
     volatile sig_atomic_t page;
@@ -67,14 +69,19 @@ void curspan_catch_signals(void);
 /* Leaves the signals that are still caught as they were. */
 void curspan_leave_signals(void);
 /* Holds back the signal that stops the program, and lets it through again. */
-void curspan_hold_stop(sigset_t *before);
-void curspan_let_stop(const sigset_t *before);
-/* Whether a call that waits ends where the program is stopped and goes on, as getch wants it, or is restarted. */
-void curspan_interrupt_by_stop(bool flag);
+void curspan_hold_stop(void);
+void curspan_let_stop(void);
 /* Whether the program was stopped since the last call of it, and goes on. */
 bool curspan_was_stopped(void);
 /* Whether the terminal's size may have changed since the last call of it. */
 bool curspan_was_resized(void);
+
+/* What a wait that signals end came to. */
+enum { WAIT_ENDED, WAIT_STOPPED, WAIT_RESIZED, WAIT_INTERRUPTED };
+
+/* Waits for a descriptor to be read, for some milliseconds, or without end where they are negative. A signal to stop or of a new size ends it
+   also where it came since it was last looked at. Where it ended by itself `found` says whether there is something to read. */
+int curspan_wait(int descriptor, int milliseconds, bool *found);
 
 /* ---- resizing.c */
 

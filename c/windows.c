@@ -68,7 +68,6 @@ static WINDOW *made(curspan_answer answer, bool is_pad, WINDOW *parent) {
 void curspan_begin(curspan_answer answer) {
     curspan_forget_all();
     curspan_number_pairs(&curspan_the_screen);
-    curspan_begin_map();
     stdscr = made(answer, false, NULL);
     curscr = &the_terminal;
 }
@@ -85,8 +84,8 @@ static WINDOW *made_outlying(curspan_answer answer, WINDOW *parent, int y, int x
 
 WINDOW *newwin(int lines, int columns, int y, int x) {
     if (!stdscr || !are_numbers(lines, columns, y, x)) return NULL;
-    if (lines == 0) lines = getmaxy(stdscr) - y;
-    if (columns == 0) columns = getmaxx(stdscr) - x;
+    if (lines == 0) lines = curspan_lines() - y;
+    if (columns == 0) columns = curspan_columns() - x;
     if (lines < 1 || columns < 1) return NULL;
     if (!curspan_fits(lines, columns, y, x))
         return made_outlying(curspan_newpad(&curspan_the_screen, (uint16_t)lines, (uint16_t)columns), NULL, y, x);
@@ -148,7 +147,7 @@ WINDOW *dupwin(WINDOW *win) {
 
 /* What a derived window covered of its parent is shown anew. */
 int delwin(WINDOW *win) {
-    if (done(curspan_delwin(SCREEN_AND(win))) == ERR) return ERR;
+    if (win == stdscr || done(curspan_delwin(SCREEN_AND(win))) == ERR) return ERR;
     if (win->parent && !win->is_pad) touchwin(win->parent);
     forget(win);
     return OK;
@@ -215,6 +214,24 @@ int idlok(WINDOW *win, bool flag) {
 
 void idcok(WINDOW *win, bool flag) {
     if (is_there(win) == OK) win->no_idcok = !flag;
+}
+
+void immedok(WINDOW *win, bool flag) {
+    if (is_there(win) == ERR) return;
+    win->is_immediate = flag;
+    curspan_set_limit(win);
+}
+
+int syncok(WINDOW *win, bool flag) {
+    if (is_there(win) == ERR) return ERR;
+    win->synchronizes = flag;
+    curspan_set_limit(win);
+    return OK;
+}
+
+void curspan_follow(WINDOW *win) {
+    if (win->is_immediate) wrefresh(win);
+    if (win->synchronizes) wsyncup(win);
 }
 
 int leaveok(WINDOW *win, bool flag) {

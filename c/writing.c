@@ -5,6 +5,14 @@
 #include <stdlib.h>
 #include <string.h>
 
+int TABSIZE = 8;
+
+int set_tabsize(int columns) {
+    if (columns <= 0) return ERR;
+    TABSIZE = columns;
+    return OK;
+}
+
 int wmove(WINDOW *win, int y, int x) {
     if (!win || (unsigned)y >= win->lines || (unsigned)x >= win->columns) return ERR;
     win->reach = y;
@@ -22,7 +30,8 @@ static int limit_of(const WINDOW *win) {
 }
 
 void curspan_set_limit(WINDOW *win) {
-    win->limit = win->given == win->attrs && win->begun.count == 0 ? limit_of(win) : NOT_READY;
+    bool is_ready = win->given == win->attrs && win->begun.count == 0 && !win->is_immediate && !win->synchronizes;
+    win->limit = is_ready ? limit_of(win) : NOT_READY;
 }
 
 /* How many characters fit before the last place, where writing stops: that of the window, or of the scroll region
@@ -90,7 +99,7 @@ static int end_line(WINDOW *win) {
 }
 
 static int add_tab(WINDOW *win, bool has_attributes) {
-    int y = getcury(win), x = getcurx(win), stop = x + 8 - x % 8;
+    int y = getcury(win), x = getcurx(win), stop = x + TABSIZE - x % TABSIZE;
     bool ends_here = y == win->bottom && !win->scrolls;
     return stop < (int)win->columns || ends_here ? add_blanks(win, stop - x, has_attributes) : end_line(win);
 }
@@ -146,14 +155,14 @@ static bool is_printable(uint8_t ch) { return ch >= ' ' && ch <= '~'; }
 /* ---- characters and texts */
 
 int curspan_add_any(WINDOW *win, chtype ch) {
-    if (ch & A_ALTCHARSET) return curspan_add_any(win, curspan_alternative(ch));
+    ch = curspan_as_drawn(ch);
     uint8_t character = ch & A_CHARTEXT;
     bool has_attributes = (ch & A_ATTRIBUTES) != 0;
     if (is_there(win) == ERR || PAIR_NUMBER(ch) > LAST_PAIR) return ERR;
     if (curspan_tell(win, curspan_with(win->attrs, ch)) == ERR) return ERR;
     curspan_check_begun(win);
-    if (!is_printable(character) || win->begun.count > 0) return add_spelled(win, character, has_attributes);
-    return character == ' ' ? add_blanks(win, 1, has_attributes) : add_run(win, &character, 1);
+    if (!is_printable(character) || win->begun.count > 0) return curspan_changed(win, add_spelled(win, character, has_attributes));
+    return curspan_changed(win, character == ' ' ? add_blanks(win, 1, has_attributes) : add_run(win, &character, 1));
 }
 
 int waddch(WINDOW *win, const chtype ch) {
@@ -198,9 +207,9 @@ static int add_pieces(WINDOW *win, const char *text, size_t length) {
     curspan_check_begun(win);
     if (ends_above(win, text, length) && curspan_waddstr(SCREEN_AND(win), (const uint8_t *)text, length).status == CURSPAN_OK) {
         win->reach = UNKNOWN;
-        return OK;
+        return curspan_changed(win, OK);
     }
-    return add_each_piece(win, text, length);
+    return curspan_changed(win, add_each_piece(win, text, length));
 }
 
 bool curspan_fits_at_end(const WINDOW *win, size_t length) {
@@ -252,7 +261,7 @@ int waddchnstr(WINDOW *win, const chtype *row, int n) {
     if (y == ERR || (!row && n != 0)) return ERR;
     if (n >= 0 && n < most) most = n;
     for (count = 0; count < most && row[count]; count++) continue;
-    return curspan_put_cells(win, y, x, row, count);
+    return curspan_changed(win, curspan_put_cells(win, y, x, row, count));
 }
 
 int vw_printw(WINDOW *win, const char *format, va_list arguments) {

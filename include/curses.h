@@ -30,6 +30,13 @@ extern "C" {
 
 /* ---- types and constants */
 
+/* Programs ask for it before they use a name that X/Open hasn't. Such names are here as far as curspan(3) says. */
+#define NCURSES_VERSION "6.4"
+#define NCURSES_VERSION_MAJOR 6
+#define NCURSES_VERSION_MINOR 4
+#define NCURSES_VERSION_PATCH 20221231
+#define NCURSES_EXT_FUNCS NCURSES_VERSION_PATCH
+
 typedef struct curspan_window WINDOW;
 typedef struct curspan_screen SCREEN;
 typedef uint32_t chtype; /* a character in the low byte, attributes in the next, a colour pair above */
@@ -54,7 +61,8 @@ typedef chtype attr_t;
 #define A_STANDOUT A_REVERSE
 #define A_CHARTEXT ((chtype)0xff)
 #define A_COLOR ((chtype)0xff0000)
-#define A_ATTRIBUTES ((chtype)0xffff00)
+#define A_ALTCHARSET ((chtype)1 << 24) /* of the terminal's lines and signs, see acs_map */
+#define A_ATTRIBUTES ((chtype)0x1ffff00)
 #define WA_NORMAL A_NORMAL
 #define WA_BOLD A_BOLD
 #define WA_DIM A_DIM
@@ -64,8 +72,7 @@ typedef chtype attr_t;
 #define WA_INVIS A_INVIS
 #define WA_STANDOUT A_STANDOUT
 
-/* They change nothing, and no cell keeps them. A character with A_ALTCHARSET is the one that acs_map has for it. */
-#define A_ALTCHARSET ((chtype)1 << 24)
+/* They change nothing, and no cell keeps them. */
 #define A_PROTECT ((chtype)1 << 25)
 #define A_HORIZONTAL ((chtype)1 << 26)
 #define A_LEFT ((chtype)1 << 27)
@@ -93,39 +100,41 @@ typedef chtype attr_t;
 #define COLOR_CYAN 6
 #define COLOR_WHITE 7
 
-/* X/Open's characters for terminals without an alternate character set */
-#define ACS_ULCORNER ((chtype)'+')
-#define ACS_LLCORNER ((chtype)'+')
-#define ACS_URCORNER ((chtype)'+')
-#define ACS_LRCORNER ((chtype)'+')
-#define ACS_LTEE ((chtype)'+')
-#define ACS_RTEE ((chtype)'+')
-#define ACS_BTEE ((chtype)'+')
-#define ACS_TTEE ((chtype)'+')
-#define ACS_HLINE ((chtype)'-')
-#define ACS_VLINE ((chtype)'|')
-#define ACS_PLUS ((chtype)'+')
-#define ACS_S1 ((chtype)'~')
-#define ACS_S9 ((chtype)'_')
-#define ACS_DIAMOND ((chtype)'+')
-#define ACS_CKBOARD ((chtype)':')
-#define ACS_DEGREE ((chtype)'\'')
-#define ACS_PLMINUS ((chtype)'#')
-#define ACS_BULLET ((chtype)'o')
-#define ACS_LARROW ((chtype)'<')
-#define ACS_RARROW ((chtype)'>')
-#define ACS_DARROW ((chtype)'v')
-#define ACS_UARROW ((chtype)'^')
-#define ACS_BOARD ((chtype)'#')
-#define ACS_LANTERN ((chtype)'#')
-#define ACS_BLOCK ((chtype)'#')
-#define ACS_S3 ((chtype)'-')
-#define ACS_S7 ((chtype)'-')
-#define ACS_LEQUAL ((chtype)'<')
-#define ACS_GEQUAL ((chtype)'>')
-#define ACS_PI ((chtype)'*')
-#define ACS_NEQUAL ((chtype)'!')
-#define ACS_STERLING ((chtype)'f')
+/* Lines and signs, from initscr on: characters of the terminal's alternate set, or those of ASCII that X/Open has for a terminal without
+   one. */
+#define CURSPAN_ACS(letter) (acs_map[(unsigned char)(letter)])
+#define ACS_ULCORNER CURSPAN_ACS('l')
+#define ACS_LLCORNER CURSPAN_ACS('m')
+#define ACS_URCORNER CURSPAN_ACS('k')
+#define ACS_LRCORNER CURSPAN_ACS('j')
+#define ACS_LTEE CURSPAN_ACS('t')
+#define ACS_RTEE CURSPAN_ACS('u')
+#define ACS_BTEE CURSPAN_ACS('v')
+#define ACS_TTEE CURSPAN_ACS('w')
+#define ACS_HLINE CURSPAN_ACS('q')
+#define ACS_VLINE CURSPAN_ACS('x')
+#define ACS_PLUS CURSPAN_ACS('n')
+#define ACS_S1 CURSPAN_ACS('o')
+#define ACS_S9 CURSPAN_ACS('s')
+#define ACS_DIAMOND CURSPAN_ACS('`')
+#define ACS_CKBOARD CURSPAN_ACS('a')
+#define ACS_DEGREE CURSPAN_ACS('f')
+#define ACS_PLMINUS CURSPAN_ACS('g')
+#define ACS_BULLET CURSPAN_ACS('~')
+#define ACS_LARROW CURSPAN_ACS(',')
+#define ACS_RARROW CURSPAN_ACS('+')
+#define ACS_DARROW CURSPAN_ACS('.')
+#define ACS_UARROW CURSPAN_ACS('-')
+#define ACS_BOARD CURSPAN_ACS('h')
+#define ACS_LANTERN CURSPAN_ACS('i')
+#define ACS_BLOCK CURSPAN_ACS('0')
+#define ACS_S3 CURSPAN_ACS('p')
+#define ACS_S7 CURSPAN_ACS('r')
+#define ACS_LEQUAL CURSPAN_ACS('y')
+#define ACS_GEQUAL CURSPAN_ACS('z')
+#define ACS_PI CURSPAN_ACS('{')
+#define ACS_NEQUAL CURSPAN_ACS('|')
+#define ACS_STERLING CURSPAN_ACS('}')
 #define ACS_BSSB ACS_ULCORNER
 #define ACS_SSBB ACS_LLCORNER
 #define ACS_BBSS ACS_URCORNER
@@ -238,7 +247,8 @@ extern WINDOW *stdscr; /* the standard screen, from initscr on */
 extern WINDOW *curscr; /* what the terminal shows: for refresh, clearok, touchwin and redrawwin alone, which draw all anew */
 extern int LINES, COLS;
 extern int COLORS, COLOR_PAIRS;
-extern chtype acs_map[]; /* the characters above, by the letters that VT100 has for them */
+extern chtype acs_map[]; /* lines and signs, by the letters that VT100 has for them */
+extern int TABSIZE;  /* the columns between the stops of tabs, 8 at first */
 extern int ESCDELAY; /* for how many milliseconds getch waits for the rest of a key that begins with an escape */
 
 /* ---- the screen */
@@ -311,6 +321,9 @@ int wsetscrreg(WINDOW *win, int top, int bottom);
 int idlok(WINDOW *win, bool flag);   /* a hint, which changes nothing */
 void idcok(WINDOW *win, bool flag);  /* so too */
 int leaveok(WINDOW *win, bool flag); /* so too: the cursor is always moved */
+void immedok(WINDOW *win, bool flag); /* whether each change of the window refreshes it */
+int syncok(WINDOW *win, bool flag);   /* whether each change of the window touches its ancestors */
+int set_tabsize(int columns);
 
 /* ---- attributes, colours and backgrounds */
 
@@ -562,10 +575,12 @@ typedef int (*NCURSES_SCREEN_CB)(SCREEN *, void *);
 bool is_cleared(const WINDOW *win);
 bool is_idcok(const WINDOW *win);
 bool is_idlok(const WINDOW *win);
+bool is_immedok(const WINDOW *win);
 bool is_leaveok(const WINDOW *win);
 bool is_pad(const WINDOW *win);
 bool is_scrollok(const WINDOW *win);
 bool is_subwin(const WINDOW *win);
+bool is_syncok(const WINDOW *win);
 WINDOW *wgetparent(const WINDOW *win);
 int wgetscrreg(const WINDOW *win, int *top, int *bottom);
 attr_t getattrs(const WINDOW *win);

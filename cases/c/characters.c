@@ -40,6 +40,8 @@ int main(void) {
     mvchgat(14, 3, 1, A_BOLD, 70, NULL);
     mvprintw(15, 0, "pairs %d %d %d", PAIR_NUMBER(mvinch(14, 0)), PAIR_NUMBER(mvinch(14, 3)), PAIR_NUMBER(mvinch(14, 10)));
     mvaddstr(11, 0, unctrl('\x01'));
+    printw(" %d", NCURSES_VERSION_MAJOR >= 6 && NCURSES_VERSION_MINOR >= 0 && NCURSES_VERSION_PATCH > 20200101 && NCURSES_EXT_FUNCS > 20200101);
+    printw(" %d", strlen(NCURSES_VERSION) >= 3);
     refresh();
     shot();
     mvcur(0, 0, 20, 40);

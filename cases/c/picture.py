@@ -1,7 +1,7 @@
 """Puts out, of what `tmux capture-pane -e -p -N` puts out with lines that tell the cursor after each screen, the pictures in the form of
 `curspan paint`: each line between bars, and below it a line of attributes and one of colours where some cell has them. Blanks that
-were written and those that weren't are the same. A character that isn't ASCII is its letter without marks, or a question mark, and after a
-wide one a blank.
+were written and those that weren't are the same, and so are blanks in other foregrounds. A character of the alternate set is its letter with a
+bit of its own. One that isn't ASCII is its letter without marks, or a question mark, and after a wide one a blank.
 
 usage: picture.py COLUMNS < CAPTURE"""
 import re
@@ -9,6 +9,8 @@ import sys
 import unicodedata
 
 BITS = {1: 0x01, 2: 0x02, 4: 0x04, 5: 0x08, 7: 0x10, 8: 0x20}
+ALTERNATE = 0x40
+FOREGROUND_SEEN = 0x14  # underlined or reversed
 
 
 def select(rendition, codes):
@@ -43,15 +45,22 @@ def drawn(character):
 def main():
     columns = int(sys.argv[1])
     rendition = (0, "-", "-")
+    alternate = 0
     for line in sys.stdin.read().split("\n")[:-1]:
         if line.startswith("--- cursor "):
             print(line[4:] + "\n")
             rendition = (0, "-", "-")
+            alternate = 0
             continue
         cells = []
         for codes, other in re.findall(r"\x1b\[([0-9;]*)m|(.)", line):
-            if other:
-                cells += [(character, rendition) for character in drawn(other)]
+            if other in ("\x0e", "\x0f"):
+                alternate = ALTERNATE if other == "\x0e" else 0
+            elif other:
+                attributes, foreground, background = rendition
+                if other == " " and not attributes & FOREGROUND_SEEN:
+                    foreground = "-"
+                cells += [(character, (attributes | (alternate if character != ' ' else 0), foreground, background)) for character in drawn(other)]
             else:
                 rendition = select(rendition, [int(code or 0) for code in codes.split(";")])
         blank = (" ", (0, "-", "-"))

@@ -152,6 +152,32 @@ static void resize_panels(void) {
     for (int i = 0; i < 5; i++) delwin(wins[i]);
 }
 
+/* The standard screen alone becomes smaller and larger, as a window. */
+static void resize_standard(void) {
+    WINDOW *win = newwin(4, 20, 10, 30);
+    PANEL *panel = new_panel(win);
+    clear();
+    refresh();
+    fill(stdscr, 'a');
+    printw("%d", wresize(stdscr, 12, 40));
+    mvprintw(1, 1, "%dx%d, %dx%d", getmaxy(stdscr), getmaxx(stdscr), LINES, COLS);
+    refresh();
+    shot();
+    box(win, '|', '-');
+    mvaddstr(2, 2, "below a panel");
+    update_panels();
+    doupdate();
+    shot();
+    mvprintw(3, 1, "%d", wresize(stdscr, 24, 80));
+    mvprintw(20, 60, "%dx%d", getmaxy(stdscr), getmaxx(stdscr));
+    touchwin(stdscr);
+    update_panels();
+    doupdate();
+    shot();
+    del_panel(panel);
+    delwin(win);
+}
+
 int main(void) {
     initscr();
     noecho();
@@ -161,6 +187,7 @@ int main(void) {
     resize_screen();
     resize_windows();
     resize_panels();
+    resize_standard();
     nodelay(stdscr, TRUE);
     int answer = resizeterm(24, 80);
     erase();

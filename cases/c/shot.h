@@ -11,10 +11,8 @@
 #include <termios.h>
 #include <unistd.h>
 
-/* X/Open has white on black for pair 0, and Curspan the terminal's own colours, as ncurses has where it is asked for them. */
-#ifdef NCURSES_VERSION
+/* Most programs have the terminal's own colours in pair 0, so that a blank looks as one that isn't written. */
 #define start_color() (start_color(), use_default_colors())
-#endif
 
 /* Waits until the terminal has read all that was sent: it answers where its cursor is only then. */
 static void wait_for_terminal(void) {

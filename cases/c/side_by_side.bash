@@ -22,16 +22,19 @@ done
 echo '#include <panel.h>' | gcc -E - > /dev/null 2>&1 || skip 'libncurses-dev is not installed'
 [ -f "$root/build/libcurspan.a" ] || skip 'the library is not built by ./curspan-lib'
 
-# A terminal of just what Curspan writes, without an alternate character set, so that ncurses draws lines in ASCII too.
+# A terminal of just what Curspan writes to one whose type it doesn't know: without an alternate character set, so that ncurses draws lines in
+# ASCII too.
 tic -x -o "$work/terminfo" "$root/bench/frames/profile.ti" 2> "$work/log" || { cat "$work/log" >&2; exit 1; }
 echo 'set -g default-terminal screen' > "$work/settings"
 
-# Makes the type of a terminal that has the keys of a known one, and for the rest writes what Curspan writes.
+# Makes the type of a terminal that has the keys and the lines of a known one, and for the rest writes what Curspan writes: by single attributes,
+# as a selection of all knows no lines. On the Linux console Curspan draws lines in ASCII.
 make_type() {
     {
         echo "$1-curspan|the keys of $1,"
         infocmp -1 "$1" | grep -E '^[[:space:]]((k[a-zA-Z0-9]+|smkx|rmkx)=)' | grep -v kmous=
-        printf '\tsmcup=\\E[?1049h, rmcup=\\E[?1049l, cnorm=\\E[?25h, civis=\\E[?25l, use=curspan-profile,\n'
+        [ "$1" = linux ] || infocmp -1 "$1" | grep -E '^[[:space:]](acsc|smacs|rmacs|enacs)='
+        printf '\tsmcup=\\E[?1049h, rmcup=\\E[?1049l, cnorm=\\E[?25h, civis=\\E[?25l, use=curspan-single,\n'
     } > "$work/$1.ti"
     TERMINFO_DIRS="$work/terminfo" tic -o "$work/terminfo" "$work/$1.ti" 2> "$work/log" || { cat "$work/log" >&2; exit 1; }
 }

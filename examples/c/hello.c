@@ -7,16 +7,16 @@
 static curspan screen = CURSPAN_INIT;
 
 /* Ends the program where a call was refused, and hands its number on. */
-static uint16_t need(curspan_answer answer) {
+static uint32_t need(curspan_answer answer) {
     if (answer.status != CURSPAN_OK) {
         fprintf(stderr, "hello: %s\n", curspan_text(answer.status));
         exit(1);
     }
-    return (uint16_t)answer.first;
+    return answer.first;
 }
 
-static uint16_t panel(uint16_t y, uint16_t x, uint8_t attrs, const char *text) {
-    uint16_t win = need(curspan_newwin(&screen, 3, 20, y, x));
+static uint32_t panel(uint32_t y, uint32_t x, uint8_t attrs, const char *text) {
+    uint32_t win = need(curspan_newwin(&screen, 3, 20, y, x));
     need(curspan_wbkgdset(&screen, win, attrs, ' '));
     need(curspan_werase(&screen, win));
     need(curspan_wmove(&screen, win, 1, 2));
@@ -27,7 +27,7 @@ static uint16_t panel(uint16_t y, uint16_t x, uint8_t attrs, const char *text) {
 int main(void) {
     uint8_t bytes[4096];
     need(curspan_open(&screen, 8, 40));
-    uint16_t first = panel(1, 2, CURSPAN_REVERSE, "hello from C");
+    uint32_t first = panel(1, 2, CURSPAN_REVERSE, "hello from C");
     panel(2, 20, CURSPAN_REVERSE | CURSPAN_BOLD, "proved");
     need(curspan_top_panel(&screen, first));
     need(curspan_update_panels(&screen));

@@ -8,6 +8,7 @@
 #include <stdlib.h>
 #include <string.h>
 #include <sys/ioctl.h>
+#include <sys/syscall.h>
 #include <sys/wait.h>
 #include <termios.h>
 #include <unistd.h>
@@ -140,6 +141,50 @@ static void read_keys(void) {
     endwin();
 }
 
+/* A signal that comes right before the next wait for a key. */
+static int signal_before_wait;
+
+static void raise_before_wait(void) {
+    int number = signal_before_wait;
+    signal_before_wait = 0;
+    if (number) raise(number);
+}
+
+/* In place of the calls of the C library by which keys are waited for. */
+ssize_t read(int descriptor, void *to, size_t count) {
+    if (descriptor == 0) raise_before_wait();
+    return syscall(SYS_read, descriptor, to, count);
+}
+
+int ppoll(struct pollfd *waited, nfds_t count, const struct timespec *time, const sigset_t *mask) {
+    struct timespec left = {0, 0};
+    raise_before_wait();
+    if (time) left = *time;
+    return (int)syscall(SYS_ppoll, waited, count, time ? &left : NULL, mask, (size_t)8);
+}
+
+static void stop_before_wait(void) {
+    signal_before_wait = SIGTSTP;
+    read_keys();
+}
+
+/* The signal of the new size itself is dropped. */
+static void resize_before_wait(void) {
+    struct winsize size = {.ws_row = 30, .ws_col = 70};
+    struct sigaction handler;
+    begin();
+    sigaction(SIGWINCH, NULL, &handler);
+    signal(SIGWINCH, SIG_IGN);
+    ioctl(0, TIOCSWINSZ, &size);
+    sigaction(SIGWINCH, &handler, NULL);
+    signal_before_wait = SIGWINCH;
+    int key = getch();
+    mvprintw(5, 4, "key %d, %d lines.", key, LINES);
+    refresh();
+    getch();
+    endwin();
+}
+
 static void read_by_itself(void) {
     char byte = 0;
     begin();
@@ -152,6 +197,34 @@ static void note(int number) {
     (void)number;
     mvaddstr(7, 4, "noted");
     refresh();
+}
+
+/* Handlers of one signal that let calls go on, and then end them. */
+static volatile int alarms;
+
+static void count_alarm(int number) {
+    (void)number;
+    alarms = alarms + 1;
+    alarm(1);
+}
+
+static void read_among_alarms(void) {
+    struct sigaction action;
+    memset(&action, 0, sizeof action);
+    action.sa_handler = count_alarm;
+    action.sa_flags = SA_RESTART;
+    sigaction(SIGALRM, &action, NULL);
+    begin();
+    alarm(1);
+    int key = getch(), before_key = alarms;
+    action.sa_flags = 0;
+    sigaction(SIGALRM, &action, NULL);
+    alarms = 0;
+    int other = getch();
+    mvprintw(5, 4, "key %d after %s, and %d after %d.", key, before_key > 0 ? "some" : "none", other, alarms);
+    refresh();
+    getch();
+    endwin();
 }
 
 static void read_with_own_handlers(void) {
@@ -302,6 +375,38 @@ static void stop_while_it_reads(void) {
     finish(shell);
 }
 
+/* A signal that comes right before a wait for a key ends that wait. */
+static void signals_before_wait(void) {
+    const char *name = "Ctrl-Z right before a wait";
+    pid_t shell = start(stop_before_wait);
+    want(WIFSTOPPED(status_of_program()) && has_modes_again(), name, "it stops, and the modes are as before");
+    size_t continued = length;
+    kill(shell, SIGCONT);
+    want(comes(continued, "the picture"), name, "the whole picture comes again");
+    type("q");
+    want(WIFEXITED(status_of_program()) && has_modes_again(), name, "the terminal is as before");
+    finish(shell);
+    name = "a new size right before a wait";
+    shell = start(resize_before_wait);
+    want(comes(0, "key 410, 30 lines."), name, "it is answered at once");
+    type("x");
+    want(WIFEXITED(status_of_program()) && has_modes_again(), name, "the terminal is as before");
+    finish(shell);
+}
+
+/* A wait goes on after a handler that lets calls go on, and ends after another. */
+static void wait_among_alarms(void) {
+    const char *name = "handlers that restart calls";
+    pid_t shell = start(read_among_alarms);
+    want(comes(0, "the picture"), name, "it draws");
+    usleep(1300000);
+    type("a");
+    want(comes(0, "key 97 after some, and -1 after 1."), name, "the wait goes on, and with others ends");
+    type("q");
+    want(WIFEXITED(status_of_program()) && has_modes_again(), name, "the terminal is as before");
+    finish(shell);
+}
+
 /* A program's own handlers are left alone. */
 static void own_handlers(void (*program)(void), const char *name) {
     pid_t shell = start(program);
@@ -353,6 +458,8 @@ int main(void) {
     end_without_picture("a first write that fails", fail_at_once);
     stop_and_continue();
     stop_while_it_reads();
+    signals_before_wait();
+    wait_among_alarms();
     end_while_stopped();
     own_handlers(read_with_own_handlers, "handlers from before");
     own_handlers(read_with_later_handlers, "handlers from later");

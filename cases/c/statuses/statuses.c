@@ -22,6 +22,11 @@ static void see_closed(void) {
     REFUSED(newwin(&screen, 1, 1, 0, 0), CLOSED);
     REFUSED(waddch(&screen, 0, 'x'), CLOSED);
     REFUSED(doupdate(&screen), CLOSED);
+    REFUSED(getyx(&screen, 0), CLOSED);
+    REFUSED(wattr_get(&screen, 0), CLOSED);
+    REFUSED(next_panel(&screen, 0), CLOSED);
+    REFUSED(row(&screen, 0, 0, NULL, 0), CLOSED);
+    REFUSED(shown_row(&screen, 0, NULL, 0), CLOSED);
     curspan_invalidate(&screen);
     curspan_close(&screen);
     if (curspan_take(&screen, &byte, 1) != 0 || byte != 7) wrong++;
@@ -81,6 +86,173 @@ static void see_answers(void) {
     ANSWERS(is_linetouched(&screen, 1, 0), 0, 0);
 }
 
+/* A screen of 4 by 10, a window with a panel, a pad, and one that derives from each. */
+static void make_windows(void) {
+    ANSWERS(open(&screen, 4, 10), 0, 0);
+    ANSWERS(newwin(&screen, 2, 6, 1, 2), 1, 0);
+    ANSWERS(newpad(&screen, 3, 8), 2, 0);
+    ANSWERS(derwin(&screen, 1, 1, 3, 1, 2), 3, 0);
+    ANSWERS(subpad(&screen, 2, 1, 1, 1, 3), 4, 0);
+    ANSWERS(new_panel(&screen, 1), 1, 0);
+}
+
+static void see_settings(void) {
+    const curspan *asked = &screen;
+    make_windows();
+    ANSWERS(wattr_get(asked, 1), 0, 0);
+    ANSWERS(wattrset(&screen, 1, CURSPAN_BOLD | CURSPAN_REVERSE), 0, 0);
+    ANSWERS(wcolor_set(&screen, 1, 5), 0, 0);
+    ANSWERS(wattr_get(asked, 1), 0x11, 5);
+    ANSWERS(getbkgd(asked, 1), ' ', 0);
+    ANSWERS(wbkgdset(&screen, 1, CURSPAN_DIM, '.'), 0, 0);
+    ANSWERS(wbkgdpair(&screen, 1, 63), 0, 0);
+    ANSWERS(getbkgd(asked, 1), 63 * 65536 + 0x02 * 256 + '.', 0);
+    ANSWERS(wgetscrreg(asked, 2), 0, 2);
+    ANSWERS(wsetscrreg(&screen, 2, 1, 2), 0, 0);
+    ANSWERS(wgetscrreg(asked, 2), 1, 2);
+    ANSWERS(is_scrollok(asked, 2), 0, 0);
+    ANSWERS(scrollok(&screen, 2, true), 0, 0);
+    ANSWERS(is_scrollok(asked, 2), 1, 0);
+    ANSWERS(is_cleared(asked, 1), 0, 0);
+    ANSWERS(wclear(&screen, 1), 0, 0);
+    ANSWERS(is_cleared(asked, 1), 1, 0);
+    REFUSED(wattr_get(asked, 5), NO_SUCH_WINDOW);
+    REFUSED(getbkgd(asked, 5), NO_SUCH_WINDOW);
+    REFUSED(wgetscrreg(asked, 5), NO_SUCH_WINDOW);
+    REFUSED(is_scrollok(asked, 5), NO_SUCH_WINDOW);
+    REFUSED(is_cleared(asked, 5), NO_SUCH_WINDOW);
+}
+
+static void see_kinships(void) {
+    const curspan *asked = &screen;
+    make_windows();
+    ANSWERS(is_pad(asked, 1), 0, 0);
+    ANSWERS(is_pad(asked, 2), 1, 0);
+    ANSWERS(is_pad(asked, 4), 1, 0);
+    ANSWERS(wgetparent(asked, 3), 1, 0);
+    ANSWERS(wgetparent(asked, 4), 2, 0);
+    REFUSED(wgetparent(asked, 2), NOT_DERIVED);
+    REFUSED(wgetparent(asked, 5), NO_SUCH_WINDOW);
+    ANSWERS(window_panel(asked, 1), 1, 0);
+    ANSWERS(window_panel(asked, 3), 0, 0);
+    REFUSED(is_pad(asked, 5), NO_SUCH_WINDOW);
+    REFUSED(window_panel(asked, 5), NO_SUCH_WINDOW);
+    ANSWERS(delwin(&screen, 3), 0, 0);
+    ANSWERS(next_window(asked, 0), 1, 0);
+    ANSWERS(next_window(asked, 1), 2, 0);
+    ANSWERS(next_window(asked, 2), 4, 0);
+    ANSWERS(next_window(asked, 4), 0, 0);
+    ANSWERS(next_window(asked, UINT32_MAX), 0, 0);
+    ANSWERS(newwin(&screen, 1, 1, 0, 0), 3, 0);
+    ANSWERS(new_panel(&screen, 3), 2, 0);
+    ANSWERS(hide_panel(&screen, 2), 0, 0);
+    ANSWERS(next_panel(asked, 0), 1, 0);
+    ANSWERS(next_panel(asked, 1), 2, 0);
+    ANSWERS(next_panel(asked, 2), 0, 0);
+    ANSWERS(del_panel(&screen, 1), 0, 0);
+    ANSWERS(next_panel(asked, 0), 2, 0);
+    ANSWERS(next_panel(asked, UINT32_MAX), 0, 0);
+}
+
+static void want_cells(const uint32_t *cells, const uint32_t *wanted, size_t count, const char *what) {
+    for (size_t i = 0; i < count; i++) {
+        if (cells[i] == wanted[i]) continue;
+        printf("statuses: %s: cell %u is %x; wanted: %x\n", what, (unsigned)i, (unsigned)cells[i], (unsigned)wanted[i]);
+        wrong++;
+    }
+}
+
+/* Rows are read from their first cell on, as far as there is room, and no cursor moves. */
+static void see_rows(void) {
+    enum { H = 7 * 65536 + 0x04 * 256 + 'h', I = 7 * 65536 + 0x04 * 256 + 'i', OTHER = 77 };
+    static const uint32_t all[10] = {' ', ' ', H, I, ' ', ' ', ' ', ' ', OTHER, OTHER};
+    static const uint32_t three[4] = {' ', ' ', H, OTHER};
+    static const uint32_t shown[10] = {0x04010468, 0x04010469, 0x09090020, 0x09090020, 0x09090020,
+                                       0x09090020, 0x09090020, 0x09090020, 0x09090020, 0x09090020};
+    const curspan *asked = &screen;
+    uint32_t cells[10];
+    make_windows();
+    ANSWERS(init_pair(&screen, 7, 1, 4), 0, 0);
+    ANSWERS(wattrset(&screen, 2, CURSPAN_UNDERLINE), 0, 0);
+    ANSWERS(wcolor_set(&screen, 2, 7), 0, 0);
+    ANSWERS(wmove(&screen, 2, 1, 2), 0, 0);
+    ANSWERS(waddstr(&screen, 2, (const uint8_t *)"hi", 2), 0, 0);
+    for (size_t i = 0; i < 10; i++) cells[i] = OTHER;
+    ANSWERS(row(asked, 2, 1, NULL, 0), 8, 0);
+    ANSWERS(row(asked, 2, 1, cells, 3), 8, 0);
+    want_cells(cells, three, 4, "a row for which there is little room");
+    ANSWERS(row(asked, 2, 1, cells, 10), 8, 0);
+    want_cells(cells, all, 10, "a row");
+    REFUSED(row(asked, 2, 3, cells, 10), OUTSIDE_WINDOW);
+    REFUSED(row(asked, 5, 0, cells, 10), NO_SUCH_WINDOW);
+    REFUSED(shown_row(asked, 4, cells, 10), OUTSIDE_WINDOW);
+    want_cells(cells, all, 10, "a row after refusals");
+    ANSWERS(row(asked, 4, 0, cells, 10), 1, 0);
+    want_cells(cells, &all[3], 1, "a derived pad's row");
+    ANSWERS(getyx(asked, 2), 1, 4);
+    ANSWERS(pnoutrefresh(&screen, 2, 1, 2, 3, 0, 3, 1), 0, 0);
+    ANSWERS(shown_row(asked, 3, NULL, 0), 10, 0);
+    ANSWERS(shown_row(asked, 3, cells, 10), 10, 0);
+    want_cells(cells, shown, 10, "a row as it is shown");
+    if (CURSPAN_CHARACTER(cells[0]) != 'h' || CURSPAN_ATTRIBUTES(cells[0]) != CURSPAN_UNDERLINE) wrong++;
+    if (CURSPAN_FOREGROUND(cells[0]) != 1 || CURSPAN_BACKGROUND(cells[0]) != 4 || CURSPAN_FOREGROUND(cells[2]) != 9) wrong++;
+}
+
+/* Numbers of more than 16 bits, and characters of more than 8, are refused, and not cut. */
+static void see_too_great(void) {
+    make_windows();
+    REFUSED(wmove(&screen, 65536, 0, 0), NO_SUCH_WINDOW);
+    REFUSED(wmove(&screen, 0, 65536, 0), OUTSIDE_WINDOW);
+    REFUSED(wmove(&screen, 0, 0, UINT32_MAX), OUTSIDE_WINDOW);
+    REFUSED(wmove(&screen, UINT32_MAX, 0, 0), NO_SUCH_WINDOW);
+    REFUSED(newwin(&screen, 65537, 1, 0, 0), OFF_SCREEN);
+    REFUSED(newwin(&screen, 1, 1, 0, 65536), OFF_SCREEN);
+    REFUSED(newpad(&screen, 65537, 1), BAD_SIZE);
+    REFUSED(derwin(&screen, 1, 65536, 1, 0, 0), OUTSIDE_PARENT);
+    REFUSED(open(&screen, 65536 + 24, 80), BAD_SIZE);
+    REFUSED(waddch(&screen, 0, 256 + 'A'), BAD_CHARACTER);
+    REFUSED(winsch(&screen, 0, 65536 + 'A'), BAD_CHARACTER);
+    REFUSED(wbkgdset(&screen, 0, 0, 256 + ' '), BAD_CHARACTER);
+    REFUSED(wcolor_set(&screen, 0, 65536), BAD_PAIR);
+    REFUSED(init_pair(&screen, 65537, 0, 0), BAD_PAIR);
+    REFUSED(init_pair(&screen, 1, 65536, 0), BAD_PAIR);
+    REFUSED(wsetscrreg(&screen, 0, 65536, 65537), BAD_REGION);
+    REFUSED(touchline(&screen, 0, 0, 65537), OUTSIDE_WINDOW);
+    REFUSED(copywin(&screen, 0, 1, 65536, 0, 0, 0, 0, 0, false), OUTSIDE_WINDOW);
+    REFUSED(is_linetouched(&screen, 0, 65536), OUTSIDE_WINDOW);
+    REFUSED(row(&screen, 65536, 0, NULL, 0), NO_SUCH_WINDOW);
+    REFUSED(row(&screen, 0, 65536, NULL, 0), OUTSIDE_WINDOW);
+    REFUSED(shown_row(&screen, 65536, NULL, 0), OUTSIDE_WINDOW);
+    REFUSED(is_pad(&screen, 65536), NO_SUCH_WINDOW);
+    REFUSED(del_panel(&screen, 65537), NO_SUCH_PANEL);
+    REFUSED(panel_above(&screen, 65536), NO_SUCH_PANEL);
+    ANSWERS(scrollok(&screen, 0, true), 0, 0);
+    ANSWERS(waddch(&screen, 0, 'A'), 0, 0);
+    ANSWERS(wscrl(&screen, 0, 65536), 0, 0);
+    ANSWERS(wmove(&screen, 0, 0, 0), 0, 0);
+    ANSWERS(winch(&screen, 0), ' ', 0);
+    ANSWERS(waddch(&screen, 0, 'A'), 0, 0);
+    ANSWERS(wscrl(&screen, 0, INT32_MIN), 0, 0);
+    ANSWERS(wmove(&screen, 0, 0, 0), 0, 0);
+    ANSWERS(winch(&screen, 0), ' ', 0);
+}
+
+static void want_text(const char *text, const char *wanted) {
+    if (strcmp(text, wanted) == 0) return;
+    printf("statuses: a text is \"%s\"; wanted: \"%s\"\n", text, wanted);
+    wrong++;
+}
+
+static void see_texts(void) {
+    want_text(curspan_text(CURSPAN_OK), "done");
+    want_text(curspan_text(CURSPAN_NO_SUCH_WINDOW), "there is no such window or pad");
+    want_text(curspan_text(CURSPAN_WRITE_FAILED), "there is no memory for the bytes of a doupdate");
+    want_text(curspan_text(CURSPAN_CLOSED), "the screen is closed");
+    want_text(curspan_text(23), "there is no such status");
+    want_text(curspan_version(), CURSPAN_VERSION);
+    if (*curspan_commit() == '\0') wrong++;
+}
+
 /* The bytes are kept until there is room, and each is taken once. */
 static void see_bytes(void) {
     static const char wanted[] = "\033[0m\033[2J\033[1;1Hhi";
@@ -104,19 +276,24 @@ static void see_bytes(void) {
 /* A screen is opened over another, which is given back, of any size up to the largest. */
 static void see_screens(void) {
     static uint8_t bytes[4096];
-    static const uint16_t sizes[][2] = {{999, 999}, {1, 1}, {501, 2}, {2, 501}, {999, 1}, {24, 80}};
+    static uint32_t cells[CURSPAN_LARGEST_SCREEN];
+    static const uint32_t sizes[][2] = {{999, 999}, {1, 1}, {501, 2}, {2, 501}, {999, 1}, {24, 80}};
     for (size_t i = 0; i < sizeof sizes / sizeof sizes[0]; i++) {
-        uint16_t lines = sizes[i][0], columns = sizes[i][1];
+        uint32_t lines = sizes[i][0], columns = sizes[i][1];
         ANSWERS(open(&screen, lines, columns), 0, 0);
         ANSWERS(getmaxyx(&screen, 0), lines, columns);
-        ANSWERS(wmove(&screen, 0, (uint16_t)(lines - 1), (uint16_t)(columns - 1)), 0, 0);
+        ANSWERS(wmove(&screen, 0, lines - 1, columns - 1), 0, 0);
         ANSWERS(waddch(&screen, 0, '#'), 0, 0);
         curspan_update_panels(&screen);
         uint32_t sent = curspan_doupdate(&screen).first;
         if (sent < 21 || curspan_take(&screen, bytes, sizeof bytes) != sent || memchr(bytes, '#', sent) == NULL) {
-            printf("statuses: a screen of %d by %d isn't drawn\n", lines, columns);
+            printf("statuses: a screen of %d by %d isn't drawn\n", (int)lines, (int)columns);
             wrong++;
         }
+        ANSWERS(row(&screen, 0, lines - 1, cells, CURSPAN_LARGEST_SCREEN), columns, 0);
+        if (cells[columns - 1] != '#') wrong++;
+        ANSWERS(shown_row(&screen, lines - 1, cells, columns), columns, 0);
+        if (cells[columns - 1] != 0x09090023) wrong++;
     }
 }
 
@@ -124,6 +301,11 @@ int main(void) {
     see_closed();
     see_refusals();
     see_answers();
+    see_settings();
+    see_kinships();
+    see_rows();
+    see_too_great();
+    see_texts();
     see_bytes();
     see_screens();
     curspan_close(&screen);

@@ -1,0 +1,52 @@
+/* The terminal's alternate characters, by which lines are drawn. A window keeps such a character as the letter that VT100 has for it, of a
+   pair of curspan.h that stands for alternate ones; see colours.c. Nothing here is proved. */
+#include "inside.h"
+#include "terminal.h"
+
+#include <string.h>
+
+chtype acs_map[128];
+bool curspan_has_alternates;
+
+#define OF_RXVT "`afgjklmnopqrstuvwxyz{|}~"
+#define OF_VT100 OF_RXVT "i"
+#define OF_SCREENS OF_VT100 "+,-.0h"
+
+/* The letters that have an alternate character on the terminals whose types begin so. On the Linux console none has one, since it draws letters
+   in their place where it reads UTF-8. */
+static const struct {
+    const char *type, *letters;
+} sets[] = {
+    {"screen", OF_SCREENS}, {"tmux", OF_SCREENS}, {"xterm", OF_VT100}, {"rxvt", OF_RXVT},       {"vt1", OF_VT100},   {"vt2", OF_VT100},
+    {"vt3", OF_VT100},      {"vt4", OF_VT100},    {"gnome", OF_VT100}, {"konsole", OF_VT100},   {"kitty", OF_VT100}, {"foot", OF_VT100},
+    {"putty", OF_VT100},    {"st-", OF_VT100},    {"Eterm", OF_VT100}, {"alacritty", OF_VT100},
+};
+
+static const char *letters_of(const char *type) {
+    for (size_t i = 0; i < sizeof sets / sizeof sets[0]; i++)
+        if (strncmp(type, sets[i].type, strlen(sets[i].type)) == 0) return sets[i].letters;
+    return "";
+}
+
+/* X/Open's character for a letter where the terminal has none. */
+static chtype plain_of(chtype letter) {
+    static const char plain[] = "`+a:f'g#h#i#j+k+l+m+n+o~p-q-r-s_t+u+v+w+x|y<z>{*|!}f~o,<+>.v-^0#"; /* pairs of a letter and its character */
+    for (size_t i = 0; plain[i]; i += 2)
+        if ((unsigned char)plain[i] == letter) return (unsigned char)plain[i + 1];
+    return letter < 128 ? letter : '?';
+}
+
+void curspan_begin_map(void) {
+    const char *letters = letters_of(termname());
+    curspan_has_alternates = *letters != 0;
+    for (chtype ch = 0; ch < 128; ch++) acs_map[ch] = plain_of(ch);
+    for (; *letters; letters++) acs_map[(unsigned char)*letters] = (unsigned char)*letters | A_ALTCHARSET;
+}
+
+chtype curspan_as_drawn(chtype ch) {
+    chtype letter = ch & A_CHARTEXT;
+    if (!(ch & A_ALTCHARSET)) return ch;
+    bool has_it = letter < 128 && acs_map[letter] & A_ALTCHARSET;
+    if (has_it && curspan_use_pair(A_ALTCHARSET) > 0) return ch;
+    return (ch & ~(A_ALTCHARSET | A_CHARTEXT)) | plain_of(letter);
+}
