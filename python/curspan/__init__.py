@@ -1,0 +1,34 @@
+"""Windows, derived windows, pads and panels of curses, whose calls are proved.
+
+A Screen keeps windows and sends the bytes that show what changed of them:
+
+    with curspan.Screen(24, 80, sys.stdout.buffer) as screen:
+        window = screen.newwin(3, 20, 2, 5)
+        window.addstr(1, 2, 'hello', curspan.Attr.BOLD)
+        window.new_panel()
+        screen.update_panels()
+        screen.doupdate()
+
+Screen, Window, Pad and Panel have a method for each call, and each call that is refused raises an exception with the refusal's name, as
+OutsideWindow. The page docs/python.md explains all.
+"""
+from ._curspan import Pad, Panel, Screen, Window, commit as __commit__, version as __version__
+from ._errors import (
+    # Written by tools/calls from calls.table: imports
+    NoSuchWindow, NoSuchPanel, OffScreen, OutsideParent, OutsideWindow, HasDerived, InPanel, IsPad,
+    NotPad, NotDerived, BadSize, BadRegion, BadCharacter, StandardScreen, Hidden, ScrollingOff,
+    TooMany, NoMemory, BadRectangle, BadPair,
+    # End of what tools/calls wrote
+    Closed, Error, Refusal, WriteFailed,
+)
+from ._values import Attr, Cell, Color, Shown
+
+__all__ = [
+    'Screen', 'Window', 'Pad', 'Panel', 'Attr', 'Color', 'Cell', 'Shown',
+    # Written by tools/calls from calls.table: exported
+    'NoSuchWindow', 'NoSuchPanel', 'OffScreen', 'OutsideParent', 'OutsideWindow', 'HasDerived',
+    'InPanel', 'IsPad', 'NotPad', 'NotDerived', 'BadSize', 'BadRegion', 'BadCharacter',
+    'StandardScreen', 'Hidden', 'ScrollingOff', 'TooMany', 'NoMemory', 'BadRectangle', 'BadPair',
+    # End of what tools/calls wrote
+    'Closed', 'Error', 'Refusal', 'WriteFailed', '__commit__', '__version__',
+]

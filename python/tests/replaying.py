@@ -1,0 +1,128 @@
+"""Makes the calls of a script by the methods of Python, and writes the log that `curspan run` writes."""
+import re
+
+import curspan
+from curspan import Attr
+from oracle.script import Fault, lines_of, read_line
+
+# Calls that have another name as methods.
+NAMES = {'scrl': 'scroll', 'delwin': 'delete', 'del_panel': 'delete'}
+OF_SCREENS = ('newwin', 'newpad', 'init_pair', 'update_panels', 'doupdate')
+OF_PANELS = ('del_panel', 'show_panel', 'hide_panel', 'top_panel', 'bottom_panel', 'move_panel', 'replace_panel', 'panel_above', 'panel_below',
+             'panel_window', 'panel_hidden')
+# The places of further windows among the arguments, of attributes, and of texts and characters.
+FURTHER_WINDOWS = {'overlay': 1, 'overwrite': 1, 'copywin': 1, 'replace_panel': 1}
+WITH_ATTRIBUTES = ('attrset', 'attron', 'attroff', 'bkgdset')
+COUNTS = ('update_panels', 'doupdate')
+NUMBERS = {it.__name__: number for number, it in curspan._errors.BY_STATUS.items()}
+
+
+def told(answer):
+    """How the log tells an answer, or None where it doesn't."""
+    if isinstance(answer, bool):
+        return 'true' if answer else 'false'
+    if isinstance(answer, curspan.Cell):
+        return f'{ord(answer.character)} {answer.attrs.value:02x} {answer.pair}'
+    if isinstance(answer, tuple):
+        return f'{answer[0]} {answer[1]}'
+    if isinstance(answer, (curspan.Window, curspan.Panel)):
+        return str(answer.number)
+    return None if answer is None else str(answer)
+
+
+class Replay:
+    """The screen of a script, and what came of its calls."""
+
+    def __init__(self, lines, columns, script, chance):
+        self.screen = curspan.Screen(lines, columns)
+        self.chance = chance
+        self.windows, self.panels = {0: self.screen.stdscr}, {}
+        window = self.screen.newwin(1, 1)
+        self.gone = {'window': [window], 'panel': [window.new_panel()]}     # the deleted ones, which stand for numbers that there are not
+        self.gone['panel'][0].delete()
+        window.delete()
+        self.log, self.out, self.status = '', b'', 0
+        for number, line in enumerate(lines_of(script), 1):
+            said = read_line(line)
+            if isinstance(said, Fault):
+                self.tell(number, said.kind)
+                self.status = 2
+                break
+            if said:
+                self.make(number, said.word, said.arguments)
+            if len(self.out) < 100 or chance.random() < 0.5:
+                self.out += self.screen.take()
+        self.out += self.screen.take()
+
+    def tell(self, number, text):
+        if text is not None:
+            self.log += f'line {number}: {text}\n'
+
+    def make(self, number, word, arguments):
+        try:
+            answer = self.call(word, list(arguments))
+        except curspan.Refusal as why:
+            name = type(why).__name__
+            self.tell(number, f'E{NUMBERS[name]} {name}')
+            self.status = 1
+            return
+        self.note(word, arguments, answer)
+        if word in ('panel_above', 'panel_below') and answer is None:
+            answer = 'none'
+        if word not in COUNTS:
+            self.tell(number, told(answer))
+
+    def note(self, word, arguments, answer):
+        """Keeps the objects that a call made, and finds those that it answers again."""
+        objects, gone = (self.panels, self.gone['panel']) if isinstance(answer, curspan.Panel) or word == 'del_panel' else (self.windows, self.gone['window'])
+        if word in ('delwin', 'del_panel'):
+            gone.append(objects.pop(arguments[0]))
+        elif isinstance(answer, (curspan.Window, curspan.Panel)):
+            assert objects.setdefault(answer.number, answer) is answer
+
+    def window(self, number):
+        """The object of a number, or one that is gone."""
+        return self.windows.get(number) or self.chance.choice(self.gone['window'])
+
+    def panel(self, number):
+        return self.panels.get(number) or self.chance.choice(self.gone['panel'])
+
+    def call(self, word, arguments):
+        name = NAMES.get(word, word)
+        if word in ('panel_above', 'panel_below') and arguments[0] is None:
+            return self.screen.bottom_panel() if word == 'panel_above' else self.screen.top_panel()
+        if word in FURTHER_WINDOWS:
+            place = FURTHER_WINDOWS[word]
+            arguments[place] = self.window(arguments[place])
+        if word in WITH_ATTRIBUTES:
+            arguments[1] = Attr(int(arguments[1], 16) if isinstance(arguments[1], bytes) else arguments[1])
+        if word == 'bkgdset':
+            arguments[1:] = reversed(arguments[1:])
+        if word in OF_SCREENS:
+            receiver = self.screen
+        elif word in OF_PANELS:
+            receiver = self.panel(arguments.pop(0))
+            name = re.sub('_?panel_?', '', name)
+        else:
+            receiver = self.window(arguments.pop(0))
+            if not hasattr(receiver, name) and name in ('subpad', 'pnoutrefresh'):   # no method of windows
+                raise curspan.NoSuchWindow if receiver in self.gone['window'] else curspan.NotPad
+        return self.by_chance(receiver, name, [self.as_text(it) for it in arguments])
+
+    def as_text(self, value):
+        """Bytes as a text, at times, where they are one."""
+        return value.decode() if isinstance(value, bytes) and value.isascii() and self.chance.random() < 0.5 else value
+
+    def by_chance(self, receiver, name, arguments):
+        """Calls a method by places, by names, or a setting's property."""
+        setting = {'attrset': 'attrs', 'color_set': 'pair', 'scrollok': 'scrolling', 'clearok': 'clearing', 'setscrreg': 'region'}.get(name)
+        if setting and self.chance.random() < 0.3:
+            value = tuple(arguments) if name == 'setscrreg' else arguments[0]
+            setattr(receiver, setting, value)
+            return None
+        method = getattr(receiver, name)
+        signature = method.__text_signature__ or ''
+        names = [part.split('=')[0] for part in signature.strip('()').replace('$self, ', '').split(', ') if part and not part.startswith('$')]
+        if names and len(names) == len(arguments) and '/' not in names and self.chance.random() < 0.3:
+            return method(**dict(zip(names, arguments)))
+        return method(*arguments)

@@ -1,0 +1,179 @@
+"""What tools/calls writes for Python: the methods of the extension in C, their rows, their stubs, and the exceptions."""
+import re
+import textwrap
+
+WIDTH = 140
+# Of each type of argument: in C, what takes it from an object, and its hint.
+TYPES = {
+    'number': ('uint32_t', 'curspan_take_number({object}, &{name})', 'int'),
+    'colour': ('uint32_t', 'curspan_take_number({object}, &{name})', 'int'),
+    'signed': ('int32_t', 'curspan_take_signed({object}, &{name})', 'int'),
+    'flag': ('bool', 'curspan_take_flag({object}, &{name})', 'bool'),
+    'attributes': ('uint8_t', 'curspan_take_attributes({object}, &{name})', 'Attr'),
+    'character': ('uint32_t', 'curspan_take_character({object}, &{name})', 'Character'),
+    'text': (None, None, 'Text'),
+    'window': ('uint32_t', 'curspan_take_window({object}, NUMBERED(self)->screen, &{name})', 'Window'),
+}
+# Of each answer: how a method makes an object of it, and its hint.
+ANSWERS = {
+    'nothing': ('nothing({answer})', 'None'),
+    'window': ('curspan_found_window({screen}, {answer})', 'Window'),
+    'new window': ('curspan_made_window({screen}, {answer})', 'Window'),
+    'new pad': ('curspan_made_pad({screen}, {answer})', 'Pad'),
+    'new_panel': ('curspan_made_panel({screen}, {answer})', 'Panel'),
+    'panel_or_none': ('curspan_found_panel({screen}, {answer})', 'Optional[Panel]'),
+    'flag': ('flag({answer})', 'bool'),
+    'two_numbers': ('curspan_two_numbers({answer})', 'Tuple[int, int]'),
+    'cell': (None, 'Cell'),
+    'count_of_cells': ('number({answer})', 'int'),
+    'count_of_bytes': ('number({answer})', 'int'),
+}
+# Methods that have another name than the call's word, as Python's curses has it, or as `del` is no name.
+NAMES = {'wscrl': 'scroll', 'delwin': 'delete', 'del_panel': 'delete'}
+# What an argument is that is left out, as the hint and as C have it.
+SIZE = {'lines': '0', 'columns': '0', 'y': '0', 'x': '0'}
+DEFAULTS = {'newwin': SIZE, 'derwin': SIZE, 'subwin': SIZE, 'subpad': SIZE, 'wscrl': {'n': '1'}, 'scrollok': {'flag': 'True'}, 'clearok': {'flag': 'True'},
+            'wtouchln': {'flag': 'True'}, 'copywin': {'overlay': 'False'}, 'wbkgdset': {'attrs': 'None'}}
+IN_C = {'True': 'true', 'False': 'false', 'None': '0'}
+# Arguments in the order of Python's curses, where those that may be left out come last.
+ORDER = {'wbkgdset': ['ch', 'attrs']}
+# What is said of a method otherwise than of its call.
+SENTENCES = {
+    'panel_above': 'The panel right above a visible one, or None.',
+    'panel_below': 'The panel right below a visible one, or None.',
+    'winch': 'The cell at the cursor, or at a place. The cursor stays.',
+    'doupdate': 'Sends the bytes that show the virtual screen on the terminal, to the file if there is one: only what changed, or all of it after '
+                'a clear. It answers how many they are.',
+}
+# Calls that may be given a place first, and those whose function is written by hand for another reason.
+PLACED = {'waddch', 'waddstr', 'winsch', 'wdelch', 'winch'}
+BY_HAND = PLACED | {'doupdate', 'init_pair', 'delwin', 'del_panel'}
+
+
+class Method:
+    """The method of a call: its type, its name, and its parameters without the object that it is called on. `owner` is what the functions of
+    the type in C are named after, which pads share with windows."""
+
+    def __init__(self, call, words):
+        self.call = call
+        self.sentence = re.sub(r'`(\w+)`', lambda it: f'`{words.get(it[1], it[1])}`', SENTENCES.get(call.name, call.sentence))
+        kinds = [kind for _, kind in call.arguments]
+        self.owner = {'window': 'window', 'panel': 'panel', 'panel_or_none': 'panel'}.get(kinds[0] if kinds else '', 'screen')
+        self.type = 'pad' if 'NotPad' in call.refusals else self.owner
+        self.name = NAMES.get(call.name) or (re.sub('_?panel_?', '', call.word) if self.owner == 'panel' else call.word)
+        self.parameters = call.arguments[0 if self.owner == 'screen' else 1:]
+        if call.name in ORDER:
+            self.parameters = [(name, dict(self.parameters)[name]) for name in ORDER[call.name]]
+        self.defaults = DEFAULTS.get(call.name, {})
+        self.function = f'curspan_{self.owner}_{self.name}' if call.name in BY_HAND else f'{self.owner}_{self.name}'
+        self.answer = call.answer
+        if call.answer == 'window' and not call.asks:
+            self.answer = 'new pad' if call.name in ('newpad', 'subpad') else 'new window'
+
+    def hint(self, name, kind):
+        """The hint of a parameter, with what says that it may be left out."""
+        default = self.defaults.get(name)
+        hint = TYPES[kind][2]
+        return hint if default is None else f'Optional[{hint}] = ...' if default == 'None' else f'{hint} = ...'
+
+    def object(self, name, place):
+        """The argument of a parameter in C."""
+        return f'unless_none(given[{place}])' if self.defaults.get(name) == 'None' else f'given[{place}]'
+
+    def takes_any(self):
+        return bool(self.parameters) or self.call.name in PLACED
+
+    def heads(self):
+        """Its parameters as a docstring has them."""
+        if self.call.name in PLACED:
+            rest = ''.join(f', {name}' if index == 0 else '' for index, (name, _) in enumerate(self.parameters)).lstrip(', ')
+            return f'{self.name}([y, x, ]{rest}, attrs=None, *, pair=None)' if rest else f'{self.name}([y, x])'
+        words = ['$self', *(f'{name}={self.defaults[name]}' if name in self.defaults else name for name, _ in self.parameters)]
+        return f'{self.name}({", ".join(words)})\n--\n'
+
+    def entry(self):
+        """Its entry in the page, with what it answers."""
+        head = self.heads().replace('($self, ', '(').replace('($self', '(').split('\n')[0]
+        hint = ANSWERS[self.answer][1]
+        answer = '' if hint == 'None' else f' -> {hint}'
+        refusals = f' *{self.call.refusals}.*' if self.call.refusals else ''
+        text = f'- `{self.type.capitalize()}.{head}{answer}`: {self.sentence}{refusals}'
+        return textwrap.fill(text, 120, subsequent_indent='  ', break_on_hyphens=False, break_long_words=False)
+
+    def about(self):
+        """Its docstring."""
+        refusals = f' Refused: {self.call.refusals}.' if self.call.refusals else ''
+        return f'{self.heads()}\n{self.sentence.replace("`", "")}{refusals}'
+
+    def stubs(self):
+        """Its lines in the file of stubs."""
+        hint = ANSWERS[self.answer][1]
+        if self.call.name in PLACED:
+            what = [f'{name}: {TYPES[kind][2]}' for name, kind in self.parameters]
+            more = ['attrs: Optional[Attr] = ...', '*', 'pair: Optional[int] = ...'] if what else []
+            return [line for place in ([], ['y: int', 'x: int'])
+                    for line in ('@overload', f'def {self.name}({", ".join(["self", *place, *what, *more])}) -> {hint}: ...')]
+        words = ['self', *(f'{name}: {self.hint(name, kind)}' for name, kind in self.parameters)]
+        return [f'def {self.name}({", ".join(words)}) -> {hint}: ...']
+
+
+def wrapped(text, indent):
+    return textwrap.fill(text, WIDTH, initial_indent=indent, subsequent_indent=indent + '    ', break_on_hyphens=False, break_long_words=False)
+
+
+def function(method):
+    """The function of a method in C."""
+    call, of_screen = method.call, method.owner == 'screen'
+    names = [name for name, _ in call.arguments[0 if of_screen else 1:]]
+    made = ', '.join(['&SCREEN(self)->handle' if of_screen else 'HANDLE(self), NUMBER(self)', *names])
+    answer = ANSWERS[method.answer][0].format(screen='SCREEN(self)' if of_screen else 'NUMBERED(self)->screen', answer=f'curspan_{call.name}({made})')
+    if not method.parameters:
+        return '\n'.join([f'static PyObject *{method.function}(PyObject *self, PyObject *none) {{', '    (void)none;', wrapped(f'return {answer};', '    '), '}'])
+    count = len(method.parameters)
+    words = ', '.join(f'"{name}"' for name, _ in method.parameters)
+    variables = {}
+    for name, kind in method.parameters:
+        value = method.defaults.get(name)
+        variables.setdefault(TYPES[kind][0], []).append(name if value is None else f'{name} = {IN_C.get(value, value)}')
+    taken = ' || '.join('!' + TYPES[kind][1].format(object=method.object(name, place), name=name) for place, (name, kind) in enumerate(method.parameters))
+    return '\n'.join([
+        f'static PyObject *{method.function}(PyObject *self, PyObject *const *given, Py_ssize_t count, PyObject *names) {{',
+        wrapped(f'static const Parameters parameters = {{"{method.name}", {count - len(method.defaults)}, {count}, {{{words}}}}};', '    '),
+        f'    PyObject *room[{count}];', *(f'    {kind} {", ".join(its)};' for kind, its in variables.items()),
+        '    if (!(given = in_order(&parameters, given, count, names, room))) return NULL;',
+        wrapped(f'if ({taken}) return NULL;', '    '), wrapped(f'return {answer};', '    '), '}'])
+
+
+def row(method):
+    """The row of a method in the table of its type."""
+    flags = 'METH_FASTCALL | METH_KEYWORDS' if method.takes_any() else 'METH_NOARGS'
+    text = method.about().split('\n')
+    lines = [line + '\n' for line in text[:-1]] + textwrap.wrap(text[-1], 100, break_on_hyphens=False)
+    lines = [line if line.endswith('\n') or number == len(lines) - 1 else line + '\n' for number, line in enumerate(lines)]
+    quoted = '\n'.join('     "' + line.replace('\n', '\\n') + '"' for line in lines)
+    return f'    {{"{method.name}", AS_FUNCTION({method.function}), {flags},\n{quoted}}},'
+
+
+def error(number, name, words):
+    bases = {'NoMemory': 'Refusal, MemoryError'}.get(name, 'Refusal')
+    return f'class {name}({bases}):\n    """{words[0].upper()}{words[1:]}."""\n    status = {number}'
+
+
+def parts(refusals, groups):
+    """The text of each part, by its file and its name."""
+    words = {call.name: call.word for _, its in groups.values() for call in its}
+    methods = [Method(call, words) for _, its in groups.values() for call in its]
+    files = {'python/src/methods_of_windows.c': ('window', 'pad'), 'python/src/methods_of_screens.c': ('screen', 'panel')}
+    for file, types in files.items():
+        yield file, 'methods', '\n\n'.join(function(it) for it in methods if it.type in types and it.call.name not in BY_HAND)
+        for name in types:
+            own = [it for it in methods if it.type == name]
+            yield file, f'{name} rows', '\n'.join(map(row, own))
+            yield 'python/curspan/_curspan.pyi', f'{name} stubs', '\n'.join('    ' + line for it in own for line in it.stubs())
+    for group, (what, its) in groups.items():
+        yield 'docs/python.md', group, f'### {what[0].upper()}{what[1:]}\n\n' + '\n'.join(it.entry() for it in methods if it.call in its)
+    named = '\n'.join(textwrap.fill(f'- `{name}`: {words}', 120, subsequent_indent='  ', break_on_hyphens=False) for name, words in refusals)
+    yield 'docs/python.md', 'refusals', named
+    yield 'python/curspan/_errors.py', 'errors', '\n\n\n'.join(error(number, *it) for number, it in enumerate(refusals, 1))
+    yield 'python/curspan/__init__.py', 'exported', '\n'.join(textwrap.wrap(', '.join(f"'{name}'" for name, _ in refusals) + ',', 100, initial_indent='    ', subsequent_indent='    '))
+    yield 'python/curspan/__init__.py', 'imports', '\n'.join(textwrap.wrap(', '.join(name for name, _ in refusals) + ',', 100, initial_indent='    ', subsequent_indent='    '))
