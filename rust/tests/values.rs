@@ -1,0 +1,63 @@
+//! Attributes, colours, cells and refusals by themselves, and numbers that are too great.
+
+use curspan::{Attributes, Cell, Color, Refusal, Screen, STDSCR};
+use std::error::Error;
+
+#[test]
+fn attributes_are_sets() {
+    let mut set = Attributes::BOLD | Attributes::UNDERLINE;
+    assert!(set.contains(Attributes::BOLD) && set.contains(Attributes::NONE));
+    assert!(!set.contains(Attributes::BOLD | Attributes::BLINK));
+    assert_eq!(set.bits(), 0x05);
+    set |= Attributes::INVIS;
+    assert_eq!(format!("{set:?}"), "BOLD | UNDERLINE | INVIS");
+    assert_eq!(Attributes::from_bits(0x25), Some(set));
+    assert_eq!(Attributes::from_bits(0x40), None);
+    assert_eq!(Attributes::default(), Attributes::NONE);
+    assert_eq!(format!("{:?}", Attributes::NONE), "NONE");
+}
+
+#[test]
+fn colours_have_numbers() {
+    assert_eq!(u32::from(Color::Cyan), 6);
+    assert_eq!(Color::try_from(7), Ok(Color::White));
+    assert_eq!(Color::try_from(8), Err(Refusal::BadPair));
+    assert_eq!(Color::try_from(u32::MAX), Err(Refusal::BadPair));
+}
+
+#[test]
+fn a_cell_is_blank_at_first() {
+    let cell = Cell::default();
+    let parts = (cell.character(), cell.attributes(), cell.pair());
+    assert_eq!(parts, (' ', Attributes::NONE, 0));
+    let text = "Cell { character: ' ', attributes: NONE, pair: 0 }";
+    assert_eq!(format!("{cell:?}"), text);
+}
+
+#[test]
+fn refusals_are_errors() {
+    let refusal: Box<dyn Error> = Refusal::TooMany.into();
+    assert!(refusal.to_string().starts_with("there are 1000 windows"));
+    assert_eq!(Refusal::NoSuchWindow.number(), 1);
+    assert_eq!(Refusal::BadPair.number(), 20);
+    assert_eq!(Refusal::BadPair.to_string(), Refusal::BadPair.text());
+}
+
+#[test]
+fn great_numbers_are_refused_and_not_cut() {
+    const CUT_TO_ONE: u32 = 0x1_0001;
+    let mut screen = Screen::new(Vec::new(), 4, 10).unwrap();
+    let refused = Err(Refusal::OutsideWindow);
+    assert_eq!(screen.wmove(STDSCR, CUT_TO_ONE, 1), refused);
+    assert_eq!(screen.wmove(STDSCR, 1, CUT_TO_ONE), refused);
+    assert_eq!(screen.touchline(STDSCR, 1, CUT_TO_ONE), refused);
+    assert_eq!(screen.newwin(CUT_TO_ONE, 1, 1, 1), Err(Refusal::OffScreen));
+    assert_eq!(screen.newpad(1, CUT_TO_ONE), Err(Refusal::BadSize));
+    assert_eq!(screen.wcolor_set(STDSCR, CUT_TO_ONE), Err(Refusal::BadPair));
+    assert_eq!(screen.waddch(STDSCR, '\u{141}'), Err(Refusal::BadCharacter));
+    assert_eq!(
+        Screen::new(Vec::new(), CUT_TO_ONE, 10).err(),
+        Some(Refusal::BadSize)
+    );
+    assert_eq!(screen.getyx(STDSCR), Ok((0, 0)));
+}

@@ -1,0 +1,93 @@
+"""What tools/calls writes for Rust: the functions and the methods of the crate, and its refusals. And the lines of the programs of cases/replay,
+in C and in Rust, which make the calls of a script.
+"""
+import re
+
+from calls_text import applied, fill, layout, signature
+
+# Of each type: as an argument of a method, in C's function, and how a method passes it on.
+TYPES = {
+    'number': ('u32', 'u32', '{0}'),
+    'colour': ('Color', 'u32', 'u32::from({0})'),
+    'signed': ('i32', 'i32', '{0}'),
+    'window': ('Window', 'u32', 'self.windows.number({0}.0)'),
+    'panel': ('Panel', 'u32', 'self.panels.number({0}.0)'),
+    'panel_or_none': ('Option<Panel>', 'u32', '{0}.map_or(0, |{0}| self.panels.number({0}.0))'),
+    'character': ('char', 'u32', 'u32::from({0})'),
+    'attributes': ('Attributes', 'u8', '{0}.bits()'),
+    'flag': ('bool', 'bool', '{0}'),
+}
+# Of each answer: its type, and how it is made of C's.
+ANSWERS = {
+    'nothing': ('()', 'Ok(())'),
+    'made window': ('Window', 'self.added_window(answer.first)'),
+    'window': ('Window', 'Ok(self.window(answer.first))'),
+    'new_panel': ('Panel', 'self.added_panel(answer.first)'),
+    'panel_or_none': ('Option<Panel>', 'Ok(self.panel(answer.first))'),
+    'flag': ('bool', 'Ok(answer.first != 0)'),
+    'two_numbers': ('(u32, u32)', 'Ok((answer.first, answer.second))'),
+    'cell': ('Cell', 'Ok(Cell(answer.first))'),
+}
+# The calls whose method is written by hand, and of them those whose function is.
+BY_HAND = {'delwin', 'del_panel', 'update_panels', 'waddstr', 'doupdate'}
+IN_SYS = {'waddstr', 'doupdate'}
+
+
+def links(text, targets):
+    """A text of documentation, in which each name of a refusal or a call leads to it."""
+    text = re.sub(r'\b(?<!`)([A-Z][a-z]+(?:[A-Z][a-z]+)+|Hidden)\b', r'[`\1`](Refusal::\1)', text)
+    return re.sub(r'`(\w+)`(?!\])', lambda it: f'[`{it[1]}`](Screen::{it[1]})' if it[1] in targets else it[0], text)
+
+
+def function(call):
+    arguments = [f'screen: &{"" if call.asks else "mut "}Screen', *(f'{name}: {TYPES[kind][1]}' for name, kind in call.arguments)]
+    return f'    fn curspan_{call.name}({", ".join(arguments)}) -> Answer;'
+
+
+def method(call, names):
+    targets = names - {name for name, _ in call.arguments}
+    parameters = ['&self' if call.asks else '&mut self', *(f'{name}: {TYPES[kind][0]}' for name, kind in call.arguments)]
+    answer, made = ANSWERS['made window' if call.answer == 'window' and not call.asks else call.answer]
+    passed = [(name, TYPES[kind][2].format(name)) for name, kind in call.arguments]
+    bound = ''.join(f'        let {name} = {value};\n' for name, value in passed if 'self' in value)
+    handed = [f'&{"" if call.asks else "mut "}self.sys', *(name if 'self' in value else value for name, value in passed)]
+    start = '' if call.answer == 'nothing' else 'let answer = '
+    made_by = layout(f'{start}sys::curspan_{call.name}', handed, '?;', '        ', lambda _, items: len(', '.join(items)) <= 60)
+    return '\n'.join([fill(links(call.sentence, targets), '    /// ', 100), '    ///', '    /// # Errors', '    ///',
+                      fill(links(call.refusals, targets) + '.', '    /// ', 100), '    #[inline]',
+                      signature(f'pub fn {call.name}', parameters, f' -> Result<{answer}, Refusal> {{', '    '),
+                      f'{bound}{made_by}', f'        {made}', '    }'])
+
+
+# ---- the programs of cases/replay, which make the calls of a script
+
+# Of each answer: how the program in C tells it.
+TOLD = {'window': 'window', 'new_panel': 'window', 'panel_or_none': 'panel', 'count_of_bytes': 'bytes', 'count_of_cells': 'nothing'}
+# Of each type: how the program in Rust takes it from a line, where that isn't the type's own name.
+TAKEN_IN_RUST = {'window': 'known.window(a.number({}))', 'panel': 'known.panel(a.number({}))', 'panel_or_none': 'known.panel_or_none(a.number({}))',
+                 'colour': 'a.color({})?'}
+
+
+def replay_in_c(call):
+    passed = ['text, length' if kind == 'text' else f'n[{place}]' for place, (_, kind) in enumerate(call.arguments)]
+    return f'    CALL({", ".join([call.name, TOLD.get(call.answer, call.answer), *passed])})'
+
+
+def replay_in_rust(call):
+    taken = [TAKEN_IN_RUST.get(kind, f'a.{kind}({{}})').format(place) for place, (_, kind) in enumerate(call.arguments)]
+    refused = '' if call.answer == 'count_of_cells' else '?'
+    return f'        "{call.name}" => screen.{call.name}({", ".join(taken)}){refused}.text(known),'
+
+
+def parts(refusals, groups):
+    """The text of each part, by its file and its name."""
+    calls = [call for _, its in groups.values() for call in its]
+    numbered = [(number, name, words) for number, (name, words) in enumerate(refusals, 1)]
+    names = {call.name for call in calls}
+    yield 'rust/src/refusal.rs', 'variants', '\n'.join(f'    /// {words[0].upper()}{words[1:]}.\n    {name} = {number},' for number, name, words in numbered)
+    yield 'rust/src/refusal.rs', 'texts', f'const TEXTS: [(Refusal, &str); {len(refusals)}] = [\n' + ''.join(
+        applied('', [f'Refusal::{name}', f'"{words}"'], '    ') + ',\n' for _, name, words in numbered) + '];'
+    yield 'rust/src/sys.rs', 'functions', '\n'.join(function(call) for call in calls if call.name not in IN_SYS)
+    yield 'cases/replay/replay.c', 'calls', '\n'.join(map(replay_in_c, calls))
+    yield 'cases/replay/rust/src/calls.rs', 'calls', '\n'.join(map(replay_in_rust, calls))
+    yield 'rust/src/calls.rs', 'forwarding', '\n\n'.join(method(call, names) for call in calls if call.name not in BY_HAND)
