@@ -1,13 +1,18 @@
 # What tests use besides the kit, a line each: a command, or a header in angle brackets; the packages of Debian that have
 # it; and the parts of ./test that are skipped without it, wholly or not.
-used_by_tests='gcc:gcc libc6-dev:library for C, budgets, refused allocations, small frames, faulty streams, C programs, keys of C programs, memory of C programs, packages
-ar:binutils:library for C, C programs, keys of C programs, memory of C programs, packages
+used_by_tests='gcc:gcc libc6-dev:library for C, budgets, refused allocations, small frames, faulty streams, C programs, keys of C programs, memory of C programs, packages, Python, many screens, other languages, Rust
+ar:binutils:library for C, C programs, keys of C programs, memory of C programs, packages, Python, many screens, other languages, Rust
 pkg-config:pkg-config:packages
 dpkg-deb:dpkg:packages
 lintian:lintian:packages
-valgrind:valgrind libc6-dbg:budgets, memory, small frames, memory of C programs
-python3:python3:random, small frames, terminal, interrupted scripts, building, C programs, keys of C programs
-tmux:tmux:shell scripts, terminal, C programs, keys of C programs
+valgrind:valgrind libc6-dbg:budgets, memory, small frames, memory of C programs, Rust
+python3:python3:random, small frames, terminal, interrupted scripts, building, C programs, keys of C programs, packages, Python, many screens, other languages
+python3-config:python3-dev:packages, Python
+mypy:mypy:Python
+cargo:cargo:other languages, Rust, packages
+rustfmt:rustfmt:Rust
+clippy-driver:rust-clippy:Rust
+tmux:tmux:shell scripts, terminal, C programs, keys of C programs, Python
 tic:ncurses-bin:small frames, C programs, keys of C programs
 <panel.h>:libncurses-dev:small frames, C programs, keys of C programs'
 

@@ -11,6 +11,7 @@ from .differing import Differs
 from .of_scripts import Script, reads_few_cells
 from .of_streams import Stream
 from .program import Program
+from .replaying import Replay, is_replayed
 from .scripts import script_of
 from .shrinking import smallest_script, smallest_stream
 from .streams import stream_of
@@ -25,6 +26,7 @@ def read_words():
     parser.add_argument('seed', metavar='SEED', type=int, nargs='?', help='the first seed; the time if left out')
     parser.add_argument('--program', required=True, metavar='FILE', help='the program, in place of the one that was built')
     parser.add_argument('--probe', required=True, metavar='FILE', help='the program that counts composed cells, likewise')
+    parser.add_argument('--replay', metavar='FILE', action='append', default=[], help='try scripts alone, through programs of other languages')
     parser.add_argument('--print', action='store_true', help='print the scripts and the streams, and try nothing')
     parser.add_argument('--whole', action='store_true', help='print what fails as it is, and make nothing smaller')
     return parser.parse_args()
@@ -50,16 +52,21 @@ class Trial:
     def __init__(self, words, work):
         self.program = Program(words.program, work)
         self.probe = Program(words.probe, work) if os.access(words.probe, os.X_OK) else None
+        self.replays = [Replay(path, work, self.program) for path in words.replay]
         self.makes_smaller = not words.whole
 
     def checks(self):
         """Each check of a script, and the program that it is of."""
+        if self.replays:
+            return [(is_replayed, replay) for replay in self.replays]
         counting = [(reads_few_cells, self.probe)] if self.probe else []
         return [(check, self.program) for check in SCRIPT_CHECKS] + counting
 
     def try_seed(self, seed):
         """Answers whether all holds of a seed's script and stream."""
         script = Script(*script_of(random.Random(f'script {seed}')))
+        if self.replays:
+            return all(self.holds(check, program, script, seed) for check, program in self.checks())
         stream = Stream(*stream_of(random.Random(f'stream {seed}')))
         return (all(self.holds(check, program, script, seed) for check, program in self.checks())
                 and all(self.holds(check, self.program, stream, seed) for check in of_streams.CHECKS))
@@ -116,7 +123,7 @@ def try_seeds(words, first):
             if time.monotonic() - told > SECONDS_BETWEEN:
                 told = time.monotonic()
                 print(f'random: {seed - first + 1} of {words.count} passed', file=sys.stderr)
-    counted = '' if trial.probe else ', and no cells were counted: there is no probe'
+    counted = '' if trial.probe or trial.replays else ', and no cells were counted: there is no probe'
     print(f'random: {words.count} passed, from seed {first} on{counted}; go on by cases/random 1000 {first + words.count}')
     return 0
 

@@ -1,5 +1,6 @@
 """What must hold of a script, whatever it says."""
 import random
+from functools import cached_property
 
 from oracle.economy import waste_of
 from oracle.findings import findings
@@ -24,7 +25,11 @@ class Script:
         self.columns = columns
         self.text = text
         self.chance = random.Random(0)
-        self.wanted = run_script(lines, columns, text)
+
+    @cached_property
+    def wanted(self):
+        """What the oracle says comes of it."""
+        return run_script(self.lines, self.columns, self.text)
 
     def words(self, job):
         return [job] if job == 'check' else [job, '--lines', str(self.lines), '--cols', str(self.columns)]

@@ -1,0 +1,146 @@
+/* Makes the calls of a script by curspan.h, and puts out what `curspan run` does: the bytes, and the log, in which a refusal has its number
+   alone. cases/trial/replaying.py writes the script plainly: a line for each call has the number of the script's line, the call's name in C,
+   numbers, and a text in hexadecimal digits. The words are the lines and the columns of the screen. */
+#include <curspan.h>
+#include <stdio.h>
+#include <stdlib.h>
+#include <string.h>
+
+static curspan screen = CURSPAN_INIT;
+static const char *number; /* of the script's line */
+
+/* Tells what a call answers, as the log does. */
+static void tell_nothing(curspan_answer answer) { (void)answer; }
+static void tell_window(curspan_answer answer) { fprintf(stderr, "line %s: %u\n", number, answer.first); }
+static void tell_flag(curspan_answer answer) { fprintf(stderr, "line %s: %s\n", number, answer.first ? "true" : "false"); }
+static void tell_two_numbers(curspan_answer answer) { fprintf(stderr, "line %s: %u %u\n", number, answer.first, answer.second); }
+
+static void tell_panel(curspan_answer answer) {
+    if (answer.first)
+        tell_window(answer);
+    else
+        fprintf(stderr, "line %s: none\n", number);
+}
+
+static void tell_cell(curspan_answer answer) {
+    fprintf(stderr, "line %s: %u %02x %u\n", number, CURSPAN_CHARACTER(answer.first), CURSPAN_ATTRIBUTES(answer.first),
+            (unsigned)CURSPAN_PAIR(answer.first));
+}
+
+/* Writes the bytes that a doupdate sent. */
+static void tell_bytes(curspan_answer answer) {
+    static uint8_t bytes[1 << 24];
+    size_t length = curspan_take(&screen, bytes, sizeof bytes);
+    if (length != answer.first || fwrite(bytes, 1, length, stdout) != length) exit(3);
+}
+
+static void tell(curspan_answer answer, void (*what)(curspan_answer)) {
+    if (answer.status == CURSPAN_OK)
+        what(answer);
+    else
+        fprintf(stderr, "line %s: E%u\n", number, answer.status);
+}
+
+#define CALL(name, what, ...) \
+    if (strcmp(word, #name) == 0) { \
+        tell(curspan_##name(&screen, ##__VA_ARGS__), tell_##what); \
+        return; \
+    }
+
+/* Makes a call of numbers and a text. */
+static void make(const char *word, const long *n, const uint8_t *text, size_t length) {
+    /* Written by tools/calls from calls.table: calls */
+    CALL(newwin, window, n[0], n[1], n[2], n[3])
+    CALL(subwin, window, n[0], n[1], n[2], n[3], n[4])
+    CALL(derwin, window, n[0], n[1], n[2], n[3], n[4])
+    CALL(newpad, window, n[0], n[1])
+    CALL(subpad, window, n[0], n[1], n[2], n[3], n[4])
+    CALL(delwin, nothing, n[0])
+    CALL(mvwin, nothing, n[0], n[1], n[2])
+    CALL(mvderwin, nothing, n[0], n[1], n[2])
+    CALL(wmove, nothing, n[0], n[1], n[2])
+    CALL(waddch, nothing, n[0], n[1])
+    CALL(waddstr, nothing, n[0], text, length)
+    CALL(winsch, nothing, n[0], n[1])
+    CALL(wdelch, nothing, n[0])
+    CALL(winsertln, nothing, n[0])
+    CALL(wdeleteln, nothing, n[0])
+    CALL(werase, nothing, n[0])
+    CALL(wclear, nothing, n[0])
+    CALL(wclrtoeol, nothing, n[0])
+    CALL(wclrtobot, nothing, n[0])
+    CALL(wscrl, nothing, n[0], n[1])
+    CALL(wsetscrreg, nothing, n[0], n[1], n[2])
+    CALL(scrollok, nothing, n[0], n[1])
+    CALL(clearok, nothing, n[0], n[1])
+    CALL(wattrset, nothing, n[0], n[1])
+    CALL(wattron, nothing, n[0], n[1])
+    CALL(wattroff, nothing, n[0], n[1])
+    CALL(wbkgdset, nothing, n[0], n[1], n[2])
+    CALL(wcolor_set, nothing, n[0], n[1])
+    CALL(wbkgdpair, nothing, n[0], n[1])
+    CALL(overlay, nothing, n[0], n[1])
+    CALL(overwrite, nothing, n[0], n[1])
+    CALL(copywin, nothing, n[0], n[1], n[2], n[3], n[4], n[5], n[6], n[7], n[8])
+    CALL(touchwin, nothing, n[0])
+    CALL(untouchwin, nothing, n[0])
+    CALL(touchline, nothing, n[0], n[1], n[2])
+    CALL(wtouchln, nothing, n[0], n[1], n[2], n[3])
+    CALL(wsyncup, nothing, n[0])
+    CALL(wsyncdown, nothing, n[0])
+    CALL(is_linetouched, flag, n[0], n[1])
+    CALL(is_wintouched, flag, n[0])
+    CALL(getyx, two_numbers, n[0])
+    CALL(getbegyx, two_numbers, n[0])
+    CALL(getmaxyx, two_numbers, n[0])
+    CALL(getparyx, two_numbers, n[0])
+    CALL(winch, cell, n[0])
+    CALL(new_panel, window, n[0])
+    CALL(del_panel, nothing, n[0])
+    CALL(show_panel, nothing, n[0])
+    CALL(hide_panel, nothing, n[0])
+    CALL(top_panel, nothing, n[0])
+    CALL(bottom_panel, nothing, n[0])
+    CALL(move_panel, nothing, n[0], n[1], n[2])
+    CALL(replace_panel, nothing, n[0], n[1])
+    CALL(panel_above, panel, n[0])
+    CALL(panel_below, panel, n[0])
+    CALL(panel_window, window, n[0])
+    CALL(panel_hidden, flag, n[0])
+    CALL(wnoutrefresh, nothing, n[0])
+    CALL(pnoutrefresh, nothing, n[0], n[1], n[2], n[3], n[4], n[5], n[6])
+    CALL(update_panels, nothing)
+    CALL(doupdate, bytes)
+    CALL(init_pair, nothing, n[0], n[1], n[2])
+    /* End of what tools/calls wrote */
+    exit(4);
+}
+
+/* Reads the bytes of hexadecimal digits, and answers how many they are. */
+static size_t read_text(const char *digits, uint8_t *text) {
+    size_t length = 0;
+    unsigned byte;
+    for (; sscanf(digits, "%2x", &byte) == 1; digits += 2) text[length++] = (uint8_t)byte;
+    return length;
+}
+
+int main(int count, char **words) {
+    char line[2000];
+    if (count != 3 || curspan_open(&screen, atoi(words[1]), atoi(words[2])).status != CURSPAN_OK) return 2;
+    while (fgets(line, sizeof line, stdin)) {
+        const char *arguments[10];
+        long n[10];
+        uint8_t text[1000];
+        line[strcspn(line, "\n")] = 0;
+        number = strtok(line, " ");
+        const char *word = strtok(NULL, " ");
+        for (size_t i = 0; i < 10; i++) {
+            arguments[i] = strtok(NULL, " ");
+            if (!arguments[i]) arguments[i] = "";
+            n[i] = strtol(arguments[i], NULL, 10);
+        }
+        make(word, n, text, read_text(arguments[1], text));
+    }
+    curspan_close(&screen);
+    return 0;
+}

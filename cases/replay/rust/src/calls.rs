@@ -1,0 +1,77 @@
+//! Each call by its name.
+
+use crate::{Answer, Arguments, Known};
+use curspan::{Error, Screen};
+use std::io::Stdout;
+
+/// Makes a call, and answers what the log says of its answer, if anything.
+#[rustfmt::skip]
+pub(crate) fn make(screen: &mut Screen<Stdout>, known: &mut Known, call: &str, a: &Arguments) -> Result<Option<String>, Error> {
+    Ok(match call {
+        // Written by tools/calls from calls.table: calls
+        "newwin" => screen.newwin(a.number(0), a.number(1), a.number(2), a.number(3))?.text(known),
+        "subwin" => screen.subwin(known.window(a.number(0)), a.number(1), a.number(2), a.number(3), a.number(4))?.text(known),
+        "derwin" => screen.derwin(known.window(a.number(0)), a.number(1), a.number(2), a.number(3), a.number(4))?.text(known),
+        "newpad" => screen.newpad(a.number(0), a.number(1))?.text(known),
+        "subpad" => screen.subpad(known.window(a.number(0)), a.number(1), a.number(2), a.number(3), a.number(4))?.text(known),
+        "delwin" => screen.delwin(known.window(a.number(0)))?.text(known),
+        "mvwin" => screen.mvwin(known.window(a.number(0)), a.number(1), a.number(2))?.text(known),
+        "mvderwin" => screen.mvderwin(known.window(a.number(0)), a.number(1), a.number(2))?.text(known),
+        "wmove" => screen.wmove(known.window(a.number(0)), a.number(1), a.number(2))?.text(known),
+        "waddch" => screen.waddch(known.window(a.number(0)), a.character(1))?.text(known),
+        "waddstr" => screen.waddstr(known.window(a.number(0)), a.text(1))?.text(known),
+        "winsch" => screen.winsch(known.window(a.number(0)), a.character(1))?.text(known),
+        "wdelch" => screen.wdelch(known.window(a.number(0)))?.text(known),
+        "winsertln" => screen.winsertln(known.window(a.number(0)))?.text(known),
+        "wdeleteln" => screen.wdeleteln(known.window(a.number(0)))?.text(known),
+        "werase" => screen.werase(known.window(a.number(0)))?.text(known),
+        "wclear" => screen.wclear(known.window(a.number(0)))?.text(known),
+        "wclrtoeol" => screen.wclrtoeol(known.window(a.number(0)))?.text(known),
+        "wclrtobot" => screen.wclrtobot(known.window(a.number(0)))?.text(known),
+        "wscrl" => screen.wscrl(known.window(a.number(0)), a.signed(1))?.text(known),
+        "wsetscrreg" => screen.wsetscrreg(known.window(a.number(0)), a.number(1), a.number(2))?.text(known),
+        "scrollok" => screen.scrollok(known.window(a.number(0)), a.flag(1))?.text(known),
+        "clearok" => screen.clearok(known.window(a.number(0)), a.flag(1))?.text(known),
+        "wattrset" => screen.wattrset(known.window(a.number(0)), a.attributes(1))?.text(known),
+        "wattron" => screen.wattron(known.window(a.number(0)), a.attributes(1))?.text(known),
+        "wattroff" => screen.wattroff(known.window(a.number(0)), a.attributes(1))?.text(known),
+        "wbkgdset" => screen.wbkgdset(known.window(a.number(0)), a.attributes(1), a.character(2))?.text(known),
+        "wcolor_set" => screen.wcolor_set(known.window(a.number(0)), a.number(1))?.text(known),
+        "wbkgdpair" => screen.wbkgdpair(known.window(a.number(0)), a.number(1))?.text(known),
+        "overlay" => screen.overlay(known.window(a.number(0)), known.window(a.number(1)))?.text(known),
+        "overwrite" => screen.overwrite(known.window(a.number(0)), known.window(a.number(1)))?.text(known),
+        "copywin" => screen.copywin(known.window(a.number(0)), known.window(a.number(1)), a.number(2), a.number(3), a.number(4), a.number(5), a.number(6), a.number(7), a.flag(8))?.text(known),
+        "touchwin" => screen.touchwin(known.window(a.number(0)))?.text(known),
+        "untouchwin" => screen.untouchwin(known.window(a.number(0)))?.text(known),
+        "touchline" => screen.touchline(known.window(a.number(0)), a.number(1), a.number(2))?.text(known),
+        "wtouchln" => screen.wtouchln(known.window(a.number(0)), a.number(1), a.number(2), a.flag(3))?.text(known),
+        "wsyncup" => screen.wsyncup(known.window(a.number(0)))?.text(known),
+        "wsyncdown" => screen.wsyncdown(known.window(a.number(0)))?.text(known),
+        "is_linetouched" => screen.is_linetouched(known.window(a.number(0)), a.number(1))?.text(known),
+        "is_wintouched" => screen.is_wintouched(known.window(a.number(0)))?.text(known),
+        "getyx" => screen.getyx(known.window(a.number(0)))?.text(known),
+        "getbegyx" => screen.getbegyx(known.window(a.number(0)))?.text(known),
+        "getmaxyx" => screen.getmaxyx(known.window(a.number(0)))?.text(known),
+        "getparyx" => screen.getparyx(known.window(a.number(0)))?.text(known),
+        "winch" => screen.winch(known.window(a.number(0)))?.text(known),
+        "new_panel" => screen.new_panel(known.window(a.number(0)))?.text(known),
+        "del_panel" => screen.del_panel(known.panel(a.number(0)))?.text(known),
+        "show_panel" => screen.show_panel(known.panel(a.number(0)))?.text(known),
+        "hide_panel" => screen.hide_panel(known.panel(a.number(0)))?.text(known),
+        "top_panel" => screen.top_panel(known.panel(a.number(0)))?.text(known),
+        "bottom_panel" => screen.bottom_panel(known.panel(a.number(0)))?.text(known),
+        "move_panel" => screen.move_panel(known.panel(a.number(0)), a.number(1), a.number(2))?.text(known),
+        "replace_panel" => screen.replace_panel(known.panel(a.number(0)), known.window(a.number(1)))?.text(known),
+        "panel_above" => screen.panel_above(known.panel_or_none(a.number(0)))?.text(known),
+        "panel_below" => screen.panel_below(known.panel_or_none(a.number(0)))?.text(known),
+        "panel_window" => screen.panel_window(known.panel(a.number(0)))?.text(known),
+        "panel_hidden" => screen.panel_hidden(known.panel(a.number(0)))?.text(known),
+        "wnoutrefresh" => screen.wnoutrefresh(known.window(a.number(0)))?.text(known),
+        "pnoutrefresh" => screen.pnoutrefresh(known.window(a.number(0)), a.number(1), a.number(2), a.number(3), a.number(4), a.number(5), a.number(6))?.text(known),
+        "update_panels" => screen.update_panels().text(known),
+        "doupdate" => screen.doupdate()?.text(known),
+        "init_pair" => screen.init_pair(a.number(0), a.color(1)?, a.color(2)?)?.text(known),
+        // End of what tools/calls wrote
+        _ => panic!("there is no call {call}"),
+    })
+}
