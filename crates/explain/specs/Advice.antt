@@ -1,7 +1,6 @@
 -- What to write for a name of curses that is no word of scripts. The texts are Curspan's own.
-use Rattle.std.specs.Prelude.{ℕ, Bool, List, [], ◌∷◌, ◌++◌, codes, drop, find, is_some, length, Option, option_map, Some, None, take, if◌then◌else◌}
+use Rattle.std.specs.Prelude.{ℕ, Bool, List, [], ◌∷◌, ◌++◌, codes, drop, find, is_some, length, Option, option_map, Some, None, take, unwrap_or, if◌then◌else◌}
 use Rattle.std.specs.List.{list_any, slice_split}
-use Rattle.std.specs.Option.{option_map_or}
 use Rattle.std.specs.Str.{bytes_eq}
 use Rattle.script.specs.Characters.{is_space}
 use Rattle.explain.specs.Nearest.{nearest}
@@ -115,7 +114,7 @@ abbrev pub or_else : Option (List ℕ) → Option (List ℕ) → Option (List �
 or_else None other = other
 or_else (Some said) other = Some said
 
--- the call whose letters are the word's, but for one at most
+-- the call that is near the word
 abbrev pub see_nearest : List ℕ → Option (List ℕ)
 see_nearest word = option_map (λ name. codes "see " ++ name) (nearest word)
 
@@ -129,4 +128,4 @@ said_of word =
     (see_nearest word))))
 
 abbrev pub call_advice : List ℕ → List ℕ
-call_advice word = option_map_or (λ said. codes ": " ++ said) (said_of word) []
+call_advice word = codes ": " ++ unwrap_or (said_of word) (codes "curspan(1) lists the calls")

@@ -83,10 +83,13 @@ fn append_advice(text: &mut Finding, word: &[u8])
     ensures text { text.new.items ≡ text.old.items ++ call_advice word.now }
     ensures short { length text.new.items < FINDING_ROOM }
 {
-    if let Some(said) = said_of(word) {
-        append(text, b": ");
-        append(text, said.text);
-        append(text, said.call);
+    append(text, b": ");
+    match said_of(word) {
+        Some(said) => {
+            append(text, said.text);
+            append(text, said.call);
+        }
+        None => append(text, b"curspan(1) lists the calls"),
     }
 }
 

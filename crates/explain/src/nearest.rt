@@ -1,23 +1,23 @@
-//! The call that a word was meant to be, where one letter of it is wrong, or its case, or what else is no letter.
+//! The call that a word was meant to be, where one letter of it is wrong, or two changed places, or its case, or what else is no letter.
 
 ghost use Rattle.std.specs.Prelude.{◌≡◌, ◌≤◌, ◌<◌, ◌∷◌, [], IfSome, MatchOption, find, length, option_map};
 ghost use Rattle.std.specs.Str.{bytes_eq};
 ghost use Rattle.script.specs.Pieces.{pieces_of};
-ghost use Rattle.explain.specs.Nearest.{is_near, letters_of, nearest};
+ghost use Rattle.explain.specs.Nearest.{are_swapped, is_near, letters_of, nearest};
 
 use script::split_at_space;
 
 // Written by tools/calls from calls.table: names
 
-/// The words of the calls, with a space between any two.
+/// The words of the calls by their first letters, with a space between any two.
 #[rattlefmt::skip]
 pub const CALLS: &[u8] =
-    b"newwin subwin derwin newpad subpad delwin mvwin mvderwin move addch addstr insch delch insertln deleteln \
-    erase clear clrtoeol clrtobot scrl setscrreg scrollok clearok attrset attron attroff bkgdset color_set \
-    bkgdpair overlay overwrite copywin touchwin untouchwin touchline touchln syncup syncdown is_linetouched \
-    is_wintouched getyx getbegyx getmaxyx getparyx inch new_panel del_panel show_panel hide_panel top_panel \
-    bottom_panel move_panel replace_panel panel_above panel_below panel_window panel_hidden noutrefresh \
-    pnoutrefresh update_panels doupdate init_pair";
+    b"addch addstr attrset attron attroff bkgdset bkgdpair bottom_panel clear clrtoeol clrtobot clearok \
+    color_set copywin delch deleteln derwin delwin del_panel doupdate erase getyx getbegyx getmaxyx getparyx \
+    hide_panel insch insertln is_linetouched is_wintouched inch init_pair move mvwin mvderwin move_panel \
+    newwin newpad new_panel noutrefresh overlay overwrite panel_above panel_below panel_window panel_hidden \
+    pnoutrefresh replace_panel scrl setscrreg scrollok subwin subpad syncup syncdown show_panel touchwin \
+    touchline touchln top_panel untouchwin update_panels";
 
 // End of what tools/calls wrote
 
@@ -49,7 +49,27 @@ fn has_letters_of(text: &[u8], other: &[u8]) -> bool
     }
 }
 
-/// Whether the letters of two texts are the same, but for one at most that is dropped, added or changed.
+/// Whether two texts have the same letters but for the first two, which change places.
+fn are_swapped(text: &[u8], other: &[u8]) -> bool
+    ensures { result ≡ are_swapped (letters_of text.now) (letters_of other.now) }
+{
+    let Some((first, rest)) = first_letter(text) else {
+        return false;
+    };
+    let Some((other_first, others)) = first_letter(other) else {
+        return false;
+    };
+    let Some((second, rest)) = first_letter(rest) else {
+        return false;
+    };
+    let Some((other_second, others)) = first_letter(others) else {
+        return false;
+    };
+    first == other_second && second == other_first && has_letters_of(rest, others)
+}
+
+/// Whether the letters of two texts are the same, but for one at most that is dropped, added or changed, or changes places with the
+/// next.
 fn is_near(text: &[u8], other: &[u8]) -> bool
     ensures { result ≡ is_near (letters_of text.now) (letters_of other.now) }
 {
@@ -64,6 +84,7 @@ fn is_near(text: &[u8], other: &[u8]) -> bool
                 has_letters_of(rest, others)
                     || has_letters_of(rest, other)
                     || has_letters_of(text, others)
+                    || are_swapped(text, other)
             }
         }
     }
