@@ -13,3 +13,5 @@ pub mod PieceWrites
 pub mod Clearing
 -- Cells as numbers, one in each lane, and where no lane differs; for `lanes`, `same_lanes`
 pub mod Lanes
+-- Cells that are shown many together; for `show`, `show_many`
+pub mod ShownPieces

@@ -79,6 +79,10 @@ pair_at pairs number = slice_index_or pairs number default_pair
 abbrev pub rendition_with : ColourPair → ℕ → Rendition
 rendition_with pair attributes = record { attributes = attributes; foreground = pair.foreground; background = pair.background }
 
+-- how a cell is shown in the colours of a pair
+abbrev pub shown_in : ColourPair → Glyph → Shown
+shown_in pair glyph = record { character = glyph.character; rendition = rendition_with pair glyph.attributes }
+
 -- how a cell is shown: with the colours that its pair has in the table
 abbrev pub shown : Pairs → Glyph → Shown
-shown pairs glyph = record { character = glyph.character; rendition = rendition_with (pair_at pairs glyph.pair) glyph.attributes }
+shown pairs glyph = shown_in (pair_at pairs glyph.pair) glyph

@@ -1,11 +1,13 @@
 //! Colours, and pairs of them.
 
-ghost use Rattle.std.specs.Prelude.{◌≡◌, ◌&&◌, is_none, ◌≤◌, nat_le, if◌then◌else◌, length, map, slice_set, true};
-ghost use Rattle.std.specs.List.{AllByRecursion};
-ghost use Rattle.cell.specs.Shown.{ArePairs, IsColour, IsShown, first_pairs, shown};
+ghost use Rattle.std.specs.Prelude.{◌≡◌, ◌==◌, ◌&&◌, is_none, ◌≤◌, nat_le, if◌then◌else◌, length, map, slice_set, true};
+ghost use Rattle.std.specs.List.{AllByRecursion, list_all};
+ghost use Rattle.cell.specs.Shown.{ArePairs, IsColour, IsShown, first_pairs, pair_at, shown, shown_in};
+ghost use Rattle.cell.specs.declared.difference.TheConstants.{LANES};
 
 use crate::cell::Cell;
 use crate::colour_bits::ColourBits;
+use crate::difference::LANES;
 use crate::limits::{LAST_COLOUR, LAST_PAIR};
 use crate::shown::Shown;
 use std::marker::Model;
@@ -189,12 +191,49 @@ impl Pairs {
         ensures value { result ≡ shown self.now cell }
         ensures sound { ArePairs self.now }
     {
-        let pair = self.pairs[usize::from(cell.pair().number())];
-        Shown::of_cell(cell, pair)
+        Shown::of_cell(cell, self.colours_of(cell.pair()))
     }
 
-    /// Writes shown cells into as many places.
+    /// The colours of a pair.
+    fn colours_of(&self, pair: PairId) -> ColourBits
+        ensures value { result ≡ pair_at self.now pair }
+        ensures sound { ArePairs self.now }
+    {
+        self.pairs[usize::from(pair.number())]
+    }
+
+    /// Writes shown cells into as many places, many together.
     pub(crate) fn show(&self, cells: &[Cell], places: &mut [Shown])
+        requires { length places.old ≡ length cells.now }
+        ensures shown { places.new ≡ map (shown self.now) cells.now }
+        ensures cells { AllByRecursion IsShown places.new }
+    {
+        let mut start = 0;
+        while cells.len() - start >= LANES {
+            let end = start + LANES;
+            self.show_many(&cells[start..end], &mut places[start..end]);
+            start = end;
+        }
+        self.show_each(&cells[start..], &mut places[start..]);
+    }
+
+    /// The same of so many cells. Most have one pair, which is looked up once.
+    fn show_many(&self, cells: &[Cell], places: &mut [Shown])
+        requires cells { length cells.now ≡ LANES }
+        requires places { length places.old ≡ LANES }
+        ensures shown { places.new ≡ map (shown self.now) cells.now }
+        ensures cells { AllByRecursion IsShown places.new }
+    {
+        let pair = cells[0].pair();
+        if are_of_pair(cells, pair) {
+            show_in(self.colours_of(pair), cells, places);
+        } else {
+            self.show_each(cells, places);
+        }
+    }
+
+    /// The same, one after another.
+    fn show_each(&self, cells: &[Cell], places: &mut [Shown])
         requires { length places.old ≡ length cells.now }
         ensures shown { places.new ≡ map (shown self.now) cells.now }
         ensures cells { AllByRecursion IsShown places.new }
@@ -204,6 +243,32 @@ impl Pairs {
             prove!(shown.ch() >= b' ');
             places[x] = shown;
         }
+    }
+}
+
+/// Whether so many cells all have a pair, by a loop with one exit, which the compiler vectorizes.
+fn are_of_pair(cells: &[Cell], pair: PairId) -> bool
+    requires { length cells.now ≡ LANES }
+    ensures { result ≡ list_all (λ cell. cell.pair == pair) cells.now }
+{
+    let mut all = true;
+    for x in 0..LANES {
+        all &= cells[x].pair() == pair;
+    }
+    all
+}
+
+/// Writes so many cells into places in colours, whatever their pairs are, by a loop that the compiler vectorizes.
+fn show_in(colours: ColourBits, cells: &[Cell], places: &mut [Shown])
+    requires cells { length cells.now ≡ LANES }
+    requires places { length places.old ≡ LANES }
+    ensures shown { places.new ≡ map (shown_in colours) cells.now }
+    ensures cells { AllByRecursion IsShown places.new }
+{
+    for x in 0..LANES {
+        let shown = Shown::of_cell(cells[x], colours);
+        prove!(shown.ch() >= b' ');
+        places[x] = shown;
     }
 }
 

@@ -8,8 +8,8 @@ ghost use Rattle.cell.specs.declared.difference.TheConstants.{LANES};
 use crate::shown::Shown;
 use std::simd::prelude::*;
 
-/// How many cells are compared at once.
-const LANES: usize = 16;
+/// How many cells are looked at together.
+pub(crate) const LANES: usize = 16;
 
 /// The first column in which two lines of one length differ.
 pub fn first_diff(old: &[Shown], new: &[Shown]) -> Option<usize>

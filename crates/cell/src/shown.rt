@@ -3,7 +3,7 @@
 ghost use Rattle.std.specs.Prelude.{◌≡◌, ◌<◌, if◌then◌else◌, true};
 ghost use Rattle.cell.specs.Attributes.{bits_of, valid_attributes};
 ghost use Rattle.cell.specs.Glyphs.{is_printable};
-ghost use Rattle.cell.specs.Shown.{IsRendition, IsShown, rendition_with};
+ghost use Rattle.cell.specs.Shown.{IsRendition, IsShown, rendition_with, shown_in};
 ghost use Rattle.cell.specs.Differences.{same_rendition, same_shown};
 ghost use Rattle.cell.specs.Packing.{shown_bits, shown_of};
 ghost use Rattle.std.specs.Cmp.{partial_equiv_from_equiv};
@@ -149,7 +149,7 @@ impl Shown {
 
     /// The character and the attributes of a cell in other colours than its pair's.
     pub(crate) fn of_cell(cell: Cell, colours: ColourBits) -> Shown
-        ensures { result ≡ record { character = cell.character; rendition = rendition_with colours cell.attributes } }
+        ensures { result ≡ shown_in colours cell }
     {
         Shown {
             bits: cell.bits() % 65_536 + colours.bits(),

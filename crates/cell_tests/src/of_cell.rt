@@ -5,7 +5,7 @@ ghost use Rattle.std.specs.Prelude.{length, ◌≡◌};
 use bitflags::Flags;
 use cell::{
     Attr, Cell, Colour, ColourPair, Grid, LARGEST_PAD, LARGEST_SCREEN, PairId, Pairs, Refusal,
-    Rendition, Shown, hex_digits, is_no_size, is_printable,
+    Rendition, Shown, hex_digits, is_no_size, is_printable, show_cells,
 };
 use std::alloc::{AllocError, Global};
 use std::test::Fail;
@@ -119,6 +119,24 @@ fn cells_are_shown_in_the_colours_of_their_pair(rt: HostRuntime) -> Result<(), F
     };
     let coloured = Rendition::new(Attr::BOLD, colours);
     assert_eq!(rt; Some(pairs.show_cell(cell)), Shown::new(b'A', coloured));
+    Ok(())
+}
+
+#[test]
+fn many_cells_are_shown_each_in_the_colours_of_its_pair(rt: HostRuntime) -> Result<(), Fail> {
+    let pair = PairId::new(2).ok_or("no pair")?;
+    let mut pairs = Pairs::new();
+    pairs.set(pair, Colour::RED, Colour::BLUE);
+    let letter = letter()?;
+    let mut cells = [letter; 50];
+    cells[31] = letter.with_pair(pair);
+    cells[49] = letter.with_pair(pair);
+    let mut picture = Grid::new(rt.alloc(), 1, 50)?;
+    show_cells(&cells, &pairs, 0, 0, &mut picture);
+    let mut wanted = [pairs.show_cell(letter); 50];
+    wanted[31] = pairs.show_cell(letter.with_pair(pair));
+    wanted[49] = pairs.show_cell(letter.with_pair(pair));
+    assert_eq!(rt; picture.row(0), wanted.as_slice());
     Ok(())
 }
 

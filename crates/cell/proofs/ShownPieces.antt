@@ -1,0 +1,49 @@
+-- Cells that are shown many together.
+use Rattle.std.proofs.Common.{◌≡◌, ℕ, ◌+◌, ◌-◌, ◌≤◌, ◌==◌, true, List, [], ◌∷◌, ◌++◌, length, map, take, drop, refl, sym, ap, arith, ◌∙◌}
+use Rattle.std.specs.List.{AllByRecursion, list_all}
+use Rattle.std.proofs.Math.Seq.{take-add, take-length}
+use Rattle.std.proofs.lemmas.Bool.{cases_eq}
+use Rattle.std.proofs.lemmas.Bool.Decides.{nat_tests}
+use Rattle.std.proofs.lemmas.List.{length-drop, length-take-le, map-append}
+use Rattle.std.proofs.lemmas.List.Elements.{All-from_recursion, recursion_from_All, All-append}
+use Rattle.std.proofs.lemmas.Slice.{take-put_mid}
+use borrow.Rule.Slice.PartMut.{put_mid, same_len_mid}
+use Rattle.cell.specs.Glyphs.{Glyph}
+use Rattle.cell.specs.Shown.{Pairs, pair_at, shown, shown_in}
+use Rattle.cell.specs.declared.colour.ColourPair.{ColourPair}
+
+-- cells of one pair, in its colours
+pub shown_alike : (pairs : Pairs) (pair : ℕ) (colours : ColourPair) (cells : List Glyph) → colours ≡ pair_at pairs pair
+    → list_all (λ cell. cell.pair == pair) cells ≡ true → map (shown_in colours) cells ≡ map (shown pairs) cells
+shown_alike pairs pair colours [] are all = refl
+shown_alike pairs pair colours (c ∷ cells) are all = grind (arith, nat_tests, cases_eq, (shown_alike pairs pair colours cells are))
+
+-- a piece more after those that are shown
+pub shown_more : {A B : Type 0} (f : A → B) (cells : List A) (places new : List B) (start n : ℕ) → start ≤ length places → length new ≡ n
+    → new ≡ map f (take n (drop start cells)) → take start places ≡ map f (take start cells)
+    → take (start + n) (put_mid start n places new) ≡ map f (take (start + n) cells)
+shown_more f cells places new start n inside long is before =
+    take-put_mid start n places new (start + n) (omega (arith, long)) inside
+    ∙ grind (arith, take-add, map-append, is, before)
+
+-- the last piece
+pub shown_rest : {A B : Type 0} (f : A → B) (cells : List A) (places new : List B) (start : ℕ) → start ≤ length places → length places ≡ length cells
+    → length new ≡ length places - start → new ≡ map f (take (length cells - start) (drop start cells)) → take start places ≡ map f (take start cells)
+    → put_mid start (length places - start) places new ≡ map f cells
+shown_rest f cells places new start inside long whole is before =
+    sym (take-length (put_mid start (length places - start) places new))
+    ∙ ap (λ n. take n (put_mid start (length places - start) places new)) (sum ∙ sym end)
+    ∙ shown_more f cells places new start (length places - start) inside whole (rw (long) is) before
+    ∙ ap (λ n. map f (take n cells)) (end ∙ long)
+    ∙ ap (map f) (take-length cells) where
+      end : start + (length places - start) ≡ length places
+      end = omega (arith, inside)
+
+      sum : length (put_mid start (length places - start) places new) ≡ length places
+      sum = same_len_mid start (length places - start) places new (grind (arith, whole, length-drop, length-take-le))
+
+pub sound_more : {B : Type 0} (Is : B → Type 0) (places new : List B) (start n : ℕ) → start ≤ length places → length new ≡ n → AllByRecursion Is (take start places)
+    → AllByRecursion Is new → AllByRecursion Is (take (start + n) (put_mid start n places new))
+sound_more Is places new start n inside long before sound =
+    rw (take-put_mid start n places new (start + n) (omega (arith, long)) inside)
+    (recursion_from_All Is (take start places ++ new) (All-append Is (take start places) new (All-from_recursion Is (take start places) before) (All-from_recursion Is new sound)))
