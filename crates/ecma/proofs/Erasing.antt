@@ -55,17 +55,13 @@ filled-is how line column lines columns old new h k below left filled =
           filled y x ∙ rw (ne_eqb y line other) (ap (λ (cells : List Shown). get_or cells x shown_blank) (sym (get_or-set_other old line y row [] other)))
     ])
 
-pub fill-erases : (how : Erase) (line column lines columns y start end : ℕ) (ends : ℕ × ℕ) (old new : Picture) → HasSize lines columns old → HasSize lines columns new → line < lines → column < columns
-    → y ≡ line → start ≡ ends.0 → end ≡ ends.1 → ends ≡ span how column columns
-    → ((v u : ℕ) → cell_or shown_blank new (v, u) ≡ (if (v == y) && (nat_le start u && nat_lt u end) then shown_blank else cell_or shown_blank old (v, u)))
+pub fill-erases : (how : Erase) (line column lines columns : ℕ) (ends : ℕ × ℕ) (old new : Picture) → HasSize lines columns old → HasSize lines columns new → line < lines → column < columns
+    → ends ≡ span how column columns
+    → ((v u : ℕ) → cell_or shown_blank new (v, u) ≡ (if (v == line) && is_within ends u then shown_blank else cell_or shown_blank old (v, u)))
     → new ≡ erased_at how (line, column) old
-fill-erases how line column lines columns y start end ends old new h k below left y-is start-is end-is ends-are filled =
+fill-erases how line column lines columns ends old new h k below left ends-are filled =
     filled-is how line column lines columns old new h k below left (λ v u.
-    filled v u
-    ∙ ap (λ (n : ℕ). if (v == n) && (nat_le start u && nat_lt u end) then shown_blank else cell_or shown_blank old (v, u)) y-is
-    ∙ ap (λ (n : ℕ). if (v == line) && (nat_le n u && nat_lt u end) then shown_blank else cell_or shown_blank old (v, u)) start-is
-    ∙ ap (λ (n : ℕ). if (v == line) && (nat_le ends.0 u && nat_lt u n) then shown_blank else cell_or shown_blank old (v, u)) end-is
-    ∙ ap (λ (some : ℕ × ℕ). if (v == line) && is_within some u then shown_blank else cell_or shown_blank old (v, u)) ends-are)
+    filled v u ∙ ap (λ (some : ℕ × ℕ). if (v == line) && is_within some u then shown_blank else cell_or shown_blank old (v, u)) ends-are)
 
 -- ---- some lines
 

@@ -1,6 +1,7 @@
--- What is always true of a terminal of some size.
-use Rattle.std.specs.Prelude.{◌≤◌, ◌<◌, ℕ, Option, MatchOption, ⊤}
-use Rattle.cell.specs.Pictures.{Picture, Place, HasSize}
+-- What is always true of a terminal of some size, and what is known of its lines.
+use Rattle.std.specs.Prelude.{◌≡◌, ◌≤◌, ◌<◌, ℕ, List, length, slice_index, Option, MatchOption, ⊤}
+use Rattle.cell.specs.Pictures.{Picture, Place, HasSize, shown_at}
+use Rattle.cell.specs.Shown.{shown_blank}
 use Rattle.cell.specs.declared.limits.TheConstants.{LARGEST_SCREEN}
 
 -- The picture has that size, at most the largest of a screen and one column at least, and the cursor is a place of it, if it is known.
@@ -10,3 +11,8 @@ pub record IsOnPage (lines columns : ℕ) (picture : Picture) (cursor : Option P
   pub a_column : 1 ≤ columns
   pub size : HasSize lines columns picture
   pub place : MatchOption cursor ⊤ (λ place. (place.0 < lines) × (place.1 < columns))
+
+-- Each line is blank from the column on that is kept for it.
+pub record KnowsBlanks (blank_from : List ℕ) (picture : Picture) : Type 0 where
+  pub each_line : length blank_from ≡ length picture
+  pub blank : (y x : ℕ) → slice_index blank_from y ≤ x → shown_at picture (y, x) ≡ shown_blank

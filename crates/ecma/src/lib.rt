@@ -1,5 +1,6 @@
 //! Control sequences of ECMA-48: how they are spelled, and what a terminal does with them.
 //!
+//! - `cells`: the cells of a page, and what is known of them
 //! - `laws`: laws of streams
 //! - `page`: what control functions do to the picture
 //! - `parameter`: parameters of a control sequence
@@ -10,6 +11,7 @@
 //! - `token`: what is sent to a terminal
 #![tactic(auto)]
 
+mod cells;
 pub mod laws;
 mod page;
 mod parameter;

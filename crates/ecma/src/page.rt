@@ -12,6 +12,7 @@ ghost use Rattle.ecma.specs.steps.Parameters.{function_of};
 ghost use Rattle.ecma.specs.Readers.{blank_terminal};
 ghost use Rattle.ecma.specs.Terminals.{blank_line, effect, erase_line, erase_page, erased_at, move_to, print};
 
+use crate::cells::Cells;
 use crate::parameter::{Parameter, erasure, position};
 use crate::selection::select_all;
 use crate::token::Erase;
@@ -26,7 +27,7 @@ use std::marker::Model;
 pub struct Page {
     lines: u16,
     columns: u16,
-    picture: Grid<Shown>,
+    picture: Cells,
     cursor: Option<(u16, u16)>,
     rendition: Rendition,
 }
@@ -54,7 +55,7 @@ impl Page {
         Ok(Page {
             lines,
             columns,
-            picture: Grid::new(alloc, lines, columns)?,
+            picture: Cells::new(alloc, lines, columns)?,
             cursor: Some((0, 0)),
             rendition: Rendition::NONE,
         })
@@ -72,7 +73,7 @@ impl Page {
         ensures picture { result.now ≡ self.now.picture }
         ensures narrow { All (λ line. length line ≤ LARGEST_SCREEN) result.now }
     {
-        &self.picture
+        self.picture.picture()
     }
 
     /// The cells of line `y`, from left to right.
@@ -80,7 +81,7 @@ impl Page {
         requires { y < length self.now.picture }
         ensures { result.now ≡ line_of self.now.picture y }
     {
-        self.picture.row(usize::from(y))
+        self.picture().row(usize::from(y))
     }
 
     /// The cell at line `y` and column `x`, and none off the page.
@@ -119,8 +120,7 @@ impl Page {
         let Some(shown) = Shown::new(byte, self.rendition) else {
             return false;
         };
-        self.picture
-            .set(usize::from(line), usize::from(column), shown);
+        self.picture.set(line, column, shown);
         self.cursor = if column + 1 < self.columns {
             Some((line, column + 1))
         } else {
@@ -222,7 +222,7 @@ impl Page {
 }
 
 /// Erases in a line.
-fn erase_in_line(picture: &mut Grid<Shown>, how: Erase, line: u16, column: u16, columns: u16)
+fn erase_in_line(picture: &mut Cells, how: Erase, line: u16, column: u16, columns: u16)
     requires line { line < length picture.old }
     requires column { column < columns }
     requires size { HasSize (length picture.old) columns picture.old }
@@ -233,16 +233,11 @@ fn erase_in_line(picture: &mut Grid<Shown>, how: Erase, line: u16, column: u16, 
         Erase::FromStart => (0, column + 1),
         Erase::All => (0, columns),
     };
-    picture.fill(
-        usize::from(line),
-        usize::from(start),
-        usize::from(end),
-        Shown::BLANK,
-    );
+    picture.erase(line, start, end);
 }
 
 /// Erases the lines from a first one on, up to an end, which is left out.
-fn erase_lines(picture: &mut Grid<Shown>, first: u16, end: u16, columns: u16)
+fn erase_lines(picture: &mut Cells, first: u16, end: u16, columns: u16)
     requires first { first ≤ end }
     requires end { end ≤ length picture.old }
     requires columns { 1 ≤ columns }

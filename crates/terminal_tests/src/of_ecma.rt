@@ -172,6 +172,52 @@ fn a_stream_is_shown_up_to_its_fault(rt: HostRuntime) -> Result<(), Fail> {
     Ok(())
 }
 
+/// Streams that erase, print and erase again: a place, and what is there then.
+#[test]
+fn what_is_printed_after_an_erasure_is_erased_too(rt: HostRuntime) -> Result<(), Fail> {
+    let blank = Some(Shown::BLANK);
+    let streams: [(&[u8], (u16, u16), Option<Shown>); 14] = [
+        (b"ab\x1b[2Jcd", (0, 1), blank),
+        (b"ab\x1b[2Jcd", (0, 2), letter(b'c')),
+        (b"ab\x1b[2Jcd\x1b[2J", (0, 2), blank),
+        (b"abcdef\x1b[1;4H\x1b[K\x1b[K", (0, 2), letter(b'c')),
+        (b"abcdef\x1b[1;4H\x1b[K\x1b[K", (0, 3), blank),
+        (b"abcdef\x1b[1;4H\x1b[K\x1b[1;2H\x1b[K", (0, 1), blank),
+        (
+            b"abc\x1b[1;2H\x1b[K\x1b[1;6Hx\x1b[1;5H\x1b[K",
+            (0, 5),
+            blank,
+        ),
+        (
+            b"abc\x1b[1;2H\x1b[K\x1b[1;6Hx\x1b[1;5H\x1b[1K",
+            (0, 5),
+            letter(b'x'),
+        ),
+        (b"abc\x1b[1;2H\x1b[1K\x1b[1K", (0, 1), blank),
+        (b"abc\x1b[1;2H\x1b[1K\x1b[1K", (0, 2), letter(b'c')),
+        (b"\x1b[3;1Hab\x1b[2;1H\x1b[J\x1b[J", (2, 1), blank),
+        (
+            b"\x1b[3;1Hab\x1b[2;1H\x1b[J\x1b[3;2Hx\x1b[1;1H\x1b[J",
+            (2, 1),
+            blank,
+        ),
+        (
+            b"\x1b[3;1Hab\x1b[2;1H\x1b[J\x1b[3;2Hx\x1b[4;1H\x1b[J",
+            (2, 1),
+            letter(b'x'),
+        ),
+        (b"\x1b[4;10Hx\x1b[4;10H\x1b[1J", (3, 9), blank),
+    ];
+    for (stream, (y, x), wanted) in streams {
+        let terminal = read(rt.alloc(), stream)?;
+        assert!(rt;
+            terminal.fault().is_none() && terminal.cell(y, x) == wanted,
+            "after {stream:?}"
+        );
+    }
+    Ok(())
+}
+
 #[test]
 fn a_terminal_has_1_to_999_lines_and_columns(rt: HostRuntime) -> Result<(), Fail> {
     for (lines, columns) in [(0, 10), (4, 0), (1000, 10), (4, 1000)] {

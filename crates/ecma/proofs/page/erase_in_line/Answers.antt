@@ -11,6 +11,5 @@ returns c =
       | in-FromStart w ↦ w.start-is ∙ ap (λ how. span how c.args.column c.args.columns) (sym w.in-FromStart.is)
       | in-All w ↦ w.start-is ∙ ap (λ how. span how c.args.column c.args.columns) (sym w.in-All.is)
     ] in
-    fill-erases c.args.how c.args.line c.args.column (length c.args.picture.now) c.args.columns c.from.result c.from-2.result c.from-3.result c.match-how.start c.args.picture.now c.fill.new.self
-    c.requires.size
-    (c.fill.ensures.size (length c.args.picture.now) c.args.columns c.requires.size) c.requires.line c.requires.column c.from.ensures c.from-2.ensures c.from-3.ensures ends c.fill.ensures.shown
+    fill-erases c.args.how c.args.line c.args.column (length c.args.picture.now) c.args.columns c.match-how.start c.args.picture.now c.erase.new.self c.requires.size
+    (c.erase.ensures.size (length c.args.picture.now) c.args.columns c.requires.size) c.requires.line c.requires.column ends c.erase.ensures.shown
