@@ -138,7 +138,7 @@ fn change_length(old: Rendition, new: Rendition) -> usize
 }
 
 /// Whether all cells have a rendition.
-fn are_all(cells: &[Shown], rendition: Rendition) -> bool
+pub fn are_all(cells: &[Shown], rendition: Rendition) -> bool
     ensures { result ≡ all_have rendition cells.now }
 {
     for cell in cells {

@@ -7,6 +7,7 @@ ghost use Rattle.paint.specs.steps.Passes.{HasNoted, changed_renditions, line_re
 ghost use Rattle.paint.specs.steps.Strokes.{SameTerminals, Strokes, all_have, picture_bytes};
 
 use crate::changes::Frame;
+use crate::gap::are_all;
 use crate::line::{Row, paint_run};
 use crate::pen::Pen;
 use crate::runs::Run;
@@ -30,7 +31,7 @@ pub struct Order {
 impl Model for Order {
     ghost use Rattle.std.specs.Prelude.{List, ◌≤◌, take};
     ghost use Rattle.cell.specs.Shown.{Rendition};
-    ghost use Rattle.paint.specs.declared.passes.TheConstants.{MOST};
+    ghost use Rattle.paint.specs.declared.passes.TheConstants.{LANES, MOST};
 
     ghost Value = { List Rendition };
 
@@ -217,12 +218,25 @@ impl Renditions {
     }
 }
 
-/// Whether some cells all have a rendition, by a loop with one exit, which the compiler vectorizes.
+/// Whether some cells all have a rendition. Mostly they are as many as are looked at together.
+#[inline(always)]
 fn all_have(rendition: Rendition, cells: &[Shown]) -> bool
     ensures { result ≡ all_have rendition cells.now }
 {
+    if cells.len() == LANES {
+        return many_have(rendition, cells);
+    }
+    are_all(cells, rendition)
+}
+
+/// The same of so many, by a loop with one exit, which the compiler vectorizes.
+#[inline(always)]
+fn many_have(rendition: Rendition, cells: &[Shown]) -> bool
+    requires { length cells.now ≡ LANES }
+    ensures { result ≡ all_have rendition cells.now }
+{
     let mut all = true;
-    for x in 0..cells.len() {
+    for x in 0..LANES {
         all &= cells[x].rendition() == rendition;
     }
     all
