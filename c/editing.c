@@ -116,7 +116,6 @@ int werase(WINDOW *win) {
 int wclear(WINDOW *win) {
     if (done(curspan_wclear(SCREEN_AND(win))) == ERR) return ERR;
     win->reach = 0;
-    win->clears = true;
     return curspan_changed(win, OK);
 }
 

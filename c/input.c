@@ -128,7 +128,7 @@ static int pull_key(bool is_patient) {
 
 /* Shows a window that was changed or whose cursor was moved since it was last shown. */
 static void show(WINDOW *win) {
-    if (!win->is_pad && (win->moved || is_wintouched(win))) wrefresh(win);
+    if (!is_pad(win) && (win->moved || is_wintouched(win))) wrefresh(win);
 }
 
 /* Reads a whole line, as it is edited, and answers its first key: the others wait. */
@@ -165,7 +165,7 @@ static void look_at_size(void) {
 /* Writes a key into the window that reads it, where keys are echoed. */
 static void echo_key(WINDOW *win, int key) {
     int shown = key == KEY_BACKSPACE ? '\b' : key;
-    if (curspan_modes.echo && !win->is_pad && shown < KEY_MIN) wechochar(win, (chtype)shown);
+    if (curspan_modes.echo && !is_pad(win) && shown < KEY_MIN) wechochar(win, (chtype)shown);
 }
 
 /* A byte as the program gets it. */

@@ -28,28 +28,26 @@ typedef struct {
     int count, y, x;
 } curspan_unfinished;
 
-/* What curspan.h doesn't tell back of a window. */
+/* What curspan.h doesn't tell back of a window. Its size and `end` are kept so that a move and a character ask for nothing. */
 struct curspan_window {
     uint16_t number; /* its own, and NUMBER where it isn't there */
-    bool is_pad, scrolls; /* it is a pad of curspan.h */
-    bool outlies;         /* one that stands for a window */
+    bool outlies;            /* it isn't wholly on the screen: a pad of curspan.h stands for it */
     bool moved;              /* the cursor was moved since the last refresh, as getch wants to know */
     bool keypad, no_timeout; /* how getch reads */
     int delay;               /* for how many milliseconds it waits, without end where that is negative */
-    attr_t attrs; /* the attributes and the pair that the window has */
-    attr_t given;  /* those that Curspan got last */
-    chtype background;
+    attr_t attrs; /* the attributes and the pair that the window has: curspan.h has no pairs past LAST_OWN, and no A_ALTCHARSET */
+    attr_t given; /* those that Curspan got last */
+    chtype background;       /* which has such pairs too */
     unsigned lines, columns; /* 0 where it isn't there */
     /* While `reach` is under `limit`, what is written next has the window's attributes, and at least a line less one of characters, and
        `limit - reach` more, fit before the last place of a window that doesn't scroll. So a character adds one to it, and a move sets it to
        the cursor's line. */
     int reach, limit;
-    int top, bottom; /* the scroll region */
+    int end; /* the limit of a window that is ready: the last line of the scroll region, or ENDLESS */
     curspan_unfinished begun;
-    bool clears, idlok, no_idcok, leaveok; /* the options that are set */
-    bool is_immediate, synchronizes;       /* each change refreshes it, or touches its ancestors */
+    bool idlok, no_idcok, leaveok;   /* the options that are set */
+    bool is_immediate, synchronizes; /* each change refreshes it, or touches its ancestors */
     unsigned long shown; /* when it was last taken into the virtual screen, or 0 */
-    WINDOW *parent;
     int begin_y, begin_x; /* of a pad, where on the screen copies take it to be, and of one that outlies, where it is */
     int part[6]; /* of a pad, which part of it was refreshed last, and to where */
 };
@@ -85,12 +83,8 @@ static inline int curspan_tell(WINDOW *win, attr_t attrs) { return win->given ==
 
 /* Sets the limit, after what it comes from has changed. */
 void curspan_set_limit(WINDOW *win);
-
-/* The same, and `reach` is known no more: the size, the scroll region or whether the window scrolls has changed. */
-static inline void curspan_set_end(WINDOW *win) {
-    if (win->reach != ENDED) win->reach = UNKNOWN;
-    curspan_set_limit(win);
-}
+/* The same where the size, the scroll region or whether the window scrolls has changed: `reach` is known no more. */
+void curspan_set_end(WINDOW *win);
 
 /* Refreshes a window that was changed, or touches its ancestors, where that is to be. */
 void curspan_follow(WINDOW *win);
@@ -172,10 +166,6 @@ int curspan_cut_outside(WINDOW *win);
 /* How often windows, pads and panels were taken into the virtual screen, and when that was done of panels last. */
 extern unsigned long curspan_times_shown, curspan_panels_shown;
 
-/* Puts a window in the place of another into its panel, if it has one. */
-void curspan_replace_in_panels(uint16_t from, uint16_t to);
-/* Whether a window is in a panel. */
-bool curspan_is_in_panel(const WINDOW *win);
 /* Makes the panels anew in another screen, with windows of it by their places in curspan_windows. */
 int curspan_make_panels(curspan *screen, const uint16_t windows[MOST]);
 /* Takes those of that screen. */
@@ -212,5 +202,7 @@ static inline int least(int a, int b) { return a < b ? a : b; }
 static inline bool is_terminal(const WINDOW *win) { return win && win == curscr; }
 static inline int done(curspan_answer answer) { return answer.status == CURSPAN_OK ? OK : ERR; }
 static inline int first_of(curspan_answer answer) { return answer.status == CURSPAN_OK ? (int)answer.first : ERR; }
+static inline int second_of(curspan_answer answer) { return answer.status == CURSPAN_OK ? (int)answer.second : ERR; }
+static inline bool is_so(curspan_answer answer) { return first_of(answer) == 1; }
 
 #endif

@@ -45,7 +45,7 @@ static void show_last(struct line *line) {
         return;
     }
     bool wrapped = getcurx(win) < x;
-    if (wrapped && win->scrolls && y == last && getcury(win) == last && line->y > 0) line->y--;
+    if (wrapped && is_scrollok(win) && y == last && getcury(win) == last && line->y > 0) line->y--;
     wrefresh(win);
 }
 
@@ -83,7 +83,7 @@ int wgetnstr(WINDOW *win, char *text, int n) {
         edit(&line, key);
         key = wgetch(win);
     }
-    if (ends_line(key) && line.echo && win->scrolls && getcury(win) == getmaxy(win) - 1) wechochar(win, '\n');
+    if (ends_line(key) && line.echo && is_scrollok(win) && getcury(win) == getmaxy(win) - 1) wechochar(win, '\n');
     end_line(win);
     curspan_end_raw(&modes, &before);
     text[line.length] = 0;

@@ -2,18 +2,16 @@
 #include "inside.h"
 #include "panel.h"
 
-#include <stddef.h>
+#include <string.h>
 
 /* What curspan.h doesn't keep of a panel. */
 struct curspan_panel {
     uint16_t number; /* 0 where it isn't there */
     uint16_t next;   /* its number in the screen that will be */
-    bool hidden;
-    WINDOW *win;
     const void *pointer;
 };
 
-static PANEL panels[MOST], *end = panels; /* none is there from the end on */
+static PANEL panels[MOST];
 static PANEL *numbered[MOST]; /* by their numbers */
 
 /* The number of a panel, and for a pointer to none a number that no panel has. */
@@ -42,10 +40,7 @@ PANEL *new_panel(WINDOW *win) {
     if (panel->number > 0) /* another panel that changed its number has this place */
         for (panel = panels; panel->number > 0; panel++) continue;
     give_number(panel, (uint16_t)answer.first);
-    panel->hidden = false;
-    panel->win = win;
     panel->pointer = NULL;
-    if (panel >= end) end = panel + 1;
     return panel;
 }
 
@@ -55,18 +50,8 @@ int del_panel(PANEL *panel) {
     return OK;
 }
 
-int show_panel(PANEL *panel) {
-    if (done(curspan_show_panel(SCREEN_AND_PANEL(panel))) == ERR) return ERR;
-    panel->hidden = false;
-    return OK;
-}
-
-int hide_panel(PANEL *panel) {
-    if (done(curspan_hide_panel(SCREEN_AND_PANEL(panel))) == ERR) return ERR;
-    panel->hidden = true;
-    return OK;
-}
-
+int show_panel(PANEL *panel) { return done(curspan_show_panel(SCREEN_AND_PANEL(panel))); }
+int hide_panel(PANEL *panel) { return done(curspan_hide_panel(SCREEN_AND_PANEL(panel))); }
 int top_panel(PANEL *panel) { return done(curspan_top_panel(SCREEN_AND_PANEL(panel))); }
 int bottom_panel(PANEL *panel) { return done(curspan_bottom_panel(SCREEN_AND_PANEL(panel))); }
 
@@ -75,17 +60,8 @@ int move_panel(PANEL *panel, int y, int x) {
     return done(curspan_move_panel(SCREEN_AND_PANEL(panel), (uint16_t)y, (uint16_t)x));
 }
 
-int replace_panel(PANEL *panel, WINDOW *win) {
-    if (done(curspan_replace_panel(SCREEN_AND_PANEL(panel), curspan_number(win))) == ERR) return ERR;
-    panel->win = win;
-    return OK;
-}
-
-int panel_hidden(const PANEL *panel) {
-    curspan_answer answer = curspan_panel_hidden(SCREEN_AND_PANEL(panel));
-    return answer.status == CURSPAN_OK ? (int)answer.first : ERR;
-}
-
+int replace_panel(PANEL *panel, WINDOW *win) { return done(curspan_replace_panel(SCREEN_AND_PANEL(panel), curspan_number(win))); }
+int panel_hidden(const PANEL *panel) { return first_of(curspan_panel_hidden(SCREEN_AND_PANEL(panel))); }
 WINDOW *panel_window(const PANEL *panel) { return curspan_window_of(curspan_panel_window(SCREEN_AND_PANEL(panel))); }
 
 PANEL *panel_above(const PANEL *panel) {
@@ -115,43 +91,29 @@ void update_panels(void) {
     if (stdscr && stdscr->number > 0) put_standard();
     curspan_update_panels(&curspan_the_screen);
     if (stdscr) stdscr->moved = false;
-    for (PANEL *panel = panels; panel < end; panel++)
-        if (panel->number > 0 && !panel->hidden) panel->win->moved = false;
+    for (PANEL *panel = panel_above(NULL); panel; panel = panel_above(panel)) panel_window(panel)->moved = false;
     curspan_panels_shown = ++curspan_times_shown;
 }
 
 /* ---- windows and screens that are made anew */
 
 void curspan_forget_panels(void) {
-    while (end > panels) (--end)->number = 0;
+    memset(panels, 0, sizeof panels);
     curspan_panels_shown = 0;
 }
 
-bool curspan_is_in_panel(const WINDOW *win) {
-    for (const PANEL *panel = panels; panel < end; panel++)
-        if (panel->number > 0 && panel->win == win) return true;
-    return false;
-}
-
-void curspan_replace_in_panels(uint16_t from, uint16_t to) {
-    for (PANEL *panel = panels; panel < end; panel++) {
-        curspan_answer answer = curspan_panel_window(SCREEN_AND_PANEL(panel));
-        if (answer.status != CURSPAN_OK || answer.first != from) continue;
-        curspan_replace_panel(SCREEN_AND_PANEL(panel), to);
-        return;
-    }
-}
+/* The panel after one by their numbers, the first after none, and NULL after the last. */
+static PANEL *next_panel(const PANEL *panel) { return panel_of(curspan_next_panel(&curspan_the_screen, panel ? panel->number : 0)); }
 
 /* Puts the visible panels into their order, and hides the others. All are visible before. */
 static void order_panels(curspan *screen) {
-    for (PANEL *panel = panels; panel < end; panel++)
-        if (panel->number > 0 && panel_hidden(panel) == TRUE) curspan_hide_panel(screen, panel->next);
+    for (PANEL *panel = next_panel(NULL); panel; panel = next_panel(panel))
+        if (panel_hidden(panel) == TRUE) curspan_hide_panel(screen, panel->next);
     for (PANEL *panel = panel_above(NULL); panel; panel = panel_above(panel)) curspan_top_panel(screen, panel->next);
 }
 
 int curspan_make_panels(curspan *screen, const uint16_t windows[MOST]) {
-    for (PANEL *panel = panels; panel < end; panel++) {
-        if (panel->number == 0) continue;
+    for (PANEL *panel = next_panel(NULL); panel; panel = next_panel(panel)) {
         curspan_answer answer = curspan_new_panel(screen, windows[panel_window(panel) - curspan_windows]);
         if (answer.status != CURSPAN_OK) return ERR;
         panel->next = (uint16_t)answer.first;
@@ -161,6 +123,6 @@ int curspan_make_panels(curspan *screen, const uint16_t windows[MOST]) {
 }
 
 void curspan_take_panels(void) {
-    for (PANEL *panel = panels; panel < end; panel++)
+    for (PANEL *panel = panels; panel < panels + MOST; panel++)
         if (panel->number > 0) give_number(panel, panel->next);
 }

@@ -23,14 +23,14 @@ void wsyncup(WINDOW *win) { curspan_wsyncup(SCREEN_AND(win)); }
 
 /* What is touched of an ancestor is so in those that derive from it in between too. */
 void wsyncdown(WINDOW *win) {
-    if (is_there(win) == ERR || !win->parent) return;
-    wsyncdown(win->parent);
+    WINDOW *parent = wgetparent(win);
+    if (!parent) return;
+    wsyncdown(parent);
     curspan_wsyncdown(SCREEN_AND(win));
 }
 
 void wcursyncup(WINDOW *win) {
-    for (; is_there(win) == OK && win->parent; win = win->parent)
-        wmove(win->parent, getcury(win) + getpary(win), getcurx(win) + getparx(win));
+    for (WINDOW *parent; (parent = wgetparent(win)); win = parent) wmove(parent, getcury(win) + getpary(win), getcurx(win) + getparx(win));
 }
 
 /* ---- refresh */
@@ -41,7 +41,7 @@ int wnoutrefresh(WINDOW *win) {
     if (is_terminal(win)) return clearok(curscr, TRUE);
     wsyncdown(win);
     if ((win && win->outlies ? curspan_show_outlying(win) : done(curspan_wnoutrefresh(SCREEN_AND(win)))) == ERR) return ERR;
-    win->moved = win->clears = false;
+    win->moved = false;
     win->shown = ++curspan_times_shown;
     return OK;
 }
@@ -60,7 +60,7 @@ static int show_cursor_of(const WINDOW *pad) {
 /* The part of the screen ends where the pad does, as over ncurses. */
 int pnoutrefresh(WINDOW *pad, int pad_y, int pad_x, int top, int left, int bottom, int right) {
     int part[6] = {not_negative(pad_y), not_negative(pad_x), not_negative(top), not_negative(left), bottom, right};
-    if (is_there(pad) == ERR || pad->outlies || !are_numbers(part[0], part[1], part[2], part[3]) || !are_numbers(bottom, right, 0, 0)) return ERR;
+    if (!is_pad(pad) || !are_numbers(part[0], part[1], part[2], part[3]) || !are_numbers(bottom, right, 0, 0)) return ERR;
     bottom = least(bottom, part[2] + getmaxy(pad) - 1 - part[0]);
     right = least(right, part[3] + getmaxx(pad) - 1 - part[1]);
     if (bottom < 0 || right < 0) return ERR;
@@ -80,7 +80,7 @@ int prefresh(WINDOW *pad, int pad_y, int pad_x, int top, int left, int bottom, i
 
 /* As over ncurses, where the character ends the pad, or no part of it was shown yet, that is well. */
 int pechochar(WINDOW *pad, const chtype ch) {
-    if (is_there(pad) == ERR || !pad->is_pad) return wechochar(pad, ch);
+    if (!is_pad(pad)) return wechochar(pad, ch);
     (void)waddch(pad, ch);
     const int *part = pad->part;
     return part[4] < 0 ? OK : prefresh(pad, part[0], part[1], part[2], part[3], part[4], part[5]);

@@ -12,7 +12,8 @@
 struct shape {
     int lines, columns, y, x;
     int begin_y, begin_x; /* on the screen */
-    bool outlies;
+    WINDOW *parent;
+    bool is_pad, outlies;
     bool is_other; /* it has other columns, not only because its parent has */
 };
 
@@ -33,12 +34,12 @@ static ptrdiff_t place_of(const WINDOW *win) { return win - curspan_windows; }
 /* ---- which windows, and how large */
 
 static struct shape shape_of(const WINDOW *win) {
-    struct shape shape = {getmaxy(win), getmaxx(win), 0, 0, 0, 0, win->outlies, false};
-    if (!is_pad(win)) {
+    struct shape shape = {.lines = getmaxy(win), .columns = getmaxx(win), .parent = wgetparent(win), .is_pad = is_pad(win), .outlies = win->outlies};
+    if (!shape.is_pad) {
         shape.begin_y = shape.y = getbegy(win);
         shape.begin_x = shape.x = getbegx(win);
     }
-    if (win->parent) {
+    if (shape.parent) {
         shape.y = getpary(win);
         shape.x = getparx(win);
     }
@@ -49,13 +50,13 @@ static struct shape shape_of(const WINDOW *win) {
 static void add_derived(void) {
     for (int i = 0; i < remake.count; i++)
         for (WINDOW *win = curspan_windows; win < curspan_windows + MOST; win++)
-            if (is_there(win) == OK && win->parent == remake.family[i]) remake.family[remake.count++] = win;
+            if (wgetparent(win) == remake.family[i]) remake.family[remake.count++] = win;
 }
 
 static void list_all(void) {
     remake.count = 0;
     for (WINDOW *win = curspan_windows; win < curspan_windows + MOST; win++)
-        if (is_there(win) == OK && !win->parent) remake.family[remake.count++] = win;
+        if (is_there(win) == OK && !is_subwin(win)) remake.family[remake.count++] = win;
     add_derived();
 }
 
@@ -79,11 +80,11 @@ static void cut(struct shape *shape, int lines, int columns) {
 /* Cuts off what of derived windows lies outside of their parents. They outlie where those do. */
 static void cut_derived(void) {
     for (int i = 0; i < remake.count; i++) {
-        const WINDOW *win = remake.family[i];
-        if (!win->parent || remake.shapes[place_of(win->parent)].lines == 0) continue;
-        const struct shape *around = &remake.shapes[place_of(win->parent)];
-        cut(&remake.shapes[place_of(win)], around->lines, around->columns);
-        remake.shapes[place_of(win)].outlies = around->outlies;
+        struct shape *shape = &remake.shapes[place_of(remake.family[i])];
+        const struct shape *around = shape->parent ? &remake.shapes[place_of(shape->parent)] : NULL;
+        if (!around || around->lines == 0) continue;
+        cut(shape, around->lines, around->columns);
+        shape->outlies = around->outlies;
     }
 }
 
@@ -95,7 +96,7 @@ static bool fits_in(const struct shape *shape, int lines, int columns) {
 static void settle(const WINDOW *win) {
     struct shape *shape = &remake.shapes[place_of(win)];
     shape->outlies = !fits_in(shape, remake.lines, remake.columns);
-    if (shape->outlies && curspan_is_in_panel(win)) {
+    if (shape->outlies && curspan_window_panel(SCREEN_AND(win)).first > 0) {
         cut(shape, remake.lines, remake.columns);
         shape->outlies = false;
     }
@@ -110,31 +111,31 @@ static void plan_all(void) {
     for (int i = 0; i < remake.count; i++) {
         const WINDOW *win = remake.family[i];
         struct shape *shape = &remake.shapes[place_of(win)];
-        if (is_pad(win)) continue;
+        if (shape->is_pad) continue;
         shape->lines = size_on(shape->lines, curspan_lines(), remake.lines);
         shape->columns = size_on(shape->columns, curspan_columns(), remake.columns);
         shape->is_other = shape->columns != getmaxx(win);
-        if (!win->parent) settle(win);
+        if (!shape->parent) settle(win);
     }
     cut_derived();
 }
 
 /* ---- windows made anew */
 
-static uint16_t parent_of(const WINDOW *win) {
-    uint16_t number = remake.numbers[place_of(win->parent)];
-    return number == NUMBER ? win->parent->number : number;
+static uint16_t parent_of(const struct shape *shape) {
+    uint16_t number = remake.numbers[place_of(shape->parent)];
+    return number == NUMBER ? shape->parent->number : number;
 }
 
 static curspan_answer make(const WINDOW *win) {
     const curspan_answer standard = {CURSPAN_OK, 0, 0};
     const struct shape *shape = &remake.shapes[place_of(win)];
     uint16_t lines = (uint16_t)shape->lines, columns = (uint16_t)shape->columns, y = (uint16_t)shape->y, x = (uint16_t)shape->x;
-    bool as_pad = is_pad(win) || shape->outlies;
+    bool as_pad = shape->is_pad || shape->outlies;
     if (win == stdscr && shape->lines == remake.lines && shape->columns == remake.columns) return standard;
-    if (!win->parent) return as_pad ? curspan_newpad(remake.to, lines, columns) : curspan_newwin(remake.to, lines, columns, y, x);
-    return as_pad ? curspan_subpad(remake.to, parent_of(win), lines, columns, y, x)
-                       : curspan_derwin(remake.to, parent_of(win), lines, columns, y, x);
+    if (!shape->parent) return as_pad ? curspan_newpad(remake.to, lines, columns) : curspan_newwin(remake.to, lines, columns, y, x);
+    return as_pad ? curspan_subpad(remake.to, parent_of(shape), lines, columns, y, x)
+                  : curspan_derwin(remake.to, parent_of(shape), lines, columns, y, x);
 }
 
 static void unmake(int count) {
@@ -161,14 +162,11 @@ static void set_background(curspan *screen, uint16_t number, chtype ch) {
 }
 
 /* Brings n cells of a line to a window of another screen. */
-static void bring_line(const uint16_t from, uint16_t to, uint16_t y, int n) {
+static void bring_line(uint16_t from, uint16_t to, uint16_t y, int n) {
     uint32_t cells[LONGEST];
     uint8_t text[LONGEST];
-    for (int x = 0; x < n; x++) {
-        curspan_wmove(remake.from, from, y, (uint16_t)x);
-        cells[x] = curspan_winch(remake.from, from).first;
-        text[x] = CURSPAN_CHARACTER(cells[x]);
-    }
+    curspan_row(remake.from, from, y, cells, (size_t)n);
+    for (int x = 0; x < n; x++) text[x] = CURSPAN_CHARACTER(cells[x]);
     curspan_wmove(remake.to, to, y, 0);
     for (int start = 0, end; start < n; start = end) {
         for (end = start; end < n && cells[end] >> 8 == cells[start] >> 8; end++) continue;
@@ -183,7 +181,7 @@ static void bring_cells(const WINDOW *win, uint16_t from, uint16_t to) {
     const struct shape *before = &remake.before[place_of(win)], *shape = &remake.shapes[place_of(win)];
     int lines = least(before->lines, shape->lines), columns = least(before->columns, shape->columns);
     set_background(remake.to, to, win->background);
-    if (win->parent) return;
+    if (shape->parent) return;
     curspan_werase(remake.to, to);
     if (remake.from == remake.to) {
         curspan_copywin(remake.to, from, to, 0, 0, 0, 0, (uint16_t)(lines - 1), (uint16_t)(columns - 1), false);
@@ -196,30 +194,30 @@ static void bring_cells(const WINDOW *win, uint16_t from, uint16_t to) {
     set_background(remake.to, to, win->background);
 }
 
-/* A derived window that isn't where its parent shows it comes to where it was. */
+/* A derived window that isn't where its parent shows it comes to where it was. A pad is nowhere. */
 static void bring_place(const WINDOW *win, uint16_t to) {
     const struct shape *shape = &remake.shapes[place_of(win)];
     int y = least(shape->begin_y, remake.lines - shape->lines), x = least(shape->begin_x, remake.columns - shape->columns);
-    if (win->parent && !win->is_pad) curspan_mvwin(remake.to, to, (uint16_t)y, (uint16_t)x);
+    if (shape->parent) curspan_mvwin(remake.to, to, (uint16_t)y, (uint16_t)x);
 }
 
 /* The scroll region ends with the window where it did before. */
-static void bring_region(WINDOW *win, uint16_t to) {
+static void bring_region(const WINDOW *win, uint16_t from, uint16_t to) {
     int last = remake.shapes[place_of(win)].lines - 1, last_before = remake.before[place_of(win)].lines - 1;
-    win->top = least(win->top, last);
-    win->bottom = win->bottom == last_before ? last : least(win->bottom, last);
-    curspan_scrollok(remake.to, to, win->scrolls);
-    curspan_wsetscrreg(remake.to, to, (uint16_t)win->top, (uint16_t)win->bottom);
+    curspan_answer region = curspan_wgetscrreg(remake.from, from);
+    int top = least((int)region.first, last), bottom = (int)region.second == last_before ? last : least((int)region.second, last);
+    curspan_scrollok(remake.to, to, is_so(curspan_is_scrollok(remake.from, from)));
+    curspan_wsetscrreg(remake.to, to, (uint32_t)top, (uint32_t)bottom);
 }
 
-static void bring(WINDOW *win) {
+static void bring(const WINDOW *win) {
     const struct shape *shape = &remake.shapes[place_of(win)];
     uint16_t from = remake.old[place_of(win)], to = remake.numbers[place_of(win)];
     curspan_answer cursor = curspan_getyx(remake.from, from);
     int y = least((int)cursor.first, shape->lines - 1), x = least((int)cursor.second, shape->columns - 1);
     bring_cells(win, from, to);
     bring_place(win, to);
-    bring_region(win, to);
+    bring_region(win, from, to);
     curspan_wmove(remake.to, to, (uint16_t)y, (uint16_t)x);
 }
 
@@ -228,11 +226,12 @@ static void touch_from(uint16_t win, uint16_t y, uint16_t x, uint16_t last) {
     curspan_copywin(remake.to, win, win, y, x, y, x, y, last, false);
 }
 
-/* Touches what was touched, and what is new. */
-static void bring_touches(const WINDOW *win) {
+/* Touches what was touched, and what is new, and asks for a clear screen where that was asked for. */
+static void bring_marks(const WINDOW *win) {
     const struct shape *before = &remake.before[place_of(win)], *shape = &remake.shapes[place_of(win)];
     uint16_t from = remake.old[place_of(win)], to = remake.numbers[place_of(win)];
     bool shrinks = shape->is_other && shape->columns < before->columns, grows = shape->is_other && !shrinks;
+    curspan_clearok(remake.to, to, is_so(curspan_is_cleared(remake.from, from)));
     for (int y = 0; y < shape->lines; y++) {
         bool touched = shrinks || y >= before->lines || curspan_is_linetouched(remake.from, from, (uint16_t)y).first == 1;
         curspan_wtouchln(remake.to, to, (uint16_t)y, 1, touched);
@@ -248,8 +247,8 @@ static void renumber_all(void) {
         win->given = A_NORMAL;
         win->reach = 0;
         curspan_measure(win);
-        if (is_pad(win)) continue;
-        win->is_pad = win->outlies = shape->outlies;
+        if (shape->is_pad) continue;
+        win->outlies = shape->outlies;
         win->begin_y = shape->begin_y;
         win->begin_x = shape->begin_x;
     }
@@ -264,8 +263,8 @@ static int remake_family(void) {
     for (int i = 0; i < remake.count; i++) {
         WINDOW *win = remake.family[i];
         bring(win);
-        bring_touches(win);
-        curspan_replace_in_panels(remake.old[place_of(win)], remake.numbers[place_of(win)]);
+        bring_marks(win);
+        curspan_replace_panel(remake.to, curspan_window_panel(SCREEN_AND(win)).first, remake.numbers[place_of(win)]);
     }
     renumber_all();
     for (int i = remake.count - 1; i >= 0; i--) curspan_delwin(remake.from, remake.old[place_of(remake.family[i])]);
@@ -292,14 +291,14 @@ int wresize(WINDOW *win, int lines, int columns) {
     shape->is_other = shape->columns != columns;
     shape->lines = lines;
     shape->columns = columns;
-    if (win->parent && !fits_in(shape, getmaxy(win->parent), getmaxx(win->parent))) return ERR;
-    if (!win->parent && !is_pad(win)) settle(win);
+    if (shape->parent && !fits_in(shape, getmaxy(shape->parent), getmaxx(shape->parent))) return ERR;
+    if (!shape->parent && !shape->is_pad) settle(win);
     return remake_family();
 }
 
 int curspan_move_inside(WINDOW *win, int y, int x) {
     if (is_there(win) == ERR || !curspan_fits(getmaxy(win), getmaxx(win), y, x)) return ERR;
-    if (!win->parent) {
+    if (!is_subwin(win)) {
         struct shape *shape = begin_family(win);
         shape->y = y;
         shape->x = x;
@@ -312,7 +311,7 @@ int curspan_move_inside(WINDOW *win, int y, int x) {
 }
 
 int curspan_cut_outside(WINDOW *win) {
-    if (is_there(win) == ERR || win->parent) return ERR;
+    if (is_there(win) == ERR || is_subwin(win)) return ERR;
     struct shape *shape = begin_family(win);
     cut(shape, remake.lines, remake.columns);
     settle(win);
@@ -382,10 +381,7 @@ static void take_screen(void) {
     COLS = remake.columns;
     curspan_tell_size(LINES);
     show_all();
-    for (int i = 0; i < remake.count; i++) {
-        bring_touches(remake.family[i]);
-        if (remake.family[i]->clears) clearok(remake.family[i], TRUE);
-    }
+    for (int i = 0; i < remake.count; i++) bring_marks(remake.family[i]);
     curspan_close(&old);
 }
 

@@ -11,9 +11,9 @@ static bool are_cells(const chtype *cells, int n) {
     return true;
 }
 
-/* Takes away what else than its attributes has a part in how a window writes, or gives it back, with a background. */
-static void write_plainly(WINDOW *win, bool plainly, chtype background) {
-    if (win->scrolls) curspan_scrollok(SCREEN_AND(win), !plainly);
+/* Takes away what else than its attributes has a part in how a window writes, or gives it back: that it scrolls, and its background. */
+static void write_plainly(WINDOW *win, bool plainly, bool scrolls, chtype background) {
+    if (scrolls) curspan_scrollok(SCREEN_AND(win), !plainly);
     if (background == ' ') return;
     win->background = plainly ? ' ' : background;
     curspan_set_background(win, win->background);
@@ -37,12 +37,13 @@ static int put_rows(WINDOW *win, int y, int x, int lines, const chtype *cells, i
     int old_y = getcury(win), old_x = getcurx(win), answer = OK;
     if (old_y == ERR || !are_cells(cells, n)) return ERR;
     chtype background = win->background;
-    write_plainly(win, true, background);
+    bool scrolls = is_scrollok(win);
+    write_plainly(win, true, scrolls, background);
     for (int i = 0; i < lines && answer == OK; i++) {
         answer = curspan_put_cursor(win, y + i, x);
         if (answer == OK) answer = put_runs(win, cells, n);
     }
-    write_plainly(win, false, background);
+    write_plainly(win, false, scrolls, background);
     return curspan_put_cursor(win, old_y, old_x) == OK ? answer : ERR;
 }
 

@@ -36,31 +36,25 @@ void curspan_measure(WINDOW *win) {
     curspan_set_end(win);
 }
 
-/* Where a window begins, or where copies take a pad to be: at the first place of the screen until a part of it is shown. */
-static void set_begin(WINDOW *win) {
-    if (!win->is_pad || !win->parent) return;
-    win->begin_y = win->parent->begin_y + getpary(win);
-    win->begin_x = win->parent->begin_x + getparx(win);
+/* A derived pad is where copies take its parent to be: at the first place of the screen until a part of that is shown. A derived window
+   begins with its parent's attributes and background. */
+static void take_after(WINDOW *win, const WINDOW *parent) {
+    win->begin_y = parent->begin_y + getpary(win);
+    win->begin_x = parent->begin_x + getparx(win);
+    wbkgdset(win, parent->background);
+    wattrset(win, (int)parent->attrs);
 }
 
-/* A window that was made by an answer, with its size. A derived one begins with its parent's attributes and background. */
-static WINDOW *made(curspan_answer answer, bool is_pad, WINDOW *parent) {
+/* A window that was made by an answer, with its size. */
+static WINDOW *made(curspan_answer answer) {
     if (answer.status != CURSPAN_OK) return NULL;
     WINDOW *win = &curspan_windows[answer.first];
     if (win->number != NUMBER) /* another window that changed its number has this place */
         for (win = curspan_windows; win->number != NUMBER; win++) continue;
     forget(win);
     curspan_renumber(win, (uint16_t)answer.first);
-    win->is_pad = is_pad;
-    win->parent = parent;
     curspan_measure(win);
-    win->bottom = (int)win->lines - 1;
-    curspan_set_end(win);
-    set_begin(win);
-    if (parent) {
-        wbkgdset(win, parent->background);
-        wattrset(win, (int)parent->attrs);
-    }
+    if (is_subwin(win)) take_after(win, wgetparent(win));
     touchwin(win); /* as in System V: a new window covers what is below it */
     return win;
 }
@@ -68,13 +62,13 @@ static WINDOW *made(curspan_answer answer, bool is_pad, WINDOW *parent) {
 void curspan_begin(curspan_answer answer) {
     curspan_forget_all();
     curspan_number_pairs(&curspan_the_screen);
-    stdscr = made(answer, false, NULL);
+    stdscr = made(answer);
     curscr = &the_terminal;
 }
 
 /* Makes of a new pad a window that outlies. */
-static WINDOW *made_outlying(curspan_answer answer, WINDOW *parent, int y, int x) {
-    WINDOW *win = made(answer, true, parent);
+static WINDOW *made_outlying(curspan_answer answer, int y, int x) {
+    WINDOW *win = made(answer);
     if (!win) return NULL;
     win->outlies = true;
     win->begin_y = y;
@@ -88,8 +82,8 @@ WINDOW *newwin(int lines, int columns, int y, int x) {
     if (columns == 0) columns = curspan_columns() - x;
     if (lines < 1 || columns < 1) return NULL;
     if (!curspan_fits(lines, columns, y, x))
-        return made_outlying(curspan_newpad(&curspan_the_screen, (uint16_t)lines, (uint16_t)columns), NULL, y, x);
-    return made(curspan_newwin(&curspan_the_screen, (uint16_t)lines, (uint16_t)columns, (uint16_t)y, (uint16_t)x), false, NULL);
+        return made_outlying(curspan_newpad(&curspan_the_screen, (uint16_t)lines, (uint16_t)columns), y, x);
+    return made(curspan_newwin(&curspan_the_screen, (uint16_t)lines, (uint16_t)columns, (uint16_t)y, (uint16_t)x));
 }
 
 /* Makes a window that shows a part of one that outlies. */
@@ -98,34 +92,34 @@ static WINDOW *derive_outlying(WINDOW *win, int lines, int columns, int y, int x
     if (columns == 0) columns = getmaxx(win) - x;
     if (!are_numbers(lines, columns, y, x)) return NULL;
     curspan_answer answer = curspan_subpad(SCREEN_AND(win), (uint16_t)lines, (uint16_t)columns, (uint16_t)y, (uint16_t)x);
-    return made_outlying(answer, win, win->begin_y + y, win->begin_x + x);
+    return made_outlying(answer, win->begin_y + y, win->begin_x + x);
 }
 
 WINDOW *subwin(WINDOW *win, int lines, int columns, int y, int x) {
     if (!are_numbers(lines, columns, y, x)) return NULL;
     if (win && win->outlies) return derive_outlying(win, lines, columns, y - win->begin_y, x - win->begin_x);
-    return made(curspan_subwin(SCREEN_AND(win), (uint16_t)lines, (uint16_t)columns, (uint16_t)y, (uint16_t)x), false, win);
+    return made(curspan_subwin(SCREEN_AND(win), (uint16_t)lines, (uint16_t)columns, (uint16_t)y, (uint16_t)x));
 }
 
 WINDOW *derwin(WINDOW *win, int lines, int columns, int y, int x) {
     if (!are_numbers(lines, columns, y, x)) return NULL;
     if (win && win->outlies) return derive_outlying(win, lines, columns, y, x);
-    return made(curspan_derwin(SCREEN_AND(win), (uint16_t)lines, (uint16_t)columns, (uint16_t)y, (uint16_t)x), false, win);
+    return made(curspan_derwin(SCREEN_AND(win), (uint16_t)lines, (uint16_t)columns, (uint16_t)y, (uint16_t)x));
 }
 
 WINDOW *newpad(int lines, int columns) {
     if (!are_numbers(lines, columns, 0, 0)) return NULL;
-    return made(curspan_newpad(&curspan_the_screen, (uint16_t)lines, (uint16_t)columns), true, NULL);
+    return made(curspan_newpad(&curspan_the_screen, (uint16_t)lines, (uint16_t)columns));
 }
 
 WINDOW *subpad(WINDOW *pad, int lines, int columns, int y, int x) {
     if (!are_numbers(lines, columns, y, x) || (pad && pad->outlies)) return NULL;
-    return made(curspan_subpad(SCREEN_AND(pad), (uint16_t)lines, (uint16_t)columns, (uint16_t)y, (uint16_t)x), true, pad);
+    return made(curspan_subpad(SCREEN_AND(pad), (uint16_t)lines, (uint16_t)columns, (uint16_t)y, (uint16_t)x));
 }
 
 WINDOW *dupwin(WINDOW *win) {
-    int lines = getmaxy(win), columns = getmaxx(win);
-    if (lines == ERR) return NULL;
+    int lines = getmaxy(win), columns = getmaxx(win), top, bottom;
+    if (wgetscrreg(win, &top, &bottom) == ERR) return NULL;
     WINDOW *copy = is_pad(win) ? newpad(lines, columns) : newwin(lines, columns, getbegy(win), getbegx(win));
     if (!copy) return NULL;
     copywin(win, copy, 0, 0, 0, 0, lines - 1, columns - 1, FALSE);
@@ -134,8 +128,8 @@ WINDOW *dupwin(WINDOW *win) {
     copy->keypad = win->keypad;
     copy->no_timeout = win->no_timeout;
     copy->delay = win->delay;
-    scrollok(copy, win->scrolls);
-    wsetscrreg(copy, win->top, win->bottom);
+    scrollok(copy, is_scrollok(win));
+    wsetscrreg(copy, top, bottom);
     wmove(copy, getcury(win), getcurx(win));
     if (win->reach == ENDED) copy->reach = ENDED;
     copy->begin_y = win->begin_y;
@@ -147,8 +141,9 @@ WINDOW *dupwin(WINDOW *win) {
 
 /* What a derived window covered of its parent is shown anew. */
 int delwin(WINDOW *win) {
+    WINDOW *parent = is_pad(win) ? NULL : wgetparent(win);
     if (win == stdscr || done(curspan_delwin(SCREEN_AND(win))) == ERR) return ERR;
-    if (win->parent && !win->is_pad) touchwin(win->parent);
+    if (parent) touchwin(parent);
     forget(win);
     return OK;
 }
@@ -162,21 +157,28 @@ int mvwin(WINDOW *win, int y, int x) {
 
 /* What is touched of it is so in its ancestors, before it shows another part. */
 int mvderwin(WINDOW *win, int y, int x) {
+    const WINDOW *parent = wgetparent(win);
     if (!are_numbers(y, x, 0, 0)) return ERR;
-    if (win && y + (int)win->lines <= getmaxy(win->parent) && x + (int)win->columns <= getmaxx(win->parent)) wsyncup(win);
+    if (parent && y + (int)win->lines <= getmaxy(parent) && x + (int)win->columns <= getmaxx(parent)) wsyncup(win);
     return done(curspan_mvderwin(SCREEN_AND(win), (uint16_t)y, (uint16_t)x));
 }
 
-static int second_of(curspan_answer answer) { return answer.status == CURSPAN_OK ? (int)answer.second : ERR; }
-
 int getcury(const WINDOW *win) { return first_of(curspan_getyx(SCREEN_AND(win))); }
 int getcurx(const WINDOW *win) { return second_of(curspan_getyx(SCREEN_AND(win))); }
-int getbegy(const WINDOW *win) { return win && win->is_pad ? win->begin_y : first_of(curspan_getbegyx(SCREEN_AND(win))); }
-int getbegx(const WINDOW *win) { return win && win->is_pad ? win->begin_x : second_of(curspan_getbegyx(SCREEN_AND(win))); }
 int getmaxy(const WINDOW *win) { return first_of(curspan_getmaxyx(SCREEN_AND(win))); }
 int getmaxx(const WINDOW *win) { return second_of(curspan_getmaxyx(SCREEN_AND(win))); }
 int getpary(const WINDOW *win) { return first_of(curspan_getparyx(SCREEN_AND(win))); }
 int getparx(const WINDOW *win) { return second_of(curspan_getparyx(SCREEN_AND(win))); }
+
+int getbegy(const WINDOW *win) {
+    curspan_answer begin = curspan_getbegyx(SCREEN_AND(win));
+    return begin.status == CURSPAN_IS_PAD ? win->begin_y : first_of(begin);
+}
+
+int getbegx(const WINDOW *win) {
+    curspan_answer begin = curspan_getbegyx(SCREEN_AND(win));
+    return begin.status == CURSPAN_IS_PAD ? win->begin_x : second_of(begin);
+}
 
 /* ---- options */
 
@@ -185,14 +187,11 @@ int clearok(WINDOW *win, bool flag) {
         if (flag) curspan_invalidate(&curspan_the_screen);
         return OK;
     }
-    if (done(curspan_clearok(SCREEN_AND(win), flag)) == ERR) return ERR;
-    win->clears = flag;
-    return OK;
+    return done(curspan_clearok(SCREEN_AND(win), flag));
 }
 
 int scrollok(WINDOW *win, bool flag) {
     if (done(curspan_scrollok(SCREEN_AND(win), flag)) == ERR) return ERR;
-    win->scrolls = flag;
     curspan_set_end(win);
     return OK;
 }
@@ -200,8 +199,6 @@ int scrollok(WINDOW *win, bool flag) {
 int wsetscrreg(WINDOW *win, int top, int bottom) {
     if (!are_numbers(top, bottom, 0, 0)) return ERR;
     if (done(curspan_wsetscrreg(SCREEN_AND(win), (uint16_t)top, (uint16_t)bottom)) == ERR) return ERR;
-    win->top = top;
-    win->bottom = bottom;
     curspan_set_end(win);
     return OK;
 }

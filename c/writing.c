@@ -24,25 +24,34 @@ int wmove(WINDOW *win, int y, int x) {
 
 enum { MANY = 1 << 20 }; /* more than a text has at once */
 
-/* The limit of a window that is ready. */
-static int limit_of(const WINDOW *win) {
-    return win->scrolls && win->bottom == (int)win->lines - 1 ? ENDLESS : win->bottom;
-}
-
 void curspan_set_limit(WINDOW *win) {
     bool is_ready = win->given == win->attrs && win->begun.count == 0 && !win->is_immediate && !win->synchronizes;
-    win->limit = is_ready ? limit_of(win) : NOT_READY;
+    win->limit = is_ready ? win->end : NOT_READY;
 }
+
+void curspan_set_end(WINDOW *win) {
+    int bottom = second_of(curspan_wgetscrreg(SCREEN_AND(win)));
+    win->end = bottom == (int)win->lines - 1 && is_scrollok(win) ? ENDLESS : bottom;
+    if (win->reach != ENDED) win->reach = UNKNOWN;
+    curspan_set_limit(win);
+}
+
+/* The last line of the scroll region. */
+static int bottom_of(const WINDOW *win) { return least(win->end, (int)win->lines - 1); }
+
+/* Whether writing stops at the end of a line: the last one of the region of a window that doesn't scroll. */
+static bool stops_at(const WINDOW *win, int y) { return y == bottom_of(win) && !is_scrollok(win); }
 
 /* How many characters fit before the last place, where writing stops: that of the window, or of the scroll region
    where the cursor is above its end. A region that scrolls has none. */
 static int room_of(const WINDOW *win, int y, int x) {
-    int columns = (int)win->columns;
-    if (win->scrolls && y <= win->bottom) return MANY;
-    return ((y <= win->bottom ? win->bottom : (int)win->lines - 1) - y) * columns + columns - 1 - x;
+    int columns = (int)win->columns, last = (int)win->lines - 1;
+    bool is_above = y <= win->end && win->end < last;
+    if (win->end == ENDLESS || (is_above && is_scrollok(win))) return MANY;
+    return ((is_above ? win->end : last) - y) * columns + columns - 1 - x;
 }
 
-static void set_reach(WINDOW *win, int room) { win->reach = limit_of(win) - 1 + (int)win->columns - room; }
+static void set_reach(WINDOW *win, int room) { win->reach = win->end - 1 + (int)win->columns - room; }
 
 /* Writes printable characters, of which one in the last place is written and ends them. */
 static int add_run(WINDOW *win, const uint8_t *text, size_t length) {
@@ -62,14 +71,14 @@ static int add_run(WINDOW *win, const uint8_t *text, size_t length) {
 
 /* Goes to the next line without clearing the rest of this one. */
 static int leave_line(WINDOW *win, int y) {
-    if (y == win->bottom) return wscrl(win, 1) == ERR ? ERR : wmove(win, y, 0);
+    if (y == bottom_of(win)) return wscrl(win, 1) == ERR ? ERR : wmove(win, y, 0);
     return wmove(win, least(y + 1, (int)win->lines - 1), 0);
 }
 
 /* Writes a space that isn't the background's character. A line that is scrolled in for it has that character. */
 static int add_space(WINDOW *win) {
     int y = getcury(win);
-    bool scrolls = win->scrolls && y == win->bottom && getcurx(win) == (int)win->columns - 1;
+    bool scrolls = is_scrollok(win) && y == bottom_of(win) && getcurx(win) == (int)win->columns - 1;
     if (scrolls) curspan_scrollok(SCREEN_AND(win), false);
     curspan_set_background(win, (win->background & A_ATTRIBUTES) | ' ');
     int answer = scrolls ? done(curspan_waddch(SCREEN_AND(win), ' ')) : add_run(win, (const uint8_t *)" ", 1);
@@ -90,7 +99,7 @@ static int add_blanks(WINDOW *win, int n, bool are_spaces) {
    that doesn't scroll the cursor stays. */
 static int end_line(WINDOW *win) {
     int y = getcury(win);
-    bool has_ended = win->reach == ENDED, stays = y == win->bottom && !win->scrolls;
+    bool has_ended = win->reach == ENDED, stays = stops_at(win, y);
     if (stays && !has_ended) wclrtoeol(win);
     if (stays) return ERR;
     if (has_ended) return leave_line(win, y);
@@ -100,8 +109,7 @@ static int end_line(WINDOW *win) {
 
 static int add_tab(WINDOW *win, bool has_attributes) {
     int y = getcury(win), x = getcurx(win), stop = x + TABSIZE - x % TABSIZE;
-    bool ends_here = y == win->bottom && !win->scrolls;
-    return stop < (int)win->columns || ends_here ? add_blanks(win, stop - x, has_attributes) : end_line(win);
+    return stop < (int)win->columns || stops_at(win, y) ? add_blanks(win, stop - x, has_attributes) : end_line(win);
 }
 
 static int move_back(WINDOW *win, uint8_t ch) {
@@ -183,11 +191,11 @@ static size_t run_of(const char *text, size_t length) {
    it fills, is one down. */
 static bool ends_above(const WINDOW *win, const char *text, size_t length) {
     if (win->begun.count > 0 || win->reach == ENDED) return false;
-    if (win->scrolls && win->bottom == (int)win->lines - 1) return true;
+    if (win->end == ENDLESS) return true;
     curspan_answer place = curspan_getyx(SCREEN_AND(win));
     size_t lines = (place.second + length) / win->columns;
     for (const char *at = text; (at = memchr(at, '\n', (size_t)(text + length - at))); at++) lines++;
-    return place.first + lines < (size_t)win->bottom;
+    return place.first + lines < (size_t)win->end;
 }
 
 /* Writes a text piece by piece. */
