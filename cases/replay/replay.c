@@ -1,6 +1,7 @@
 /* Makes the calls of a script by curspan.h, and puts out what `curspan run` does: the bytes, and the log, in which a refusal has its number
    alone. cases/trial/replaying.py writes the script plainly: a line for each call has the number of the script's line, the call's name in C,
-   numbers, and a text in hexadecimal digits. The words are the lines and the columns of the screen. */
+   numbers, and a text in hexadecimal digits. Between them it asks what curspan.h tells beside the calls. The words are the lines and the
+   columns of the screen. */
 #include <curspan.h>
 #include <stdio.h>
 #include <stdlib.h>
@@ -14,6 +15,8 @@ static void tell_nothing(curspan_answer answer) { (void)answer; }
 static void tell_window(curspan_answer answer) { fprintf(stderr, "line %s: %u\n", number, answer.first); }
 static void tell_flag(curspan_answer answer) { fprintf(stderr, "line %s: %s\n", number, answer.first ? "true" : "false"); }
 static void tell_two_numbers(curspan_answer answer) { fprintf(stderr, "line %s: %u %u\n", number, answer.first, answer.second); }
+
+static void tell_number(curspan_answer answer) { tell_window(answer); }
 
 static void tell_panel(curspan_answer answer) {
     if (answer.first)
@@ -34,6 +37,25 @@ static void tell_bytes(curspan_answer answer) {
     if (length != answer.first || fwrite(bytes, 1, length, stdout) != length) exit(3);
 }
 
+static uint32_t cells[2000];
+static size_t cells_there; /* for how many there was room */
+
+/* Tells how many columns a line has, and the cells that were read. */
+static void tell_cells(curspan_answer answer) {
+    fprintf(stderr, "line %s: %u", number, answer.first);
+    for (size_t x = 0; x < cells_there && x < answer.first; x++)
+        fprintf(stderr, " %02x%02x%02x", CURSPAN_CHARACTER(cells[x]), CURSPAN_ATTRIBUTES(cells[x]), (unsigned)CURSPAN_PAIR(cells[x]));
+    fputs("\n", stderr);
+}
+
+static void tell_shown_cells(curspan_answer answer) {
+    fprintf(stderr, "line %s: %u", number, answer.first);
+    for (size_t x = 0; x < cells_there && x < answer.first; x++)
+        fprintf(stderr, " %02x%02x%u%u", CURSPAN_CHARACTER(cells[x]), CURSPAN_ATTRIBUTES(cells[x]), CURSPAN_FOREGROUND(cells[x]),
+                CURSPAN_BACKGROUND(cells[x]));
+    fputs("\n", stderr);
+}
+
 static void tell(curspan_answer answer, void (*what)(curspan_answer)) {
     if (answer.status == CURSPAN_OK)
         what(answer);
@@ -47,7 +69,13 @@ static void tell(curspan_answer answer, void (*what)(curspan_answer)) {
         return; \
     }
 
-/* Makes a call of numbers and a text. */
+/* Where so many cells are read to. */
+static uint32_t *room_of(long count) {
+    cells_there = (size_t)count;
+    return count > 0 ? cells : NULL;
+}
+
+/* Makes a call of numbers and a text, or asks a question. */
 static void make(const char *word, const long *n, const uint8_t *text, size_t length) {
     /* Written by tools/calls from calls.table: calls */
     CALL(newwin, window, n[0], n[1], n[2], n[3])
@@ -113,6 +141,18 @@ static void make(const char *word, const long *n, const uint8_t *text, size_t le
     CALL(doupdate, bytes)
     CALL(init_pair, nothing, n[0], n[1], n[2])
     /* End of what tools/calls wrote */
+    CALL(row, cells, n[0], n[1], room_of(n[2]), n[2])
+    CALL(shown_row, shown_cells, n[0], room_of(n[1]), n[1])
+    CALL(wattr_get, two_numbers, n[0])
+    CALL(getbkgd, cell, n[0])
+    CALL(wgetscrreg, two_numbers, n[0])
+    CALL(is_scrollok, flag, n[0])
+    CALL(is_cleared, flag, n[0])
+    CALL(is_pad, flag, n[0])
+    CALL(wgetparent, number, n[0])
+    CALL(window_panel, number, n[0])
+    CALL(next_window, number, n[0])
+    CALL(next_panel, number, n[0])
     exit(4);
 }
 
@@ -139,7 +179,8 @@ int main(int count, char **words) {
             if (!arguments[i]) arguments[i] = "";
             n[i] = strtol(arguments[i], NULL, 10);
         }
-        make(word, n, text, read_text(arguments[1], text));
+        size_t length = read_text(arguments[1], text);
+        make(word, n, length > 0 ? text : NULL, length);
     }
     curspan_close(&screen);
     return 0;

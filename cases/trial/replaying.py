@@ -5,6 +5,7 @@ import re
 from oracle.calls import CALLS
 from oracle.script import faults_of, lines_of, read_line
 
+from .asking import Asking
 from .differing import want
 from .program import Program
 
@@ -44,18 +45,34 @@ def plain_call(call):
     return ' '.join([NAMES[call.word], *map(plain, call.arguments, forms)])
 
 
-def plain_script(text):
-    """The calls of a script, a line each, which begins with the number of its line there."""
-    calls = ((number, read_line(line)) for number, line in enumerate(lines_of(text), 1))
-    return ''.join(f'{number} {plain_call(call)}\n' for number, call in calls if call).encode()
+def with_questions(script, text, log):
+    """The calls of a script, a line each, which begins with the number of its line there, and questions after some; and the log of all
+    together, with that of the calls alone."""
+    told = dict(re.findall(r'line (\d+): (.*)\n', log))
+    asking, plain, wanted = Asking(script.lines, script.columns), [], []
+
+    def add(number, words, answer_of_it):
+        plain.append(f'{number} {words}\n')
+        if answer_of_it is not None:
+            wanted.append(f'line {number}: {answer_of_it}\n')
+
+    for number, line in enumerate(lines_of(text), 1):
+        call = read_line(line)
+        if call:
+            add(number, plain_call(call), told.get(str(number)))
+        for name, arguments, answer in asking.after(line, script.chance):
+            add(f'{number}?', ' '.join([name, *map(str, arguments)]), answer)
+    return ''.join(plain).encode(), ''.join(wanted)
 
 
 def is_replayed(replay, script):
-    """A program in another language makes the calls of a script with the same bytes, answers and refusals."""
+    """A program in another language makes the calls of a script with the same bytes, answers and refusals, and is told what the oracle has
+    beside them."""
     faults = faults_of(script.text)
     text = script.first_lines(faults[0][0] - 1) if faults else script.text
     ran = replay.runner.run(script.words('run'), text)
-    came = replay.run([str(script.lines), str(script.columns)], plain_script(text))
-    want('the log', re.sub(rb'(E\d+) \w+', rb'\1', ran.log), came.log)
+    plain, wanted = with_questions(script, text, ran.log.decode())
+    came = replay.run([str(script.lines), str(script.columns)], plain)
+    want('the log', re.sub(r'(E\d+) \w+', r'\1', wanted), came.log.decode())
     want('the bytes', ran.out, came.out)
     want('the status', 0, came.status)

@@ -3,7 +3,9 @@ import re
 
 import curspan
 from curspan import Attr
+from oracle.running import answer_text
 from oracle.script import Fault, lines_of, read_line
+from trial.asking import Asking, line_text
 
 # Calls that have another name as methods.
 NAMES = {'scrl': 'scroll', 'delwin': 'delete', 'del_panel': 'delete'}
@@ -31,7 +33,7 @@ def told(answer):
 
 
 class Replay:
-    """The screen of a script, and what came of its calls."""
+    """The screen of a script, and what came of its calls, and of questions between them, beside what the oracle answers."""
 
     def __init__(self, lines, columns, script, chance):
         self.screen = curspan.Screen(lines, columns)
@@ -42,6 +44,8 @@ class Replay:
         self.gone['panel'][0].delete()
         window.delete()
         self.log, self.out, self.status = '', b'', 0
+        self.asked, self.wanted = [], []
+        asking = Asking(lines, columns)
         for number, line in enumerate(lines_of(script), 1):
             said = read_line(line)
             if isinstance(said, Fault):
@@ -50,6 +54,9 @@ class Replay:
                 break
             if said:
                 self.make(number, said.word, said.arguments)
+            for name, arguments, answer in asking.after(line, chance):
+                self.wanted.append((number, name, arguments, answer))
+                self.asked.append((number, name, arguments, self.ask(name, arguments)))
             if len(self.out) < 100 or chance.random() < 0.5:
                 self.out += self.screen.take()
         self.out += self.screen.take()
@@ -71,6 +78,60 @@ class Replay:
             answer = 'none'
         if word not in COUNTS:
             self.tell(number, told(answer))
+
+    def ask(self, name, arguments):
+        """Asks a question, by properties and lists."""
+        try:
+            return answer_text(getattr(self, f'of_{name}')(*arguments))
+        except curspan.Refusal as why:
+            kind = type(why).__name__
+            return f'E{NUMBERS[kind]} {kind}'
+
+    def of_row(self, w, y, room):
+        cells = self.window(w).row(y)
+        return line_text(len(cells), (f'{ord(it.character):02x}{it.attrs.value:02x}{it.pair:02x}' for it in cells[:room]))
+
+    def of_shown_row(self, y, room):
+        cells = self.screen.row(y)
+        return line_text(len(cells), (f'{ord(it.character):02x}{it.attrs.value:02x}' + ''.join(str(9 if c is None else int(c)) for c in it[2:])
+                                      for it in cells[:room]))
+
+    def of_wattr_get(self, w):
+        window = self.window(w)
+        return window.attrs.value, window.pair
+
+    def of_getbkgd(self, w):
+        return told(self.window(w).background)
+
+    def of_wgetscrreg(self, w):
+        return self.window(w).region
+
+    def of_is_scrollok(self, w):
+        return self.window(w).scrolling
+
+    def of_is_cleared(self, w):
+        return self.window(w).clearing
+
+    def of_is_pad(self, w):
+        window = self.window(w)
+        assert window.lines
+        return isinstance(window, curspan.Pad)
+
+    def of_wgetparent(self, w):
+        parent = self.window(w).parent
+        if parent is None:
+            raise curspan.NotDerived
+        return parent.number
+
+    def of_window_panel(self, w):
+        panel = self.window(w).panel
+        return panel.number if panel else 0
+
+    def of_next_window(self, n):
+        return min((it.number for it in self.screen.windows if it.number > n), default=0)
+
+    def of_next_panel(self, n):
+        return min((it.number for it in self.screen.panels if it.number > n), default=0)
 
     def note(self, word, arguments, answer):
         """Keeps the objects that a call made, and finds those that it answers again."""

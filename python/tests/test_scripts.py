@@ -1,4 +1,5 @@
-"""Scripts give by the methods of Python the same bytes, answers and refusals as by `curspan run`, and the same picture as by `curspan paint`."""
+"""Scripts give by the methods of Python the same bytes, answers and refusals as by `curspan run`, and the same picture as by `curspan paint`. What
+Python tells beside the calls is what the oracle has."""
 import os
 import pathlib
 import random
@@ -25,6 +26,7 @@ class Scripts(unittest.TestCase):
         replay = Replay(lines, columns, script, chance)
         out, log, status = run('run', lines, columns, script)
         self.assertEqual(log, replay.log)
+        self.assertEqual(replay.wanted, replay.asked)
         self.assertEqual(status, replay.status)
         self.assertEqual(out, replay.out)
         if status != 2:

@@ -1,10 +1,10 @@
 //! Each call by its name.
 
-use crate::{Answer, Arguments, Known};
+use crate::{questions, Answer, Arguments, Known};
 use curspan::{Error, Screen};
 use std::io::Stdout;
 
-/// Makes a call, and answers what the log says of its answer, if anything.
+/// Makes a call or asks a question, and answers what the log says of its answer, if anything.
 #[rustfmt::skip]
 pub(crate) fn make(screen: &mut Screen<Stdout>, known: &mut Known, call: &str, a: &Arguments) -> Result<Option<String>, Error> {
     Ok(match call {
@@ -72,6 +72,6 @@ pub(crate) fn make(screen: &mut Screen<Stdout>, known: &mut Known, call: &str, a
         "doupdate" => screen.doupdate()?.text(known),
         "init_pair" => screen.init_pair(a.number(0), a.color(1)?, a.color(2)?)?.text(known),
         // End of what tools/calls wrote
-        _ => panic!("there is no call {call}"),
+        _ => questions::ask(screen, known, call, a)?,
     })
 }

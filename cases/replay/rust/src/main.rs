@@ -1,8 +1,8 @@
 //! Makes the calls of a script by the crate, and puts out what `curspan run` does: the bytes, and
 //! the log, in which a refusal has its number alone. `cases/trial/replaying.py` writes the script
 //! plainly: a line for each call has the number of the script's line, the call's name in C,
-//! numbers, and a text in hexadecimal digits. The words are the lines and the columns of the
-//! screen.
+//! numbers, and a text in hexadecimal digits. Between them it asks what is told beside the calls.
+//! The words are the lines and the columns of the screen.
 //!
 //! A number stands for the handle that was got with it last, which may be stale; one with which
 //! none was got, for one of another screen.
@@ -13,6 +13,7 @@ use std::io::{self, BufRead};
 use std::{env, error};
 
 mod calls;
+mod questions;
 
 /// The arguments of a call.
 struct Arguments<'a>(Vec<&'a str>);
