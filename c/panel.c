@@ -2,16 +2,17 @@
 #include "inside.h"
 #include "panel.h"
 
-#include <string.h>
+#include <stddef.h>
 
-/* What curspan.h doesn't keep of a panel. */
+/* What curspan.h doesn't keep of a panel; and its window, so that each update_panels asks about those alone whose cursor was moved. */
 struct curspan_panel {
     uint16_t number; /* 0 where it isn't there */
     uint16_t next;   /* its number in the screen that will be */
+    WINDOW *win;
     const void *pointer;
 };
 
-static PANEL panels[MOST];
+static PANEL panels[MOST], *end = panels; /* none is there from the end on */
 static PANEL *numbered[MOST]; /* by their numbers */
 
 /* The number of a panel, and for a pointer to none a number that no panel has. */
@@ -40,7 +41,9 @@ PANEL *new_panel(WINDOW *win) {
     if (panel->number > 0) /* another panel that changed its number has this place */
         for (panel = panels; panel->number > 0; panel++) continue;
     give_number(panel, (uint16_t)answer.first);
+    panel->win = win;
     panel->pointer = NULL;
+    if (panel >= end) end = panel + 1;
     return panel;
 }
 
@@ -60,8 +63,14 @@ int move_panel(PANEL *panel, int y, int x) {
     return done(curspan_move_panel(SCREEN_AND_PANEL(panel), (uint16_t)y, (uint16_t)x));
 }
 
-int replace_panel(PANEL *panel, WINDOW *win) { return done(curspan_replace_panel(SCREEN_AND_PANEL(panel), curspan_number(win))); }
 int panel_hidden(const PANEL *panel) { return first_of(curspan_panel_hidden(SCREEN_AND_PANEL(panel))); }
+
+int replace_panel(PANEL *panel, WINDOW *win) {
+    if (done(curspan_replace_panel(SCREEN_AND_PANEL(panel), curspan_number(win))) == ERR) return ERR;
+    panel->win = win;
+    return OK;
+}
+
 WINDOW *panel_window(const PANEL *panel) { return curspan_window_of(curspan_panel_window(SCREEN_AND_PANEL(panel))); }
 
 PANEL *panel_above(const PANEL *panel) {
@@ -91,14 +100,15 @@ void update_panels(void) {
     if (stdscr && stdscr->number > 0) put_standard();
     curspan_update_panels(&curspan_the_screen);
     if (stdscr) stdscr->moved = false;
-    for (PANEL *panel = panel_above(NULL); panel; panel = panel_above(panel)) panel_window(panel)->moved = false;
+    for (PANEL *panel = panels; panel < end; panel++)
+        if (panel->number > 0 && panel->win->moved) panel->win->moved = panel_hidden(panel) == TRUE;
     curspan_panels_shown = ++curspan_times_shown;
 }
 
 /* ---- windows and screens that are made anew */
 
 void curspan_forget_panels(void) {
-    memset(panels, 0, sizeof panels);
+    while (end > panels) (--end)->number = 0;
     curspan_panels_shown = 0;
 }
 
@@ -123,6 +133,6 @@ int curspan_make_panels(curspan *screen, const uint16_t windows[MOST]) {
 }
 
 void curspan_take_panels(void) {
-    for (PANEL *panel = panels; panel < panels + MOST; panel++)
+    for (PANEL *panel = panels; panel < end; panel++)
         if (panel->number > 0) give_number(panel, panel->next);
 }
