@@ -82,6 +82,9 @@ impl Stamps {
     /// screen's.
     #[inline]
     pub(crate) fn number(&self, handle: Handle) -> u32 {
+        if handle.stamp == 0 {
+            return handle.number; // that of the standard screen, which is always there
+        }
         match self.0.get(handle.number as usize) {
             Some(&stamp) if stamp == handle.stamp => handle.number,
             _ => NO_NUMBER,
