@@ -3,8 +3,8 @@
 
 #include <stddef.h>
 
-#define AT(win, y, x, call) (wmove(win, y, x) == ERR ? ERR : (call))
-#define CELL_AT(win, y, x) (wmove(win, y, x) == ERR ? (chtype)ERR : winch(win))
+#define AT(win, y, x, call) (curspan_move(win, y, x) == ERR ? ERR : (call))
+#define CELL_AT(win, y, x) (curspan_move(win, y, x) == ERR ? (chtype)ERR : winch(win))
 
 /* ---- attributes, colours and backgrounds */
 
@@ -40,7 +40,7 @@ int setscrreg(int top, int bottom) { return wsetscrreg(stdscr, top, bottom); }
 
 int move(int y, int x) { return wmove(stdscr, y, x); }
 int addch(const chtype ch) { return waddch(stdscr, ch); }
-int mvwaddch(WINDOW *win, int y, int x, const chtype ch) { return AT(win, y, x, waddch(win, ch)); }
+int mvwaddch(WINDOW *win, int y, int x, const chtype ch) { return wmove(win, y, x) == ERR ? ERR : waddch(win, ch); }
 int mvaddch(int y, int x, const chtype ch) { return mvwaddch(stdscr, y, x, ch); }
 int wechochar(WINDOW *win, const chtype ch) { return waddch(win, ch) == ERR ? ERR : wrefresh(win); }
 int echochar(const chtype ch) { return wechochar(stdscr, ch); }
@@ -87,12 +87,12 @@ int printw(const char *format, ...) { PRINT(stdscr); }
 int wprintw(WINDOW *win, const char *format, ...) { PRINT(win); }
 
 int mvprintw(int y, int x, const char *format, ...) {
-    if (wmove(stdscr, y, x) == ERR) return ERR;
+    if (curspan_move(stdscr, y, x) == ERR) return ERR;
     PRINT(stdscr);
 }
 
 int mvwprintw(WINDOW *win, int y, int x, const char *format, ...) {
-    if (wmove(win, y, x) == ERR) return ERR;
+    if (curspan_move(win, y, x) == ERR) return ERR;
     PRINT(win);
 }
 

@@ -52,7 +52,40 @@ struct curspan_window {
     int part[6]; /* of a pad, which part of it was refreshed last, and to where */
 };
 
-extern curspan curspan_the_screen;
+/* A move, and plain characters after it, which wait until Curspan is asked for something else: one call of it writes many characters. None
+   of them can be refused. */
+struct curspan_waiting {
+    WINDOW *win; /* where they are to be written, or NULL */
+    int y, x;    /* the place to which it moves first; ERR is where the cursor is */
+    unsigned count;
+    uint8_t text[LONGEST];
+};
+
+extern struct curspan_waiting curspan_waiting;
+/* Writes what waits. */
+void curspan_write_waiting(void);
+/* Lets a move wait, where nothing else does. */
+static inline int curspan_wait_at(WINDOW *win, int y, int x) {
+    curspan_waiting.win = win;
+    curspan_waiting.y = y;
+    curspan_waiting.x = x;
+    return OK;
+}
+/* Moves at once, for a call that is none of those which wait. */
+int curspan_move(WINDOW *win, int y, int x);
+/* Lets a move wait where characters do, or something of another window. */
+int curspan_move_on(WINDOW *win, int y, int x);
+/* Lets a character wait that begins at the cursor. */
+int curspan_wait_here(WINDOW *win, uint8_t ch);
+
+/* The screen, in which nothing is left to be written. */
+extern curspan curspan_kept_screen;
+static inline curspan *curspan_written_screen(void) {
+    if (curspan_waiting.win) curspan_write_waiting();
+    return &curspan_kept_screen;
+}
+#define curspan_the_screen (*curspan_written_screen())
+
 extern struct curspan_window curspan_windows[MOST];
 
 /* The number of a window, and for a null pointer a number that no window has. */

@@ -13,7 +13,7 @@
 
 int LINES, COLS;
 int COLORS = 8, COLOR_PAIRS = LAST_OWN + 1;
-curspan curspan_the_screen = CURSPAN_INIT;
+curspan curspan_kept_screen = CURSPAN_INIT;
 
 static bool ignores_environment;
 

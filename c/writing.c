@@ -13,11 +13,20 @@ int set_tabsize(int columns) {
     return OK;
 }
 
-int wmove(WINDOW *win, int y, int x) {
-    if (!win || (unsigned)y >= win->lines || (unsigned)x >= win->columns) return ERR;
+/* Notes that the cursor is moved, where the window has that place. */
+static inline bool is_moved(WINDOW *win, int y, int x) {
+    if (!win || (unsigned)y >= win->lines || (unsigned)x >= win->columns) return false;
     win->reach = y;
     win->moved = true;
-    return curspan_put_cursor(win, y, x);
+    return true;
+}
+
+int curspan_move(WINDOW *win, int y, int x) { return is_moved(win, y, x) ? curspan_put_cursor(win, y, x) : ERR; }
+
+int wmove(WINDOW *win, int y, int x) {
+    if (!is_moved(win, y, x)) return ERR;
+    if (curspan_waiting.count > 0 || (curspan_waiting.win && curspan_waiting.win != win)) return curspan_move_on(win, y, x);
+    return curspan_wait_at(win, y, x);
 }
 
 /* ---- the end of a window */
@@ -162,12 +171,22 @@ static bool is_printable(uint8_t ch) { return ch >= ' ' && ch <= '~'; }
 
 /* ---- characters and texts */
 
+/* Lets a printable character wait to be written, which doesn't come to the window's end. */
+static inline int add_waiting(WINDOW *win, chtype ch) {
+    win->reach++;
+    if (curspan_waiting.win != win || curspan_waiting.count == LONGEST) return curspan_wait_here(win, (uint8_t)ch);
+    curspan_waiting.text[curspan_waiting.count++] = (uint8_t)ch;
+    return OK;
+}
+
 int curspan_add_any(WINDOW *win, chtype ch) {
     ch = curspan_as_drawn(ch);
     uint8_t character = ch & A_CHARTEXT;
     bool has_attributes = (ch & A_ATTRIBUTES) != 0;
     if (is_there(win) == ERR || PAIR_NUMBER(ch) > LAST_PAIR) return ERR;
     if (curspan_tell(win, curspan_with(win->attrs, ch)) == ERR) return ERR;
+    bool follows = win->is_immediate || win->synchronizes;
+    if (is_printable(character) && character != ' ' && win->begun.count == 0 && win->reach < win->end && !follows) return add_waiting(win, character);
     curspan_check_begun(win);
     if (!is_printable(character) || win->begun.count > 0) return curspan_changed(win, add_spelled(win, character, has_attributes));
     return curspan_changed(win, character == ' ' ? add_blanks(win, 1, has_attributes) : add_run(win, &character, 1));
@@ -176,8 +195,7 @@ int curspan_add_any(WINDOW *win, chtype ch) {
 int waddch(WINDOW *win, const chtype ch) {
     bool is_plain = ch >= ' ' && ch <= '~'; /* it has no attributes of its own, and is not spelled */
     if (!is_plain || !win || win->reach >= win->limit) return curspan_add_any(win, ch);
-    win->reach++;
-    return curspan_waddch_end(win->number, (uint8_t)ch, &curspan_the_screen);
+    return add_waiting(win, ch);
 }
 
 /* How many printable characters a text begins with. */
