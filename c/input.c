@@ -159,7 +159,7 @@ static int next_key(const WINDOW *win) {
 
 /* Takes a new size of the terminal over. */
 static void look_at_size(void) {
-    if (curspan_was_resized()) curspan_resize_to_terminal();
+    if (curspan_was_resized()) curspan_resize_to_terminal(true);
 }
 
 /* Writes a key into the window that reads it, where keys are echoed. */
@@ -178,13 +178,10 @@ int wgetch(WINDOW *win) {
     if (is_there(win) == ERR) return ERR;
     curspan_redraw_after_stop();
     look_at_size();
-    if (queue.keys > 0) {
-        show(win);
-        return pull();
-    }
-    if (wants_line()) return key_of_line(win);
-    if (win->keypad != (curspan_terminal.is_keypad != 0)) curspan_switch_keypad(win->keypad);
+    if (queue.keys == 0 && wants_line()) return key_of_line(win);
+    if (queue.keys == 0 && win->keypad != (curspan_terminal.is_keypad != 0)) curspan_switch_keypad(win->keypad);
     show(win);
+    if (queue.keys > 0) return pull();
     int key = next_key(win);
     if (key == ERR) {
         look_at_size();

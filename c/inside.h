@@ -47,7 +47,6 @@ struct curspan_window {
     curspan_unfinished begun;
     bool idlok, no_idcok, leaveok;   /* the options that are set */
     bool is_immediate, synchronizes; /* each change refreshes it, or touches its ancestors */
-    unsigned long shown; /* when it was last taken into the virtual screen, or 0 */
     int begin_y, begin_x; /* of a pad, where on the screen copies take it to be, and of one that outlies, where it is */
     int part[6]; /* of a pad, which part of it was refreshed last, and to where */
 };
@@ -196,8 +195,10 @@ int curspan_move_inside(WINDOW *win, int y, int x);
 /* Cuts off what of a window is not on the screen. */
 int curspan_cut_outside(WINDOW *win);
 
-/* How often windows, pads and panels were taken into the virtual screen, and when that was done of panels last. */
-extern unsigned long curspan_times_shown, curspan_panels_shown;
+/* Where the virtual screen has its cursor. */
+extern int curspan_shown_y, curspan_shown_x;
+/* Notes that it is where a window has its own. */
+void curspan_note_cursor(const WINDOW *win);
 
 /* Makes the panels anew in another screen, with windows of it by their places in curspan_windows. */
 int curspan_make_panels(curspan *screen, const uint16_t windows[MOST]);

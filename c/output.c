@@ -47,7 +47,7 @@ int curspan_switch_keypad(bool flag) {
 int curspan_give_back(void) {
     struct curspan_terminal *terminal = &curspan_terminal;
     int answer = OK;
-    terminal->is_ended = true;
+    terminal->is_ended = terminal->was_away = true;
     if (terminal->page != PAGE_LEFT) {
         answer = curspan_put_text(terminal->last_line) == OK ? curspan_put_text(leave) : ERR;
         if (answer == OK) terminal->page = PAGE_LEFT;
@@ -86,7 +86,6 @@ static int come_back(void) {
     if (terminal->is_ended) {
         terminal->is_ended = false;
         curspan_resume_modes();
-        if (curspan_was_resized()) curspan_resize_to_terminal();
     }
     if (terminal->page == PAGE_ENTERED) return OK;
     terminal->page = PAGE_ENTERING;
@@ -97,8 +96,17 @@ static int come_back(void) {
     return OK;
 }
 
+/* Takes the terminal's size over where it may be another. */
+static void take_size(void) {
+    bool is_told = curspan_was_resized(), was_away = curspan_terminal.was_away;
+    curspan_terminal.was_away = false;
+    if (is_told || was_away) curspan_resize_to_terminal(is_told);
+}
+
 static int update(void) {
-    if (!stdscr || come_back() == ERR) return ERR;
+    if (!stdscr) return ERR;
+    take_size();
+    if (come_back() == ERR) return ERR;
     curspan_answer answer = curspan_doupdate(&curspan_the_screen);
     return hand_on() == OK ? done(answer) : ERR;
 }

@@ -102,14 +102,14 @@ void update_panels(void) {
     if (stdscr) stdscr->moved = false;
     for (PANEL *panel = panels; panel < end; panel++)
         if (panel->number > 0 && panel->win->moved) panel->win->moved = panel_hidden(panel) == TRUE;
-    curspan_panels_shown = ++curspan_times_shown;
+    PANEL *top = panel_below(NULL);
+    if (stdscr) curspan_note_cursor(top ? panel_window(top) : stdscr);
 }
 
 /* ---- windows and screens that are made anew */
 
 void curspan_forget_panels(void) {
     while (end > panels) (--end)->number = 0;
-    curspan_panels_shown = 0;
 }
 
 /* The panel after one by their numbers, the first after none, and NULL after the last. */

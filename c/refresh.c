@@ -35,14 +35,19 @@ void wcursyncup(WINDOW *win) {
 
 /* ---- refresh */
 
-unsigned long curspan_times_shown, curspan_panels_shown;
+int curspan_shown_y, curspan_shown_x;
+
+void curspan_note_cursor(const WINDOW *win) {
+    curspan_shown_y = getbegy(win) + getcury(win);
+    curspan_shown_x = getbegx(win) + getcurx(win);
+}
 
 int wnoutrefresh(WINDOW *win) {
     if (is_terminal(win)) return clearok(curscr, TRUE);
     wsyncdown(win);
     if ((win && win->outlies ? curspan_show_outlying(win) : done(curspan_wnoutrefresh(SCREEN_AND(win)))) == ERR) return ERR;
     win->moved = false;
-    win->shown = ++curspan_times_shown;
+    if (!win->outlies) curspan_note_cursor(win);
     return OK;
 }
 
@@ -70,7 +75,6 @@ int pnoutrefresh(WINDOW *pad, int pad_y, int pad_x, int top, int left, int botto
     memcpy(pad->part, part, sizeof part);
     pad->begin_y = part[2];
     pad->begin_x = part[3];
-    pad->shown = ++curspan_times_shown;
     return show_cursor_of(pad);
 }
 

@@ -161,11 +161,9 @@ static void set_background(curspan *screen, uint16_t number, chtype ch) {
     curspan_wbkgdpair(screen, number, (uint16_t)curspan_use_pair(ch));
 }
 
-/* Brings n cells of a line to a window of another screen. */
-static void bring_line(uint16_t from, uint16_t to, uint16_t y, int n) {
-    uint32_t cells[LONGEST];
+/* Puts cells of a line into a window of the other screen, from its first column on. */
+static void put_line(uint16_t to, uint16_t y, const uint32_t *cells, int n) {
     uint8_t text[LONGEST];
-    curspan_row(remake.from, from, y, cells, (size_t)n);
     for (int x = 0; x < n; x++) text[x] = CURSPAN_CHARACTER(cells[x]);
     curspan_wmove(remake.to, to, y, 0);
     for (int start = 0, end; start < n; start = end) {
@@ -174,6 +172,13 @@ static void bring_line(uint16_t from, uint16_t to, uint16_t y, int n) {
         curspan_wcolor_set(remake.to, to, CURSPAN_PAIR(cells[start]));
         curspan_waddstr(remake.to, to, text + start, (size_t)(end - start));
     }
+}
+
+/* Brings n cells of a line to a window of another screen. */
+static void bring_line(uint16_t from, uint16_t to, uint16_t y, int n) {
+    uint32_t cells[LONGEST];
+    curspan_row(remake.from, from, y, cells, (size_t)n);
+    put_line(to, y, cells, n);
 }
 
 /* Brings the cells of a window to the new one, as far as they fit. What is new has the background. */
@@ -320,41 +325,27 @@ int curspan_cut_outside(WINDOW *win) {
 
 /* ---- the screen */
 
-/* The window, pad or panels that were taken into the virtual screen first after a time: the time of that, or 0 where there are none. */
-static unsigned long next_shown(const unsigned long after, WINDOW **win) {
-    unsigned long next = curspan_panels_shown > after ? curspan_panels_shown : 0;
-    *win = NULL;
-    for (int i = 0; i < remake.count; i++) {
-        unsigned long shown = remake.family[i]->shown;
-        if (shown <= after || (next > 0 && shown > next)) continue;
-        next = shown;
-        *win = remake.family[i];
-    }
-    return next;
+/* A cell as it is shown, as a window has it: by the pair that curspan_number_pairs has given its colours. */
+static uint32_t cell_of_shown(uint32_t shown) {
+    uint32_t foreground = CURSPAN_FOREGROUND(shown), background = CURSPAN_BACKGROUND(shown), pair = 8 * foreground + background;
+    return (shown & 0xffff) | (foreground > 7 ? 0 : pair << 16);
 }
 
-/* Takes a part of a pad into the virtual screen as it was taken last, as far as the screen goes. */
-static void show_part(WINDOW *pad) {
-    const int *part = pad->part;
-    pnoutrefresh(pad, part[0], part[1], part[2], part[3], least(part[4], LINES - 1), least(part[5], COLS - 1));
-}
-
-/* Takes all that was on the old virtual screen into the new one, in the same order. */
-static void show_all(void) {
-    unsigned long last = curspan_times_shown;
-    WINDOW *win;
-    for (unsigned long time = 0; (time = next_shown(time, &win)) > 0 && time <= last;) {
-        if (!win) {
-            update_panels();
-        } else if (is_pad(win)) {
-            show_part(win);
-        } else {
-            curspan_touchwin(SCREEN_AND(win));
-            if (win->outlies) curspan_show_outlying(win);
-            else curspan_wnoutrefresh(SCREEN_AND(win));
-            win->shown = ++curspan_times_shown;
-        }
+/* Brings the virtual screen, as far as it fits, by the standard screen of the new one. As over ncurses nothing else comes into it before a
+   refresh. */
+static void bring_picture(void) {
+    uint32_t cells[LONGEST];
+    int lines = least(curspan_lines(), remake.lines), columns = least(curspan_columns(), remake.columns);
+    for (int y = 0; y < lines; y++) {
+        curspan_shown_row(remake.from, (uint32_t)y, cells, (size_t)columns);
+        for (int x = 0; x < columns; x++) cells[x] = cell_of_shown(cells[x]);
+        put_line(0, (uint16_t)y, cells, columns);
     }
+    curspan_wattrset(remake.to, 0, 0);
+    curspan_wcolor_set(remake.to, 0, 0);
+    curspan_wmove(remake.to, 0, (uint16_t)least(curspan_shown_y, remake.lines - 1), (uint16_t)least(curspan_shown_x, remake.columns - 1));
+    curspan_wnoutrefresh(remake.to, 0);
+    curspan_werase(remake.to, 0);
 }
 
 static int make_screen(void) {
@@ -371,6 +362,7 @@ static int make_screen(void) {
 static void take_screen(void) {
     curspan old = curspan_the_screen;
     curspan_number_pairs(remake.to);
+    bring_picture();
     for (int i = 0; i < remake.count; i++) bring(remake.family[i]);
     curspan_the_screen = *remake.to;
     remake.from = &old;
@@ -380,7 +372,6 @@ static void take_screen(void) {
     LINES = remake.lines;
     COLS = remake.columns;
     curspan_tell_size(LINES);
-    show_all();
     for (int i = 0; i < remake.count; i++) bring_marks(remake.family[i]);
     curspan_close(&old);
 }
@@ -411,8 +402,8 @@ int resizeterm(int lines, int columns) {
     return answer;
 }
 
-void curspan_resize_to_terminal(void) {
+void curspan_resize_to_terminal(bool is_told) {
     int lines, columns;
     curspan_find_size(&lines, &columns);
-    resizeterm(lines, columns);
+    if (is_told || is_term_resized(lines, columns)) resizeterm(lines, columns);
 }

@@ -19,6 +19,7 @@ struct curspan_terminal {
     pid_t owner;                     /* the process that has the screen, or 0 */
     volatile sig_atomic_t page;
     volatile sig_atomic_t is_ended;  /* endwin was called, and no refresh since */
+    volatile sig_atomic_t was_away;  /* it was given back, and its size may be another */
     volatile sig_atomic_t is_keypad; /* it sends the sequences of an application's keypad */
     struct termios shell, program;   /* the modes outside, and those of the program */
     char last_line[40];              /* ends renditions, shows the cursor and moves it to the last line */
@@ -85,8 +86,8 @@ int curspan_wait(int descriptor, int milliseconds, bool *found);
 
 /* ---- resizing.c */
 
-/* Takes the size that the terminal has now, and lets getch answer KEY_RESIZE where it is another. */
-void curspan_resize_to_terminal(void);
+/* Takes the size that the terminal has now, and lets getch answer KEY_RESIZE where it is another, or a signal told of it. */
+void curspan_resize_to_terminal(bool is_told);
 
 /* ---- screen.c */
 

@@ -58,6 +58,19 @@ static void read_in_window(void) {
     move(10, 0);
 }
 
+/* So is one that isn't wholly on the screen. */
+static void read_off_screen(void) {
+    WINDOW *low = newwin(4, 20, 22, 30);
+    waddstr(low, "it reads ");
+    int first = wgetch(low), second = mvwgetch(low, 1, 3);
+    wprintw(low, " %d %d", first, second);
+    wrefresh(low);
+    shot();
+    delwin(low);
+    touchwin(stdscr);
+    move(10, 0);
+}
+
 /* A line is edited, and its keys come when it ends. */
 static void read_line(void) {
     nocbreak();
@@ -81,6 +94,7 @@ int main(void) {
     tell(2);
     echo();
     read_in_window();
+    read_off_screen();
     read_line();
     halfdelay(200);
     tell(2);
