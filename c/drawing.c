@@ -6,10 +6,10 @@
 /* What a character is in a window: with the window's attributes and those of its background, which a blank one takes
    whole. */
 static chtype rendered(const WINDOW *win, chtype ch) {
-    ch = curspan_as_drawn(ch);
+    ch = curspan_as_drawn(ch | (win->attrs & A_ALTCHARSET));
     chtype text = ch == ' ' ? win->background & A_CHARTEXT : ch & A_CHARTEXT;
     chtype pair = ch & A_COLOR ? ch : win->attrs & A_COLOR ? win->attrs : win->background;
-    return text | (pair & A_COLOR) | ((ch | win->attrs | win->background) & A_ATTRIBUTES & ~A_COLOR);
+    return text | (pair & A_COLOR) | ((ch | (win->attrs & ~A_ALTCHARSET) | win->background) & A_ATTRIBUTES & ~A_COLOR);
 }
 
 /* A character of a border or a line, or the usual one where it has none. */

@@ -77,11 +77,13 @@ static int insert(WINDOW *win, const uint8_t *text, size_t length, bool has_attr
 }
 
 int winsch(WINDOW *win, chtype ch) {
-    ch = curspan_as_drawn(ch);
+    if (is_there(win) == ERR || PAIR_NUMBER(ch) > LAST_PAIR) return ERR;
+    bool has_attributes = (ch & A_ATTRIBUTES) != 0;
+    ch = curspan_as_drawn(ch | (win->attrs & A_ALTCHARSET));
     uint8_t text = ch & A_CHARTEXT;
-    if (is_there(win) == ERR || PAIR_NUMBER(ch) > LAST_PAIR || curspan_tell(win, curspan_with(win->attrs, ch)) == ERR) return ERR;
+    if (curspan_tell(win, curspan_with(win->attrs & ~A_ALTCHARSET, ch)) == ERR) return ERR;
     curspan_check_begun(win);
-    return curspan_changed(win, insert(win, &text, 1, (ch & A_ATTRIBUTES) != 0));
+    return curspan_changed(win, insert(win, &text, 1, has_attributes));
 }
 
 int winsnstr(WINDOW *win, const char *text, int n) {

@@ -34,7 +34,8 @@ int wmove(WINDOW *win, int y, int x) {
 enum { MANY = 1 << 20 }; /* more than a text has at once */
 
 void curspan_set_limit(WINDOW *win) {
-    bool is_ready = win->given == win->attrs && win->begun.count == 0 && !win->is_immediate && !win->synchronizes;
+    bool is_plain = !(win->attrs & A_ALTCHARSET) && win->begun.count == 0;
+    bool is_ready = win->given == win->attrs && is_plain && !win->is_immediate && !win->synchronizes;
     win->limit = is_ready ? win->end : NOT_READY;
 }
 
@@ -180,11 +181,11 @@ static inline int add_waiting(WINDOW *win, chtype ch) {
 }
 
 int curspan_add_any(WINDOW *win, chtype ch) {
-    ch = curspan_as_drawn(ch);
-    uint8_t character = ch & A_CHARTEXT;
-    bool has_attributes = (ch & A_ATTRIBUTES) != 0;
     if (is_there(win) == ERR || PAIR_NUMBER(ch) > LAST_PAIR) return ERR;
-    if (curspan_tell(win, curspan_with(win->attrs, ch)) == ERR) return ERR;
+    bool has_attributes = (ch & A_ATTRIBUTES) != 0;
+    ch = curspan_as_drawn(ch | (win->attrs & A_ALTCHARSET));
+    uint8_t character = ch & A_CHARTEXT;
+    if (curspan_tell(win, curspan_with(win->attrs & ~A_ALTCHARSET, ch)) == ERR) return ERR;
     bool follows = win->is_immediate || win->synchronizes;
     if (is_printable(character) && character != ' ' && win->begun.count == 0 && win->reach < win->end && !follows) return add_waiting(win, character);
     curspan_check_begun(win);
@@ -227,9 +228,18 @@ static int add_each_piece(WINDOW *win, const char *text, size_t length) {
     return OK;
 }
 
+/* Writes a text of alternate characters, where some of them are none on this terminal. */
+static int add_alternates(WINDOW *win, const char *text, size_t length) {
+    for (; length > 0; text++, length--)
+        if (curspan_add_any(win, (unsigned char)*text) == ERR) return ERR;
+    return OK;
+}
+
 /* Writes a text of lines, or one that isn't printable, or comes to the window's end. */
 static int add_pieces(WINDOW *win, const char *text, size_t length) {
-    if (is_there(win) == ERR || curspan_tell(win, win->attrs) == ERR) return ERR;
+    if (is_there(win) == ERR) return ERR;
+    if (win->attrs & A_ALTCHARSET) return add_alternates(win, text, length);
+    if (curspan_tell(win, win->attrs) == ERR) return ERR;
     curspan_check_begun(win);
     if (ends_above(win, text, length) && curspan_waddstr(SCREEN_AND(win), (const uint8_t *)text, length).status == CURSPAN_OK) {
         win->reach = UNKNOWN;

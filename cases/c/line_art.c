@@ -26,6 +26,14 @@ int main(void) {
     addch(ACS_HLINE | COLOR_PAIR(2) | A_REVERSE);
     attron(A_ALTCHARSET);
     addstr("lqkpla");
+    mvaddstr(20, 0, "AHQRXYZ!@[,+-.0hi nq");
+    addch('W');
+    addch('j' | COLOR_PAIR(1));
+    hline('y', 4);
+    mvvline(20, 40, '.', 2);
+    mvinsch(20, 2, 'B');
+    mvinsch(20, 2, 'x');
+    move(4, 10);
     attroff(A_ALTCHARSET);
     addstr("lqk");
     printw(" %d %d", (int)(mvinch(4, 0) & A_CHARTEXT), (mvinch(4, 0) & A_ALTCHARSET) != 0);
