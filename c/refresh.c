@@ -42,17 +42,6 @@ void curspan_note_cursor(const WINDOW *win) {
     curspan_shown_x = getbegx(win) + getcurx(win);
 }
 
-int wnoutrefresh(WINDOW *win) {
-    if (is_terminal(win)) return clearok(curscr, TRUE);
-    wsyncdown(win);
-    if ((win && win->outlies ? curspan_show_outlying(win) : done(curspan_wnoutrefresh(SCREEN_AND(win)))) == ERR) return ERR;
-    win->moved = false;
-    if (!win->outlies) curspan_note_cursor(win);
-    return OK;
-}
-
-int wrefresh(WINDOW *win) { return wnoutrefresh(win) == ERR ? ERR : doupdate(); }
-
 static int not_negative(int n) { return n < 0 ? 0 : n; }
 
 /* The cursor of a pad is taken where it is in the part that is shown. */
@@ -78,6 +67,24 @@ int pnoutrefresh(WINDOW *pad, int pad_y, int pad_x, int top, int left, int botto
     return show_cursor_of(pad);
 }
 
+static int show_again(WINDOW *pad) {
+    const int *part = pad->part;
+    return pnoutrefresh(pad, part[0], part[1], part[2], part[3], part[4], part[5]);
+}
+
+/* Of a pad the part is taken that was refreshed last, as over ncurses. */
+int wnoutrefresh(WINDOW *win) {
+    if (is_terminal(win)) return clearok(curscr, TRUE);
+    if (is_pad(win)) return show_again(win);
+    wsyncdown(win);
+    if ((win && win->outlies ? curspan_show_outlying(win) : done(curspan_wnoutrefresh(SCREEN_AND(win)))) == ERR) return ERR;
+    win->moved = false;
+    if (!win->outlies) curspan_note_cursor(win);
+    return OK;
+}
+
+int wrefresh(WINDOW *win) { return wnoutrefresh(win) == ERR ? ERR : doupdate(); }
+
 int prefresh(WINDOW *pad, int pad_y, int pad_x, int top, int left, int bottom, int right) {
     return pnoutrefresh(pad, pad_y, pad_x, top, left, bottom, right) == ERR ? ERR : doupdate();
 }
@@ -86,8 +93,7 @@ int prefresh(WINDOW *pad, int pad_y, int pad_x, int top, int left, int bottom, i
 int pechochar(WINDOW *pad, const chtype ch) {
     if (!is_pad(pad)) return wechochar(pad, ch);
     (void)waddch(pad, ch);
-    const int *part = pad->part;
-    return part[4] < 0 ? OK : prefresh(pad, part[0], part[1], part[2], part[3], part[4], part[5]);
+    return pad->part[4] < 0 ? OK : wrefresh(pad);
 }
 
 int wredrawln(WINDOW *win, int y, int n) {

@@ -37,6 +37,18 @@ int main(void) {
     look();
     mvprintw(22, 0, "past the pad, and past the screen: %d %d", prefresh(part, 5, 0, 0, 0, 4, 4), prefresh(pad, 0, 0, 0, 0, LINES, 4));
     look();
+    WINDOW *other = newpad(3, 10);
+    prefresh(pad, 1, 2, 3, 4, 8, 40);
+    mvwaddstr(pad, 2, 3, "again");
+    int shown = wrefresh(pad), never_shown = wrefresh(other);
+    mvprintw(22, 0, "the part that was shown last: %d, of another pad: %d", shown, never_shown);
+    clrtoeol();
+    look();
+    mvwaddstr(pad, 3, 3, "and again");
+    wnoutrefresh(pad);
+    wechochar(pad, '.');
+    shot();
+    delwin(other);
     delwin(part);
     delwin(pad);
     endwin();
