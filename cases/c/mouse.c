@@ -1,4 +1,6 @@
 /* Calls about the mouse, where there is none. */
+#include <ncurses.h>
+
 #include "shot.h"
 
 static const mmask_t events[] = {
