@@ -12,6 +12,8 @@ mypy:mypy:Python
 cargo:cargo:other languages, Rust, packages
 rustfmt:rustfmt:Rust
 clippy-driver:rust-clippy:Rust
+zsh:zsh:completion
+fish:fish:completion
 tmux:tmux:shell scripts, terminal, C programs, keys of C programs, Python
 tic:ncurses-bin:small frames, C programs, keys of C programs
 <panel.h>:libncurses-dev:small frames, C programs, keys of C programs'
