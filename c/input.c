@@ -71,7 +71,7 @@ static long since(const struct timespec *then) {
 }
 
 /* Waits until there is something to read, without end where the time is negative, and answers whether there is. A signal ends it, but for the one
-   that stops the program. */
+   that stops the program, unless the terminal has another size after it. */
 static bool wait_for_input(int milliseconds) {
     struct timespec begun;
     int left = milliseconds;
@@ -79,6 +79,7 @@ static bool wait_for_input(int milliseconds) {
     clock_gettime(CLOCK_MONOTONIC, &begun);
     while (curspan_wait(curspan_terminal.in, left, &found) == WAIT_STOPPED) {
         curspan_redraw_after_stop();
+        if (queue.keys > 0) return false;
         if (milliseconds >= 0) left = since(&begun) < milliseconds ? milliseconds - (int)since(&begun) : 0;
     }
     return found;

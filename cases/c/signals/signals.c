@@ -334,6 +334,25 @@ static void stop_and_continue(void) {
     finish(shell);
 }
 
+/* The terminal gets another size while a program is stopped, of which no signal tells it. */
+static void resize_while_stopped(void) {
+    const char *name = "a new size after Ctrl-Z";
+    const struct winsize size = {.ws_row = 30, .ws_col = 70};
+    pid_t shell = start(read_keys);
+    want(comes(0, "the picture"), name, "it draws");
+    type("\032");
+    want(WIFSTOPPED(status_of_program()), name, "it stops");
+    ioctl(slave, TIOCSWINSZ, &size);
+    size_t continued = length;
+    kill(shell, SIGCONT);
+    want(comes(continued, "the picture"), name, "the whole picture comes again");
+    want(comes(continued, "key 410."), name, "it is answered at once");
+    type("q");
+    want(WIFEXITED(status_of_program()), name, "it ends");
+    want(has_modes_again() && left_page(0) && strstr(bytes + continued, "\033[30;1H"), name, "the cursor is in the last line");
+    finish(shell);
+}
+
 /* The state of a process, as Linux tells it. */
 static char state_of(pid_t process) {
     char name[40], state = '?';
@@ -457,6 +476,7 @@ int main(void) {
     end_without_picture("delscreen", delete_screen);
     end_without_picture("a first write that fails", fail_at_once);
     stop_and_continue();
+    resize_while_stopped();
     stop_while_it_reads();
     signals_before_wait();
     wait_among_alarms();
