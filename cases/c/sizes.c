@@ -5,13 +5,10 @@
 #include <signal.h>
 #include <sys/ioctl.h>
 
-/* Waits until the terminal has another size than the screen, and the signal of it has come. */
+/* Waits until the terminal has another size than the screen, and the signal of it has come. Where there is no terminal nobody changes it. */
 static void wait_for_size(void) {
     struct winsize size;
-    do {
-        usleep(1000);
-        ioctl(0, TIOCGWINSZ, &size);
-    } while (size.ws_row == LINES && size.ws_col == COLS);
+    while (ioctl(0, TIOCGWINSZ, &size) == 0 && size.ws_row == LINES && size.ws_col == COLS) usleep(1000);
     usleep(50000);
 }
 
