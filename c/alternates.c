@@ -28,9 +28,11 @@ static const char *letters_of(const char *type) {
     return "";
 }
 
-/* X/Open's character for a letter where the terminal has none, and for a capital what ncurses has for its thick and double lines. */
+/* X/Open's character for a letter where the terminal has none, and for a capital what ncurses has for its thick and
+   double lines. */
 static chtype plain_of(chtype letter) {
-    static const char plain[] = "`+a:f'g#h#i#j+k+l+m+n+o~p-q-r-s_t+u+v+w+x|y<z>{*|!}f~o,<+>.v-^0#" /* pairs of a letter and its character */
+    /* pairs of a letter and its character */
+    static const char plain[] = "`+a:f'g#h#i#j+k+l+m+n+o~p-q-r-s_t+u+v+w+x|y<z>{*|!}f~o,<+>.v-^0#"
                                 "A+B+C+D+E+F+G+H+I+J+K+L+M+N+Q-R-T+U+V+W+X|Y|";
     for (size_t i = 0; plain[i]; i += 2)
         if ((unsigned char)plain[i] == letter) return (unsigned char)plain[i + 1];
@@ -47,7 +49,8 @@ void curspan_begin_map(void) {
 chtype curspan_as_drawn(chtype ch) {
     chtype letter = ch & A_CHARTEXT;
     if (!(ch & A_ALTCHARSET)) return ch;
-    bool has_it = letter < 128 && (acs_map[letter] & A_ALTCHARSET || (letter == ' ' && curspan_has_alternates)); /* a space may become a line */
+    bool may_be_line = letter == ' ' && curspan_has_alternates; /* by the background */
+    bool has_it = may_be_line || (letter < 128 && acs_map[letter] & A_ALTCHARSET);
     if (has_it && curspan_use_pair(A_ALTCHARSET) > 0) return ch;
     return (ch & ~(A_ALTCHARSET | A_CHARTEXT)) | plain_of(letter);
 }

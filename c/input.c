@@ -70,8 +70,8 @@ static long since(const struct timespec *then) {
     return (long)(now.tv_sec - then->tv_sec) * 1000 + (now.tv_nsec - then->tv_nsec) / 1000000;
 }
 
-/* Waits until there is something to read, without end where the time is negative, and answers whether there is. A signal ends it, but for the one
-   that stops the program, unless the terminal has another size after it. */
+/* Waits until there is something to read, without end where the time is negative, and answers whether there is. A
+   signal ends it, but for the one that stops the program, unless the terminal has another size after it. */
 static bool wait_for_input(int milliseconds) {
     struct timespec begun;
     int left = milliseconds;

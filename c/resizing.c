@@ -331,8 +331,8 @@ static uint32_t cell_of_shown(uint32_t shown) {
     return (shown & 0xffff) | (foreground > 7 ? 0 : pair << 16);
 }
 
-/* Brings the virtual screen, as far as it fits, by the standard screen of the new one. As over ncurses nothing else comes into it before a
-   refresh. */
+/* Brings the virtual screen, as far as it fits, by the standard screen of the new one. As over ncurses nothing else
+   comes into it before a refresh. */
 static void bring_picture(void) {
     uint32_t cells[LONGEST];
     int lines = least(curspan_lines(), remake.lines), columns = least(curspan_columns(), remake.columns);
@@ -343,7 +343,8 @@ static void bring_picture(void) {
     }
     curspan_wattrset(remake.to, 0, 0);
     curspan_wcolor_set(remake.to, 0, 0);
-    curspan_wmove(remake.to, 0, (uint16_t)least(curspan_shown_y, remake.lines - 1), (uint16_t)least(curspan_shown_x, remake.columns - 1));
+    int cursor_y = least(curspan_shown_y, remake.lines - 1), cursor_x = least(curspan_shown_x, remake.columns - 1);
+    curspan_wmove(remake.to, 0, (uint16_t)cursor_y, (uint16_t)cursor_x);
     curspan_wnoutrefresh(remake.to, 0);
     curspan_werase(remake.to, 0);
 }

@@ -86,7 +86,8 @@ int curspan_wait(int descriptor, int milliseconds, bool *found);
 
 /* ---- resizing.c */
 
-/* Takes the size that the terminal has now, and lets getch answer KEY_RESIZE where it is another, or a signal told of it. */
+/* Takes the size that the terminal has now, and lets getch answer KEY_RESIZE where it is another, or a signal told of
+   it. */
 void curspan_resize_to_terminal(bool is_told);
 
 /* ---- screen.c */

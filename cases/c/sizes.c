@@ -1,11 +1,12 @@
-/* The terminal's size changes where nobody calls getch: the next refresh takes it, and where the program catches the signal itself, the
-   first refresh after endwin. */
+/* The terminal's size changes where nobody calls getch: the next refresh takes it, and where the program catches the
+   signal itself, the first refresh after endwin. */
 #include "shot.h"
 
 #include <signal.h>
 #include <sys/ioctl.h>
 
-/* Waits until the terminal has another size than the screen, and the signal of it has come. Where there is no terminal nobody changes it. */
+/* Waits until the terminal has another size than the screen, and the signal of it has come. Where there is no terminal
+   nobody changes it. */
 static void wait_for_size(void) {
     struct winsize size;
     while (ioctl(0, TIOCGWINSZ, &size) == 0 && size.ws_row == LINES && size.ws_col == COLS) usleep(1000);
