@@ -63,20 +63,34 @@ def is_painted(program, script):
         want('what show prints where all was updated', came.out, program.run(script.words('show'), ran.out).out)
 
 
+# What check says of a call that every screen refuses, before the refusal.
+REFUSES = ', column 1: every screen refuses this call: '
+
+
 def is_checked(program, script):
-    """Each faulty line is reported with its column and its kind of fault, and run ends with the first of them."""
+    """Each faulty line is reported with its column and its kind of fault, and run ends with the first of them. A call of which it is said
+    that every screen refuses it is refused so by run, if run comes to it."""
     came = program.run(script.words('check'), script.text)
-    wanted = findings(script.text)
-    told = came.out.decode().splitlines(keepends=True)
-    want('how many lines check tells', len(wanted), len(told))
-    for beginning, line in zip(wanted, told):
+    faults = findings(script.text)[:-1]
+    lines = came.out.decode().splitlines(keepends=True)
+    refused = [line for line in lines if REFUSES in line]
+    told = [line for line in lines[:-1] if REFUSES not in line]
+    want('how many faults check tells', len(faults), len(told))
+    for beginning, line in zip(faults, told):
         want('what check tells', beginning, line[:len(beginning)])
-    want('the log and the status of check', (b'', 2 if wanted else 0), (came.log, came.status))
+    count = len(faults) + len(refused)
+    want('how many lines check says are faulty', [f'{count} faulty line{"s"[:count != 1]}\n'] if count else [], lines[-1:])
+    want('the log and the status of check', (b'', 2 if count else 0), (came.log, came.status))
     ran = program.run(script.words('run'), script.text)
-    want('whether run ends with a fault', bool(wanted), ran.status == 2)
-    if wanted:
-        number = wanted[0].split(',')[0].encode()
-        want('the line with whose fault run ends', number, ran.log.splitlines()[-1].split(b':')[0])
+    want('whether run ends with a fault', bool(faults), ran.status == 2)
+    log = ran.log.decode().splitlines()
+    if faults:
+        want('the line with whose fault run ends', faults[0].split(',')[0], log[-1].split(':')[0])
+    last = int(faults[0].split(',')[0].split()[1]) if faults else None
+    for line in refused:
+        number, why = line.rstrip('\n').split(REFUSES)
+        if last is None or int(number.split()[1]) < last:
+            want_that('run refuses what every screen refuses', f'{number}: {why}' in log, ran.log)
 
 
 def sizes_of_pieces(script):

@@ -1,9 +1,11 @@
 -- What `check` reports of the script that it reads.
 use Rattle.std.specs.Prelude.{◌≡◌, ◌⊎◌, ◌==◌, ◌++◌, ◌∷◌, ◌-◌, ◌^◌, [], ℕ, Bool, true, false, not, List, Option, Result, Ok, Err, codes, decimal, length, min, nat_lt, if◌then◌else◌}
 use Rattle.std.specs.List.{flat_map, slice_split}
+use Rattle.std.specs.Option.{option_map_or}
 use Rattle.streams.specs.Sinks.{Seen}
 use Rattle.streams.specs.Sources.{SourceSeen}
 use Rattle.script.specs.Characters.{is_newline, newline}
+use Rattle.explain.specs.Everywhere.{refusal_everywhere, refused_line}
 use Rattle.explain.specs.Explanations.{finding}
 use Rattle.script.specs.Log.{last_line}
 use Rattle.script.specs.Readings.{next_number, parse_line}
@@ -17,9 +19,13 @@ use Rattle.commands.specs.Written.{IsNotWritten, IsWritten, Outputs, TriesToLog}
 
 -- ---- the findings
 
--- the finding of a line by what it says: none, if that is no fault
+-- the finding of a call: none, unless every screen refuses it
+abbrev pub finding_of_call : ℕ → Call → List (List ℕ)
+finding_of_call number call = option_map_or (λ why. refused_line number why ∷ []) (refusal_everywhere call) []
+
+-- the finding of a line by what it says: none, if that is nothing
 abbrev pub finding_of : ℕ → List ℕ → Result (Option Call) TextFault → List (List ℕ)
-finding_of number line (Ok call) = []
+finding_of number line (Ok call) = option_map_or (finding_of_call number) call []
 finding_of number line (Err fault) = finding number fault line ∷ []
 
 -- The bytes after the last newline, where a read failed after them: they are no line, unless they are too many.

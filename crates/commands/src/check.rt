@@ -1,16 +1,17 @@
-//! Says of each faulty line of a script what is wrong with it. No call is made.
+//! Says of each faulty line of a script what is wrong with it, and which calls every screen refuses. No call is made.
 
 ghost use Rattle.std.specs.Prelude.{◌≡◌, ◌≤◌, ◌<◌, ◌∷◌, [], length};
 ghost use Rattle.script.specs.Readings.{parse_line};
-ghost use Rattle.commands.specs.Checks.{Checks, count_line, finding_of};
+ghost use Rattle.script.specs.Words.{entry_of};
+ghost use Rattle.commands.specs.Checks.{Checks, count_line, finding_of, finding_of_call};
 ghost use Rattle.commands.specs.Written.{outputs};
 ghost use Rattle.commands.specs.steps.Checking.{EndsReport, ReportsMore, ReportsScript, finding_of_read};
 
 use crate::put::{put, write_out};
 use crate::status::{ACCEPTED, BAD_TEXT, log_failure};
 use arrayvec::ArrayVec;
-use explain::finding;
-use script::{Arguments, LONGEST_LINE, LineEnd, Lines, ScriptFault, TextFault, read_line};
+use explain::{finding, refusal_everywhere, refused_line};
+use script::{Arguments, LONGEST_LINE, LineEnd, Lines, ScriptFault, TextFault, Word, read_line};
 use streams::{Sink, Source, append, append_decimal};
 
 /// Room for the line on how many lines are faulty: a number, and 14 bytes more.
@@ -44,7 +45,23 @@ fn report_text<O: Sink>(out: &mut O, report: Report, text: &[u8]) -> Report
     }
 }
 
-/// Reports a line, if it has a fault.
+/// Reports a call, if every screen refuses it.
+fn report_call<O: Sink>(
+    out: &mut O,
+    report: Report,
+    number: u64,
+    word: Word,
+    taken: &Arguments,
+) -> Report
+    ensures { ReportsMore (O.seen out.old) (O.seen out.new) report result (finding_of_call number ((entry_of word).call taken.now)) }
+{
+    match refusal_everywhere(&word.call(taken)) {
+        Some(why) => report_text(out, report, refused_line(number, why).as_slice()),
+        None => report,
+    }
+}
+
+/// Reports a line, if it has a fault, or a call that every screen refuses.
 fn report_line<O: Sink>(
     out: &mut O,
     report: Report,
@@ -56,7 +73,8 @@ fn report_line<O: Sink>(
     ensures { ReportsMore (O.seen out.old) (O.seen out.new) report result (finding_of number line.now (parse_line line.now)) }
 {
     match read_line(line, taken) {
-        Ok(_) => report,
+        Ok(Some(word)) => report_call(out, report, number, word, taken),
+        Ok(None) => report,
         Err(fault) => report_text(out, report, finding(number, fault, line).as_slice()),
     }
 }

@@ -6,3 +6,5 @@ pub mod Letters
 pub mod LetterTable
 -- that the words of calls are short, for nearest
 pub mod NearestLemmas
+-- why every screen refuses a call, for refusal_everywhere
+pub mod EverywhereLemmas

@@ -8,7 +8,7 @@ use Rattle.script.specs.declared.fault.TextFault.{TextFault}
 use Rattle.script.specs.declared.fault.TextFault.TheVariants.{LineTooLong, BadByte, UnknownCall, WrongNumberOfArguments, BadArgument}
 use Rattle.explain.specs.Advice.{begins_with, call_advice}
 use Rattle.explain.specs.Faults.{IllFormed, arguments_in, bad_place, column_of, find_ill_formed_in, find_stray_in, forms_of, word_in}
-use Rattle.explain.specs.Reasons.{byte_advice, reason, requirement}
+use Rattle.explain.specs.Reasons.{byte_advice, reason, requirement_of}
 
 abbrev pub byte_order_mark : List ℕ
 byte_order_mark = 239 ∷ 187 ∷ 191 ∷ []
@@ -25,7 +25,7 @@ count_text n = decimal n ++ (if n == 1 then codes " argument" else codes " argum
 
 -- what a word wants in place of an argument
 abbrev pub ill_formed_text : List ℕ → IllFormed → List ℕ
-ill_formed_text word ill = word ++ codes " wants " ++ requirement ill.form ++ codes ", not " ++ quotation ill.argument ++ reason ill.form ill.argument
+ill_formed_text word ill = word ++ codes " wants " ++ requirement_of word ill.form ++ codes ", not " ++ quotation ill.argument ++ reason ill.form ill.argument
 
 -- what is said of a bad byte, of a word that is no call (of no word, since the line begins with a space), and of a wrong number of arguments
 abbrev pub bad_byte_text : ℕ → List ℕ

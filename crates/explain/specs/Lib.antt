@@ -1,6 +1,7 @@
 pub mod Faults
 pub mod Nearest
 pub mod Advice
+pub mod Everywhere
 pub mod Reasons
 pub mod Explanations
 pub mod steps

@@ -26,6 +26,20 @@ requirement Flag = codes "on or off"
 requirement Character = codes "one character, or one of the escapes \\n, \\r, \\b, \\\\ and \\xhh in lower case"
 requirement Text = codes "a text with no escapes but \\n, \\r, \\b, \\\\ and \\xhh in lower case"
 
+-- what those of a call are that takes pairs or colours
+abbrev pub pair_and_colours : List ℕ
+pair_and_colours = codes "a pair from 1 to 63, and two colours from 0 to 7"
+
+abbrev pub window_and_pair : List ℕ
+window_and_pair = codes "a window, and a pair from 0 to 63"
+
+-- what an argument of that form has to be, after this word
+abbrev pub requirement_of : List ℕ → Form → List ℕ
+requirement_of word form = if bytes_eq word (codes "init_pair") then pair_and_colours
+    else (if bytes_eq word (codes "color_set") then window_and_pair
+    else (if bytes_eq word (codes "bkgdpair") then window_and_pair
+    else requirement form))
+
 -- ---- why an argument is not what it has to be
 
 abbrev pub are_digits : List ℕ → Bool

@@ -7,7 +7,7 @@ ghost use Rattle.explain.specs.Explanations.{bad_byte_text, bad_line_text, count
 
 use crate::arguments::{IllFormed, Stray, count, find_ill_formed, find_stray, forms_of};
 use crate::column::{bad_byte, column_of};
-use crate::reasons::{byte_advice, reason, requirement};
+use crate::reasons::{byte_advice, reason, requirement_of};
 use crate::suggestions::said_of;
 use arrayvec::ArrayVec;
 use cell::hex_digits;
@@ -58,7 +58,7 @@ fn append_ill_formed(text: &mut Finding, word: &[u8], ill: IllFormed<'_>)
 {
     append(text, word);
     append(text, b" wants ");
-    append(text, requirement(ill.form));
+    append(text, requirement_of(word, ill.form));
     append(text, b", not ");
     append_quoted(text, ill.argument);
     append(text, reason(ill.form, ill.argument));

@@ -2,13 +2,14 @@
 
 ghost use Rattle.std.specs.Prelude.{[], ◌≡◌, ◌++◌, codes};
 ghost use Rattle.cell.specs.Attributes.{hex_digits};
+ghost use Rattle.cell.specs.declared.limits.TheConstants.{LAST_COLOUR, LAST_PAIR};
 ghost use Rattle.script.specs.declared.fault.TextFault.TheVariants.{LineTooLong};
 ghost use Rattle.script.specs.declared.limits.TheConstants.{ALL_ATTRIBUTES, GREATEST_NUMBER, GREATEST_SIGNED, LONGEST_LINE};
 ghost use Rattle.script.specs.declared.words.Form.TheVariants.{Attributes, Number, NumberOrNone, Signed};
 ghost use Rattle.explain.specs.Explanations.{explanation};
-ghost use Rattle.explain.specs.Reasons.{numeral_in, requirement};
+ghost use Rattle.explain.specs.Reasons.{numeral_in, pair_and_colours, requirement, window_and_pair};
 
-/// The numerals that a person reads are the limits of a script's text.
+/// The numerals that a person reads are the limits of a script's text, and of pairs and colours.
 pub fn limits_in_texts()
     ensures number { numeral_in 19 (requirement Number) ≡ GREATEST_NUMBER }
     ensures none { numeral_in 19 (requirement NumberOrNone) ≡ GREATEST_NUMBER }
@@ -16,5 +17,7 @@ pub fn limits_in_texts()
     ensures signed { numeral_in 24 (requirement Signed) ≡ GREATEST_SIGNED }
     ensures attributes { requirement Attributes
         ≡ codes "two hexadecimal digits in lower case from " ++ hex_digits 0 ++ codes " to " ++ hex_digits ALL_ATTRIBUTES }
+    ensures colours { (numeral_in 17 pair_and_colours ≡ LAST_PAIR) × (numeral_in 47 pair_and_colours ≡ LAST_COLOUR) }
+    ensures pairs { numeral_in 31 window_and_pair ≡ LAST_PAIR }
     ensures line { numeral_in 24 (explanation LineTooLong []) ≡ LONGEST_LINE }
 {}

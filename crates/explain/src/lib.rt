@@ -1,8 +1,9 @@
-//! What a person reads about a script's faulty line.
+//! What a person reads about a script's faulty line, or one whose call every screen refuses.
 //!
 //! - `advice`: the names of curses that are no calls
 //! - `arguments`: the arguments of the line, and the first that lacks its form
 //! - `column`: where the fault is
+//! - `everywhere`: the calls that every screen refuses
 //! - `findings`: the line on a fault
 //! - `laws`: the numerals that are printed are the limits
 //! - `nearest`: the call that a word was meant to be
@@ -13,11 +14,13 @@
 mod advice;
 mod arguments;
 mod column;
+mod everywhere;
 mod findings;
 mod laws;
 mod nearest;
 mod reasons;
 mod suggestions;
 
+pub use everywhere::{refusal_everywhere, refused_line};
 pub use findings::{Finding, finding};
 pub use laws::limits_in_texts;

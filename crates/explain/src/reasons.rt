@@ -3,7 +3,7 @@
 ghost use Rattle.std.specs.Prelude.{◌≡◌, ◌≤◌, length};
 ghost use Rattle.std.specs.Char.{is_ascii_hexdigit, is_ascii_uppercase};
 ghost use Rattle.std.specs.List.{list_all, list_any};
-ghost use Rattle.explain.specs.Reasons.{are_digits, are_two_digits, attributes_reason, byte_advice, digits_reason, flag_reason, reason, requirement, signed_reason, unless_missing, unsigned_reason};
+ghost use Rattle.explain.specs.Reasons.{are_digits, are_two_digits, attributes_reason, byte_advice, digits_reason, flag_reason, reason, requirement, requirement_of, signed_reason, unless_missing, unsigned_reason};
 
 use crate::advice::is_among;
 use script::{Form, has_digits_alone};
@@ -22,7 +22,7 @@ pub fn byte_advice(byte: u8) -> &'static [u8]
 }
 
 /// What an argument of a form has to be.
-pub fn requirement(form: Form) -> &'static [u8]
+fn requirement(form: Form) -> &'static [u8]
     ensures text { result.now ≡ requirement form }
     ensures short { length result.now ≤ 80 }
 {
@@ -35,6 +35,22 @@ pub fn requirement(form: Form) -> &'static [u8]
         Form::Character =>
             b"one character, or one of the escapes \\n, \\r, \\b, \\\\ and \\xhh in lower case",
         Form::Text => b"a text with no escapes but \\n, \\r, \\b, \\\\ and \\xhh in lower case",
+    }
+}
+
+/// What an argument of a form has to be after a word: of a call that takes pairs or colours all that it takes is said.
+pub fn requirement_of(word: &[u8], form: Form) -> &'static [u8]
+    ensures text { result.now ≡ requirement_of word.now form }
+    ensures short { length result.now ≤ 80 }
+{
+    if word == b"init_pair".as_slice() {
+        b"a pair from 1 to 63, and two colours from 0 to 7"
+    } else if word == b"color_set".as_slice() {
+        b"a window, and a pair from 0 to 63"
+    } else if word == b"bkgdpair".as_slice() {
+        b"a window, and a pair from 0 to 63"
+    } else {
+        requirement(form)
     }
 }
 

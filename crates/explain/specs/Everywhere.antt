@@ -1,0 +1,103 @@
+-- The calls that every screen refuses, and for one reason: whatever its size, and whatever was called on it before.
+use Rattle.std.specs.Prelude.{◌≡◌, ℕ, ◌==◌, ◌&&◌, ◌||◌, not, nat_le, nat_lt, Bool, true, List, [], ◌∷◌, ◌++◌, Option, None, Some, codes, decimal, if◌then◌else◌, option_and_then}
+use Rattle.std.specs.List.{list_any}
+use Rattle.cell.specs.Glyphs.{is_printable}
+use Rattle.cell.specs.Limits.{is_no_size}
+use Rattle.cell.specs.Refusals.{first_of, refusal_text}
+use Rattle.cell.specs.declared.limits.TheConstants.{LARGEST_PAD, LARGEST_SCREEN, MOST_PANELS}
+use Rattle.cell.specs.declared.refusal.Refusal.{Refusal}
+use Rattle.cell.specs.declared.refusal.Refusal.TheVariants.{BadCharacter, BadPair, BadRegion, BadSize, NoSuchPanel, NotDerived, NotPad, OffScreen, OutsideParent, OutsideWindow, StandardScreen}
+use Rattle.script.specs.Characters.{newline}
+use Rattle.world.specs.Panels.{standard_screen}
+use Rattle.world.specs.Sound.{IsSound}
+use Rattle.world.specs.World.{World}
+use Rattle.world.specs.calls.Dispatch.{refusal}
+use Rattle.world.specs.calls.Making.{is_inside}
+use Rattle.world.specs.calls.Refresh.{colour_tests}
+use Rattle.world.specs.calls.Writing.{is_bad_character, is_no_pair}
+use Rattle.world.specs.declared.call.Call.{Call}
+use Rattle.world.specs.declared.call.Call.TheVariants as calls
+use Rattle.world.specs.declared.call.Making.{Making}
+use Rattle.world.specs.declared.call.Making.TheVariants.{Newwin, Derwin, Newpad, Subpad, Delwin, Mvwin, Mvderwin}
+use Rattle.world.specs.declared.call.Writing.{Writing}
+use Rattle.world.specs.declared.call.Writing.TheVariants.{Move, Addch, Addstr, Insch, Setscrreg, Bkgdset, ColorSet, Bkgdpair}
+use Rattle.world.specs.declared.call.Query.TheVariants.{Getparyx}
+use Rattle.world.specs.declared.call.Stacking.{Stacking}
+use Rattle.world.specs.declared.call.Stacking.TheVariants.{NewPanel, DelPanel, ShowPanel, HidePanel, TopPanel, BottomPanel, MovePanel, ReplacePanel, PanelAbove, PanelBelow, PanelWindow, PanelHidden}
+use Rattle.world.specs.declared.call.Refresh.TheVariants.{Pnoutrefresh, InitPair}
+
+-- Every screen refuses the call for this reason.
+abbrev pub IsRefusedEverywhere : Call → Refusal → Type 0
+IsRefusedEverywhere call why = (world : World) → IsSound world → refusal world call ≡ Some why
+
+-- ---- the refusal of a call by its arguments alone: of windows it is only known what window 0 is, and that it is never greater than the
+-- greatest screen
+
+abbrev pub only_if : Bool → Refusal → Option Refusal
+only_if test why = if test then Some why else None
+
+-- of a call on window 0
+abbrev pub on_standard : ℕ → Bool → Refusal → Option Refusal
+on_standard w test why = only_if (w == standard_screen && test) why
+
+-- no screen has that line or column
+abbrev pub is_past : ℕ → Bool
+is_past n = nat_le LARGEST_SCREEN n
+
+-- no screen has such a part
+abbrev pub is_too_great : ℕ → ℕ → ℕ → ℕ → Bool
+is_too_great nlines ncols y x = not (is_inside nlines LARGEST_SCREEN y && is_inside ncols LARGEST_SCREEN x)
+
+abbrev pub making_everywhere : Making → Option Refusal
+making_everywhere (Newwin nlines ncols y x) = only_if (is_too_great nlines ncols y x) OffScreen
+making_everywhere (Derwin win nlines ncols y x) = on_standard win.0 (is_too_great nlines ncols y x) OutsideParent
+making_everywhere (Newpad nlines ncols) = only_if (is_no_size LARGEST_PAD nlines || is_no_size LARGEST_PAD ncols) BadSize
+making_everywhere (Subpad pad nlines ncols y x) = on_standard pad.0 true NotPad
+making_everywhere (Delwin win) = on_standard win.0 true StandardScreen
+making_everywhere (Mvwin win y x) = on_standard win.0 true StandardScreen
+making_everywhere (Mvderwin win y x) = on_standard win.0 true NotDerived
+making_everywhere making = None
+
+abbrev pub writing_everywhere : Writing → Option Refusal
+writing_everywhere (Move win y x) = on_standard win.0 (is_past y || is_past x) OutsideWindow
+writing_everywhere (Addch win character) = on_standard win.0 (is_bad_character character) BadCharacter
+writing_everywhere (Addstr win text) = on_standard win.0 (list_any is_bad_character text.now) BadCharacter
+writing_everywhere (Insch win character) = on_standard win.0 (not (is_printable character)) BadCharacter
+writing_everywhere (Setscrreg win top bottom) = on_standard win.0 (nat_lt bottom top || is_past bottom) BadRegion
+writing_everywhere (Bkgdset win attributes character) = on_standard win.0 (not (is_printable character)) BadCharacter
+writing_everywhere (ColorSet win pair) = on_standard win.0 (is_no_pair pair) BadPair
+writing_everywhere (Bkgdpair win pair) = on_standard win.0 (is_no_pair pair) BadPair
+writing_everywhere writing = None
+
+-- no screen has such a panel
+abbrev pub no_panel : ℕ → Option Refusal
+no_panel p = only_if (p == 0 || nat_lt MOST_PANELS p) NoSuchPanel
+
+abbrev pub stacking_everywhere : Stacking → Option Refusal
+stacking_everywhere (NewPanel win) = on_standard win.0 true StandardScreen
+stacking_everywhere (DelPanel panel) = no_panel panel.0
+stacking_everywhere (ShowPanel panel) = no_panel panel.0
+stacking_everywhere (HidePanel panel) = no_panel panel.0
+stacking_everywhere (TopPanel panel) = no_panel panel.0
+stacking_everywhere (BottomPanel panel) = no_panel panel.0
+stacking_everywhere (MovePanel panel y x) = no_panel panel.0
+stacking_everywhere (ReplacePanel panel win) = no_panel panel.0
+stacking_everywhere (PanelAbove panel) = option_and_then (λ p. no_panel p.0) panel
+stacking_everywhere (PanelBelow panel) = option_and_then (λ p. no_panel p.0) panel
+stacking_everywhere (PanelWindow panel) = no_panel panel.0
+stacking_everywhere (PanelHidden panel) = no_panel panel.0
+
+abbrev pub refusal_everywhere : Call → Option Refusal
+refusal_everywhere (calls.Making making) = making_everywhere making
+refusal_everywhere (calls.Writing writing) = writing_everywhere writing
+refusal_everywhere (calls.Query (Getparyx win)) = on_standard win.0 true NotDerived
+refusal_everywhere (calls.Stacking stacking) = stacking_everywhere stacking
+refusal_everywhere (calls.Refresh (Pnoutrefresh pad pminrow pmincol sminrow smincol smaxrow smaxcol)) = on_standard pad.0 true NotPad
+refusal_everywhere (calls.Refresh (InitPair pair foreground background)) = first_of (colour_tests pair foreground background)
+refusal_everywhere call = None
+
+-- ---- what is said of it
+
+-- the line about such a call, in a script's line with its number
+abbrev pub refused_line : ℕ → Refusal → List ℕ
+refused_line number why = codes "line " ++ decimal number ++ codes ", column 1: every screen refuses this call: " ++ refusal_text why ++ newline ∷ []
