@@ -25,6 +25,7 @@ class Script:
         self.columns = columns
         self.text = text
         self.chance = random.Random(0)
+        self.replayed = None    # the calls and questions that programs of other languages make, once they are made
 
     @cached_property
     def wanted(self):

@@ -71,7 +71,8 @@ def is_replayed(replay, script):
     faults = faults_of(script.text)
     text = script.first_lines(faults[0][0] - 1) if faults else script.text
     ran = replay.runner.run(script.words('run'), text)
-    plain, wanted = with_questions(script, text, ran.log.decode())
+    script.replayed = script.replayed or with_questions(script, text, ran.log.decode())
+    plain, wanted = script.replayed
     came = replay.run([str(script.lines), str(script.columns)], plain)
     want('the log', re.sub(r'(E\d+) \w+', r'\1', wanted), came.log.decode())
     want('the bytes', ran.out, came.out)
