@@ -38,8 +38,10 @@ void wcursyncup(WINDOW *win) {
 int curspan_shown_y, curspan_shown_x;
 
 void curspan_note_cursor(const WINDOW *win) {
-    curspan_shown_y = getbegy(win) + getcury(win);
-    curspan_shown_x = getbegx(win) + getcurx(win);
+    curspan_answer begin = curspan_getbegyx(SCREEN_AND(win)), cursor = curspan_getyx(SCREEN_AND(win));
+    bool is_nowhere = begin.status == CURSPAN_IS_PAD;
+    curspan_shown_y = (is_nowhere ? win->begin_y : (int)begin.first) + (int)cursor.first;
+    curspan_shown_x = (is_nowhere ? win->begin_x : (int)begin.second) + (int)cursor.second;
 }
 
 static int not_negative(int n) { return n < 0 ? 0 : n; }
