@@ -1,8 +1,10 @@
-//! What is said of faulty lines.
+//! What is said of faulty lines, and of calls that every screen refuses.
 
-use explain::finding;
+use cell::{Refusal, WinId};
+use explain::{finding, refusal_everywhere, refused_line};
 use script::{LONGEST_LINE, TextFault};
 use std::test::Fail;
+use world::Call;
 
 /// Faulty lines, and what is said of each.
 #[rattlefmt::skip]
@@ -31,4 +33,28 @@ fn faults_are_explained(rt: HostRuntime) -> Result<(), Fail> {
         assert_eq!(rt; finding(12, *fault, line).as_slice(), text.as_bytes());
     }
     Ok(())
+}
+
+#[test]
+fn calls_that_every_screen_refuses_are_told(rt: HostRuntime) {
+    let why = [
+        refusal_everywhere(&Call::newpad(0, 0)),
+        refusal_everywhere(&Call::newwin(1000, 1, 0, 0)),
+        refusal_everywhere(&Call::delwin(WinId::STANDARD)),
+        refusal_everywhere(&Call::newwin(999, 999, 0, 0)),
+        refusal_everywhere(&Call::delwin(WinId(1))),
+    ];
+    let wanted = [
+        Some(Refusal::BadSize),
+        Some(Refusal::OffScreen),
+        Some(Refusal::StandardScreen),
+        None,
+        None,
+    ];
+    assert_eq!(rt; why, wanted);
+    let line = "line 7, column 1: every screen refuses this call: E11 BadSize\n";
+    assert_eq!(rt;
+        refused_line(7, Refusal::BadSize).as_slice(),
+        line.as_bytes()
+    );
 }
