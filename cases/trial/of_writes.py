@@ -10,7 +10,7 @@ from .of_scripts import sent_before
 from .streams import rubbish
 
 OUTPUT_FAILED = b'writing failed\n'
-HANDED_ON = 8192    # the most bytes of an update that are handed on at once
+HANDED_ON = 4000    # the most bytes of an update that are handed on at once
 BUFFERED = 1024     # the most bytes that the buffer before standard output keeps
 
 

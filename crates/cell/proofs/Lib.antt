@@ -12,6 +12,6 @@ pub mod PieceWrites
 -- A grid with one cell everywhere; for `clear`, `fill_cells`
 pub mod Clearing
 -- Cells as numbers, one in each lane, and where no lane differs; for `lanes`, `same_lanes`
-pub mod Lanes
+pub mod LaneLaws
 -- Cells that are shown many together; for `show`, `show_many`
 pub mod ShownPieces

@@ -75,6 +75,16 @@ impl Cell {
         pack(self.ch(), self.attr(), pair)
     }
 
+    /// The cell with another character, from 32 to 126.
+    pub fn with_character(self, ch: u8) -> Cell
+        requires { is_printable ch ≡ true }
+        ensures { result ≡ record self { character = ch } }
+    {
+        Cell {
+            bits: self.bits - self.bits % 256 + u32::from(ch),
+        }
+    }
+
     /// The character.
     pub fn ch(self) -> u8
         ensures value { result ≡ self.character }

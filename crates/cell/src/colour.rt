@@ -3,11 +3,11 @@
 ghost use Rattle.std.specs.Prelude.{◌≡◌, ◌==◌, ◌&&◌, is_none, ◌≤◌, nat_le, if◌then◌else◌, length, map, slice_set, true};
 ghost use Rattle.std.specs.List.{AllByRecursion, list_all};
 ghost use Rattle.cell.specs.Shown.{ArePairs, IsColour, IsShown, first_pairs, pair_at, shown, shown_in};
-ghost use Rattle.cell.specs.declared.difference.TheConstants.{LANES};
+ghost use Rattle.cell.specs.declared.lanes.TheConstants.{LANES};
 
 use crate::cell::Cell;
 use crate::colour_bits::ColourBits;
-use crate::difference::LANES;
+use crate::lanes::LANES;
 use crate::limits::{LAST_COLOUR, LAST_PAIR};
 use crate::shown::Shown;
 use std::marker::Model;
@@ -226,7 +226,7 @@ impl Pairs {
     {
         let pair = cells[0].pair();
         if are_of_pair(cells, pair) {
-            show_in(self.colours_of(pair), cells, places);
+            places.copy_from_slice(&show_in(self.colours_of(pair), cells));
         } else {
             self.show_each(cells, places);
         }
@@ -258,18 +258,19 @@ fn are_of_pair(cells: &[Cell], pair: PairId) -> bool
     all
 }
 
-/// Writes so many cells into places in colours, whatever their pairs are, by a loop that the compiler vectorizes.
-fn show_in(colours: ColourBits, cells: &[Cell], places: &mut [Shown])
-    requires cells { length cells.now ≡ LANES }
-    requires places { length places.old ≡ LANES }
-    ensures shown { places.new ≡ map (shown_in colours) cells.now }
-    ensures cells { AllByRecursion IsShown places.new }
+/// So many cells in colours, whatever their pairs are, by a loop that the compiler vectorizes.
+fn show_in(colours: ColourBits, cells: &[Cell]) -> [Shown; LANES]
+    requires { length cells.now ≡ LANES }
+    ensures shown { result ≡ map (shown_in colours) cells.now }
+    ensures cells { AllByRecursion IsShown result }
 {
+    let mut shown = [Shown::BLANK; LANES];
     for x in 0..LANES {
-        let shown = Shown::of_cell(cells[x], colours);
-        prove!(shown.ch() >= b' ');
-        places[x] = shown;
+        let cell = Shown::of_cell(cells[x], colours);
+        prove!(cell.ch() >= b' ');
+        shown[x] = cell;
     }
+    shown
 }
 
 /// Always true: what it ensures is what is known of each colour.

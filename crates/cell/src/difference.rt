@@ -1,15 +1,10 @@
 //! Where two lines of shown cells differ.
 
-ghost use Rattle.std.specs.Prelude.{◌≡◌, ◌≤◌, ◌↔◌, length, map, take, drop, true};
+ghost use Rattle.std.specs.Prelude.{◌≡◌, ◌≤◌, length, take, drop};
 ghost use Rattle.cell.specs.Differences.{IsFirstDifference, IsLastDifference};
-ghost use Rattle.cell.specs.Packing.{shown_bits, shown_of};
-ghost use Rattle.cell.specs.declared.difference.TheConstants.{LANES};
 
+use crate::lanes::{LANES, same_before, same_lanes};
 use crate::shown::Shown;
-use std::simd::prelude::*;
-
-/// How many cells are looked at together.
-pub(crate) const LANES: usize = 16;
 
 /// The first column in which two lines of one length differ.
 pub fn first_diff(old: &[Shown], new: &[Shown]) -> Option<usize>
@@ -17,9 +12,11 @@ pub fn first_diff(old: &[Shown], new: &[Shown]) -> Option<usize>
     ensures { IsFirstDifference old.now new.now result }
 {
     let mut start = 0;
-    while old.len() - start >= LANES
-        && same_lanes(&old[start..start + LANES], &new[start..start + LANES])
-    {
+    while old.len() - start >= LANES {
+        let same = same_before(&old[start..start + LANES], &new[start..start + LANES]);
+        if same < LANES {
+            return Some(start + same);
+        }
         start += LANES;
     }
     first_diff_from(old, new, start)
@@ -35,28 +32,6 @@ pub fn last_diff(old: &[Shown], new: &[Shown]) -> Option<usize>
         end -= LANES;
     }
     last_diff_before(old, new, end)
-}
-
-/// Whether so many cells are the same.
-fn same_lanes(old: &[Shown], new: &[Shown]) -> bool
-    requires old { length old.now ≡ LANES }
-    requires new { length new.now ≡ LANES }
-    ensures { (result ≡ true) ↔ (old.now ≡ new.now) }
-{
-    lanes(old).simd_ne(lanes(new)).to_bitmask() == 0
-}
-
-/// So many cells as numbers, one in each lane.
-fn lanes(cells: &[Shown]) -> u32x16
-    requires { length cells.now ≡ LANES }
-    ensures bits { result ≡ map shown_bits cells.now }
-    ensures held { cells.now ≡ map shown_of result }
-{
-    let mut numbers = [0; LANES];
-    for x in 0..LANES {
-        numbers[x] = cells[x].bits();
-    }
-    u32x16::from_array(numbers)
 }
 
 /// The first column in which two lines differ that are the same before a column.

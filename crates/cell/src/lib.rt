@@ -7,6 +7,7 @@
 //! - `colour_bits`: a pair's colours as bits of a shown cell
 //! - `difference`: the first and the last column in which two lines differ
 //! - `grid`: lines of cells of one width
+//! - `lanes`: shown cells that are looked at together
 //! - `limits`: the greatest sizes and numbers
 //! - `refusal`: why a call is refused
 //! - `shown`: renditions and shown cells
@@ -20,6 +21,7 @@ mod colour;
 mod colour_bits;
 mod difference;
 mod grid;
+mod lanes;
 mod limits;
 mod refusal;
 mod shown;
@@ -31,6 +33,7 @@ pub use cell::{Cell, are_printable, is_printable};
 pub use colour::{Colour, ColourPair, PairId, Pairs};
 pub use difference::{first_diff, last_diff};
 pub use grid::{Element, Grid, show_cells};
+pub use lanes::{LANES, have_rendition};
 pub use limits::{
     FIRST_CHARACTER, LARGEST_PAD, LARGEST_SCREEN, LAST_CHARACTER, LAST_COLOUR, LAST_PAIR,
     MOST_PANELS, MOST_WINDOWS, is_no_size, limits_in_numerals,

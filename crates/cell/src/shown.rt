@@ -5,7 +5,7 @@ ghost use Rattle.cell.specs.Attributes.{bits_of, valid_attributes};
 ghost use Rattle.cell.specs.Glyphs.{is_printable};
 ghost use Rattle.cell.specs.Shown.{IsRendition, IsShown, rendition_with, shown_in};
 ghost use Rattle.cell.specs.Differences.{same_rendition, same_shown};
-ghost use Rattle.cell.specs.Packing.{shown_bits, shown_of};
+ghost use Rattle.cell.specs.Packing.{rendition_bits, rendition_of, shown_bits, shown_of};
 ghost use Rattle.std.specs.Cmp.{partial_equiv_from_equiv};
 
 use crate::attr::Attr;
@@ -70,6 +70,14 @@ impl Rendition {
         Rendition {
             bits: colours.bits() + u32::from(attrs.valid_attributes().bits()) * 256,
         }
+    }
+
+    /// The rendition as one number.
+    pub(crate) fn bits(self) -> u32
+        ensures value { result ≡ rendition_bits self }
+        ensures held { self ≡ rendition_of result }
+    {
+        self.bits
     }
 
     /// The attributes.

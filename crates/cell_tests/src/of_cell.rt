@@ -5,7 +5,7 @@ ghost use Rattle.std.specs.Prelude.{length, ◌≡◌};
 use bitflags::Flags;
 use cell::{
     Attr, Cell, Colour, ColourPair, Grid, LARGEST_PAD, LARGEST_SCREEN, PairId, Pairs, Refusal,
-    Rendition, Shown, hex_digits, is_no_size, is_printable, show_cells,
+    Rendition, Shown, have_rendition, hex_digits, is_no_size, is_printable, show_cells,
 };
 use std::alloc::{AllocError, Global};
 use std::test::Fail;
@@ -137,6 +137,27 @@ fn many_cells_are_shown_each_in_the_colours_of_its_pair(rt: HostRuntime) -> Resu
     wanted[31] = pairs.show_cell(letter.with_pair(pair));
     wanted[49] = pairs.show_cell(letter.with_pair(pair));
     assert_eq!(rt; picture.row(0), wanted.as_slice());
+    Ok(())
+}
+
+#[test]
+fn another_character_keeps_attributes_and_pair(rt: HostRuntime) -> Result<(), Fail> {
+    let pair = PairId::new(63).ok_or("no pair")?;
+    let cell = letter()?.with_pair(pair).with_character(b'~');
+    assert_eq!(rt;
+        (cell.ch(), cell.attr(), cell.pair().number()),
+        (b'~', Attr::BOLD, 63)
+    );
+    Ok(())
+}
+
+#[test]
+fn sixteen_cells_have_a_rendition_if_each_has(rt: HostRuntime) -> Result<(), Fail> {
+    let bold = Rendition::new(Attr::BOLD, ColourPair::DEFAULT);
+    let mut cells = [Shown::new(b'A', bold).ok_or("no cell")?; 16];
+    let all = have_rendition(&cells, bold);
+    cells[15] = Shown::BLANK;
+    assert_eq!(rt; [all, have_rendition(&cells, bold)], [true, false]);
     Ok(())
 }
 

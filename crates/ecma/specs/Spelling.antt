@@ -1,6 +1,6 @@
 -- The one spelling of each token, and what a token does to a terminal.
 -- ECMA-48, 5th edition: 5.4, 8.3.21 CUP, 8.3.39 ED, 8.3.41 EL, 8.3.117 SGR.
-use Rattle.std.specs.Prelude.{◌≡◌, ◌==◌, ℕ, ◌+◌, ◌<◌, List, [], ◌∷◌, ◌++◌, if◌then◌else◌, decimal, Option, Some, IsTrue, ⊤}
+use Rattle.std.specs.Prelude.{◌≡◌, ◌==◌, ℕ, ◌+◌, ◌*◌, ◌<◌, List, [], ◌∷◌, ◌++◌, if◌then◌else◌, decimal, Option, Some, IsTrue, ⊤}
 use Rattle.std.specs.Option.{option_map_or}
 use Rattle.std.specs.List.{flat_map}
 use Rattle.std.specs.Int.RustNames.{bit_and}
@@ -51,11 +51,27 @@ spelling (Sgr rendition) = control_sequence SGR (48 ∷ selection (codes_of rend
 spelling (El how) = control_sequence EL (erasure_spelling how)
 spelling (Ed how) = control_sequence ED (erasure_spelling how)
 
+-- the most bytes of a position: the introducer, a line and a column of three digits, their separator, and the final byte
+abbrev pub position_bytes : ℕ
+position_bytes = 2 + 3 + 1 + 3 + 1
+
+-- the bytes of a selection of none: the introducer, 0, and the final byte
+abbrev pub none_bytes : ℕ
+none_bytes = 2 + 1 + 1
+
+-- the most bytes of a selection without colours: six codes of a digit besides, each after a separator
+abbrev pub selection_bytes : ℕ
+selection_bytes = none_bytes + 6 * 2
+
+-- the most bytes of its colours: two codes of two digits, each after a separator
+abbrev pub colour_bytes : ℕ
+colour_bytes = 2 * 3
+
 -- the most bytes that the spelling has
 abbrev pub longest : Token → ℕ
 longest (Print byte) = 1
-longest (Cup line column) = 10
-longest (Sgr rendition) = 22
+longest (Cup line column) = position_bytes
+longest (Sgr rendition) = selection_bytes + colour_bytes
 longest (El how) = 4
 longest (Ed how) = 4
 

@@ -5,6 +5,7 @@ use Rattle.cell.specs.Glyphs.{Glyph}
 use Rattle.world.specs.Windows.{WindowMap, over, cell_at}
 use Rattle.world.specs.Rows.{filled_cells, overlaid_cell, copied_cells}
 use Rattle.world.specs.calls.Copying.{rectangle_copied}
+use Rattle.grids.specs.Copies.{piece_of}
 
 -- ---- where nothing is copied
 
@@ -22,20 +23,20 @@ pub rectangle-none : (window : WindowMap) (src sy sx dy dx lines columns : ℕ) 
     → rectangle_copied window src sy sx dy dx lines columns overlay y x ≡ None
 rectangle-none window src sy sx dy dx lines columns overlay h y x = grind (arith, nat_tests)
 
--- ---- one cell or one line more
+-- ---- more cells or one line more
 
 -- a piece laid over a rest, where both are pieces of the same
 joined : (t1 t2 t3 : Bool) (v u c : Option Glyph) → t3 ≡ (t1 || t2) → (t1 ≡ true → v ≡ c) → (t2 ≡ true → u ≡ c)
     → (if is_some (if t1 then v else None) then (if t1 then v else None) else (if t2 then u else None)) ≡ (if t3 then c else None)
 joined t1 t2 t3 v u c e h k = grind arith
 
-pub more-after : (window : WindowMap) (src sy sx dy dx k : ℕ) (overlay : Bool) → over (copied_cells window src sy (sx + k) dy (dx + k) 1 overlay) (copied_cells window src sy sx dy dx k overlay)
-    ≡ copied_cells window src sy sx dy dx (k + 1) overlay
-more-after window src sy sx dy dx k overlay = grind (arith, joined, nat_tests)
+pub more-after : (window : WindowMap) (src sy sx dy dx k len : ℕ) (overlay : Bool) → over (copied_cells window src sy (sx + k) dy (dx + k) len overlay)
+    (copied_cells window src sy sx dy dx k overlay) ≡ copied_cells window src sy sx dy dx (k + len) overlay
+more-after window src sy sx dy dx k len overlay = grind (arith, joined, nat_tests)
 
-pub more-before : (window : WindowMap) (src sy sx dy dx k m n : ℕ) (overlay : Bool) → m ≡ k + 1 → k < n → over (copied_cells window src sy (sx + k) dy (dx + k) 1 overlay)
+pub more-before : (window : WindowMap) (src sy sx dy dx k m n len : ℕ) (overlay : Bool) → m ≡ k + len → m ≤ n → over (copied_cells window src sy (sx + k) dy (dx + k) len overlay)
     (copied_cells window src sy (sx + m) dy (dx + m) (n - m) overlay) ≡ copied_cells window src sy (sx + k) dy (dx + k) (n - k) overlay
-more-before window src sy sx dy dx k m n overlay e h = grind (arith, joined, nat_tests)
+more-before window src sy sx dy dx k m n len overlay e h = grind (arith, joined, nat_tests)
 
 pub line-after : (window : WindowMap) (src sy sx dy dx k columns : ℕ) (overlay : Bool) → over (copied_cells window src (sy + k) sx (dy + k) dx columns overlay)
     (rectangle_copied window src sy sx dy dx k columns overlay) ≡ rectangle_copied window src sy sx dy dx (k + 1) columns overlay
@@ -60,3 +61,9 @@ one-hidden window src sy sx dy dx c is h y x = grind (arith, nat_tests)
 pub copied-same : (v w : WindowMap) (src sy sx dy dx n : ℕ) (overlay : Bool) → ((j : ℕ) → j < n → cell_at v src sy (sx + j) ≡ cell_at w src sy (sx + j))
     → copied_cells v src sy sx dy dx n overlay ≡ copied_cells w src sy sx dy dx n overlay
 copied-same v w src sy sx dy dx n overlay h = grind (arith, nat_tests)
+
+-- ---- pieces
+
+pub some-piece : (overlay : Bool) → 0 < piece_of overlay
+some-piece true = omega arith
+some-piece false = omega arith

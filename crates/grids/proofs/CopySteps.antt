@@ -24,6 +24,10 @@ Drawn-nothing w dst f h = record {
 
 -- ---- the places are there after a write, and so are those above them and left of them
 
+pub piece-there : {w v : Windows} {dst : ℕ} {f : Drawing} {answer : Option Rect} (from to : Place) (n k len : ℕ) → Drawn w dst f answer v → AreRowsThere w.window from to n
+    → 0 < len → k + len ≤ n → AreRowsThere v.window (record from { column = from.column + k }) (record to { column = to.column + k }) len
+piece-there from to n k len drawn there some within = grind arith
+
 pub cells-there : {w v : Windows} {dst : ℕ} {f : Drawing} {answer : Option Rect} (from to : Place) (n k : ℕ) → Drawn w dst f answer v → AreRowsThere w.window from to n → k < n
     → AreThere v.window (record from { column = from.column + k }) (record to { column = to.column + k })
 cells-there from to n k drawn there lt = grind arith

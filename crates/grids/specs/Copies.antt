@@ -1,11 +1,12 @@
 -- A copy from one place on to another: what it wants, and what it does.
-use Rattle.std.specs.Prelude.{◌≡◌, ℕ, ◌+◌, ◌-◌, Bool, Option}
+use Rattle.std.specs.Prelude.{◌≡◌, ℕ, ◌+◌, ◌-◌, if◌then◌else◌, Bool, Option}
 use Rattle.cell.specs.declared.window.Rect.{Rect}
 use Rattle.world.specs.Windows.{Drawing, HasPlace, WindowMap, Windows, put}
 use Rattle.world.specs.Rows.{copied_cells}
 use Rattle.world.specs.Effects.{drawing_frame}
 use Rattle.world.specs.calls.Copying.{rectangle_copied}
 use Rattle.slots.specs.declared.place.Place.{Place}
+use Rattle.grids.specs.declared.rows.TheConstants.{PIECE}
 
 -- both places are there
 pub record AreThere (window : WindowMap) (source target : Place) : Type 0 where
@@ -34,3 +35,7 @@ RowCopied old from to n overlay frame new = Drawn old to.win.0 (copied_cells old
 abbrev pub RectangleCopied : Windows → Place → Place → ℕ → ℕ → Bool → Option Rect → Windows → Type 0
 RectangleCopied old from to lines columns overlay frame new =
     Drawn old to.win.0 (rectangle_copied old.window from.win.0 from.line from.column to.line to.column lines columns overlay) frame new
+
+-- how many cells of a line are copied at once at most: as many as are held, and of an overlay one
+abbrev pub piece_of : Bool → ℕ
+piece_of overlay = if overlay then 1 else PIECE

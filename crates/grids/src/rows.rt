@@ -7,14 +7,18 @@ ghost use Rattle.slots.specs.Inks.{printed_cell};
 ghost use Rattle.world.specs.Windows.{HasPlace, cell_at, put};
 ghost use Rattle.world.specs.Sound.{AreSoundWindows};
 ghost use Rattle.world.specs.Rows.{filled_cells, listed_cells, overlaid_cell, copied_cells, line_shown};
-ghost use Rattle.grids.specs.Copies.{AreRowsThere, AreThere, RowCopied};
+ghost use Rattle.grids.specs.Copies.{AreRowsThere, AreThere, RowCopied, piece_of};
 ghost use Rattle.grids.specs.Tables.{windows};
+ghost use Rattle.grids.specs.declared.rows.TheConstants.{PIECE};
 
 use crate::frame::{frame_of_two, place};
 use crate::table::Grids;
 use cell::{Cell, Rect, WinId};
 use slots::Place;
 use slots::list::{columns_of, fill_row, origin_of, print_row, put_row, row_in, touch_row};
+
+/// How many cells are held at most while they are copied.
+const PIECE: u16 = 128;
 
 impl Grids {
     /// The cells of line `y` of a window, from left to right, without copying them. The line must exist.
@@ -134,7 +138,8 @@ impl Grids {
         prove!(self.has_window(WinId::STANDARD));
     }
 
-    /// Copies some cells of a line, and answers the smallest rectangle of the destination that holds what it wrote.
+    /// Copies some cells of a line, and answers the smallest rectangle of the destination that holds what it wrote. It goes piece by
+    /// piece, an overlay cell by cell, from the end at which no cell is written before it is read.
     pub(crate) fn copy_line(
         &mut self,
         from: Place,
@@ -146,22 +151,56 @@ impl Grids {
         requires there { AreRowsThere (windows self.old).window from to n }
         ensures { RowCopied (windows self.old) from to n overlay result (windows self.new) }
     {
+        let source = origin_of(&self.slots, from.win.0);
+        let target = origin_of(&self.slots, to.win.0);
+        let most = most_at_once(overlay);
+        let mut frame = None;
+        if target.column + to.column <= source.column + from.column {
+            let mut k = 0;
+            'forward: while k < n {
+                let len = most.min(n - k);
+                let copied = self.copy_piece(from.right_by(k), to.right_by(k), len, overlay);
+                frame = frame_of_two(frame, copied);
+                k += len;
+            }
+        } else {
+            let mut k = n;
+            'backward: while k > 0 {
+                let len = most.min(k);
+                k -= len;
+                let copied = self.copy_piece(from.right_by(k), to.right_by(k), len, overlay);
+                frame = frame_of_two(frame, copied);
+            }
+        }
+        frame
+    }
+
+    /// Copies so many cells that they can be held, of an overlay one.
+    fn copy_piece(&mut self, from: Place, to: Place, n: u16, overlay: bool) -> Option<Rect>
+        requires some { 0 < n }
+        requires few { n ≤ piece_of overlay }
+        requires there { AreRowsThere (windows self.old).window from to n }
+        ensures { RowCopied (windows self.old) from to n overlay result (windows self.new) }
+    {
         if overlay {
-            self.overlay_cells(from, to, n)
+            self.overlay_cell(from, to)
         } else {
             self.copy_cells(from, to, n)
         }
     }
 
-    /// Copies all cells: it reads them into the spare line, and then writes that.
+    /// Copies so many cells that they can be held.
     fn copy_cells(&mut self, from: Place, to: Place, n: u16) -> Option<Rect>
         requires some { 0 < n }
+        requires few { n ≤ PIECE }
         requires there { AreRowsThere (windows self.old).window from to n }
         ensures { RowCopied (windows self.old) from to n false result (windows self.new) }
     {
         let source = origin_of(&self.slots, from.win.0);
         let target = origin_of(&self.slots, to.win.0);
-        self.line.hold(row_in(
+        let mut held = [Cell::BLANK; PIECE as usize];
+        let piece = &mut held[..usize::from(n)];
+        piece.copy_from_slice(row_in(
             &self.slots,
             source.grid,
             source.line + from.line,
@@ -173,7 +212,7 @@ impl Grids {
             target.grid,
             target.line + to.line,
             target.column + to.column,
-            self.line.cells(),
+            piece,
         );
         let right = to.column + n - 1;
         touch_row(&mut self.slots, to.win.0, to.line, to.column, right);
@@ -183,29 +222,6 @@ impl Grids {
             bottom: to.line,
             right,
         })
-    }
-
-    /// Copies the cells that aren't spaces, from the end at which no cell is written before it is read.
-    fn overlay_cells(&mut self, from: Place, to: Place, n: u16) -> Option<Rect>
-        requires some { 0 < n }
-        requires there { AreRowsThere (windows self.old).window from to n }
-        ensures { RowCopied (windows self.old) from to n true result (windows self.new) }
-    {
-        let source = origin_of(&self.slots, from.win.0);
-        let target = origin_of(&self.slots, to.win.0);
-        let mut frame = None;
-        if target.column + to.column <= source.column + from.column {
-            'forward: for k in 0..n {
-                let copied = self.overlay_cell(from.right_by(k), to.right_by(k));
-                frame = frame_of_two(frame, copied);
-            }
-        } else {
-            'backward: for k in (0..n).rev() {
-                let copied = self.overlay_cell(from.right_by(k), to.right_by(k));
-                frame = frame_of_two(frame, copied);
-            }
-        }
-        frame
     }
 
     /// Copies one cell unless it is a space.
@@ -221,6 +237,13 @@ impl Grids {
             None
         }
     }
+}
+
+/// How many cells are copied at once at most.
+fn most_at_once(overlay: bool) -> u16
+    ensures { result ≡ piece_of overlay }
+{
+    if overlay { 1 } else { PIECE }
 }
 
 /// Whether a cell isn't a space.

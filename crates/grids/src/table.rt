@@ -12,8 +12,8 @@ ghost use Rattle.grids.specs.Tables.{windows, WindowTable, IsWindowTable};
 ghost use Rattle.slots.specs.Slots.{slot_at};
 
 use cell::{LARGEST_SCREEN, Refusal, WinId, is_no_size};
+use slots::Slot;
 use slots::list::{set_cursor, set_slot};
-use slots::{Line, Slot};
 use std::alloc::Global;
 use std::marker::Model;
 use world::Settings;
@@ -26,7 +26,6 @@ pub struct Grids {
     pub(crate) lines: u16,
     pub(crate) columns: u16,
     pub(crate) slots: Vec<Option<Slot>>,
-    pub(crate) line: Line,
 }
 
 impl Model for Grids {
@@ -60,7 +59,6 @@ impl Grids {
             lines,
             columns: cols,
             slots,
-            line: Line::new(alloc)?,
         };
         prove!(grids.has_window(WinId::STANDARD));
         Ok(grids)

@@ -5,7 +5,7 @@ use Rattle.std.proofs.lemmas.List.{drop_all, drop-drop, drop_more, get_or-set_sa
 use Rattle.cell.specs.Shown.{Shown, no_rendition, shown_blank}
 use Rattle.cell.specs.Differences.{DiffersAt, same_shown}
 use Rattle.cell.specs.Pictures.{Picture, line_of, with_shown}
-use Rattle.ecma.proofs.Difference.{same_shown-equal}
+use Rattle.ecma.proofs.Difference.{same_shown-equal, same_shown-self}
 use Rattle.ecma.proofs.Lengths.{length-spelling}
 use Rattle.ecma.specs.Spelling.{spelling}
 use Rattle.ecma.specs.declared.token.Token.TheVariants.{El}
@@ -69,6 +69,9 @@ pub line-kept : {before now : Seen} {old pen : Pen} {line x : ℕ} {shown wanted
     → IsLinePainted before now old pen line x shown wanted → same_shown (get_or shown x shown_blank) (get_or wanted x shown_blank) ≡ true
     → IsLinePainted before now old pen line (x + 1) shown wanted
 line-kept same inside h alike = grind (arith, left, line_bytes-same, with_prefix-same, same_shown-equal)
+
+pub alike-same : {one other : Shown} → one ≡ other → same_shown one other ≡ true
+alike-same {one} {other} same = subst (λ c. same_shown one c ≡ true) same (same_shown-self one)
 
 line-skipped-by : (n : ℕ) {before now : Seen} {old pen : Pen} {line x : ℕ} {shown wanted : List Shown} → length shown ≡ length wanted → x + n ≤ length shown
     → IsLinePainted before now old pen line x shown wanted

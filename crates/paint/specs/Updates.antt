@@ -9,7 +9,7 @@ use Rattle.cell.specs.Differences.{difference}
 use Rattle.cell.specs.VirtualScreens.{VirtualScreen}
 use Rattle.ecma.specs.Difference.{colour_difference}
 use Rattle.ecma.specs.Items.{escape}
-use Rattle.ecma.specs.Spelling.{spelling}
+use Rattle.ecma.specs.Spelling.{colour_bytes, none_bytes, position_bytes, selection_bytes, spelling}
 use Rattle.ecma.specs.Terminals.{Terminal}
 use Rattle.ecma.specs.Streams.{IsInProfile, LeadsWithBreaks, Shows, showing}
 use Rattle.streams.specs.Counts.{count_after, next_count}
@@ -75,11 +75,19 @@ same_place a b = a.0 == b.0 && a.1 == b.1
 abbrev pub move : Place → Place → List ℕ
 move cursor place = if same_place cursor place then [] else spelling (Cup place.0 place.1)
 
--- the most bytes of a text: 27 for each changed place, 6 more where the wanted picture has a colour there, 14 to end, and the opening's
+-- the most bytes of a changed place without colours: a position, a selection and a character, 27 in all
+abbrev pub place_bytes : ℕ
+place_bytes = position_bytes + selection_bytes + 1
+
+-- the most bytes that end a text: a selection of none and a position, 14 in all
+abbrev pub end_bytes : ℕ
+end_bytes = none_bytes + position_bytes
+
+-- the most bytes of a text: those of each changed place, 6 more where the wanted picture has a colour there, the end's, and the opening's
 abbrev pub most_bytes : PainterState → Bool → ShownPicture → ℕ
 most_bytes painter clear wanted =
     let start = (start_of_update painter clear).picture in
-    27 * difference start wanted.picture + 6 * colour_difference start wanted.picture + 14 + length (opening_from (known_picture painter clear))
+    place_bytes * difference start wanted.picture + colour_bytes * colour_difference start wanted.picture + end_bytes + length (opening_from (known_picture painter clear))
 
 -- The text of a doupdate, whether a clear screen is asked for or not. It begins with the opening where the doupdate clears, and shows the
 -- picture and the cursor, read from any terminal that may read it. It is short, and where nothing changed it only moves the cursor.

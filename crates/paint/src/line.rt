@@ -1,11 +1,12 @@
 //! The walk over the cells of a line: a pen draws where the wanted one differs from the one that is shown.
 
-ghost use Rattle.std.specs.Prelude.{◌≡◌, ◌+◌, ◌<◌, ◌≤◌, ⊤, MatchOption, None, false, true, length, slice_index_or, take};
+ghost use Rattle.std.specs.Prelude.{◌≡◌, ◌+◌, ◌<◌, ◌≤◌, ℕ, ⊤, MatchOption, None, false, true, length, slice_index_or, take};
 ghost use Rattle.cell.specs.Differences.{same_shown};
 ghost use Rattle.cell.specs.Pictures.{Picture, line_of};
 ghost use Rattle.cell.specs.Shown.{shown_blank};
 ghost use Rattle.cell.specs.declared.limits.TheConstants.{LARGEST_SCREEN};
 ghost use Rattle.streams.specs.Sinks.{Seen};
+ghost use Rattle.paint.specs.Updates.{place_bytes};
 ghost use Rattle.paint.specs.steps.Strokes.{IsPlainAt, SameTerminals, Strokes, line_bytes, reach_bytes, run_bytes, with_cells};
 ghost use Rattle.paint.specs.steps.Walks.{AreOfRun, DifferWithin, IsLinePainted, IsReadyToErase, IsRun, StrokesLine, cells_between};
 
@@ -14,11 +15,14 @@ use crate::pen::Pen;
 use crate::tail::{
     changed_end, changed_tail, erased_from, first_changed, is_erased, last_changed, tail_start,
 };
-use cell::{Rendition, Shown};
+use cell::{Rendition, Shown, first_diff};
 use streams::Sink;
 
 /// How many cells of a run are looked at one after another.
 const SHORT: usize = 8;
+
+/// How many cells of a gap are looked at one after another.
+const NEAR: usize = 4;
 
 /// How many are looked at together then.
 const LANES: usize = 16;
@@ -70,7 +74,7 @@ pub fn paint_last_line<W: Sink>(pen: &mut Pen, sink: &mut W, row: &Row<'_>) -> O
     requires width { pen.old.columns ≡ length row.now.wanted.now }
     ensures strokes { result ≡ None → StrokesLine (line_bytes row.now.shown.now row.now.wanted.now) (W.seen sink.old) (W.seen sink.new) pen.old pen.new
         row.now.line row.now.shown.now row.now.wanted.now }
-    ensures ready { MatchOption result ⊤ (λ column. IsReadyToErase (line_bytes row.now.shown.now row.now.wanted.now + 27) (W.seen sink.old)
+    ensures ready { MatchOption result ⊤ (λ column. IsReadyToErase (line_bytes row.now.shown.now row.now.wanted.now + place_bytes) (W.seen sink.old)
         (W.seen sink.new) pen.old pen.new row.now.line column row.now.shown.now row.now.wanted.now) }
     ensures same { SameTerminals (W.name sink.old) (W.name sink.new) pen.old pen.new }
 {
@@ -138,7 +142,7 @@ fn paint_cells<W: Sink>(
     let mut x = start;
     while x < end {
         if shown[x] == wanted[x] {
-            x += 1;
+            x = next_changed(shown, wanted, x + 1, end);
             continue;
         }
         let stop = run_end(shown, wanted, x, end);
@@ -147,6 +151,29 @@ fn paint_cells<W: Sink>(
         gap = stop;
     }
     gap
+}
+
+/// The first changed cell of a line from a column on, before an end, and that end where there is none. After a few cells that are shown
+/// already many are looked at together.
+pub fn next_changed(shown: &[Shown], wanted: &[Shown], from: usize, end: usize) -> usize
+    requires same { length shown.now ≡ length wanted.now }
+    requires ordered { from ≤ end }
+    requires inside { end ≤ length wanted.now }
+    ensures ordered { from ≤ result }
+    ensures within { result ≤ end }
+    ensures alike { (v : ℕ) → from ≤ v → v < result → slice_index_or shown.now v shown_blank ≡ slice_index_or wanted.now v shown_blank }
+    ensures changed { result < end → slice_index_or shown.now result shown_blank ≡ slice_index_or wanted.now result shown_blank → ⊥ }
+{
+    let near = end.min(from + NEAR);
+    for x in from..near {
+        if shown[x] != wanted[x] {
+            return x;
+        }
+    }
+    match first_diff(&shown[near..end], &wanted[near..end]) {
+        Some(skipped) => near + skipped,
+        None => end,
+    }
 }
 
 /// Where the run of changed cells of one rendition ends that begins at a column, before an end. Of a long one many cells are looked at

@@ -15,7 +15,7 @@ use std::marker::Model;
 use streams::{Sink, WriteFault, send};
 
 /// How many bytes are gathered before they are sent.
-pub const ROOM: usize = 8_192;
+pub const ROOM: usize = 4_000;
 
 /// How many characters are gathered at once.
 const LANES: usize = 16;

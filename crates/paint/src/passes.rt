@@ -11,15 +11,12 @@ use crate::gap::are_all;
 use crate::line::{Row, paint_run};
 use crate::pen::Pen;
 use crate::runs::Run;
-use cell::{Rendition, Shown};
+use cell::{LANES, Rendition, Shown, have_rendition};
 use std::marker::Model;
 use streams::Sink;
 
 /// The most renditions that have a pass of their own.
 const MOST: usize = 8;
-
-/// How many cells are looked at together.
-const LANES: usize = 16;
 
 /// The renditions that have a pass of their own, in the order of the passes. What has another is drawn in the last one.
 #[derive(Drop)]
@@ -31,7 +28,7 @@ pub struct Order {
 impl Model for Order {
     ghost use Rattle.std.specs.Prelude.{List, ◌≤◌, take};
     ghost use Rattle.cell.specs.Shown.{Rendition};
-    ghost use Rattle.paint.specs.declared.passes.TheConstants.{LANES, MOST};
+    ghost use Rattle.paint.specs.declared.passes.TheConstants.{MOST};
 
     ghost Value = { List Rendition };
 
@@ -224,22 +221,9 @@ fn all_have(rendition: Rendition, cells: &[Shown]) -> bool
     ensures { result ≡ all_have rendition cells.now }
 {
     if cells.len() == LANES {
-        return many_have(rendition, cells);
+        return have_rendition(cells, rendition);
     }
     are_all(cells, rendition)
-}
-
-/// The same of so many, by a loop with one exit, which the compiler vectorizes.
-#[inline(always)]
-fn many_have(rendition: Rendition, cells: &[Shown]) -> bool
-    requires { length cells.now ≡ LANES }
-    ensures { result ≡ all_have rendition cells.now }
-{
-    let mut all = true;
-    for x in 0..LANES {
-        all &= cells[x].rendition() == rendition;
-    }
-    all
 }
 
 /// The order of the passes for the renditions of changed cells, where they select these less often than one walk over all lines, and else

@@ -6,7 +6,7 @@ ghost use Rattle.paint.specs.declared.passes.TheConstants.{MOST};
 ghost use Rattle.paint.specs.steps.Listing.{AreRuns};
 
 use crate::changes::Frame;
-use crate::line::{Row, run_end};
+use crate::line::{Row, next_changed, run_end};
 use crate::passes::pass_of;
 use cell::{Rendition, Shown, first_diff};
 use std::alloc::{AllocError, Global};
@@ -132,7 +132,7 @@ impl Runs {
         let mut x = gap;
         while x < end {
             if shown[x] == wanted[x] {
-                x += 1;
+                x = next_changed(shown, wanted, x + 1, end);
                 continue;
             }
             let stop = run_end(shown, wanted, x, end);

@@ -36,8 +36,5 @@ fn printed_cell(pen: Cell, ch: u8) -> Cell
     if ch == b' ' {
         return pen;
     }
-    match Cell::new(ch, pen.attr(), u16::from(pen.pair().number())) {
-        Some(cell) => cell,
-        None => unreachable!(),
-    }
+    pen.with_character(ch)
 }

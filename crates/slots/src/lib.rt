@@ -1,7 +1,6 @@
-//! What the table of windows keeps: a slot for each window, by number, and the spare line of a copy.
+//! What the table of windows keeps: a slot for each window, by number.
 //!
 //! - `ink`: characters printed with a pen
-//! - `line`: the spare line of a copy
 //! - `list`: the slots by number, and each change of one
 //! - `parents`: from a window to its parent and on, up to the grid
 //! - `place`: a place of a window or a grid
@@ -11,7 +10,6 @@
 #![tactic(auto)]
 
 mod ink;
-mod line;
 pub mod list;
 pub mod parents;
 mod place;
@@ -19,6 +17,5 @@ mod slot;
 mod touched;
 mod touched_lines;
 
-pub use line::Line;
 pub use place::Place;
 pub use slot::{Cells, Origin, Part, Slot};

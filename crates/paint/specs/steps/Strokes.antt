@@ -5,14 +5,14 @@ use Rattle.cell.specs.Shown.{Rendition, Shown, has_colour, no_rendition, shown_b
 use Rattle.cell.specs.Pictures.{Picture, Place, line_of, with_shown}
 use Rattle.cell.specs.Differences.{same_rendition, line_difference, difference}
 use Rattle.ecma.specs.Difference.{line_colour_difference, colour_difference}
-use Rattle.ecma.specs.Spelling.{spelling}
+use Rattle.ecma.specs.Spelling.{colour_bytes, position_bytes, spelling}
 use Rattle.ecma.specs.Streams.{Leads}
 use Rattle.ecma.specs.Terminals.{Terminal}
 use Rattle.ecma.specs.declared.token.Token.{Token}
 use Rattle.ecma.specs.declared.token.Token.TheVariants.{Cup, Sgr}
 use Rattle.streams.specs.Sinks.{Seen}
 use Rattle.paint.specs.declared.pen.Pen.{Pen}
-use Rattle.paint.specs.Updates.{same_place}
+use Rattle.paint.specs.Updates.{place_bytes, same_place}
 use Rattle.paint.specs.steps.Gathering.{Gathers, empty_outbox}
 
 -- ---- their bytes
@@ -132,18 +132,18 @@ pub record ArePrinted (before now : Seen) (old pen : Pen) (line column i : ℕ) 
 
 -- an approach: a position, or a gap in its place, and a selection
 abbrev pub most_approach : Rendition → ℕ
-most_approach rendition = 10 + length (spelling (Sgr rendition))
+most_approach rendition = position_bytes + length (spelling (Sgr rendition))
 
 -- these and a character
 abbrev pub cell_bytes : Shown → ℕ
-cell_bytes cell = 27 + (if has_colour cell.rendition then 6 else 0)
+cell_bytes cell = place_bytes + (if has_colour cell.rendition then colour_bytes else 0)
 
 -- these of the first of some cells, and the characters of the others
 abbrev pub run_bytes : List Shown → ℕ
 run_bytes cells = cell_bytes (slice_index_or cells 0 shown_blank) + (length cells - 1)
 
 abbrev pub line_bytes : List Shown → List Shown → ℕ
-line_bytes old new = 27 * line_difference old new + 6 * line_colour_difference old new
+line_bytes old new = place_bytes * line_difference old new + colour_bytes * line_colour_difference old new
 
 abbrev pub picture_bytes : Picture → Picture → ℕ
-picture_bytes old new = 27 * difference old new + 6 * colour_difference old new
+picture_bytes old new = place_bytes * difference old new + colour_bytes * colour_difference old new

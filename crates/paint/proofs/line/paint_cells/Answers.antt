@@ -5,7 +5,7 @@ use Rattle.cell.specs.Pictures.{line_of}
 use Rattle.paint.specs.steps.Walks.{cells_between}
 use Rattle.paint.proofs.Prefixes.{between}
 use Rattle.paint.proofs.CellRuns.{same_shown-at, line-run, part-of, run-longer}
-use Rattle.paint.proofs.Walks.{length-between, line-kept}
+use Rattle.paint.proofs.Walks.{alike-same, length-between, line-kept, line-skipped}
 use Rattle.paint.proofs.line.paint_cells.Goals as goal
 
 pub loop-x-preserved-then-eq : goal.loop-x-preserved-then-eq
@@ -15,9 +15,11 @@ loop-x-preserved-then-eq g c =
     let inside : x < length c.args.row.now.shown.now = omega (arith, c.loop-x-test.true, c.requires.inside) in
     let alike = same_shown-at c.args.row.now.shown.now c.args.row.now.wanted.now c.loop-x.x c.index-shown-x.is c.index-wanted-x.is inside (omega arith) c.if-eq.ensures in
     record {
-      painted = λ before old h. line-kept same inside (c.loop-x.invariant.painted before old h) alike;
-      gap = omega (arith, c.loop-x.invariant.gap);
-      within = omega (arith, c.loop-x-test.true);
+      painted = λ before old h. line-skipped c.next_changed-x.result same (omega (arith, c.next_changed-x.ensures.ordered))
+          (omega (arith, c.next_changed-x.ensures.within, c.requires.inside, same)) (line-kept same inside (c.loop-x.invariant.painted before old h) alike)
+          (λ v from to. alike-same (c.next_changed-x.ensures.alike v from to));
+      gap = omega (arith, c.loop-x.invariant.gap, c.next_changed-x.ensures.ordered);
+      within = c.next_changed-x.ensures.within;
       columns = c.loop-x.invariant.columns;
       same = c.loop-x.invariant.same;
     }

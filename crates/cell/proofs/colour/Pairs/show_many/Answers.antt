@@ -4,4 +4,4 @@ use Rattle.cell.proofs.colour.Pairs.show_many.Goals as goal
 
 pub returns-then-are_of_pair-clause-shown : goal.returns-then-are_of_pair-clause-shown
 returns-then-are_of_pair-clause-shown c =
-    c.show_in.ensures.shown ∙ shown_alike _ _ _ _ c.colours_of.ensures.value (sym c.are_of_pair.ensures ∙ c.if-are_of_pair.true)
+    c.copy_from_slice.ensures.after ∙ c.show_in.ensures.shown ∙ shown_alike _ _ _ _ c.colours_of.ensures.value (sym c.are_of_pair.ensures ∙ c.if-are_of_pair.true)

@@ -9,8 +9,8 @@ use Rattle.grids.proofs.Writes.{windows-copied}
 use Rattle.grids.proofs.CopyFrames.{whole-frame}
 use Rattle.grids.proofs.table.Grids.copy_cells.Goals as goal
 
-pub hold-requires : goal.hold-requires
-hold-requires c =
+pub copy_from_slice-requires : goal.copy_from_slice-requires
+copy_from_slice-requires c =
     let a = c.args in
     let t = the_view c.self.inside in
     let o = c.origin_of-source in
@@ -42,14 +42,14 @@ returns c =
     let t = the_view c.self.inside in
     let o = c.origin_of-source in
     let d = c.origin_of-target in
-    let held = piece-read t.slots a.from.win.0 a.from.line a.from.column a.n (record { grid = o.result.grid; line = o.result.line; column = o.result.column }) c.cells.result.now
+    let held = piece-read t.slots a.from.win.0 a.from.line a.from.column a.n (record { grid = o.result.grid; line = o.result.line; column = o.result.column }) c.row_in.result.now
     (rw c.deref.ensures.value at o.ensures.leads) (grind (arith, common_steps)) in
     record {
       written = grind (
         arith,
         common_steps,
         windows-copied t c.put_row.new.slots.items c.touch_row.new.slots.items a.from.win.0 a.to.win.0
-            (record { grid = d.result.grid; line = d.result.line; column = d.result.column }) a.from.line a.from.column a.to.line a.to.column a.n c.cells.result.now,
+            (record { grid = d.result.grid; line = d.result.line; column = d.result.column }) a.from.line a.from.column a.to.line a.to.column a.n c.row_in.result.now,
       );
       frame = grind (arith, common_steps, whole-frame (windows a.self.now) a.from.win.0 a.to.win.0 a.from.line a.from.column a.to.line a.to.column a.n);
     }

@@ -1,5 +1,5 @@
 -- `add_line`: what isn't in a run is shown already (`Listing`).
-use Rattle.std.proofs.Common.{◌≡◌, ℕ, ◌+◌, ◌-◌, ◌<◌, ◌++◌, ◌∷◌, [], ◌∙◌, List, drop, get_or, inl, inr, length, take, sym, ap, subst, arith}
+use Rattle.std.proofs.Common.{◌≡◌, ℕ, ◌+◌, ◌-◌, ◌<◌, ◌≤◌, ◌++◌, ◌∷◌, [], ◌∙◌, List, drop, get_or, inl, inr, length, take, sym, ap, subst, arith}
 use Rattle.std.specs.Prelude.{if◌then◌else◌}
 use Rattle.std.proofs.lemmas.Bool.{cases_lt}
 use Rattle.std.proofs.lemmas.List.{get_or_default, length-take}
@@ -46,16 +46,20 @@ loop-x-preserved-then-eq c =
     let inside : x < length wanted = omega (arith, c.loop-x-test.true, c.requires.inside) in
     let equal : get_or shown x shown_blank ≡ get_or wanted x shown_blank =
     same_shown-equal _ _ (same_shown-at shown wanted x c.index-shown-x.is c.index-wanted-x.is (omega (arith, inside, c.args.row.now.same)) inside c.if-eq.ensures) in
+    let next = c.next_changed-x.result in
+    let same : (v : ℕ) → x ≤ v → v < next → get_or shown v shown_blank ≡ get_or wanted v shown_blank = λ v from to. elim (cases_lt x v) [
+      | inl h ↦ c.next_changed-x.ensures.alike v (omega arith) to
+      | inr h ↦ let here : x ≡ v = omega arith in subst (λ (n : ℕ). get_or shown n shown_blank ≡ get_or wanted n shown_blank) here equal
+    ] in
     record {
-      listed = λ S W old new h. runs-further (c.loop-x.invariant.listed S W old new h) (same-in_line S W c.args.row.now.line x (x + 1) (omega arith) (λ v from to.
-          let here : x ≡ v = omega arith in
-          ap (λ (l : List Shown). get_or l v shown_blank) old ∙ subst (λ (n : ℕ). get_or shown n shown_blank ≡ get_or wanted n shown_blank) here equal
-          ∙ ap (λ (l : List Shown). get_or l v shown_blank) (sym new)));
-      gap = omega (arith, c.loop-x.invariant.gap);
-      within = omega (arith, c.loop-x-test.true);
+      listed = λ S W old new h. runs-further (c.loop-x.invariant.listed S W old new h) (same-in_line S W c.args.row.now.line x next
+          (omega (arith, c.next_changed-x.ensures.ordered)) (λ v from to.
+          ap (λ (l : List Shown). get_or l v shown_blank) old ∙ same v from to ∙ ap (λ (l : List Shown). get_or l v shown_blank) (sym new)));
+      gap = omega (arith, c.loop-x.invariant.gap, c.next_changed-x.ensures.ordered);
+      within = c.next_changed-x.ensures.within;
       kept = λ v from to. elim (cases_lt v x) [
         | inl h ↦ c.loop-x.invariant.kept v from h
-        | inr h ↦ let here : x ≡ v = omega arith in subst (λ (n : ℕ). get_or shown n shown_blank ≡ get_or wanted n shown_blank) here equal
+        | inr h ↦ same v (omega arith) to
       ];
     }
 

@@ -1,5 +1,5 @@
-use Rattle.cell.proofs.Lanes.{mask-from_same, same-from_mask}
-use Rattle.cell.proofs.difference.same_lanes.Goals as goal
+use Rattle.cell.proofs.LaneLaws.{mask-from_same, same-from_mask}
+use Rattle.cell.proofs.lanes.same_lanes.Goals as goal
 
 pub returns : goal.returns
 returns c = (

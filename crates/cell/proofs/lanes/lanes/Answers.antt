@@ -1,7 +1,7 @@
 use Rattle.std.proofs.Common.{arith}
 use Rattle.std.proofs.lemmas.Grind.{common_steps}
-use Rattle.cell.proofs.Lanes.{more_bits, more_held}
-use Rattle.cell.proofs.difference.lanes.Goals as goal
+use Rattle.cell.proofs.LaneLaws.{more_bits, more_held}
+use Rattle.cell.proofs.lanes.lanes.Goals as goal
 
 pub loop-x-preserved : goal.loop-x-preserved
 loop-x-preserved c = record {

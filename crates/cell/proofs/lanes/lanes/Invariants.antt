@@ -1,7 +1,7 @@
 use Rattle.std.proofs.Common.{◌≡◌, length, map, take}
 use Rattle.cell.specs.Packing.{shown_bits, shown_of}
-use Rattle.cell.specs.declared.difference.TheConstants.{LANES}
-use Rattle.cell.proofs.difference.lanes.Given as goal
+use Rattle.cell.specs.declared.lanes.TheConstants.{LANES}
+use Rattle.cell.proofs.lanes.lanes.Given as goal
 
 abbrev pub invariant-loop-x : goal.invariant-loop-x
 invariant-loop-x l = record {

@@ -1,0 +1,73 @@
+//! Shown cells that are looked at together, as numbers in the lanes of a vector.
+
+ghost use Rattle.std.specs.Prelude.{◌≡◌, ◌≤◌, ◌<◌, ◌↔◌, length, map, take, true};
+ghost use Rattle.std.specs.List.{list_all};
+ghost use Rattle.cell.specs.Differences.{DiffersAt, same_rendition};
+ghost use Rattle.cell.specs.Packing.{rendition_bits, rendition_of, shown_bits, shown_of};
+ghost use Rattle.cell.specs.declared.lanes.TheConstants.{LANES};
+
+use crate::shown::{Rendition, Shown};
+use std::simd::prelude::*;
+
+/// How many cells are looked at together.
+pub const LANES: usize = 16;
+
+/// Whether so many cells are the same.
+pub(crate) fn same_lanes(old: &[Shown], new: &[Shown]) -> bool
+    requires old { length old.now ≡ LANES }
+    requires new { length new.now ≡ LANES }
+    ensures { (result ≡ true) ↔ (old.now ≡ new.now) }
+{
+    lanes(old).simd_ne(lanes(new)).to_bitmask() == 0
+}
+
+/// How many of so many cells come before the first in which they differ: all, where none does.
+pub(crate) fn same_before(old: &[Shown], new: &[Shown]) -> usize
+    requires old { length old.now ≡ LANES }
+    requires new { length new.now ≡ LANES }
+    ensures within { result ≤ LANES }
+    ensures same { take result old.now ≡ take result new.now }
+    ensures differs { result < LANES → DiffersAt old.now new.now result }
+{
+    let differing = lanes(old).simd_ne(lanes(new)).to_bitmask();
+    if differing == 0 {
+        LANES
+    } else {
+        differing.trailing_zeros() as usize
+    }
+}
+
+/// Whether so many cells all have a rendition.
+pub fn have_rendition(cells: &[Shown], rendition: Rendition) -> bool
+    requires { length cells.now ≡ LANES }
+    ensures { result ≡ list_all (λ cell. same_rendition cell.rendition rendition) cells.now }
+{
+    let wanted = u32x16::splat(rendition.bits());
+    rendition_lanes(cells).simd_ne(wanted).to_bitmask() == 0
+}
+
+/// So many cells as numbers, one in each lane.
+fn lanes(cells: &[Shown]) -> u32x16
+    requires { length cells.now ≡ LANES }
+    ensures bits { result ≡ map shown_bits cells.now }
+    ensures held { cells.now ≡ map shown_of result }
+{
+    let mut numbers = [0; LANES];
+    for x in 0..LANES {
+        numbers[x] = cells[x].bits();
+    }
+    u32x16::from_array(numbers)
+}
+
+/// The renditions of so many cells as numbers, one in each lane.
+fn rendition_lanes(cells: &[Shown]) -> u32x16
+    requires { length cells.now ≡ LANES }
+    ensures bits { result ≡ map (λ cell. rendition_bits cell.rendition) cells.now }
+    ensures held { map (λ cell. cell.rendition) cells.now ≡ map rendition_of result }
+{
+    let mut numbers = [0; LANES];
+    for x in 0..LANES {
+        numbers[x] = cells[x].rendition().bits();
+    }
+    u32x16::from_array(numbers)
+}
