@@ -14,8 +14,8 @@ use clap::{Arg, ArgAction, ArgMatches, Command, Error};
 use std::alloc::{AllocError, Global};
 use std::convert::AsStr;
 
-/// The version of the program.
-const VERSION: &str = "0.1.0";
+/// The version of the program. What follows `commit` is as long as the name of a commit, and `./install` writes that over it.
+const VERSION: &str = "0.1.0, commit not written in by ./install or ./package";
 
 /// What follows the help of the program.
 const EXAMPLE: &str = "\
