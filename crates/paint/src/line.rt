@@ -8,7 +8,7 @@ ghost use Rattle.cell.specs.declared.limits.TheConstants.{LARGEST_SCREEN};
 ghost use Rattle.streams.specs.Sinks.{Seen};
 ghost use Rattle.paint.specs.Updates.{place_bytes};
 ghost use Rattle.paint.specs.steps.Strokes.{IsPlainAt, SameTerminals, Strokes, line_bytes, reach_bytes, run_bytes, with_cells};
-ghost use Rattle.paint.specs.steps.Walks.{AreOfRun, DifferWithin, IsLinePainted, IsReadyToErase, IsRun, StrokesLine, cells_between};
+ghost use Rattle.paint.specs.steps.Walks.{AreOfRun, DifferWithin, IsLinePainted, IsOver, IsReadyToErase, IsRun, StrokesLine, cells_between};
 
 use crate::gap::approach;
 use crate::pen::Pen;
@@ -183,7 +183,8 @@ pub fn run_end(shown: &[Shown], wanted: &[Shown], start: usize, end: usize) -> u
     requires begun { start < end }
     requires inside { end ≤ length wanted.now }
     requires differs { same_shown (slice_index_or shown.now start shown_blank) (slice_index_or wanted.now start shown_blank) ≡ false }
-    ensures { IsRun shown.now wanted.now start end result }
+    ensures run { IsRun shown.now wanted.now start end result }
+    ensures longest { result < end → IsOver shown.now wanted.now start result }
 {
     let near = end.min(start + SHORT);
     let mut x = run_end_from(shown, wanted, start, start + 1, near);
@@ -202,7 +203,8 @@ fn run_end_from(shown: &[Shown], wanted: &[Shown], start: usize, from: usize, en
     requires same { length shown.now ≡ length wanted.now }
     requires inside { end ≤ length wanted.now }
     requires run { IsRun shown.now wanted.now start end from }
-    ensures { IsRun shown.now wanted.now start end result }
+    ensures run { IsRun shown.now wanted.now start end result }
+    ensures longest { result < end → IsOver shown.now wanted.now start result }
 {
     let rendition = wanted[start].rendition();
     for x in from..end {

@@ -100,6 +100,7 @@ impl Outbox {
         requires { more ≤ ROOM }
         ensures gathers { Gathers (W.seen sink.old) (W.seen sink.new) self.old self.new [] }
         ensures room { length self.new.room + more ≤ ROOM }
+        ensures kept { length self.old.room + more ≤ ROOM → (self.new ≡ self.old) × (W.seen sink.new ≡ W.seen sink.old) }
         ensures same { W.name sink.new ≡ W.name sink.old }
     {
         if self.room.remaining_capacity() < more {

@@ -185,7 +185,8 @@ impl Pen {
 
     /// The column of the cursor, where it is known to be in a line, between two columns.
     pub fn column_between(&self, line: u16, from: usize, to: usize) -> Option<usize>
-        ensures { MatchOption result ⊤ (λ column. (self.now.cursor ≡ Some (line, column)) × (from ≤ column) × (column ≤ to)) }
+        ensures column { MatchOption result ⊤ (λ column. (self.now.cursor ≡ Some (line, column)) × (from ≤ column) × (column ≤ to)) }
+        ensures none { result ≡ None → (column : ℕ) → self.now.cursor ≡ Some (line, column) → from ≤ column → column ≤ to → ⊥ }
     {
         let (y, x) = self.cursor?;
         let column = usize::from(x);

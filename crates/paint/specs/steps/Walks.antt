@@ -1,8 +1,8 @@
 -- How far a pen has come in a line, and in a picture.
-use Rattle.std.specs.Prelude.{◌≡◌, ℕ, ◌+◌, ◌-◌, ◌<◌, ◌≤◌, false, List, ◌++◌, length, map, take, drop, slice_index_or, slice_set, Option, Some, None, ⊤}
+use Rattle.std.specs.Prelude.{◌≡◌, ℕ, ◌+◌, ◌-◌, ◌<◌, ◌≤◌, ◌⊎◌, true, false, List, ◌++◌, length, map, take, drop, slice_index_or, slice_set, Option, Some, None, ⊤}
 use Rattle.cell.specs.Shown.{Rendition, Shown, shown_blank}
 use Rattle.cell.specs.Pictures.{Picture, line_of}
-use Rattle.cell.specs.Differences.{DiffersAt, same_shown}
+use Rattle.cell.specs.Differences.{DiffersAt, same_rendition, same_shown}
 use Rattle.streams.specs.Sinks.{Seen}
 use Rattle.paint.specs.declared.pen.Pen.{Pen}
 use Rattle.paint.specs.declared.changes.Stretch.{Stretch}
@@ -23,6 +23,12 @@ pub record IsRun (shown wanted : List Shown) (start end stop : ℕ) : Type 0 whe
   pub within : stop ≤ end
   pub changed : (x : ℕ) → start ≤ x → x < stop → same_shown (slice_index_or shown x shown_blank) (slice_index_or wanted x shown_blank) ≡ false
   pub rendition : (x : ℕ) → start ≤ x → x < stop → (slice_index_or wanted x shown_blank).rendition ≡ (slice_index_or wanted start shown_blank).rendition
+
+-- the run that begins at a column doesn't go on at another: that cell is shown already, or has another rendition
+abbrev pub IsOver : List Shown → List Shown → ℕ → ℕ → Type 0
+IsOver shown wanted start stop =
+    (same_shown (slice_index_or shown stop shown_blank) (slice_index_or wanted stop shown_blank) ≡ true)
+    ⊎ (same_rendition (slice_index_or wanted stop shown_blank).rendition (slice_index_or wanted start shown_blank).rendition ≡ false)
 
 -- the first cells are changed, so many, and have one rendition
 pub record AreOfRun (shown wanted : List Shown) (rendition : Rendition) (count : ℕ) : Type 0 where

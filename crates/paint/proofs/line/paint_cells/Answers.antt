@@ -33,7 +33,7 @@ pub loop-x-preserved : goal.loop-x-preserved
 loop-x-preserved g c =
     let x = c.loop-x.x in
     let stop = c.run_end-stop.result in
-    let run = c.run_end-stop.ensures in
+    let run = c.run_end-stop.ensures.run in
     let wanted = c.args.row.now.wanted.now in
     let same : length c.args.row.now.shown.now ≡ length wanted = c.args.row.now.same in
     let inside : stop ≤ length wanted = omega (arith, run.within, c.requires.inside) in
@@ -52,4 +52,4 @@ loop-x-preserved g c =
     }
 
 pub paint_run-requires-clause-run : goal.paint_run-requires-clause-run
-paint_run-requires-clause-run g c = run-longer c.run_end-stop.ensures c.requires.inside
+paint_run-requires-clause-run g c = run-longer c.run_end-stop.ensures.run c.requires.inside

@@ -29,6 +29,6 @@ returns-in_ok-column-in-None-clause-ready g c =
     let column = c.in_ok-column-in-None.column in
     let wanted = c.args.row.now.wanted.now in
     let same : length c.args.row.now.shown.now ≡ length wanted = c.args.row.now.same in
-    let blank : AreBlank (drop column wanted) = kept-later (λ _. shown_blank) c.tail_start-tail.result column wanted c.in_ok-column-in-None.ensures.1 c.tail_start-tail.ensures.blank in
-    line-at_cursor same c.paint_line.ensures.strokes c.paint_line.ensures.same.columns blank c.in_ok-column-in-None.ensures.2 c.select.ensures.draws
-    (record { cursor = c.select.ensures.cursor ∙ c.in_ok-column-in-None.ensures.0; rendition = c.select.ensures.rendition }) c.select.ensures.same.columns
+    let blank : AreBlank (drop column wanted) = kept-later (λ _. shown_blank) c.tail_start-tail.result column wanted c.in_ok-column-in-None.ensures.column.1 c.tail_start-tail.ensures.blank in
+    line-at_cursor same c.paint_line.ensures.strokes c.paint_line.ensures.same.columns blank c.in_ok-column-in-None.ensures.column.2 c.select.ensures.draws
+    (record { cursor = c.select.ensures.cursor ∙ c.in_ok-column-in-None.ensures.column.0; rendition = c.select.ensures.rendition }) c.select.ensures.same.columns

@@ -8,11 +8,11 @@ use Rattle.paint.proofs.line.run_end.Goals as goal
 pub run_end_from-x-requires-clause-run : goal.run_end_from-x-requires-clause-run
 run_end_from-x-requires-clause-run c = run-begun _ _ _ _ (omega arith) c.requires.differs
 
-pub returns-then-x-near : goal.returns-then-x-near
-returns-then-x-near c = run-longer c.run_end_from-x.ensures (omega arith)
+pub returns-then-x-near-clause-run : goal.returns-then-x-near-clause-run
+returns-then-x-near-clause-run c = run-longer c.run_end_from-x.ensures.run (omega arith)
 
 pub loop-x-init : goal.loop-x-init
-loop-x-init c = run-longer c.run_end_from-x.ensures (omega arith)
+loop-x-init c = run-longer c.run_end_from-x.ensures.run (omega arith)
 
 pub loop-x-preserved : goal.loop-x-preserved
 loop-x-preserved c =

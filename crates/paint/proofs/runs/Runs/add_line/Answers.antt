@@ -86,13 +86,13 @@ loop-x-preserved c =
           (run-added c.loop-x.self run (c.loop-x.invariant.listed S W old new h) (record {
             line = line-there W y x wanted new inside;
             before = same-nothing S W (y, x);
-            cells = rw (old, new) (run-longer c.run_end-stop.ensures c.requires.inside);
+            cells = rw (old, new) (run-longer c.run_end-stop.ensures.run c.requires.inside);
             gap = c.loop-x.invariant.gap;
             gap_same = λ v from to. ap (λ (l : List Shown). get_or l v shown_blank) old ∙ c.loop-x.invariant.kept v from to ∙ ap (λ (l : List Shown). get_or l v shown_blank) (sym new);
             pass = c.pass_of.ensures.value ∙ ap (pass_in order) (c.rendition.ensures.value ∙ ap (λ (cell : Shown). cell.rendition) cell
                 ∙ ap (λ (l : List Shown). (get_or l x shown_blank).rendition) (sym new));
           }));
       gap = omega arith;
-      within = c.run_end-stop.ensures.within;
+      within = c.run_end-stop.ensures.run.within;
       kept = λ v from to. absurd (omega arith);
     }
