@@ -26,7 +26,7 @@ module _ {W : Type 0} (seen : W → Seen) where
       × CountGrew (cells_of_answer answer) old.desk new.desk
 
   pub is_answered : (old : ScreenOver W) (call : Call) (answer : Result Reply Refusal) (new : ScreenOver W) → CallEnds seen old call (call_end (Ok answer)) new → Answered old call answer new
-  is_answered old call (Ok reply) new h = (h.0, h.1, call-grew (state_of old) call reply h.1.0 old.desk new.desk h.1.1 h.2)
+  is_answered old call (Ok reply) new h = (h.state, (h.sent, h.answer, h.writes), call-grew (state_of old) call reply h.sent old.desk new.desk h.answer h.counted)
   is_answered old call (Err refusal) new h = (
     is-kept h.1,
     ([], (h.0, refl), subst (λ s. Writes seen old s (call ∷ []) []) (sym h.1) (Writes-refused seen old call refusal h.0)),

@@ -37,11 +37,11 @@ module _ {W : Type 0} (seen : W → Seen) where
   pub accepted_next : (old mid new : ScreenOver W) (calls : List Call) (d r c i : ℕ) (call : Call) (reply : Reply) → SoFar old (take i calls) mid d r c → i < length calls
       → CallEnds seen mid (get_or calls i call) (Ok reply) new → SoFar old (take (i + 1) calls) new (d + 1) r (c + cells_of_reply reply)
   accepted_next old mid new calls d r c i call reply so_far h ends =
-      let outcome : Outcome = record { answer = Ok reply; sent = ends.1.0 } in
+      let outcome : Outcome = record { answer = Ok reply; sent = ends.sent } in
       rw (take_more calls i call h) (record {
         outcomes = so_far.outcomes ++ outcome ∷ [];
-        makes = Makes-append seen so_far.makes (Makes-one seen mid new (get_or calls i call) (Ok reply) ends.1.0 ends.1.1 ends.0 ends.1.2
-            (call-grew (state_of mid) (get_or calls i call) reply ends.1.0 mid.desk new.desk ends.1.1 ends.2));
+        makes = Makes-append seen so_far.makes (Makes-one seen mid new (get_or calls i call) (Ok reply) ends.sent ends.answer ends.state ends.writes
+            (call-grew (state_of mid) (get_or calls i call) reply ends.sent mid.desk new.desk ends.answer ends.counted));
         is_done = ap (λ n. n + 1) so_far.is_done ∙ sym (sum_by_push (λ (o : Outcome). cond (is_accepted o) 1 0) so_far.outcomes outcome);
         is_refused = so_far.is_refused ∙ sym (sum_by_push (λ (o : Outcome). cond (is_refused o) 1 0) so_far.outcomes outcome ∙ add-zero _);
         is_composed = ap (λ n. n + cells_of_reply reply) so_far.is_composed ∙ sym (sum_by_push cells_read so_far.outcomes outcome);

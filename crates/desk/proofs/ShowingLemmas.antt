@@ -289,8 +289,8 @@ run-shows seen old new cs end one_size h = grind (arith, run-stops)
 pub call-shows : {W : Type 0} (seen : W → Seen) (old new : ScreenOver W) (call : Call) (r : Result Reply Fault) → HasOneSize old.desk old.painter → CallEnds seen old call r new
     → RunShows seen old new (call ∷ []) (cut_of r)
 call-shows seen old new call (Ok reply) one_size h =
-    shows-unbroken seen old new new (call ∷ []) (call ∷ []) (record { answer = Ok reply; sent = h.1.0 } ∷ []) (Makes-one seen old new call (Ok reply) h.1.0 h.1.1 h.0 h.1.2
-    (call-grew (state_of old) call reply h.1.0 old.desk new.desk h.1.1 h.2)) one_size refl refl
+    shows-unbroken seen old new new (call ∷ []) (call ∷ []) (record { answer = Ok reply; sent = h.sent } ∷ []) (Makes-one seen old new call (Ok reply) h.sent h.answer h.state h.writes
+    (call-grew (state_of old) call reply h.sent old.desk new.desk h.answer h.counted)) one_size refl refl
 call-shows seen old new call (Err (Refused e)) one_size h =
     shows-unbroken seen old old new (call ∷ []) (call ∷ []) (record { answer = Err e; sent = [] } ∷ [])
     (Makes-one seen old old call (Err e) [] (h.0, refl) (IsWithin-refl (state_of old)) (Writes-refused seen old call e h.0) (same-grew old.desk)) one_size refl h.1
@@ -309,7 +309,7 @@ cut-keeps_size seen old new fault h = grind arith
 pub call-keeps_size : {W : Type 0} (seen : W → Seen) (old new : ScreenOver W) (call : Call) (r : Result Reply Fault) → HasOneSize old.desk old.painter → CallEnds seen old call r new
     → KeepsSize old.desk new.desk
 call-keeps_size seen old new call (Ok reply) one_size h = size-of old new
-    (still-sized h.0 (size-after old.desk.windows.lines old.desk.windows.columns (state_of old) call (Ok reply) (screen-size old one_size)))
+    (still-sized h.state (size-after old.desk.windows.lines old.desk.windows.columns (state_of old) call (Ok reply) (screen-size old one_size)))
 call-keeps_size seen old new call (Err (Refused e)) one_size h = subst (λ s. KeepsSize old.desk s.desk) (sym h.1) (record { lines = refl; columns = refl })
 call-keeps_size seen old new call (Err (Write fault)) one_size h = cut-keeps_size seen old new fault h.1
 

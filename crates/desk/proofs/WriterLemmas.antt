@@ -56,11 +56,13 @@ module _ {W : Type 0} (seen : W → Seen) where
   -- a call of the desk was accepted
   pub called-ends : (old : ScreenOver W) (desk : DeskTable) (call : Call) (reply : Reply) → is_doupdate call ≡ false → Called old.desk call (Ok reply) desk
       → CallEnds seen old call (Ok reply) (record old { desk = desk })
-  called-ends old desk call reply other h = (
-    is-after old desk call (world-left old.desk desk call h.2) h.3 (painter-quiet (state_of old) call other),
-    ([], (h.0, (quiet-reply (state_of old) reply [] call other).1 (refl, h.1)), quiet old (record old { desk = desk }) call other refl),
-    h.5,
-  )
+  called-ends old desk call reply other h = record {
+    state = is-after old desk call (world-left old.desk desk call h.2) h.3 (painter-quiet (state_of old) call other);
+    sent = [];
+    answer = (h.0, (quiet-reply (state_of old) reply [] call other).1 (refl, h.1));
+    writes = quiet old (record old { desk = desk }) call other refl;
+    counted = h.5;
+  }
 
   -- a call of the desk was refused
   pub refused-ends : (old : ScreenOver W) (desk : DeskTable) (call : Call) (e : Refusal) → Called old.desk call (Err e) desk

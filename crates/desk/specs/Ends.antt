@@ -49,11 +49,17 @@ module _ {W : Type 0} (seen : W → Seen) where
     pub flushes : (seen new.writer).flushes ≡ count_after (fault.sent == length text) (seen old.writer).flushes
     pub counted : new.desk.cells_read ≡ old.desk.cells_read
 
+  -- A call was answered: it did what it says, and the writer took the bytes that it may send.
+  pub record IsAnswered (old : ScreenOver W) (call : Call) (reply : Reply) (new : ScreenOver W) : Type 0 where
+    pub state : IsWithin (state_of new) (after (state_of old) call)
+    pub sent : List ℕ
+    pub answer : MayAnswer (state_of old) call (Ok reply) sent
+    pub writes : Writes old new (call ∷ []) sent
+    pub counted : CountsReads old.desk call reply new.desk
+
   -- One call ended so.
   abbrev pub CallEnds : ScreenOver W → Call → Result Reply Fault → ScreenOver W → Type 0
-  CallEnds old call (Ok reply) new = IsWithin (state_of new) (after (state_of old) call)
-      × ((sent : List ℕ) × MayAnswer (state_of old) call (Ok reply) sent × Writes old new (call ∷ []) sent)
-      × CountsReads old.desk call reply new.desk
+  CallEnds old call (Ok reply) new = IsAnswered old call reply new
   CallEnds old call (Err (Refused e)) new = MayRefuse (world old.desk) call e × (new ≡ old)
   CallEnds old call (Err (Write fault)) new = (is_doupdate call ≡ true) × IsCut old new fault
 

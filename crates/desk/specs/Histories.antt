@@ -4,7 +4,6 @@
 use Rattle.std.specs.Prelude.{◌≡◌, ℕ, List, [], ◌∷◌, ◌++◌, Bool, true, false, if◌then◌else◌}
 use Rattle.std.specs.Prelude.{Option, None, Result, Ok, Err, ⊤, count_by, is_ok, is_some, map, sum_by}
 use Rattle.std.specs.Io.KnownBytes.{Appends}
-use Rattle.cell.specs.Pictures.{HasSize}
 use Rattle.ecma.specs.Terminals.{Terminal}
 use Rattle.ecma.specs.Streams.{LeadsWithBreaks}
 use Rattle.streams.specs.Sinks.{Seen}
@@ -18,7 +17,7 @@ use Rattle.world.specs.declared.call.Reply.{Reply}
 use Rattle.desk.specs.States.{ScreenOver}
 use Rattle.desk.specs.Ends.{cut_of}
 use Rattle.desk.specs.Methods.{CallMade}
-use Rattle.desk.specs.Showing.{EndsInDoupdate, EndsInUpdate, ShowsWorld, showing_virtual}
+use Rattle.desk.specs.Showing.{AfterAgreeing, EndsInDoupdate, EndsInUpdate, OnAny, ShowsWorld, showing_virtual}
 use Rattle.desk.specs.declared.screen.Fault.{Fault}
 use Rattle.desk.specs.declared.screen.Fault.TheVariants.{Refused}
 use Rattle.desk.specs.declared.history.RunAllEnd.{RunAllEnd}
@@ -80,17 +79,12 @@ module _ {W : Type 0} (seen : W → Seen) where
   pub record HistoryShows (old new : ScreenOver W) (calls : List Call) (fault : Option WriteFault) : Type 0 where
     pub bytes : List ℕ
     pub taken : Appends (seen old.writer).taken (seen new.writer).taken bytes
-    pub agrees : (stream : List ℕ) (t : Terminal) → HasSize old.desk.windows.lines old.desk.windows.columns t.picture
-        → Agrees old.painter stream t → Agrees new.painter (stream ++ bytes) t
-    pub shows_virtual : EndsInDoupdate calls → fault ≡ None → (stream : List ℕ) (t : Terminal)
-        → HasSize old.desk.windows.lines old.desk.windows.columns t.picture
-        → Agrees old.painter stream t → LeadsWithBreaks (stream ++ bytes) t (showing_virtual (world new.desk))
-    pub shows_virtual_on_any : EndsInDoupdate calls → fault ≡ None → old.painter.last ≡ None → (t : Terminal)
-        → HasSize old.desk.windows.lines old.desk.windows.columns t.picture → LeadsWithBreaks bytes t (showing_virtual (world new.desk))
-    pub shows : EndsInUpdate calls → fault ≡ None → (stream : List ℕ) (t : Terminal) → HasSize old.desk.windows.lines old.desk.windows.columns t.picture
-        → Agrees old.painter stream t → (u : Terminal) × LeadsWithBreaks (stream ++ bytes) t u × ShowsWorld (world new.desk) u
-    pub shows_on_any : EndsInUpdate calls → fault ≡ None → old.painter.last ≡ None → (t : Terminal)
-        → HasSize old.desk.windows.lines old.desk.windows.columns t.picture → (u : Terminal) × LeadsWithBreaks bytes t u × ShowsWorld (world new.desk) u
+    pub agrees : AfterAgreeing old (λ stream t. Agrees new.painter (stream ++ bytes) t)
+    pub shows_virtual : EndsInDoupdate calls → fault ≡ None → AfterAgreeing old (λ stream t. LeadsWithBreaks (stream ++ bytes) t (showing_virtual (world new.desk)))
+    pub shows_virtual_on_any : EndsInDoupdate calls → fault ≡ None → OnAny old (λ t. LeadsWithBreaks bytes t (showing_virtual (world new.desk)))
+    pub shows : EndsInUpdate calls → fault ≡ None
+        → AfterAgreeing old (λ stream t. (u : Terminal) × LeadsWithBreaks (stream ++ bytes) t u × ShowsWorld (world new.desk) u)
+    pub shows_on_any : EndsInUpdate calls → fault ≡ None → OnAny old (λ t. (u : Terminal) × LeadsWithBreaks bytes t u × ShowsWorld (world new.desk) u)
 
 module _ {W : Type 0} (seen : W → Seen) (name : W → ℕ) where
   -- Each call was made on the screen that the one before left, whether that was accepted, was refused or had a fault.

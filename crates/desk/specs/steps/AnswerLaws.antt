@@ -18,8 +18,8 @@ use Rattle.desk.specs.declared.screen.Fault.TheVariants.{Refused, Write}
 pub answers-made : {W : Type 0} (seen : W → Seen) (name : W → ℕ) (old : ScreenOver W) (call : Call) (reply : Reply) (new : ScreenOver W) → is_doupdate call ≡ false
     → CallMade seen name old call (Ok reply) new → IsAnswerTo call reply
 answers-made seen name old call reply new other made =
-    let sent = made.ends.1.0 in
-    let may = made.ends.1.1 in
+    let sent = made.ends.sent in
+    let may = made.ends.answer in
     let quiet = (quiet-reply (state_of old) reply sent call other).0 may.1 in
     (world old.desk, kind-of-answer (world old.desk) (is_damaged_line old.desk) call reply other may.0 quiet.1)
 
