@@ -1,15 +1,15 @@
 //! The windows that a picture is composed of, as what composes has them: it reads no cell of them that isn't counted.
 
-ghost use Rattle.std.specs.Prelude.{◌≡◌, ◌∷◌, ◌+◌, ◌<◌, ◌%◌, ◌^◌, ℕ, None, false, length};
+ghost use Rattle.std.specs.Prelude.{◌≡◌, ◌∷◌, ◌+◌, ◌%◌, ◌^◌, ℕ, None, length};
 ghost use Rattle.std.specs.List.{list_any};
-ghost use Rattle.cell.specs.Pictures.{HasSize, picture_of, shown_at};
+ghost use Rattle.cell.specs.Pictures.{picture_of};
 ghost use Rattle.cell.specs.Shown.{shown};
 ghost use Rattle.world.specs.Effects.{asks_for_clear, with_unmarked};
 ghost use Rattle.world.specs.Panels.{cursor_of_topmost, found_from_top, standard_screen, windows_from_top};
-ghost use Rattle.world.specs.Sound.{AreColumnsWithin, AreSoundPanels, AreSoundWindows};
 ghost use Rattle.grids.specs.Tables.{windows as windows_of};
 ghost use Rattle.stack.specs.Tables.{panels};
-ghost use Rattle.picture.specs.Damages.{cells_above, columns_of, has_damage_at};
+ghost use Rattle.picture.specs.Damages.{cells_above, columns_of};
+ghost use Rattle.picture.specs.Repairs.{IsRepairable};
 
 use crate::marks::{clear_asked, unmark_composed};
 use cell::{Grid, Pairs, Shown};
@@ -52,13 +52,7 @@ impl<'a> CountedWindows<'a> {
         damage: &mut Damage,
         picture: &mut Grid<Shown>,
     ) -> u32
-        requires windows { AreSoundWindows (windows_of self.old.table.now) }
-        requires panels { AreSoundPanels (windows_of self.old.table.now).window (panels stack.now) }
-        requires height { length damage.old ≡ self.old.table.now.lines }
-        requires within { (y : ℕ) → AreColumnsWithin self.old.table.now.columns (columns_of damage.old y) }
-        requires size { HasSize self.old.table.now.lines self.old.table.now.columns picture.old }
-        requires covered { (y x : ℕ) → y < self.old.table.now.lines → x < self.old.table.now.columns → has_damage_at damage.old y x ≡ false
-            → shown_at picture.old (y, x) ≡ shown pairs.now (found_from_top (windows_of self.old.table.now).window (panels stack.now) y x) }
+        requires { IsRepairable (windows_of self.old.table.now) (panels stack.now) pairs.now damage.old picture.old }
         ensures shown { picture.new ≡ picture_of self.old.table.now.lines self.old.table.now.columns
             (λ y x. shown pairs.now (found_from_top (windows_of self.old.table.now).window (panels stack.now) y x)) }
         ensures height { length damage.new ≡ self.old.table.now.lines }

@@ -1,13 +1,13 @@
 //! Composes the damaged part of the picture of windows and panels again.
 
-ghost use Rattle.std.specs.Prelude.{◌≡◌, ◌<◌, ◌≤◌, ℕ, None, false, length};
-ghost use Rattle.cell.specs.Pictures.{AreShown, HasSize, picture_of, shown_at};
+ghost use Rattle.std.specs.Prelude.{◌≡◌, ◌≤◌, ℕ, None, length};
+ghost use Rattle.cell.specs.Pictures.{AreShown, picture_of};
 ghost use Rattle.cell.specs.Shown.{shown};
 ghost use Rattle.world.specs.Panels.{found_from_top};
-ghost use Rattle.world.specs.Sound.{AreColumnsWithin, AreSoundPanels, AreSoundWindows};
 ghost use Rattle.stack.specs.Tables.{panels};
 ghost use Rattle.picture.specs.Counts.{GrewBy};
-ghost use Rattle.picture.specs.Damages.{cells_above, columns_of, has_damage_at};
+ghost use Rattle.picture.specs.Damages.{cells_above, columns_of};
+ghost use Rattle.picture.specs.Repairs.{IsRepairable};
 
 use crate::damage::Damage;
 use crate::line::compose_columns;
@@ -28,14 +28,8 @@ pub fn show_damaged<'a, R: Rows<'a>>(
     damage: &mut Damage,
     picture: &mut Grid<Shown>,
 ) -> u32
-    requires windows { AreSoundWindows (R.windows rows.old) }
-    requires panels { AreSoundPanels (R.windows rows.old).window (panels stack.now) }
+    requires repairable { IsRepairable (R.windows rows.old) (panels stack.now) pairs.now damage.old picture.old }
     requires lines { lines ≡ (R.windows rows.old).lines }
-    requires height { length damage.old ≡ (R.windows rows.old).lines }
-    requires within { (y : ℕ) → AreColumnsWithin (R.windows rows.old).columns (columns_of damage.old y) }
-    requires size { HasSize (R.windows rows.old).lines (R.windows rows.old).columns picture.old }
-    requires covered { (y x : ℕ) → y < (R.windows rows.old).lines → x < (R.windows rows.old).columns → has_damage_at damage.old y x ≡ false
-        → shown_at picture.old (y, x) ≡ shown pairs.now (found_from_top (R.windows rows.old).window (panels stack.now) y x) }
     ensures shown { picture.new ≡ picture_of (R.windows rows.old).lines (R.windows rows.old).columns
         (λ y x. shown pairs.now (found_from_top (R.windows rows.old).window (panels stack.now) y x)) }
     ensures cells { AreShown picture.new }

@@ -31,14 +31,14 @@ compose_columns-requires g c κs =
     let height = size.height in
     let wide = length-line y size below in
     let line : columns_of c.args.damage.now y ≡ Some c.in-Some.field-0 = sym (h.composed.left y (omega arith)) ∙ sym c.line.ensures ∙ c.in-Some.is in
-    let within : AreColumnsWithin old.columns (Some c.in-Some.field-0) = subst (AreColumnsWithin old.columns) line (c.requires.within y) in
+    let within : AreColumnsWithin old.columns (Some c.in-Some.field-0) = subst (AreColumnsWithin old.columns) line (c.requires.repairable.within y) in
     let ordered = within.0 in
     let last = within.1 in (
       (refl, record {}),
       (
-        λ u from upto. subst (λ (ws : Windows). holds ws.window standard_screen y u ≡ true) back (standard-holds old y u c.requires.windows below (omega (arith, upto, last))),
+        λ u from upto. subst (λ (ws : Windows). holds ws.window standard_screen y u ≡ true) back (standard-holds old y u c.requires.repairable.windows below (omega (arith, upto, last))),
         (
-          subst (λ (ws : Windows). HasPanelWindows ws.window ps) back (sound-windows old.window ps c.requires.panels),
+          subst (λ (ws : Windows). HasPanelWindows ws.window ps) back (sound-windows old.window ps c.requires.repairable.panels),
           (ordered, (omega (arith, height, below), (omega (arith, wide, last), subst (λ (ws : Windows). KnowsOwners ws.window ps c.loop-y.owners) back h.known))),
         ),
       ),
@@ -53,15 +53,15 @@ loop-y-init g c =
     let before = c.args.damage.now in
     let f : ℕ → ℕ → Shown = λ v u. shown c.args.pairs.now (found_from_top old.window (panels c.args.stack.now) v u) in
     let none : (v : ℕ) → 0 ≤ v → v < c.next-y.result → columns_of before v ≡ None = λ v from upto. c.next-y.ensures.none v from upto in
-    let height = c.requires.height in
+    let height = c.requires.repairable.height in
     let inside = c.next-y.ensures.inside (omega arith) in
     record {
       windows = refl;
       known = c.start_over.ensures old.window (panels c.args.stack.now);
       read = sym (no-more-to before 0 c.next-y.result (omega arith) none);
       count = search rules;
-      composed = composed-to f old.lines old.columns before c.args.picture.now c.requires.covered 0 c.next-y.result before c.args.picture.now
-          (composed-none f old.lines old.columns before c.args.picture.now c.requires.covered c.requires.height c.requires.size)
+      composed = composed-to f old.lines old.columns before c.args.picture.now c.requires.repairable.covered 0 c.next-y.result before c.args.picture.now
+          (composed-none f old.lines old.columns before c.args.picture.now c.requires.repairable.covered c.requires.repairable.height c.requires.repairable.size)
           (omega arith) (omega (arith, inside, height)) none;
       inside = omega (arith, inside, height);
     }
@@ -82,14 +82,14 @@ loop-y-preserved g c =
       | in-Some s ↦
           let r = s.in-Some.field-0 in
           rw (s.damage-is, s.picture-is, s.clear.ensures)
-          (composed-more f old.lines old.columns before c.args.picture.now c.requires.covered y r c.loop-y.damage c.loop-y.picture s.compose_columns.new.picture h.composed below
+          (composed-more f old.lines old.columns before c.args.picture.now c.requires.repairable.covered y r c.loop-y.damage c.loop-y.picture s.compose_columns.new.picture h.composed below
           (sym c.line.ensures ∙ s.in-Some.is)
           (λ v u. s.compose_columns.ensures.shown v u
           ∙ ap (λ (ws : Windows). if (v == y) && (nat_le r.first u && nat_lt u (r.last + 1)) then shown c.args.pairs.now (found_from_top ws.window ps y u) else shown_at c.loop-y.picture (v, u))
           h.windows)
           (s.compose_columns.ensures.size old.lines old.columns h.composed.above.size))
       | in_default s ↦ rw (s.damage-is, s.picture-is)
-          (composed-bare f old.lines old.columns before c.args.picture.now c.requires.covered y c.loop-y.damage c.loop-y.picture h.composed below (sym c.line.ensures ∙ s.in_default.is))
+          (composed-bare f old.lines old.columns before c.args.picture.now c.requires.repairable.covered y c.loop-y.damage c.loop-y.picture h.composed below (sym c.line.ensures ∙ s.in_default.is))
     ] in
     let known : KnowsOwners old.window ps c.match-line.owners = elim c.match-line.branch [
       | in-Some s ↦ rw s.owners-is (subst (λ (ws : Windows). KnowsOwners ws.window ps s.compose_columns.new.owners) h.windows s.compose_columns.ensures.known)

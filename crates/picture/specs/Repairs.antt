@@ -1,0 +1,18 @@
+-- What is wanted of a picture so that composing its damaged places alone makes it that of the windows and panels.
+use Rattle.std.specs.Prelude.{◌≡◌, ℕ, ◌<◌, false, List, length, Option}
+use Rattle.cell.specs.Pictures.{HasSize, Picture, shown_at}
+use Rattle.cell.specs.Shown.{Pairs, shown}
+use Rattle.world.specs.Panels.{Panels, found_from_top}
+use Rattle.world.specs.Sound.{AreColumnsWithin, AreSoundPanels, AreSoundWindows}
+use Rattle.world.specs.Windows.{Windows}
+use Rattle.world.specs.declared.settings.Columns.{Columns}
+use Rattle.picture.specs.Damages.{columns_of, has_damage_at}
+
+-- The windows and the panels are sound, and everywhere but at the damage a picture of the screen's size shows what the search from the top finds.
+pub record IsRepairable (ws : Windows) (ps : Panels) (pairs : Pairs) (damage : List (Option Columns)) (picture : Picture) : Type 0 where
+  pub windows : AreSoundWindows ws
+  pub panels : AreSoundPanels ws.window ps
+  pub height : length damage ≡ ws.lines
+  pub within : (y : ℕ) → AreColumnsWithin ws.columns (columns_of damage y)
+  pub size : HasSize ws.lines ws.columns picture
+  pub covered : (y x : ℕ) → y < ws.lines → x < ws.columns → has_damage_at damage y x ≡ false → shown_at picture (y, x) ≡ shown pairs (found_from_top ws.window ps y x)
