@@ -1,6 +1,6 @@
 -- Cells as numbers, one in each lane, and a mask of the lanes in which two differ.
 use Rattle.std.proofs.Common.{◌≡◌, ℕ, ◌+◌, ◌-◌, ◌*◌, ◌^◌, ◌%◌, ◌<◌, true, false, List, [], ◌∷◌, length, get_or, set, take, drop, map, refl, sym, ap, subst, ◌∙◌, arith, eq-eqb, ne_eqb, eqb, cond, inl, inr, w32}
-use Rattle.std.specs.Prelude.{not, replicate, ◌&&◌, ◌≤◌, Bool, slice_index_or}
+use Rattle.std.specs.Prelude.{not, replicate, ◌==◌, ◌&&◌, ◌≤◌, Bool, slice_index_or}
 use Rattle.std.specs.List.{common_prefix_len, list_all, prefix_len}
 use lib.Count.{count_trailing_zeros}
 use Rattle.std.specs.Simd.Lanes.{mask_l, top, zip2}
@@ -16,18 +16,13 @@ use Rattle.cell.specs.Shown.{Rendition, Shown, shown_blank}
 
 -- ---- one more cell
 
-pub more_bits : (cells : List Shown) (numbers : List ℕ) (x : ℕ) (cell : Shown) (number : ℕ) → x < length cells → x < length numbers → cell ≡ get_or cells x cell
-    → number ≡ shown_bits cell → take x numbers ≡ map shown_bits (take x cells) → take (x + 1) (set numbers x number) ≡ map shown_bits (take (x + 1) cells)
-more_bits cells numbers x cell number inside long is value before = grind (arith, take_more cells x cell, take_more_set numbers x number, map-append)
-
 pub more_held : (cells : List Shown) (numbers : List ℕ) (x : ℕ) (cell : Shown) (number : ℕ) → x < length cells → x < length numbers → cell ≡ get_or cells x cell
     → cell ≡ shown_of number → take x cells ≡ map shown_of (take x numbers) → take (x + 1) cells ≡ map shown_of (take (x + 1) (set numbers x number))
 more_held cells numbers x cell number inside long is value before = grind (arith, take_more cells x cell, take_more_set numbers x number, map-append)
 
-pub more_rendition_bits : (cells : List Shown) (numbers : List ℕ) (x : ℕ) (cell : Shown) (number : ℕ) → x < length cells → x < length numbers
-    → cell ≡ get_or cells x cell → number ≡ rendition_bits cell.rendition → take x numbers ≡ map (λ cell. rendition_bits cell.rendition) (take x cells)
-    → take (x + 1) (set numbers x number) ≡ map (λ cell. rendition_bits cell.rendition) (take (x + 1) cells)
-more_rendition_bits cells numbers x cell number inside long is value before = grind (arith, take_more cells x cell, take_more_set numbers x number, map-append)
+pub more_numbers : {A : Type 0} (f : A → ℕ) (cells : List A) (numbers : List ℕ) (x : ℕ) (cell : A) (number : ℕ) → x < length cells → x < length numbers
+    → cell ≡ get_or cells x cell → number ≡ f cell → take x numbers ≡ map f (take x cells) → take (x + 1) (set numbers x number) ≡ map f (take (x + 1) cells)
+more_numbers f cells numbers x cell number inside long is value before = grind (arith, take_more cells x cell, take_more_set numbers x number, map-append)
 
 pub more_renditions_held : (cells : List Shown) (numbers : List ℕ) (x : ℕ) (cell : Shown) (number : ℕ) → x < length cells → x < length numbers
     → cell ≡ get_or cells x cell → cell.rendition ≡ rendition_of number → map (λ cell. cell.rendition) (take x cells) ≡ map rendition_of (take x numbers)
@@ -77,12 +72,26 @@ module _ (old new : List Shown) (xs ys : List ℕ) (one : xs ≡ map shown_bits 
       let equal : xs ≡ ys = one ∙ ap (map shown_bits) same ∙ sym other in
       eq-eqb mask 0 (mask-of_different xs ys numbers others ∙ subst (λ zs. mask_l (zip2 (λ a b. not (eqb a b)) xs zs) ≡ 0) equal (unmarked_same xs))
 
--- ---- cells of one rendition
+-- ---- where all lanes have one number
 
 -- one lane and those after it
 one_more : (same : Bool) (rest : ℕ) → eqb (cond (not same) 1 0 + 2 * rest) 0 ≡ (same && eqb rest 0)
 one_more true rest = grind (arith, cases_eq)
 one_more false rest = grind (arith, cases_eq)
+
+all_numbers : {A : Type 0} (f : A → ℕ) (cells : List A) (n : ℕ) → eqb (mask_l (map (λ x. not (eqb x n)) (map f cells))) 0 ≡ list_all (λ cell. f cell == n) cells
+all_numbers f [] n = refl
+all_numbers f (c ∷ cells) n =
+    one_more (eqb (f c) n) (mask_l (map (λ x. not (eqb x n)) (map f cells))) ∙ ap (λ rest. eqb (f c) n && rest) (all_numbers f cells n)
+
+pub all_marked : {A : Type 0} (f : A → ℕ) (cells : List A) (xs : List ℕ) (n : ℕ) → xs ≡ map f cells → length cells ≡ 16
+    → eqb (mask_l (map (top 31) (zip2 (λ a b. cond (not (eqb a b)) (2 ^ 32 - 1) 0) xs (replicate 16 n))) % 2 ^ 64) 0 ≡ list_all (λ cell. f cell == n) cells
+all_marked f cells xs n one long =
+    ap (λ marks. eqb marks 0) (bitmask_splat w32 (λ a b. not (eqb a b)) xs 16 n (ap length one ∙ length-map cells f ∙ long) (omega arith))
+    ∙ ap (λ ys. eqb (mask_l (map (λ x. not (eqb x n)) ys)) 0) one
+    ∙ all_numbers f cells n
+
+-- ---- cells of one rendition
 
 same_number : (x n : ℕ) (one other : Rendition) → x ≡ rendition_bits one → one ≡ rendition_of x → n ≡ rendition_bits other → other ≡ rendition_of n
     → eqb x n ≡ same_rendition one other
@@ -90,24 +99,21 @@ same_number x n one other is held also kept =
     same_bits same_rendition-equivalence same_rendition-equal rendition_of rendition_bits x n (ap rendition_bits (sym held) ∙ sym is) (ap rendition_bits (sym kept) ∙ sym also)
     ∙ ap (λ r. same_rendition r (rendition_of n)) (sym held) ∙ ap (same_rendition one) (sym kept)
 
-all_marked : (cells : List Shown) (n : ℕ) (rendition : Rendition) → map (λ cell. cell.rendition) cells ≡ map rendition_of (map (λ cell. rendition_bits cell.rendition) cells)
+all_same : (cells : List Shown) (n : ℕ) (rendition : Rendition) → map (λ cell. cell.rendition) cells ≡ map rendition_of (map (λ cell. rendition_bits cell.rendition) cells)
     → n ≡ rendition_bits rendition → rendition ≡ rendition_of n
-    → eqb (mask_l (map (λ x. not (eqb x n)) (map (λ cell. rendition_bits cell.rendition) cells))) 0 ≡ list_all (λ cell. same_rendition cell.rendition rendition) cells
-all_marked [] n rendition held other also = refl
-all_marked (c ∷ cells) n rendition held other also =
-    one_more (eqb (rendition_bits c.rendition) n) (mask_l (map (λ x. not (eqb x n)) (map (λ cell. rendition_bits cell.rendition) cells)))
-    ∙ ap (λ same. same && eqb (mask_l (map (λ x. not (eqb x n)) (map (λ cell. rendition_bits cell.rendition) cells))) 0)
+    → list_all (λ cell. rendition_bits cell.rendition == n) cells ≡ list_all (λ cell. same_rendition cell.rendition rendition) cells
+all_same [] n rendition held other also = refl
+all_same (c ∷ cells) n rendition held other also =
+    ap (λ same. same && list_all (λ cell. rendition_bits cell.rendition == n) cells)
     (same_number (rendition_bits c.rendition) n c.rendition rendition refl (ap (λ (l : List Rendition). get_or l 0 rendition) held) other also)
-    ∙ ap (λ rest. same_rendition c.rendition rendition && rest) (all_marked cells n rendition (ap (drop 1) held) other also)
+    ∙ ap (λ rest. same_rendition c.rendition rendition && rest) (all_same cells n rendition (ap (drop 1) held) other also)
 
 pub all_from_mask : (cells : List Shown) (xs : List ℕ) (rendition : Rendition) (n : ℕ) → xs ≡ map (λ cell. rendition_bits cell.rendition) cells
     → map (λ cell. cell.rendition) cells ≡ map rendition_of xs → n ≡ rendition_bits rendition → rendition ≡ rendition_of n → length cells ≡ 16
     → eqb (mask_l (map (top 31) (zip2 (λ a b. cond (not (eqb a b)) (2 ^ 32 - 1) 0) xs (replicate 16 n))) % 2 ^ 64) 0
     ≡ list_all (λ cell. same_rendition cell.rendition rendition) cells
 all_from_mask cells xs rendition n one held other also long =
-    ap (λ marks. eqb marks 0) (bitmask_splat w32 (λ a b. not (eqb a b)) xs 16 n (ap length one ∙ length-map cells (λ cell. rendition_bits cell.rendition) ∙ long) (omega arith))
-    ∙ ap (λ ys. eqb (mask_l (map (λ x. not (eqb x n)) ys)) 0) one
-    ∙ all_marked cells n rendition (held ∙ ap (map rendition_of) one) other also
+    all_marked (λ cell. rendition_bits cell.rendition) cells xs n one long ∙ all_same cells n rendition (held ∙ ap (map rendition_of) one) other also
 
 -- ---- the first lane in which two differ
 

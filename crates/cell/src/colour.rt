@@ -7,7 +7,7 @@ ghost use Rattle.cell.specs.declared.lanes.TheConstants.{LANES};
 
 use crate::cell::Cell;
 use crate::colour_bits::ColourBits;
-use crate::lanes::LANES;
+use crate::lanes::{LANES, have_pair};
 use crate::limits::{LAST_COLOUR, LAST_PAIR};
 use crate::shown::Shown;
 use std::marker::Model;
@@ -225,7 +225,7 @@ impl Pairs {
         ensures cells { AllByRecursion IsShown places.new }
     {
         let pair = cells[0].pair();
-        if are_of_pair(cells, pair) {
+        if have_pair(cells, pair) {
             places.copy_from_slice(&show_in(self.colours_of(pair), cells));
         } else {
             self.show_each(cells, places);
@@ -244,18 +244,6 @@ impl Pairs {
             places[x] = shown;
         }
     }
-}
-
-/// Whether so many cells all have a pair, by a loop with one exit, which the compiler vectorizes.
-fn are_of_pair(cells: &[Cell], pair: PairId) -> bool
-    requires { length cells.now ≡ LANES }
-    ensures { result ≡ list_all (λ cell. cell.pair == pair) cells.now }
-{
-    let mut all = true;
-    for x in 0..LANES {
-        all &= cells[x].pair() == pair;
-    }
-    all
 }
 
 /// So many cells in colours, whatever their pairs are, by a loop that the compiler vectorizes.

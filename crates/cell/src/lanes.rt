@@ -1,11 +1,13 @@
-//! Shown cells that are looked at together, as numbers in the lanes of a vector.
+//! Cells that are looked at together, as numbers in the lanes of a vector.
 
-ghost use Rattle.std.specs.Prelude.{◌≡◌, ◌≤◌, ◌<◌, ◌↔◌, length, map, take, true};
+ghost use Rattle.std.specs.Prelude.{◌≡◌, ◌≤◌, ◌<◌, ◌==◌, ◌↔◌, length, map, take, true};
 ghost use Rattle.std.specs.List.{list_all};
 ghost use Rattle.cell.specs.Differences.{DiffersAt, same_rendition};
 ghost use Rattle.cell.specs.Packing.{rendition_bits, rendition_of, shown_bits, shown_of};
 ghost use Rattle.cell.specs.declared.lanes.TheConstants.{LANES};
 
+use crate::cell::Cell;
+use crate::colour::PairId;
 use crate::shown::{Rendition, Shown};
 use std::simd::prelude::*;
 
@@ -46,6 +48,15 @@ pub fn have_rendition(cells: &[Shown], rendition: Rendition) -> bool
     rendition_lanes(cells).simd_ne(wanted).to_bitmask() == 0
 }
 
+/// Whether so many cells of windows all have a pair.
+pub(crate) fn have_pair(cells: &[Cell], pair: PairId) -> bool
+    requires { length cells.now ≡ LANES }
+    ensures { result ≡ list_all (λ cell. cell.pair == pair) cells.now }
+{
+    let wanted = u32x16::splat(u32::from(pair.number()));
+    pair_lanes(cells).simd_ne(wanted).to_bitmask() == 0
+}
+
 /// So many cells as numbers, one in each lane.
 fn lanes(cells: &[Shown]) -> u32x16
     requires { length cells.now ≡ LANES }
@@ -68,6 +79,18 @@ fn rendition_lanes(cells: &[Shown]) -> u32x16
     let mut numbers = [0; LANES];
     for x in 0..LANES {
         numbers[x] = cells[x].rendition().bits();
+    }
+    u32x16::from_array(numbers)
+}
+
+/// The numbers of the pairs of so many cells of windows, one in each lane.
+fn pair_lanes(cells: &[Cell]) -> u32x16
+    requires { length cells.now ≡ LANES }
+    ensures { result ≡ map (λ cell. cell.pair) cells.now }
+{
+    let mut numbers = [0; LANES];
+    for x in 0..LANES {
+        numbers[x] = u32::from(cells[x].pair().number());
     }
     u32x16::from_array(numbers)
 }

@@ -7,7 +7,7 @@
 //! - `colour_bits`: a pair's colours as bits of a shown cell
 //! - `difference`: the first and the last column in which two lines differ
 //! - `grid`: lines of cells of one width
-//! - `lanes`: shown cells that are looked at together
+//! - `lanes`: cells that are looked at together
 //! - `limits`: the greatest sizes and numbers
 //! - `refusal`: why a call is refused
 //! - `shown`: renditions and shown cells

@@ -1,12 +1,13 @@
 use Rattle.std.proofs.Common.{arith}
 use Rattle.std.proofs.lemmas.Grind.{common_steps}
-use Rattle.cell.proofs.LaneLaws.{more_bits, more_held}
+use Rattle.cell.specs.Packing.{shown_bits}
+use Rattle.cell.proofs.LaneLaws.{more_held, more_numbers}
 use Rattle.cell.proofs.lanes.lanes.Goals as goal
 
 pub loop-x-preserved : goal.loop-x-preserved
 loop-x-preserved c = record {
   long = grind (arith, common_steps);
-  bits = more_bits _ _ _ _ _ (omega arith) (omega arith) c.index-cells-x.is c.bits.ensures.value c.loop-x.invariant.bits;
+  bits = more_numbers shown_bits _ _ _ _ _ (omega arith) (omega arith) c.index-cells-x.is c.bits.ensures.value c.loop-x.invariant.bits;
   held = more_held _ _ _ _ _ (omega arith) (omega arith) c.index-cells-x.is c.bits.ensures.held c.loop-x.invariant.held;
 }
 

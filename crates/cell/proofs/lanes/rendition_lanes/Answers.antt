@@ -1,12 +1,13 @@
 use Rattle.std.proofs.Common.{arith}
 use Rattle.std.proofs.lemmas.Grind.{common_steps}
-use Rattle.cell.proofs.LaneLaws.{more_rendition_bits, more_renditions_held}
+use Rattle.cell.specs.Packing.{rendition_bits}
+use Rattle.cell.proofs.LaneLaws.{more_numbers, more_renditions_held}
 use Rattle.cell.proofs.lanes.rendition_lanes.Goals as goal
 
 pub loop-x-preserved : goal.loop-x-preserved
 loop-x-preserved c = record {
   long = grind (arith, common_steps);
-  bits = more_rendition_bits _ _ _ _ _ (omega arith) (omega arith) c.index-cells-x.is (grind (arith, common_steps)) c.loop-x.invariant.bits;
+  bits = more_numbers (λ cell. rendition_bits cell.rendition) _ _ _ _ _ (omega arith) (omega arith) c.index-cells-x.is (grind (arith, common_steps)) c.loop-x.invariant.bits;
   held = more_renditions_held _ _ _ _ _ (omega arith) (omega arith) c.index-cells-x.is (grind (arith, common_steps)) c.loop-x.invariant.held;
 }
 

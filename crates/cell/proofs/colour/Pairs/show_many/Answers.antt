@@ -2,6 +2,6 @@ use Rattle.std.proofs.Common.{sym, ◌∙◌}
 use Rattle.cell.proofs.ShownPieces.{shown_alike}
 use Rattle.cell.proofs.colour.Pairs.show_many.Goals as goal
 
-pub returns-then-are_of_pair-clause-shown : goal.returns-then-are_of_pair-clause-shown
-returns-then-are_of_pair-clause-shown c =
-    c.copy_from_slice.ensures.after ∙ c.show_in.ensures.shown ∙ shown_alike _ _ _ _ c.colours_of.ensures.value (sym c.are_of_pair.ensures ∙ c.if-are_of_pair.true)
+pub returns-then-have_pair-clause-shown : goal.returns-then-have_pair-clause-shown
+returns-then-have_pair-clause-shown c =
+    c.copy_from_slice.ensures.after ∙ c.show_in.ensures.shown ∙ shown_alike _ _ _ _ c.colours_of.ensures.value (sym c.have_pair.ensures ∙ c.if-have_pair.true)
