@@ -6,11 +6,12 @@
 //! - `gap`: what is printed again between changed cells
 //! - `laws`: laws of agreement
 //! - `line`: the walk over cells
-//! - `outbox`: the buffer in which bytes are gathered on their way to the sink
+//! - `outbox`: the bytes that are gathered on their way to the sink
 //! - `page`: the walk over lines
 //! - `painter`: the `Painter`
 //! - `passes`: drawing rendition by rendition
 //! - `pen`: strokes: move, select, print, erase
+//! - `room`: a buffer whose memory is allocated once
 //! - `runs`: the runs of changed cells of a frame
 //! - `tail`: what is erased at the end of a line
 #![tactic(auto)]
@@ -26,6 +27,7 @@ mod page;
 mod painter;
 mod passes;
 mod pen;
+mod room;
 mod runs;
 mod tail;
 

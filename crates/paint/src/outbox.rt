@@ -1,30 +1,23 @@
 //! Gathers a text in a buffer of fixed size, from which it goes out in pieces.
 
-ghost use Rattle.std.specs.Prelude.{◌≡◌, ◌≤◌, ◌+◌, ◌<◌, ◌++◌, ◌^◌, ℕ, IfOk, List, [], false, length, slice_index_or};
-ghost use Rattle.arrayvec.specs.ArrayVec.{array_vec_len};
+ghost use Rattle.std.specs.Prelude.{◌≡◌, ◌≤◌, ◌<◌, ◌++◌, ◌^◌, ℕ, IfOk, List, [], false, length, slice_index_or};
 ghost use Rattle.cell.specs.Shown.{IsShown, shown_blank};
 ghost use Rattle.streams.specs.Sending.{Sends};
 ghost use Rattle.streams.specs.Sinks.{Seen};
+ghost use Rattle.paint.specs.declared.room.TheConstants.{MOST, ROOM};
 ghost use Rattle.paint.specs.steps.Gathering.{Gathers, GoesOut, IsGathered, empty_outbox, gathered_bytes, holds_all, saturating_u32};
 ghost use Rattle.paint.specs.steps.Strokes.{characters};
 
-use arrayvec::ArrayVec;
+use crate::room::{MOST, ROOM, Room};
 use cell::Shown;
 use std::alloc::{AllocError, Global};
 use std::marker::Model;
 use streams::{Sink, WriteFault, send};
 
-/// How many bytes are gathered before they are sent.
-pub const ROOM: usize = 4_000;
-
-/// How many characters are gathered at once.
-const LANES: usize = 16;
-
-/// The next piece of a text, and how many bytes went out before it. Once a write failed nothing more is sent. The piece is in memory that
-/// is allocated once: so an outbox is moved in a few words.
+/// The next piece of a text, and how many bytes went out before it. Once a write failed nothing more is sent.
 #[derive(Drop)]
 pub struct Outbox {
-    room: Box<ArrayVec<u8, ROOM>>,
+    room: Room,
     sent: u32,
     failed: bool,
 }
@@ -34,16 +27,16 @@ impl Model for Outbox {
 
     ghost Value = { Outbox };
 
-    ghost view = { λ outbox. record { room = outbox.room.value.items; sent = outbox.sent; failed = outbox.failed } };
+    ghost view = { λ outbox. record { room = outbox.room; sent = outbox.sent; failed = outbox.failed } };
 }
 
 impl Outbox {
-    /// An outbox in which nothing was gathered, and from which nothing was sent.
-    pub fn new(alloc: Global) -> Result<Outbox, AllocError>
+    /// An outbox in which nothing was gathered, and from which nothing was sent. It has room for so many bytes, within the limits of `Room`.
+    pub fn new(alloc: Global, bytes: usize) -> Result<Outbox, AllocError>
         ensures { IfOk result (λ outbox. outbox ≡ empty_outbox) }
     {
         Ok(Outbox {
-            room: Box::new(alloc, ArrayVec::new())?,
+            room: Room::new(alloc, bytes)?,
             sent: 0,
             failed: false,
         })
@@ -64,7 +57,7 @@ impl Outbox {
         ensures text { (start now : Seen) (text : List ℕ) → self.now.failed ≡ false → IsGathered start now self.now text
             → result ≡ saturating_u32 (length text) }
     {
-        self.sent.saturating_add(self.room.len() as u32)
+        self.sent.saturating_add(self.room.as_slice().len() as u32)
     }
 
     /// Whether nothing of what was gathered went out, so that all of it may still go to any sink.
@@ -80,8 +73,13 @@ impl Outbox {
         ensures gathers { Gathers (W.seen sink.old) (W.seen sink.new) self.old self.new piece.now }
         ensures same { W.name sink.new ≡ W.name sink.old }
     {
-        self.make_room(sink, piece.len());
-        append(&mut self.room, piece);
+        if self.room.append(piece) {
+            return;
+        }
+        self.hand_on(sink);
+        if !self.room.append(piece) {
+            unreachable!();
+        }
     }
 
     /// Puts the characters of cells after what was gathered.
@@ -91,20 +89,12 @@ impl Outbox {
         ensures sound { (k : ℕ) → k < length cells.now → IsShown (slice_index_or cells.now k shown_blank) }
         ensures same { W.name sink.new ≡ W.name sink.old }
     {
-        self.make_room(sink, cells.len());
-        append_characters(&mut self.room, cells);
-    }
-
-    /// Sends what was gathered, unless so many more bytes fit.
-    fn make_room<W: Sink>(&mut self, sink: &mut W, more: usize)
-        requires { more ≤ ROOM }
-        ensures gathers { Gathers (W.seen sink.old) (W.seen sink.new) self.old self.new [] }
-        ensures room { length self.new.room + more ≤ ROOM }
-        ensures kept { length self.old.room + more ≤ ROOM → (self.new ≡ self.old) × (W.seen sink.new ≡ W.seen sink.old) }
-        ensures same { W.name sink.new ≡ W.name sink.old }
-    {
-        if self.room.remaining_capacity() < more {
-            self.hand_on(sink);
+        if self.room.append_characters(cells) {
+            return;
+        }
+        self.hand_on(sink);
+        if !self.room.append_characters(cells) {
+            unreachable!();
         }
     }
 
@@ -136,7 +126,7 @@ impl Outbox {
 /// Sends the next piece of a text, of which so many bytes went out, unless a write failed before. It answers how many bytes went out
 /// then, and whether a write failed.
 fn send_on<W: Sink>(sink: &mut W, piece: &[u8], sent: u32, failed: bool) -> (u32, bool)
-    requires { length piece.now ≤ ROOM }
+    requires { length piece.now ≤ MOST }
     ensures goes_out { (start : Seen) (text : List ℕ) → GoesOut failed start (W.seen sink.old) piece.now sent text
         → GoesOut result.1 start (W.seen sink.new) [] result.0 (text ++ []) }
     ensures same { W.name sink.new ≡ W.name sink.old }
@@ -147,53 +137,5 @@ fn send_on<W: Sink>(sink: &mut W, piece: &[u8], sent: u32, failed: bool) -> (u32
     match send(sink, 0, piece) {
         Ok(more) => (sent.saturating_add(more), false),
         Err(fault) => (sent.saturating_add(fault.sent), true),
-    }
-}
-
-/// Appends a piece.
-fn append(bytes: &mut ArrayVec<u8, ROOM>, piece: &[u8])
-    requires { array_vec_len bytes.old + length piece.now ≤ ROOM }
-    ensures { bytes.new.items ≡ bytes.old.items ++ piece.now }
-{
-    if bytes.try_extend_from_slice(piece).is_err() {
-        unreachable!();
-    }
-}
-
-/// Appends the characters of cells, of many at once.
-fn append_characters(bytes: &mut ArrayVec<u8, ROOM>, cells: &[Shown])
-    requires { array_vec_len bytes.old + length cells.now ≤ ROOM }
-    ensures appended { bytes.new.items ≡ bytes.old.items ++ characters cells.now }
-    ensures sound { (k : ℕ) → k < length cells.now → IsShown (slice_index_or cells.now k shown_blank) }
-{
-    let mut start = 0;
-    while cells.len() - start >= LANES {
-        append(bytes, &characters_of(&cells[start..start + LANES]));
-        start += LANES;
-    }
-    append_few(bytes, &cells[start..]);
-}
-
-/// The characters of so many cells, by a loop with one exit, which the compiler vectorizes.
-fn characters_of(cells: &[Shown]) -> [u8; LANES]
-    requires { length cells.now ≡ LANES }
-    ensures characters { result ≡ characters cells.now }
-    ensures sound { (k : ℕ) → k < length cells.now → IsShown (slice_index_or cells.now k shown_blank) }
-{
-    let mut characters = [0; LANES];
-    for x in 0..LANES {
-        characters[x] = cells[x].ch();
-    }
-    characters
-}
-
-/// Appends the characters of cells, one after another.
-fn append_few(bytes: &mut ArrayVec<u8, ROOM>, cells: &[Shown])
-    requires { array_vec_len bytes.old + length cells.now ≤ ROOM }
-    ensures appended { bytes.new.items ≡ bytes.old.items ++ characters cells.now }
-    ensures sound { (k : ℕ) → k < length cells.now → IsShown (slice_index_or cells.now k shown_blank) }
-{
-    for cell in cells {
-        bytes.push(cell.ch());
     }
 }

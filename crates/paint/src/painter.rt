@@ -24,6 +24,9 @@ use streams::{Sent, Sink, WriteFault};
 /// For how many runs there is room, a line of the screen. A frame of more is drawn in one walk.
 const RUNS_OF_LINE: usize = 16;
 
+/// For how many bytes of a text there is room, a cell of the screen: a text of more is sent in pieces, and may have to be drawn twice.
+const BYTES_OF_CELL: usize = 2;
+
 /// Sends pictures to terminals of one size, and knows which picture and cursor it showed there last.
 #[derive(Drop)]
 pub struct Painter {
@@ -72,7 +75,8 @@ impl Painter {
         }
         let picture = Grid::new(alloc, lines, columns)?;
         let whole = Changes::whole(alloc, lines, columns)?;
-        let pen = Pen::new(alloc, columns)?;
+        let cells = usize::from(lines) * usize::from(columns);
+        let pen = Pen::new(alloc, columns, cells * BYTES_OF_CELL)?;
         let runs = Runs::new(alloc, usize::from(lines) * RUNS_OF_LINE)?;
         Ok(Painter {
             lines,

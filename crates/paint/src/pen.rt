@@ -72,12 +72,12 @@ pub struct Pen {
 }
 
 impl Pen {
-    /// A pen that gathered nothing.
-    pub fn new(alloc: Global, columns: u16) -> Result<Pen, AllocError>
+    /// A pen that gathered nothing, with room for so many bytes.
+    pub fn new(alloc: Global, columns: u16, bytes: usize) -> Result<Pen, AllocError>
         ensures { IfOk result (λ pen. pen ≡ first_pen columns) }
     {
         Ok(Pen {
-            outbox: Outbox::new(alloc)?,
+            outbox: Outbox::new(alloc, bytes)?,
             columns,
             cursor: None,
             rendition: Rendition::NONE,

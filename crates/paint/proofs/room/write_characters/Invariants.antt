@@ -1,12 +1,13 @@
-use Rattle.std.proofs.Common.{◌≡◌, ℕ, ◌-◌, ◌<◌, ◌≤◌, ◌++◌, get_or, length, take}
+use Rattle.std.proofs.Common.{◌≡◌, ℕ, ◌-◌, ◌<◌, ◌≤◌, get_or, length, take}
 use Rattle.cell.specs.Shown.{IsShown, shown_blank}
 use Rattle.paint.specs.steps.Strokes.{characters}
-use Rattle.paint.proofs.outbox.append_characters.Given as goal
+use Rattle.paint.proofs.room.write_characters.Given as goal
 
 abbrev pub invariant-loop-start : goal.invariant-loop-start
 invariant-loop-start l = record {
   within : l.start ≤ length l.cells;
-  appended : l.bytes.items ≡ l.fn.bytes.items ++ characters (take l.start l.cells);
+  long : length l.places ≡ length l.cells;
+  written : take l.start l.places ≡ characters (take l.start l.cells);
   sound : (k : ℕ) → k < l.start → IsShown (get_or l.cells k shown_blank);
 }
 

@@ -1,8 +1,8 @@
 use Rattle.std.proofs.Common.{◌≡◌, ℕ, ◌<◌, get_or, length, take}
 use Rattle.cell.specs.Shown.{IsShown, shown_blank}
 use Rattle.paint.specs.steps.Strokes.{characters}
-use Rattle.paint.specs.declared.outbox.TheConstants.{LANES}
-use Rattle.paint.proofs.outbox.characters_of.Given as goal
+use Rattle.cell.specs.declared.lanes.TheConstants.{LANES}
+use Rattle.paint.proofs.room.characters_of.Given as goal
 
 abbrev pub invariant-loop-x : goal.invariant-loop-x
 invariant-loop-x l = record {
