@@ -1,6 +1,6 @@
 //! An output that notes that nobody reads it, and the log beside it, which is silent then.
 
-ghost use Rattle.std.specs.Prelude.{◌≡◌, ◌×◌, IsErrAnd, true, false};
+ghost use Rattle.std.specs.Prelude.{◌≡◌, IsErrAnd, true};
 ghost use Rattle.std.specs.Io.{WritesAtMost};
 ghost use Rattle.std.specs.Io.KnownBytes.{WriteAppends};
 ghost use Rattle.std.specs.IoError.{error_kind};
