@@ -65,21 +65,26 @@ def breaks_off(program, script):
         want('what show prints of rubbish, a text that broke off, and a whole run', (wanted, b'', 0), tuple(shown))
 
 
+def is_silent_run(script, came):
+    """Of a run whose output nobody reads: it ends with the first doupdate, and nothing is said of that."""
+    wanted = [line for line in script.wanted.log if int(line.split()[1][:-1]) < min(script.wanted.update_lines)]
+    want('a run whose output nobody reads', (b'', ''.join(wanted).encode(), 3), tuple(came))
+
+
 def fails_at_once(program, script):
-    """A full device, or a pipe that nobody reads, takes nothing."""
+    """A full device takes nothing, and no more does a pipe that nobody reads."""
     words = script.words('run')
     whole = program.run(words, script.text).out
     if not whole:
         return
     if script.chance.random() < 0.5:
         with open('/dev/full', 'wb', buffering=0) as full:
-            came = program.run_into(words, script.text, full)
+            is_failed_run(program, script, program.run_into(words, script.text, full), 0)
     else:
         read_end, write_end = os.pipe()
         os.close(read_end)
         with open(write_end, 'wb', buffering=0) as closed:
-            came = program.run_into(words, script.text, closed)
-    is_failed_run(program, script, came, 0)
+            is_silent_run(script, program.run_into(words, script.text, closed))
 
 
 def has_picture_broken_off(program, script):

@@ -6,6 +6,7 @@ use Rattle.script.specs.Log.{last_line}
 use Rattle.script.specs.declared.fault.ScriptFault.TheVariants.{Log}
 use Rattle.commands.specs.Escapes.{escaped_text}
 use Rattle.commands.specs.Statuses.{LacksMemory}
+use Rattle.commands.specs.declared.status.Need.TheVariants.{CommandLine, Help, Usage}
 use Rattle.commands.specs.Written.{IsNotWritten, IsWritten, Outputs, TriesToLog}
 
 -- A text was shown: it went to the output; or writing it failed, and the log gets a line.
@@ -24,7 +25,7 @@ LogsUsage old new status = (text : List ℕ) × (status ≡ 2) × (new.output �
 
 -- What is said of an error of that kind. There may be no memory for its text.
 abbrev pub Explains : ErrorKind → Outputs → Outputs → ℕ → Type 0
-Explains OutOfMemory old new status = LacksMemory old new status
-Explains DisplayHelp old new status = ShowsHelp old new status ⊎ LacksMemory old new status
-Explains DisplayVersion old new status = ShowsHelp old new status ⊎ LacksMemory old new status
-Explains kind old new status = LogsUsage old new status ⊎ LacksMemory old new status
+Explains OutOfMemory old new status = LacksMemory CommandLine old new status
+Explains DisplayHelp old new status = ShowsHelp old new status ⊎ LacksMemory Help old new status
+Explains DisplayVersion old new status = ShowsHelp old new status ⊎ LacksMemory Help old new status
+Explains kind old new status = LogsUsage old new status ⊎ LacksMemory Usage old new status

@@ -6,6 +6,8 @@ use Rattle.script.specs.declared.fault.ScriptEnd.{ScriptEnd}
 use Rattle.script.specs.declared.fault.ScriptFault.{ScriptFault}
 use Rattle.script.specs.declared.fault.ScriptFault.TheVariants.{Text, Reading, Write, Log}
 use Rattle.commands.specs.Written.{Outputs, TriesToLog}
+use Rattle.commands.specs.declared.status.Need.{Need}
+use Rattle.commands.specs.declared.status.Need.TheVariants.{CommandLine, Help, Usage, Streams, Screen}
 
 -- 2 for a fault of the text, 3 where reading or writing failed
 abbrev pub status_of_fault : ScriptFault → ℕ
@@ -20,11 +22,19 @@ status_of end = option_map_or status_of_fault end.fault (if end.refused then 1 e
 
 -- ---- lack of memory
 
-abbrev pub no_memory_line : List ℕ
-no_memory_line = codes "no memory" ++ newline ∷ []
+-- what the memory was for
+abbrev pub need_text : Need → List ℕ
+need_text CommandLine = codes "the command line"
+need_text Help = codes "the help text"
+need_text Usage = codes "the fault of the command line"
+need_text Streams = codes "the streams"
+need_text Screen = codes "the screen"
 
--- The log gets the line, and nothing went to the output.
-pub record LacksMemory (old new : Outputs) (status : ℕ) : Type 0 where
+abbrev pub no_memory_line : Need → List ℕ
+no_memory_line need = codes "no memory for " ++ need_text need ++ newline ∷ []
+
+-- The log gets the line that says what for, and nothing went to the output.
+pub record LacksMemory (need : Need) (old new : Outputs) (status : ℕ) : Type 0 where
   pub status_is : status ≡ 4
   pub output : new.output ≡ old.output
-  pub logs : TriesToLog old.log new.log no_memory_line
+  pub logs : TriesToLog old.log new.log (no_memory_line need)

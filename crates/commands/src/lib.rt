@@ -33,4 +33,4 @@ pub use put::write_log;
 pub use refused_words::usage;
 pub use requests::{Job, Kind, Request};
 pub use show::show_stream;
-pub use status::{BAD_TEXT, log_failure, log_fault, no_memory, status_of};
+pub use status::{BAD_TEXT, Need, log_failure, log_fault, no_memory, status_of};

@@ -7,7 +7,7 @@ ghost use Rattle.commands.specs.Written.{outputs};
 
 use crate::escapes::log_escaped;
 use crate::put::write_out;
-use crate::status::{ACCEPTED, BAD_TEXT, log_failure, no_memory};
+use crate::status::{ACCEPTED, BAD_TEXT, Need, log_failure, no_memory};
 use clap::Error;
 use clap::error::ErrorKind;
 use script::ScriptFault;
@@ -33,7 +33,7 @@ pub fn usage<O: Sink, L: Sink>(alloc: Global, error: &Error, out: &mut O, log: &
     ensures log { result < 2 → log.new ≡ log.old }
 {
     if error.kind() == ErrorKind::OutOfMemory {
-        return no_memory(log);
+        return no_memory(log, Need::CommandLine);
     }
     match error.to_string(alloc) {
         Ok(text) if error.use_stderr() => {
@@ -41,6 +41,7 @@ pub fn usage<O: Sink, L: Sink>(alloc: Global, error: &Error, out: &mut O, log: &
             BAD_TEXT
         }
         Ok(text) => show_text(text.as_bytes(), out, log),
-        Err(_) => no_memory(log),
+        Err(_) if error.use_stderr() => no_memory(log, Need::Usage),
+        Err(_) => no_memory(log, Need::Help),
     }
 }

@@ -4,13 +4,14 @@ ghost use Rattle.std.specs.Prelude.{◌≡◌, ◌<◌, ◌⊎◌};
 ghost use Rattle.commands.specs.CommandLine.{IsSize};
 ghost use Rattle.commands.specs.Shows.{Shows, offset_line, terminal_text};
 ghost use Rattle.commands.specs.Statuses.{LacksMemory};
+ghost use Rattle.commands.specs.declared.status.Need.{Need};
 ghost use Rattle.commands.specs.steps.Feeding.{Feeds, LogsFault};
 ghost use Rattle.commands.specs.Written.{WritingEnds, outputs};
 
 use crate::printing::print;
 use crate::put::write_out;
 use crate::requests::Job;
-use crate::status::{ACCEPTED, FAILED, REFUSED, log_failure, no_memory};
+use crate::status::{ACCEPTED, FAILED, Need, REFUSED, log_failure, no_memory};
 use arrayvec::ArrayVec;
 use ecma::{NotInProfile, Terminal};
 use script::ScriptFault;
@@ -90,14 +91,14 @@ pub fn show_stream<R: Source, O: Sink, L: Sink>(
     log: &mut L,
 ) -> u8
     requires { IsSize job.lines × IsSize job.cols }
-    ensures shown { (LacksMemory (outputs (O.seen out.old) (L.seen log.old)) (outputs (O.seen out.new) (L.seen log.new)) result ×
+    ensures shown { (LacksMemory Need.Screen (outputs (O.seen out.old) (L.seen log.old)) (outputs (O.seen out.new) (L.seen log.new)) result ×
         (R.seen input.new ≡ R.seen input.old))
         ⊎ Shows job (R.seen input.old) (R.seen input.new) (outputs (O.seen out.old) (L.seen log.old)) (outputs (O.seen out.new) (L.seen log.new)) result }
     ensures log { result < 2 → (L.seen log.new).failures ≡ (L.seen log.old).failures }
 {
     let mut terminal = match Terminal::new(alloc, job.lines, job.cols) {
         Ok(terminal) => terminal,
-        Err(_) => return no_memory(log),
+        Err(_) => return no_memory(log, Need::Screen),
     };
     if !read_stream(input, &mut terminal) {
         return log_failure(log, ScriptFault::Reading);

@@ -20,12 +20,40 @@ pub const FAILED: u8 = 3;
 /// There is no memory.
 const NO_MEMORY: u8 = 4;
 
-/// Says on the log that there is no memory, and answers that status.
-pub fn no_memory<L: Sink>(log: &mut L) -> u8
-    ensures status { result ≡ 4 }
-    ensures logs { TriesToLog (L.seen log.old) (L.seen log.new) no_memory_line }
+/// What the program needs memory for.
+#[derive(Clone, Copy)]
+pub enum Need {
+    /// The words of the command line, and what they ask for.
+    CommandLine,
+    /// The help text, or the version.
+    Help,
+    /// The text of a fault of the command line.
+    Usage,
+    /// What waits to be read or written.
+    Streams,
+    /// The screen of a script, or the one that a stream is shown on.
+    Screen,
+}
+
+/// The line that says what there is no memory for.
+fn no_memory_line(need: Need) -> &'static [u8]
+    ensures { result.now ≡ no_memory_line need }
 {
-    write_log(log, b"no memory\n");
+    match need {
+        Need::CommandLine => b"no memory for the command line\n".as_slice(),
+        Need::Help => b"no memory for the help text\n",
+        Need::Usage => b"no memory for the fault of the command line\n",
+        Need::Streams => b"no memory for the streams\n",
+        Need::Screen => b"no memory for the screen\n",
+    }
+}
+
+/// Says on the log what there is no memory for, and answers that status.
+pub fn no_memory<L: Sink>(log: &mut L, need: Need) -> u8
+    ensures status { result ≡ 4 }
+    ensures logs { TriesToLog (L.seen log.old) (L.seen log.new) (no_memory_line need) }
+{
+    write_log(log, no_memory_line(need));
     NO_MEMORY
 }
 

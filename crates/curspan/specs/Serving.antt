@@ -23,6 +23,7 @@ use Rattle.commands.specs.Shows.{Shows}
 use Rattle.commands.specs.Statuses.{LacksMemory, status_of}
 use Rattle.commands.specs.RefusedWords.{Explains}
 use Rattle.commands.specs.Written.{IsNotWritten, IsWritten, Outputs, TriesToLog}
+use Rattle.commands.specs.declared.status.Need.TheVariants.{Screen}
 use Rattle.commands.specs.declared.requests.Job.{Job}
 use Rattle.commands.specs.declared.requests.Kind.{Kind}
 use Rattle.commands.specs.declared.requests.Kind.TheVariants.{Run, Paint, Show}
@@ -102,7 +103,7 @@ module _ {W V : Type 0} (seen : W → Seen) (discarded : V → Seen) where
 
   -- There was no memory for the screen, and nothing was read, or it was done.
   abbrev pub ServesJob : Job → SourceSeen → SourceSeen → Outputs → Outputs → ℕ → Type 0
-  ServesJob job input rest old new status = (LacksMemory old new status × (rest ≡ input)) ⊎ Does job.kind job input rest old new status
+  ServesJob job input rest old new status = (LacksMemory Screen old new status × (rest ≡ input)) ⊎ Does job.kind job input rest old new status
 
   -- The words are refused, and nothing is read; or they ask for a job, and it was done; or for what is wrong with a script, and that is
   -- reported.

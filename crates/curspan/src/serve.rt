@@ -8,6 +8,7 @@ ghost use Rattle.commands.specs.Printing.{printed_picture};
 ghost use Rattle.curspan.specs.steps.Painting.{PaintsScreen};
 ghost use Rattle.curspan.specs.Serving.{Paints, Runs, RunsAndLogs, Serves, nothing_seen};
 ghost use Rattle.commands.specs.Statuses.{LacksMemory};
+ghost use Rattle.commands.specs.declared.status.Need.{Need};
 ghost use Rattle.commands.specs.Written.{WritingEnds, outputs};
 ghost use Rattle.compose.specs.Desks.{world};
 ghost use Rattle.paint.specs.Updates.{first_painter};
@@ -19,8 +20,8 @@ ghost use Rattle.world.specs.declared.call.Refresh.{Refresh};
 
 use cell::Rendition;
 use commands::{
-    Job, Kind, Request, check_script, job, log_failure, log_fault, no_memory, print, show_stream,
-    status_of, usage,
+    Job, Kind, Need, Request, check_script, job, log_failure, log_fault, no_memory, print,
+    show_stream, status_of, usage,
 };
 use desk::{
     Call, Calls, Desk, Refusal, Screen, ScriptEnd, ScriptFault, Sink, Source, VirtualScreen,
@@ -64,7 +65,7 @@ fn run<'a, R: Source, O: Sink, L: Sink>(
     log: &mut L,
 ) -> u8
     requires { IsSize job.lines × IsSize job.cols }
-    ensures ran { (LacksMemory (outputs (O.seen out.old) (L.seen log.old)) (outputs (O.seen out.new) (L.seen log.new)) result ×
+    ensures ran { (LacksMemory Need.Screen (outputs (O.seen out.old) (L.seen log.old)) (outputs (O.seen out.new) (L.seen log.new)) result ×
         (R.seen input.new ≡ R.seen input.old))
         ⊎ Runs ⟦<&'a mut O as Sink>⟧.seen job (R.seen input.old) (R.seen input.new) (outputs (O.seen out.old) (L.seen log.old))
         (outputs (O.seen out.new) (L.seen log.new)) result }
@@ -72,7 +73,7 @@ fn run<'a, R: Source, O: Sink, L: Sink>(
 {
     let mut screen = match blank_screen(alloc, job) {
         Ok(screen) => screen.with_writer(out),
-        Err(_) => return no_memory(log),
+        Err(_) => return no_memory(log, Need::Screen),
     };
     let end = run_and_log(&mut screen, input, log);
     // Taken apart, so that the proof knows the output again: it has what the screen sent.
@@ -128,7 +129,7 @@ fn paint<R: Source, O: Sink, L: Sink>(
     log: &mut L,
 ) -> u8
     requires { IsSize job.lines × IsSize job.cols }
-    ensures painted { (LacksMemory (outputs (O.seen out.old) (L.seen log.old)) (outputs (O.seen out.new) (L.seen log.new)) result ×
+    ensures painted { (LacksMemory Need.Screen (outputs (O.seen out.old) (L.seen log.old)) (outputs (O.seen out.new) (L.seen log.new)) result ×
         (R.seen input.new ≡ R.seen input.old))
         ⊎ Paints ⟦<Discard as Sink>⟧.seen job (R.seen input.old) (R.seen input.new) (outputs (O.seen out.old) (L.seen log.old))
         (outputs (O.seen out.new) (L.seen log.new)) result }
@@ -136,7 +137,7 @@ fn paint<R: Source, O: Sink, L: Sink>(
 {
     let mut screen = match blank_screen(alloc, job) {
         Ok(screen) => screen,
-        Err(_) => return no_memory(log),
+        Err(_) => return no_memory(log, Need::Screen),
     };
     let status = paint_screen(&mut screen, input, out, log);
     // Taken apart, since no clause says what a drop would do.

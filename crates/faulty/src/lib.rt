@@ -1,4 +1,4 @@
-//! Faulty readers and writers for tests: they give or take pieces, fail, and count.
+//! Faulty readers and writers for tests: they give or take pieces, fail, are interrupted or closed, and count.
 #![tactic(auto)]
 
 use std::alloc::Global;
@@ -108,5 +108,63 @@ impl Write for Halting {
             return Err(io::Error::from(ErrorKind::Other));
         }
         Ok(())
+    }
+}
+
+/// A stream of which each third read or write is made, and the others are interrupted. It counts them all.
+#[derive(Drop)]
+pub struct Interrupted<T> {
+    pub stream: T,
+    pub calls: u32,
+}
+
+impl<T> Interrupted<T> {
+    /// Counts a call, and fails where it is interrupted.
+    fn begin_call(&mut self) -> io::Result<()> {
+        self.calls = self.calls.saturating_add(1);
+        if self.calls % 3 == 0 {
+            Ok(())
+        } else {
+            Err(io::Error::from(ErrorKind::Interrupted))
+        }
+    }
+}
+
+impl<R: Read> Read for Interrupted<R> {
+    fn read(&mut self, buf: &mut [u8]) -> io::Result<usize> {
+        self.begin_call()?;
+        self.stream.read(buf)
+    }
+}
+
+impl<W: Write> Write for Interrupted<W> {
+    fn write(&mut self, buf: &[u8]) -> io::Result<usize> {
+        self.begin_call()?;
+        self.stream.write(buf)
+    }
+
+    fn flush(&mut self) -> io::Result<()> {
+        self.stream.flush()
+    }
+}
+
+/// A writer that nobody reads.
+#[derive(Drop)]
+pub struct Unread {
+    /// Whether it takes what is written, so that only its flush fails.
+    pub is_buffered: bool,
+}
+
+impl Write for Unread {
+    fn write(&mut self, buf: &[u8]) -> io::Result<usize> {
+        if self.is_buffered {
+            Ok(buf.len())
+        } else {
+            Err(io::Error::from(ErrorKind::BrokenPipe))
+        }
+    }
+
+    fn flush(&mut self) -> io::Result<()> {
+        Err(io::Error::from(ErrorKind::BrokenPipe))
     }
 }
