@@ -1,6 +1,6 @@
 use Rattle.std.proofs.lemmas.Result.{IfOk-weaker}
 use Rattle.commands.proofs.JobLemmas.{subcommand_added}
-use Rattle.commands.proofs.command.command.Goals as goal
+use Rattle.commands.proofs.subcommands.command.Goals as goal
 
 pub returns : goal.returns
 returns c =
