@@ -1,5 +1,5 @@
 -- Where clap refuses nothing of the words, each row that a subcommand's options for a size leave holds a size of a screen.
-use Rattle.std.proofs.Common.{◌≡◌, ◌⊎◌, ◌++◌, ◌&&◌, ℕ, zero, suc, Bool, true, false, cond, List, [], ◌∷◌, drop, length, Option, Some, None, is_some, refl, sym, ap, subst, inl, inr, arith, ◌∙◌}
+use Rattle.std.proofs.Common.{◌≡◌, ◌⊎◌, ◌++◌, ◌&&◌, ◌+◌, ℕ, zero, suc, Bool, true, false, cond, List, [], ◌∷◌, drop, length, min, Option, Some, None, is_some, refl, sym, ap, subst, inl, inr, arith, ◌∙◌}
 use Rattle.std.specs.Prelude.{IfSome, encode_utf8, find, fold, pos, slice_get}
 use Rattle.std.specs.List.{All}
 use Rattle.std.specs.Option.{option_map_or}
@@ -19,7 +19,7 @@ use Rattle.clap.specs.Walk.{Held, Names, Outcome, Row, Rule, Step, Text, Waiting
 use Rattle.clap.specs.Walk.{attached_value, bundle_met, bundle_step, done, finished, flag_met, has_row, idle, is_pending, long_met, long_or_other, more_values, next}
 use Rattle.clap.specs.Walk.{nothing_held, option, option_met, option_word, plain, plain_word, positional, reacted, reading_by, refused, settled, settled_rows, short_met, short_or_plain}
 use Rattle.clap.specs.Walk.{subcommand, subcommand_met, subcommand_or_other, takes_several, takes_values, to_positional, trailing, used, used_as, used_by_id, value, waits, walk, walk_from}
-use Rattle.clap.specs.Walk.{counted, default_rows, new_count, values_or_missing, walked, walked_from, with_default, with_values, without, word_met}
+use Rattle.clap.specs.Walk.{count_of, counted, default_rows, new_count, values_or_missing, walked, walked_from, with_count, with_default, with_values, without, word_met}
 use Rattle.clap.specs.declared.builder.action.ArgAction.{ArgAction}
 use Rattle.clap.specs.declared.builder.action.ArgAction.TheVariants.{Append, Count, Help, HelpLong, HelpShort, Set, SetFalse, SetTrue, Version}
 use Rattle.clap.specs.declared.builder.value_parser.Reading.{Reading}
@@ -69,11 +69,11 @@ module _ {X : Type 0} (P : X → Type 0) where
 module _ {X : Type 0} (test : X → Bool) where
   pub found_passes : (xs : List X) → IfSome (find test xs) (λ x. test x ≡ true)
   found_passes [] = tt
-  found_passes (x ∷ xs) = go (test x) refl
+  found_passes (x ∷ xs) = go (test x) refl (found_passes xs)
     where
-      go : (b : Bool) → test x ≡ b → IfSome (cond b (Some x) (find test xs)) (λ x. test x ≡ true)
-      go true is = is
-      go false is = found_passes xs
+      go : (b : Bool) → test x ≡ b → IfSome (find test xs) (λ y. test y ≡ true) → IfSome (cond b (Some x) (find test xs)) (λ y. test y ≡ true)
+      go true is rest = is
+      go false is rest = rest
 
 -- ---- the words of one level
 
@@ -143,9 +143,11 @@ module _ (size_id : Text) where
     values_right : (s : ValueSource) (values : List Text) (rows : List Row) → HasSizes rows → HasSizes (with_values id how s values rows)
     values_right s values rows h = all_at_row IsRightRow id (more_values s values) _ (more_right s values) (one_row _ (other_row _ other)) rows h
 
+    count_kept : (n : ℕ) (rows : List Row) → HasSizes rows → HasSizes (with_count id how CommandLine n rows)
+    count_kept n rows h = all_at_row IsRightRow id (new_count CommandLine n) _ (count_right CommandLine n) (one_row _ (other_row _ other)) rows h
+
     counted_right : (values : List Text) (rows : List Row) → HasSizes rows → HasSizes (counted id how values rows)
-    counted_right [] rows h =
-        all_at_row IsRightRow id _ _ (count_right CommandLine _) (one_row _ (other_row _ other)) (without id rows) (without_right id rows h)
+    counted_right [] rows h = count_kept (min (count_of id rows + 1) 255) (without id rows) (without_right id rows h)
     counted_right (v ∷ vs) rows h = values_right CommandLine (v ∷ vs) (without id rows) (without_right id rows h)
 
     used_other : (x : ArgAction) (values : List Text) (rows : List Row) → HasSizes rows → HasSizes (used_as x id how values rows)
@@ -208,7 +210,8 @@ module _ (size_id : Text) where
 
     flag_keeps : (a : Rule) → IsKnownRule a → (v : Option Text) (h : Held) → cond (is_some v) (kind.TooManyValues ∷ []) (react_fault s.rules again a [] h) ≡ []
         → HasSizes h.rows → HasSizes (flag_met s.rules a v h).0.rows
-    flag_keeps a known v h none rows = grind (arith, reacted_keeps)
+    flag_keeps a known (Some x) h none rows = rows
+    flag_keeps a known None h none rows = reacted_keeps a known [] h none rows
 
     long_keeps : (o : Option Rule) → IfSome o IsKnownRule → (v : Option Text) (h : Held) → long_fault s.rules again o v h ≡ [] → HasSizes h.rows
         → HasSizes (long_met s.rules o v h).0.rows

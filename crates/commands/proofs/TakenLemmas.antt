@@ -16,10 +16,12 @@ use Rattle.clap.specs.Lexer.{without_minus}
 use Rattle.clap.specs.Simple.{App, Shape, built, built_leaf, entered, inherited, marked_built, with_leaf_noted}
 use Rattle.clap.specs.ValueTests.{accepts}
 use Rattle.clap.specs.Walk.{Row, Text, finished, nothing_held, one_of, row_text, rows_after, walk, walk_from}
-use Rattle.clap.specs.Words.{subcommand_of}
+use Rattle.clap.specs.Words.{kind_of, subcommand_of}
+use Rattle.clap.specs.declared.error.Error.{Error}
 use Rattle.clap.specs.declared.error.kind.ErrorKind.{ErrorKind}
+use Rattle.clap.specs.declared.error.kind.ErrorKind.TheVariants.{OutOfMemory}
 use Rattle.clap.proofs.ValueTestLemmas.{accepts-Accepts}
-use Rattle.commands.specs.CommandLine.{Asks, AsksFor, AsksJob, GivesSize, HasNoScreen, IsNumber, IsSize, IsTaken, ReadsNumber, Sizes, SizesOf, check_mode, check_text, curspan, kind_text, mode}
+use Rattle.commands.specs.CommandLine.{Asks, AsksFor, AsksJob, GivesSize, HasNoScreen, IsNumber, IsRefused, IsSize, IsTaken, ReadsNumber, Sizes, SizesOf, check_mode, check_text, curspan, kind_text, mode}
 use Rattle.commands.specs.declared.requests.Invocation.{Invocation}
 use Rattle.commands.specs.declared.requests.Job.{Job}
 use Rattle.commands.specs.declared.requests.Kind.{Kind}
@@ -87,10 +89,10 @@ abbrev program : App
 program = built curspan
 
 abbrev leaf : Kind → Shape
-leaf kind = built_leaf (inherited (with_leaf_noted (marked_built curspan.top)) (mode (kind_text kind)).top)
+leaf kind = built_leaf (inherited (with_leaf_noted (marked_built curspan.top)) (mode kind).top)
 
 abbrev check_leaf : Shape
-check_leaf = built_leaf (inherited (with_leaf_noted (marked_built curspan.top)) (new_app check_text).top)
+check_leaf = built_leaf (inherited (with_leaf_noted (marked_built curspan.top)) check_mode.top)
 
 -- the rules of a subcommand, for the option of a name
 abbrev HasKnownRules : Text → Kind → Type 0
@@ -214,10 +216,15 @@ asked sizes words name rows i none is by = record {
 }
 
 -- a size that isn't given
-pub no_screen : (sizes : Sizes) (words : List Text) (name : Text) (rows : List Row) (kind : ErrorKind) → IsTaken words → subcommand_of curspan words ≡ Some (name, rows)
+no_screen : (sizes : Sizes) (words : List Text) (name : Text) (rows : List Row) (kind : ErrorKind) → IsTaken words → subcommand_of curspan words ≡ Some (name, rows)
     → IsRefusedBy sizes name rows kind → HasNoScreen sizes words kind
 no_screen sizes words name rows kind none is by =
     record { taken = none; job = by.0.0; rows = rows; subcommand = is ∙ ap (λ n. Some (n, rows)) by.0.1; lacks = by.1 }
+
+pub refused_asked : (sizes : Sizes) (words : List Text) (name : Text) (rows : List Row) (e : Error) → IsTaken words → subcommand_of curspan words ≡ Some (name, rows)
+    → (kind_of e ≡ OutOfMemory) ⊎ IsRefusedBy sizes name rows (kind_of e) → (kind_of e ≡ OutOfMemory) ⊎ IsRefused sizes words (kind_of e)
+refused_asked sizes words name rows e none is (inl memory) = inl memory
+refused_asked sizes words name rows e none is (inr by) = inr (inr (no_screen sizes words name rows (kind_of e) none is by))
 
 -- such words name a subcommand
 pub some_subcommand : (words : List Text) → IsTaken words → subcommand_of curspan words ≡ None → ⊥

@@ -6,7 +6,7 @@ ghost use Rattle.clap.specs.declared.error.kind.ErrorKind.TheVariants.{OutOfMemo
 ghost use Rattle.commands.specs.declared.requests.Kind.{Kind};
 ghost use Rattle.commands.specs.declared.sizes.NoSize.TheVariants.{Bad, Missing};
 ghost use Rattle.commands.specs.CommandLine.{Asks, IsRefused, LacksSizes, SizesOf, is_quiet_by, kind_text, script_by, sizes_of, text_of};
-ghost use Rattle.commands.specs.steps.Sizing.{AsksBy, IsRefusedBy, error_kind};
+ghost use Rattle.commands.specs.steps.Sizing.{AsksBy, IsRefusedBy, RequestBy, error_kind};
 
 use crate::requests::{Invocation, Job, Kind, Request, Variables};
 use crate::sizes::{NoSize, size_of};
@@ -62,7 +62,9 @@ fn bad_variable(
     ensures { IfOk result (λ e. kind_of e ≡ error_kind Bad) }
 {
     let text = text.unwrap_or("");
-    let message = format!(in alloc; "invalid value '{text}' of the variable {name}: it is no number from 1 to {LARGEST_SCREEN}")?;
+    let message = format!(in alloc;
+        "invalid value '{text}' of the variable {name}: it is no number from 1 to {LARGEST_SCREEN}"
+    )?;
     usage_fault(alloc, kind, ErrorKind::ValueValidation, message.as_str())
 }
 
@@ -117,10 +119,8 @@ fn job_of(
 fn script_of<'a>(found: &ArgMatches<'a>) -> Option<&'a str>
     ensures { text_of result ≡ script_by (rows_of (found_of found.now)) }
 {
-    match found.get_str("file") {
-        Some("-") => None,
-        name => name,
-    }
+    let name = found.get_str("file")?;
+    if name == "-" { None } else { Some(name) }
 }
 
 /// Whether the matches ask for no answers.
@@ -133,7 +133,23 @@ fn is_quiet(found: &ArgMatches<'_>) -> bool
     }
 }
 
-/// What the matches of a subcommand ask for.
+/// What a subcommand of a name asks for, by its matches.
+fn request_of(
+    alloc: Global,
+    name: &str,
+    found: &ArgMatches<'_>,
+    variables: &Variables<'_>,
+) -> Result<Request, Error>
+    ensures request { IfOk result (λ request. RequestBy (sizes_of variables.now) name.now (rows_of (found_of found.now)) request) }
+    ensures faults { IfErr result (λ e. (kind_of e ≡ OutOfMemory) ⊎ IsRefusedBy (sizes_of variables.now) name.now (rows_of (found_of found.now)) (kind_of e)) }
+{
+    match kind_of(name) {
+        Some(kind) => Ok(Request::Job(job_of(alloc, kind, found, variables)?)),
+        None => Ok(Request::Check),
+    }
+}
+
+/// The same, with its files.
 fn invocation<'a>(
     alloc: Global,
     name: &str,
@@ -143,10 +159,7 @@ fn invocation<'a>(
     ensures asked { IfOk result (λ invocation. AsksBy (sizes_of variables.now) name.now (rows_of (found_of found.now)) invocation) }
     ensures faults { IfErr result (λ e. (kind_of e ≡ OutOfMemory) ⊎ IsRefusedBy (sizes_of variables.now) name.now (rows_of (found_of found.now)) (kind_of e)) }
 {
-    let request = match kind_of(name) {
-        Some(kind) => Request::Job(job_of(alloc, kind, found, variables)?),
-        None => Request::Check,
-    };
+    let request = request_of(alloc, name, found, variables)?;
     Ok(Invocation {
         request,
         script: script_of(found),

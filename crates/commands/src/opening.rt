@@ -1,11 +1,12 @@
 //! Files that can't be opened, and what the log says of them.
 
 ghost use Rattle.commands.specs.Opening.{SaysUnopened, reason, unopened_line};
-ghost use Rattle.commands.specs.Written.{WritingEnds, outputs};
-ghost use Rattle.std.specs.Prelude.{◌≡◌, ◌<◌};
+ghost use Rattle.commands.specs.Written.{WritingEnds};
+ghost use Rattle.commands.specs.steps.Putting.{PuttingEnds};
+ghost use Rattle.std.specs.Prelude.{◌≡◌};
 
 use crate::escapes::put_escaped;
-use crate::put::{put, write_out};
+use crate::put::put;
 use crate::status::{FAILED, no_memory};
 use streams::Sink;
 
@@ -37,10 +38,10 @@ fn reason(fault: OpenFault) -> &'static str
     }
 }
 
-/// Writes the line on a file that can't be opened, its name escaped, and flushes, and answers whether all of it went
-/// out.
-fn write_unopened<L: Sink>(log: &mut L, name: &str, fault: OpenFault) -> bool
-    ensures { WritingEnds result (L.seen log.old) (L.seen log.new) (unopened_line name.now fault) }
+/// Writes the line on a file that can't be opened, its name escaped, and answers whether all of it went out. Nothing is
+/// flushed.
+fn put_unopened<L: Sink>(log: &mut L, name: &str, fault: OpenFault) -> bool
+    ensures { PuttingEnds result (L.seen log.old) (L.seen log.new) (unopened_line name.now fault) }
 {
     if !put(log, b"can't open ") {
         return false;
@@ -54,16 +55,28 @@ fn write_unopened<L: Sink>(log: &mut L, name: &str, fault: OpenFault) -> bool
     if !put(log, reason(fault).as_bytes()) {
         return false;
     }
-    write_out(log, b"\n")
+    put(log, b"\n")
+}
+
+/// The same, and flushes.
+fn write_unopened<L: Sink>(log: &mut L, name: &str, fault: OpenFault) -> bool
+    ensures { WritingEnds result (L.seen log.old) (L.seen log.new) (unopened_line name.now fault) }
+{
+    if !put_unopened(log, name, fault) {
+        return false;
+    }
+    log.flush().is_ok()
 }
 
 /// Says on the log that a file can't be opened, and answers the status.
 pub fn log_unopened<L: Sink>(log: &mut L, name: &str, fault: OpenFault) -> u8
     ensures { SaysUnopened name.now fault (L.seen log.old) (L.seen log.new) result }
 {
-    if let OpenFault::NoMemory = fault {
-        return no_memory(log);
+    match fault {
+        OpenFault::NoMemory => no_memory(log),
+        _ => {
+            write_unopened(log, name, fault);
+            FAILED
+        }
     }
-    write_unopened(log, name, fault);
-    FAILED
 }

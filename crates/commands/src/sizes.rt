@@ -1,6 +1,6 @@
 //! The size of a screen: by an option, or else by a variable of the environment.
 
-ghost use Rattle.std.specs.Prelude.{◌≡◌, IfOk, MatchOption, MatchResult};
+ghost use Rattle.std.specs.Prelude.{ℕ, MatchOption, MatchResult};
 ghost use Rattle.clap.specs.Words.{found_of, kind_of, rows_of};
 ghost use Rattle.commands.specs.CommandLine.{GivesSize, ReadsNone, ReadsNumber, SaysSize, text_of};
 ghost use Rattle.commands.specs.steps.Sizing.{HasNoSize};
@@ -36,13 +36,9 @@ fn size_in(text: &str) -> Option<u16>
 }
 
 /// The number of an option of the matches, or else that of a variable.
-pub fn size_of(
-    found: &ArgMatches<'_>,
-    option: &str,
-    variable: Option<&str>,
-) -> Result<u16, NoSize>
-    ensures { MatchResult result (λ n. GivesSize (text_of variable) option.now (rows_of (found_of found.now)) n)
-        (λ fault. HasNoSize (text_of variable) option.now (rows_of (found_of found.now)) fault) }
+pub fn size_of(found: &ArgMatches<'_>, option: &str, variable: Option<&str>) -> Result<u16, NoSize>
+    ensures { MatchResult result (λ n. GivesSize (text_of variable.entry) option.now (rows_of (found_of found.now)) n)
+        (λ fault. HasNoSize (text_of variable.entry) option.now (rows_of (found_of found.now)) fault) }
 {
     if let Some(n) = number(found, option) {
         return Ok(n);

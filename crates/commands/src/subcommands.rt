@@ -77,8 +77,8 @@ fn quiet<'a>(alloc: Global) -> Arg<'a>
 
 /// A subcommand with the size of a screen.
 fn with_size<'a>(alloc: Global, command: Command<'a>) -> Result<Command<'a>, AllocError>
-    ensures app { IfOk result (λ c. app_of c ≡ with_size (app_of command)) }
-    ensures local { IfOk result (λ c. (out-Command c).has_globals ≡ (out-Command command).has_globals) }
+    ensures app { IfOk result (λ c. app_of c ≡ with_size (app_of command.entry)) }
+    ensures local { IfOk result (λ c. (out-Command c).has_globals ≡ (out-Command command.entry).has_globals) }
 {
     command
         .arg(size(alloc, "lines", LINES_HELP))?
@@ -87,8 +87,8 @@ fn with_size<'a>(alloc: Global, command: Command<'a>) -> Result<Command<'a>, All
 
 /// A subcommand with the names of files.
 fn with_files<'a>(alloc: Global, command: Command<'a>) -> Result<Command<'a>, AllocError>
-    ensures app { IfOk result (λ c. app_of c ≡ with_files (app_of command)) }
-    ensures local { IfOk result (λ c. (out-Command c).has_globals ≡ (out-Command command).has_globals) }
+    ensures app { IfOk result (λ c. app_of c ≡ with_files (app_of command.entry)) }
+    ensures local { IfOk result (λ c. (out-Command c).has_globals ≡ (out-Command command.entry).has_globals) }
 {
     command.arg(log(alloc))?.arg(file(alloc))
 }
@@ -107,11 +107,7 @@ pub fn subcommand<'a>(alloc: Global, kind: Kind) -> Result<Command<'a>, AllocErr
     ensures local { IfOk result (λ c. (out-Command c).has_globals ≡ false) }
 {
     match kind {
-        Kind::Run => running(
-            alloc,
-            "run",
-            "Run a script, and send the terminal bytes",
-        ),
+        Kind::Run => running(alloc, "run", "Run a script, and send the terminal bytes"),
         Kind::Paint => running(
             alloc,
             "paint",
@@ -135,11 +131,7 @@ fn showing<'a>(alloc: Global) -> Result<Command<'a>, AllocError>
     ensures mode { IfOk result (λ c. app_of c ≡ mode Show) }
     ensures local { IfOk result (λ c. (out-Command c).has_globals ≡ false) }
 {
-    let show = plain(
-        alloc,
-        "show",
-        "Print the picture that terminal bytes leave",
-    );
+    let show = plain(alloc, "show", "Print the picture that terminal bytes leave");
     with_files(alloc, with_size(alloc, show)?)
 }
 

@@ -86,11 +86,7 @@ fn reader_of<S: Read + Drop>(
 ) -> io::Result<CountedReader<BufReader<Place<S>>>>
     ensures { IfOk result (λ reader. (⟦<CountedReader<BufReader<Place<S>>> as Source>⟧.seen reader).met_end ≡ false) }
 {
-    Ok(CountedReader::new(BufReader::with_capacity(
-        rt.alloc(),
-        READ_AT_ONCE,
-        place,
-    )?))
+    Ok(CountedReader::new(BufReader::with_capacity(rt.alloc(), READ_AT_ONCE, place)?))
 }
 
 impl<S: Read + Drop> Source for Script<'_, S> {

@@ -231,8 +231,8 @@ fn open_script<R: FileSource, L: Sink>(
     log: &mut L,
 ) -> Result<(), u8>
     ensures { MatchResult result
-        (λ _. (log.new ≡ log.old) × IsOpened (R.opens input.old) (text_of name) (R.seen input.old) (R.seen input.new))
-        (λ status. (R.seen input.new ≡ R.seen input.old) × IsUnopened (text_of name) (L.seen log.old) (L.seen log.new) status) }
+        (λ _. (log.new ≡ log.old) × IsOpened (R.opens input.old) (text_of name.entry) (R.seen input.old) (R.seen input.new))
+        (λ status. (R.seen input.new ≡ R.seen input.old) × IsUnopened (text_of name.entry) (L.seen log.old) (L.seen log.new) status) }
 {
     let Some(name) = name else {
         return Ok(());
@@ -247,8 +247,8 @@ fn open_script<R: FileSource, L: Sink>(
 /// answered.
 fn open_log<L: FileSink>(name: Option<&str>, log: &mut L) -> Result<(), u8>
     ensures { MatchResult result
-        (λ _. IsCreated (L.creates log.old) (text_of name) (L.seen log.old) (L.seen log.new))
-        (λ status. IsUnopened (text_of name) (L.seen log.old) (L.seen log.new) status) }
+        (λ _. IsCreated (L.creates log.old) (text_of name.entry) (L.seen log.old) (L.seen log.new))
+        (λ status. IsUnopened (text_of name.entry) (L.seen log.old) (L.seen log.new) status) }
 {
     let Some(name) = name else {
         return Ok(());
