@@ -1,5 +1,5 @@
 -- Where clap refuses nothing of the words, they name a subcommand, and each number that they give is a size.
-use Rattle.std.proofs.Common.{◌≡◌, ◌≤◌, ◌⊎◌, ◌∷◌, ◌||◌, ◌==◌, ℕ, ℤ, Bool, true, false, cond, not, List, [], Option, Some, None, refl, sym, ap, subst, arith, codes, drop, is_some, unwrap_or, ◌∙◌}
+use Rattle.std.proofs.Common.{◌≡◌, ◌≤◌, ◌⊎◌, ◌∷◌, ◌==◌, ℕ, ℤ, Bool, true, false, cond, List, [], Option, Some, None, refl, sym, ap, subst, arith, codes, drop, is_some, unwrap_or, ◌∙◌}
 use Rattle.std.proofs.Common.{inl, inr}
 use Rattle.std.proofs.lemmas.Bool.{both_ways, eq-eqb}
 use Rattle.std.specs.Prelude.{◌≤ℤ◌, IfSome, find, neg_ℤ, option_and_then, pos}
@@ -231,5 +231,5 @@ pub some_subcommand : (words : List Text) → IsTaken words → subcommand_of cu
 some_subcommand words none is = go (taken words none)
   where
     go : NamesOne words → ⊥
-    go (inl t) = let never : None ≡ Some (kind_text t.kind, t.rows) = sym is ∙ t.subcommand in cc
-    go (inr check) = let never : None ≡ Some (check_text, check.0) = sym is ∙ check.1 in cc
+    go (inl t) = let never : false ≡ true = ap is_some (sym is ∙ t.subcommand) in cc
+    go (inr check) = let never : false ≡ true = ap is_some (sym is ∙ check.1) in cc

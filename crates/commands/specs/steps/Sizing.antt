@@ -3,9 +3,8 @@ use Rattle.std.specs.Prelude.{◌≡◌, List, Option}
 use Rattle.clap.specs.Words.{Row, Text}
 use Rattle.clap.specs.declared.error.kind.ErrorKind.{ErrorKind}
 use Rattle.clap.specs.declared.error.kind.ErrorKind.TheVariants as errors
-use Rattle.commands.specs.CommandLine.{AsksFor, LacksSize, LacksSizes, Sizes, SizesOf, is_quiet_by, kind_text, log_by, script_by, text_of}
+use Rattle.commands.specs.CommandLine.{LacksSize, LacksSizes, Sizes, SizesOf, is_quiet_by, kind_text, log_by, script_by, text_of}
 use Rattle.commands.specs.declared.requests.Invocation.{Invocation}
-use Rattle.commands.specs.declared.requests.Job.{Job}
 use Rattle.commands.specs.declared.requests.Kind.{Kind}
 use Rattle.commands.specs.declared.requests.Request.{Request}
 use Rattle.commands.specs.declared.requests.Request.TheVariants as requests
