@@ -54,7 +54,8 @@ pub record RunsAndLogs {W : Type 0} (seen : W → Seen) (first last : ScreenOver
   pub writes : (seen last.writer).failures ≡ count_after (is_some (write_fault end.fault)) (seen first.writer).failures
   pub logs : MatchOption end.fault (log_after ≡ logged) (λ fault. TriesToLog logged log_after (last_line fault))
 
--- The same, but what the calls answer was thrown away: the log gets a line about the fault, if there is one, and nothing else.
+-- The same, but what the calls answer was thrown away: the log gets a line about the fault, if there is one, and nothing
+-- else.
 pub record RunsQuietly {W : Type 0} (seen : W → Seen) (first last : ScreenOver W) (input rest : SourceSeen) (log log_after : Seen)
     (end : ScriptEnd) : Type 0 where
   pub discarded : Seen
@@ -151,16 +152,16 @@ IsCreated creates None log created = created ≡ log
 IsCreated creates (Some name) log created = creates name created
 
 module _ {W V : Type 0} (seen : W → Seen) (discarded : V → Seen) (opens : Text → SourceSeen → Type 0) where
-  -- The script that is named can't be opened, and nothing was read or sent; or it was opened, or none is named, and what is asked for was done
-  -- with what is read.
+  -- The script that is named can't be opened, and nothing was read or sent; or it was opened, or none is named, and what
+  -- is asked for was done with what is read.
   abbrev pub ServesScript : Invocation → SourceSeen → SourceSeen → Outputs → Outputs → ℕ → Type 0
   ServesScript invocation input rest old new status =
       (IsUnopened (text_of invocation.script) old.log new.log status × (new.output ≡ old.output) × (rest ≡ input))
       ⊎ ((opened : SourceSeen) × IsOpened opens (text_of invocation.script) input opened
       × Does seen discarded invocation.is_quiet invocation.request opened rest old new status × KeepsLog old.log new.log status)
 
-  -- The log that is named can't be made, and nothing was read or sent; or it was made, or none is named, and what is asked for was done with the
-  -- script and this log.
+  -- The log that is named can't be made, and nothing was read or sent; or it was made, or none is named, and what is asked
+  -- for was done with the script and this log.
   abbrev pub ServesInvocation : (Text → Seen → Type 0) → Invocation → SourceSeen → SourceSeen → Outputs → Outputs → ℕ → Type 0
   ServesInvocation creates invocation input rest old new status =
       (IsUnopened (text_of invocation.log) old.log new.log status × (new.output ≡ old.output) × (rest ≡ input))
