@@ -1,6 +1,6 @@
 //! The script and the log of the program: standard streams, or files of the system.
 
-ghost use Rattle.std.specs.Prelude.{◌≡◌, IfOk, Unit, false};
+ghost use Rattle.std.specs.Prelude.{◌≡◌, IfOk, false};
 
 use crate::opening::{FileSink, FileSource};
 use commands::OpenFault;

@@ -269,20 +269,20 @@ fn perform_on_script<'a, R: FileSource, O: Sink, L: Sink>(
     log: &mut L,
 ) -> u8
     requires { HasSize invocation.now.request }
-    ensures done { ServesScript ⟦<&'a mut O as Sink>⟧.seen ⟦<Discard as Sink>⟧.seen (R.opens input.old) invocation.now (R.seen input.old) (R.seen input.new)
+    ensures { ServesScript ⟦<&'a mut O as Sink>⟧.seen ⟦<Discard as Sink>⟧.seen (R.opens input.old) invocation.now (R.seen input.old) (R.seen input.new)
         (outputs (O.seen out.old) (L.seen log.old)) (outputs (O.seen out.new) (L.seen log.new)) result }
 {
-    if let Err(status) = open_script(invocation.script, input, log) {
-        return status;
+    match open_script(invocation.script, input, log) {
+        Ok(()) => perform(
+            alloc,
+            invocation.is_quiet,
+            invocation.request,
+            input,
+            out,
+            log,
+        ),
+        Err(status) => status,
     }
-    perform(
-        alloc,
-        invocation.is_quiet,
-        invocation.request,
-        input,
-        out,
-        log,
-    )
 }
 
 /// Opens the log that is named, reads the script, does with it what is asked for, and answers the status.
@@ -294,14 +294,14 @@ fn perform_invocation<'a, R: FileSource, O: Sink, L: FileSink>(
     log: &mut L,
 ) -> u8
     requires { HasSize invocation.now.request }
-    ensures done { ServesInvocation ⟦<&'a mut O as Sink>⟧.seen ⟦<Discard as Sink>⟧.seen (R.opens input.old) (L.creates log.old) invocation.now
+    ensures { ServesInvocation ⟦<&'a mut O as Sink>⟧.seen ⟦<Discard as Sink>⟧.seen (R.opens input.old) (L.creates log.old) invocation.now
         (R.seen input.old) (R.seen input.new)
         (outputs (O.seen out.old) (L.seen log.old)) (outputs (O.seen out.new) (L.seen log.new)) result }
 {
-    if let Err(status) = open_log(invocation.log, log) {
-        return status;
+    match open_log(invocation.log, log) {
+        Ok(()) => perform_on_script(alloc, invocation, input, out, log),
+        Err(status) => status,
     }
-    perform_on_script(alloc, invocation, input, out, log)
 }
 
 /// Does what the words ask for, and answers the status. Where they are refused, nothing is read, and help is on the
