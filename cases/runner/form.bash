@@ -18,6 +18,7 @@ may_have() {
         size) [[ $2 =~ ^[0-9]+\ [0-9]+$ ]] ;;
         status) [[ $2 =~ ^[0-9]+$ ]] ;;
         words) true ;;
+        variables) [ -n "$2" ] ;;
         input | output) [ -n "$2" ] ;;
         script | stream | picture | shown | bytes) [[ $2 == '' || $2 == 'by bash' ]] ;;
         cells) [ -z "$2" ] ;;
@@ -43,7 +44,7 @@ begin_section() {
 add_line() {
     case $key in
         '') preface+=$1$'\n' ;;
-        *' size' | *' status' | *' words' | *' input' | *' output') find_fault 'a line where none can be' ;;
+        *' size' | *' status' | *' words' | *' variables' | *' input' | *' output') find_fault 'a line where none can be' ;;
         *) body[$key]+=${1%\$}$'\n' ;;
     esac
 }

@@ -16,14 +16,15 @@ open_closed_pipe() {
 
 # Runs the program on a file with words, and leaves what came in `out` and `log`, and its status.
 run_program() {
-    local from=$1 closed
+    local from=$1 closed command=("$program")
     shift
+    if [ "${#variables[@]}" != 0 ]; then command=(env "${variables[@]}" "$program"); fi
     : > "$work/out"
     case ${head['1 output']-} in
-        '') "$program" "$@" < "$from" > "$work/out" 2> "$work/log" ;;
+        '') "${command[@]}" "$@" < "$from" > "$work/out" 2> "$work/log" ;;
         'closed pipe') open_closed_pipe
-            "$program" "$@" < "$from" >&"$closed" 2> "$work/log" {closed}>&- ;;
-        *) "$program" "$@" < "$from" > "${head['1 output']}" 2> "$work/log" ;;
+            "${command[@]}" "$@" < "$from" >&"$closed" 2> "$work/log" {closed}>&- ;;
+        *) "${command[@]}" "$@" < "$from" > "${head['1 output']}" 2> "$work/log" ;;
     esac
     status=$?
     [ -z "${closed-}" ] || exec {closed}>&-
@@ -100,15 +101,16 @@ judge() {
     differences=()
 }
 
-# Leaves in `words` the words of a case.
+# Leaves in `words` the words of a case, and in `variables` those of the environment.
 find_words() {
     local size=${head['1 size']-4 10} kind=run
     [ -z "${head['1 stream']+set}" ] || kind=show
     words=("$kind" --lines "${size% *}" --cols "${size#* }")
     used=(['1 size']=1 ['1 input']=1 ['1 output']=1)
+    eval "variables=(${head['1 variables']-})"
     [ -n "${head['1 words']+set}" ] || return 0
     eval "words=(${head['1 words']})"
-    used=(['1 words']=1 ['1 input']=1 ['1 output']=1)
+    used=(['1 words']=1 ['1 variables']=1 ['1 input']=1 ['1 output']=1)
 }
 
 # Runs the case's words, and compares its output with what is wanted of it.
@@ -235,7 +237,7 @@ find_unused() {
 
 # Runs a case that was read.
 try_case() {
-    local words input=${head['1 input']-$work/input} step is_well=true is_whole=true differences=() out log status text
+    local words variables=() input=${head['1 input']-$work/input} step is_well=true is_whole=true differences=() out log status text
     find_words
     if [ "${words[0]-}" = run ] && [ -z "${head['1 out']+set}" ]; then try_script; else try_others; fi
     ! $is_whole || find_unused

@@ -1,9 +1,9 @@
 -- What the definition of the command line says of some words, for its reader.
-use Rattle.std.proofs.Common.{◌≡◌, ◌∷◌, [], List, Option, Some, option_map, refl, codes}
+use Rattle.std.proofs.Common.{◌≡◌, ◌∷◌, [], Bool, true, false, List, Option, None, Some, option_map, refl, codes}
 use Rattle.clap.specs.Words.{Kinds, Row, Text, fault_of, one_of, subcommand_of}
 use Rattle.clap.specs.declared.error.kind.ErrorKind.TheVariants as kind
 use Rattle.clap.proofs.OnLiterals.{clap_on_literals}
-use Rattle.commands.specs.CommandLine.{curspan}
+use Rattle.commands.specs.CommandLine.{curspan, is_quiet_by, log_by, script_by}
 
 -- the words after the program's name
 abbrev faults : List Text → Kinds
@@ -35,9 +35,29 @@ no_words : faults [] ≡ kind.MissingSubcommand ∷ []
 unfolding clap_on_literals
 no_words = refl
 
-no_size : faults (codes "run" ∷ codes "--lines" ∷ codes "4" ∷ []) ≡ kind.MissingRequiredArgument ∷ []
+no_size : options_in (codes "run" ∷ codes "--lines" ∷ codes "4" ∷ []) ≡ Some (codes "run", Some (codes "4"), None)
 unfolding clap_on_literals
 no_size = refl
+
+-- the name of the script and of the log, and whether it is to be quiet
+abbrev files_in : List Text → Option (Option Text × Option Text × Bool)
+files_in words = option_map (λ (p : Text × List Row). (script_by p.1, log_by p.1, is_quiet_by p.1)) (subcommand_of curspan (codes "curspan" ∷ words))
+
+no_file : files_in four_by_ten ≡ Some (None, None, false)
+unfolding clap_on_literals four_by_ten
+no_file = refl
+
+a_script_after_a_log : files_in (codes "paint" ∷ codes "--log" ∷ codes "errors" ∷ codes "--quiet" ∷ codes "menu" ∷ []) ≡ Some (Some (codes "menu"), Some (codes "errors"), true)
+unfolding clap_on_literals
+a_script_after_a_log = refl
+
+standard_input : files_in (codes "check" ∷ codes "-" ∷ []) ≡ Some (None, None, false)
+unfolding clap_on_literals
+standard_input = refl
+
+a_name_that_begins_with_a_minus : files_in (codes "show" ∷ codes "--" ∷ codes "-x" ∷ []) ≡ Some (Some (codes "-x"), None, false)
+unfolding clap_on_literals
+a_name_that_begins_with_a_minus = refl
 
 size_of_0 : faults (codes "run" ∷ codes "--lines" ∷ codes "0" ∷ codes "--cols" ∷ codes "10" ∷ []) ≡ kind.ValueValidation ∷ []
 unfolding clap_on_literals
@@ -55,9 +75,9 @@ size_twice : faults (codes "run" ∷ codes "--lines" ∷ codes "4" ∷ codes "--
 unfolding clap_on_literals
 size_twice = refl
 
-one_word_more : faults (codes "run" ∷ codes "--lines" ∷ codes "4" ∷ codes "--cols" ∷ codes "10" ∷ codes "x" ∷ []) ≡ kind.UnknownArgument ∷ []
+two_scripts : faults (codes "run" ∷ codes "--lines" ∷ codes "4" ∷ codes "--cols" ∷ codes "10" ∷ codes "x" ∷ codes "y" ∷ []) ≡ kind.UnknownArgument ∷ []
 unfolding clap_on_literals
-one_word_more = refl
+two_scripts = refl
 
 another_subcommand : faults (codes "fly" ∷ []) ≡ kind.UnknownArgument ∷ kind.InvalidSubcommand ∷ []
 unfolding clap_on_literals

@@ -1,18 +1,21 @@
 -- What clap says of this program's command line, and of the number of an option.
-use Rattle.std.proofs.Common.{◌≡◌, ℕ, List, [], Option, None, Some, Ok, Result, true, false, refl, sym, ap, subst, ◌∙◌, arith}
-use Rattle.std.specs.Prelude.{MatchOption}
+use Rattle.std.proofs.Common.{◌≡◌, ◌⊎◌, ◌||◌, ℕ, Bool, List, [], Option, None, Some, Ok, Err, Result, true, false, refl, sym, ap, subst, inl, inr, option_map, ◌∙◌, arith}
+use Rattle.std.specs.Borrow.{Bor}
+use Rattle.std.specs.Prelude.{IfErr, MatchOption}
 use Rattle.std.specs.Str.Parse.{ParsesUnsigned}
-use Rattle.clap.specs.Words.{AddsSubcommand, App, HasKind, HasMatchesOf, Row, Text, app_of, fault_of, is_simple, is_simple_and_free, one_of, one_text, rows_of, subcommand_of, subcommand_rows_of}
+use Rattle.clap.specs.Words.{AddsSubcommand, App, FailsBy, HasKind, HasMatchesOf, Row, Text, app_of, fault_of, first_of, first_value, has_subcommand, is_simple, is_simple_and_free, kind_of, one_of, one_text, rows_of}
+use Rattle.clap.specs.Words.{subcommand_of, subcommand_rows_of}
 use Rattle.clap.specs.Words.{with_subcommand}
-use Rattle.clap.specs.Matches.{ReadsOne}
+use Rattle.clap.specs.Matches.{ReadsOne, subcommand_name_of}
 use Rattle.clap.specs.declared.builder.command.Command.{Command}
 use Rattle.clap.specs.declared.builder.command.Command.TheViews.{out-Command}
 use Rattle.clap.specs.declared.error.Error.{Error}
+use Rattle.clap.specs.declared.error.kind.ErrorKind.TheVariants.{OutOfMemory}
 use Rattle.clap.specs.declared.parser.matches.ArgMatches.{ArgMatches}
 use Rattle.clap.specs.declared.parser.matches.Found.{Found}
 use Rattle.clap.proofs.OnLiterals.{clap_on_literals}
-use Rattle.clap.proofs.WalkLemmas.{one_text-rows}
-use Rattle.commands.specs.CommandLine.{ReadsNone, ReadsNumber, curspan}
+use Rattle.clap.proofs.WalkLemmas.{first_value-rows, one_text-rows}
+use Rattle.commands.specs.CommandLine.{IsRefused, ReadsNone, ReadsNumber, Sizes, curspan, text_of}
 
 curspan_is_simple : is_simple curspan ≡ true
 unfolding clap_on_literals
@@ -38,6 +41,29 @@ no_fault_of_curspan a words is none = subst (λ b. fault_of b words ≡ []) is (
 -- the subcommand of its matches
 pub subcommand_of_curspan : (a : App) (words : List Text) (m : ArgMatches) → a ≡ curspan → HasMatchesOf a words m → subcommand_rows_of m ≡ subcommand_of curspan words
 subcommand_of_curspan a words m is has = grind (arith, curspan_is_simple)
+
+-- what is said of words that clap refuses
+pub refused_by : {T : Type 0} (sizes : Sizes) (words : List Text) (r : Result T Error) → FailsBy (fault_of curspan words) r
+    → IfErr r (λ e. (kind_of e ≡ OutOfMemory) ⊎ IsRefused sizes words (kind_of e))
+refused_by sizes words (Ok x) h = tt
+refused_by sizes words (Err e) (inl memory) = inl memory
+refused_by sizes words (Err e) (inr among) = inr (inl among)
+
+-- a subcommand, by its name and its rows
+pub named_by : (m : ArgMatches) (name : Text) (rows : List Row) → Some name ≡ subcommand_name_of m → Some rows ≡ option_map (λ p. p.1) (subcommand_rows_of m)
+    → subcommand_rows_of m ≡ Some (name, rows)
+named_by m name rows named its = grind arith
+
+pub unnamed : (m : ArgMatches) → false ≡ has_subcommand m → subcommand_rows_of m ≡ None
+unnamed m none = grind arith
+
+-- the first text of an argument
+pub text_read : (f : Found) (id : Text) (o : Option (Bor Text)) → text_of o ≡ first_value f id → text_of o ≡ first_of id (rows_of f)
+text_read f id o e = e ∙ first_value-rows f id
+
+-- no argument is global after one that isn't
+pub still_local : (old new global : Bool) → new ≡ (old || global) → global ≡ false → new ≡ old
+still_local old new global is local = grind arith
 
 module _ {E : Type 0} (gives : List ℕ → Result ℕ E → Type 0) (reads : (t : List ℕ) (r : Result ℕ E) → gives t r → ParsesUnsigned {E = E} 16 10 t r) where
   -- what was read of an option

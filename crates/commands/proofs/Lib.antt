@@ -2,13 +2,13 @@
 pub mod Examples
 -- What clap says of this program's command line, and of the number of an option; for `command`, `job`, `number`
 pub mod JobLemmas
--- Where clap refuses nothing of the words, each row that a subcommand's options leave holds a size of a screen; for `KindIsNamed`, `TakenLemmas`
+-- Where clap refuses nothing of the words, each row that a subcommand's options for a size leave holds a size of a screen; for `KindIsNamed`, `TakenLemmas`
 pub mod KeptRows
 -- A text is written piece by piece; for `print`, `put`, `put_lines` and others
 pub mod PutLemmas
 -- Where clap refuses nothing of the words, the subcommand at which its walk stops is one of the program's; for `TakenLemmas`
 pub mod KindIsNamed
--- Where clap refuses nothing of the words, they name a subcommand and give both numbers; for `job`
+-- Where clap refuses nothing of the words, they name a subcommand, and each number that they give is a size; for `job`
 pub mod TakenLemmas
 -- The text of a picture around one of its lines; for `put_lines`
 pub mod PictureTexts

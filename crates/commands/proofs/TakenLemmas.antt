@@ -1,5 +1,5 @@
--- Where clap refuses nothing of the words, they name a subcommand and give both numbers.
-use Rattle.std.proofs.Common.{◌≡◌, ◌≤◌, ◌⊎◌, ◌∷◌, ◌||◌, ◌==◌, ℕ, ℤ, Bool, true, false, cond, not, List, [], Option, Some, None, refl, sym, ap, subst, arith, codes, drop, is_some, unwrap_or, ◌∙◌}
+-- Where clap refuses nothing of the words, they name a subcommand, and each number that they give is a size.
+use Rattle.std.proofs.Common.{◌≡◌, ◌≤◌, ◌⊎◌, ◌∷◌, ◌==◌, ℕ, ℤ, Bool, true, false, cond, List, [], Option, Some, None, refl, sym, ap, subst, arith, codes, drop, is_some, unwrap_or, ◌∙◌}
 use Rattle.std.proofs.Common.{inl, inr}
 use Rattle.std.proofs.lemmas.Bool.{both_ways, eq-eqb}
 use Rattle.std.specs.Prelude.{◌≤ℤ◌, IfSome, find, neg_ℤ, option_and_then, pos}
@@ -11,21 +11,25 @@ use Rattle.std.proofs.lemmas.Int.{ints}
 use Rattle.std.proofs.lemmas.List.Elements.{All-from_recursion}
 use Rattle.std.proofs.lemmas.Bool.Decides.{nat_tests}
 use Rattle.cell.specs.declared.limits.TheConstants.{LARGEST_SCREEN}
-use Rattle.clap.specs.Facts.{explicit_source}
 use Rattle.clap.specs.Faults.{check_fault, entered_fault, level_fault}
 use Rattle.clap.specs.Lexer.{without_minus}
-use Rattle.clap.specs.Simple.{App, Shape, built, built_leaf, new_app, entered, inherited, marked_built, with_leaf_noted}
-use Rattle.clap.specs.Takes.{is_given}
+use Rattle.clap.specs.Simple.{App, Shape, built, built_leaf, entered, inherited, marked_built, with_leaf_noted}
 use Rattle.clap.specs.ValueTests.{accepts}
 use Rattle.clap.specs.Walk.{Row, Text, finished, nothing_held, one_of, row_text, rows_after, walk, walk_from}
-use Rattle.clap.specs.Words.{subcommand_of}
-use Rattle.clap.specs.declared.error.kind.ErrorKind.TheVariants as kind
+use Rattle.clap.specs.Words.{kind_of, subcommand_of}
+use Rattle.clap.specs.declared.error.Error.{Error}
+use Rattle.clap.specs.declared.error.kind.ErrorKind.{ErrorKind}
+use Rattle.clap.specs.declared.error.kind.ErrorKind.TheVariants.{OutOfMemory}
 use Rattle.clap.proofs.ValueTestLemmas.{accepts-Accepts}
-use Rattle.commands.specs.CommandLine.{Asks, AsksCheckIn, AsksIn, IsNumber, IsSize, IsTaken, ReadsNumber, check_text, curspan, kind_text, mode}
+use Rattle.commands.specs.CommandLine.{Asks, AsksFor, AsksJob, GivesSize, HasNoScreen, IsNumber, IsRefused, IsSize, IsTaken, ReadsNumber, Sizes, SizesOf, check_mode, check_text, curspan, kind_text, mode}
+use Rattle.commands.specs.declared.requests.Invocation.{Invocation}
 use Rattle.commands.specs.declared.requests.Job.{Job}
 use Rattle.commands.specs.declared.requests.Kind.{Kind}
 use Rattle.commands.specs.declared.requests.Kind.TheVariants.{Run, Paint, Show}
-use Rattle.commands.proofs.KeptRows.{HasSizes, IsKnownRule, IsSizeRow, found, level_keeps, level_passes, size_parser}
+use Rattle.commands.specs.declared.requests.Request.{Request}
+use Rattle.commands.specs.declared.requests.Request.TheVariants as requests
+use Rattle.commands.specs.steps.Sizing.{AsksBy, IsRefusedBy, RequestBy}
+use Rattle.commands.proofs.KeptRows.{HasSizes, IsKnownRule, IsRightRow, found, found_passes, level_keeps, level_passes, size_parser}
 use Rattle.commands.proofs.KindIsNamed.{StopsAtKind, program_names, walk_stops}
 
 -- ---- a number
@@ -63,15 +67,21 @@ pub record KeepsSize (option : Text) (rows : List Row) : Type 0 where
   pub is_number : IsNumber text
   pub is_size : IsSize (digits_value 10 (without_leading_plus text))
 
-given_size : (id : Text) (rows : List Row) → HasSizes rows → is_given id rows ≡ true → KeepsSize id rows
-given_size id rows sizes given = go (find (λ r. bytes_eq r.id id) rows) refl (found IsSizeRow rows sizes (λ r. bytes_eq r.id id)) given
+-- the option has no text, or that of a size
+abbrev pub MayKeep : Text → List Row → Type 0
+MayKeep option rows = (one_of option rows ≡ None) ⊎ KeepsSize option rows
+
+size_kept : (id : Text) (rows : List Row) → HasSizes id rows → MayKeep id rows
+size_kept id rows sizes =
+    go (find (λ r. bytes_eq r.id id) rows) refl (found (IsRightRow id) rows sizes (λ r. bytes_eq r.id id)) (found_passes (λ r. bytes_eq r.id id) rows)
   where
-    go : (o : Option Row) → find (λ r. bytes_eq r.id id) rows ≡ o → IfSome o IsSizeRow → option_map_or (λ r. explicit_source r.source) o false ≡ true → KeepsSize id rows
-    go None e size given = cc
-    go (Some r) e size given =
+    go : (o : Option Row) → find (λ r. bytes_eq r.id id) rows ≡ o → IfSome o (IsRightRow id) → IfSome o (λ r. bytes_eq r.id id ≡ true) → MayKeep id rows
+    go None e right passes = inl (ap (option_and_then row_text) e)
+    go (Some r) e right passes =
+        let size = right passes in
         let number = number_of_size size.first size.passes in
         let row : row_text r ≡ Some (without_minus size.first) = rw (size.values, size.reading) refl in
-        record { text = without_minus size.first; is_text = ap (option_and_then row_text) e ∙ row; is_number = number.0; is_size = number.1 }
+        inr (record { text = without_minus size.first; is_text = ap (option_and_then row_text) e ∙ row; is_number = number.0; is_size = number.1 })
 
 -- ---- the two levels
 
@@ -79,24 +89,28 @@ abbrev program : App
 program = built curspan
 
 abbrev leaf : Kind → Shape
-leaf kind = built_leaf (inherited (with_leaf_noted (marked_built curspan.top)) (mode (kind_text kind)).top)
+leaf kind = built_leaf (inherited (with_leaf_noted (marked_built curspan.top)) (mode kind).top)
 
 abbrev check_leaf : Shape
-check_leaf = built_leaf (inherited (with_leaf_noted (marked_built curspan.top)) (new_app check_text).top)
+check_leaf = built_leaf (inherited (with_leaf_noted (marked_built curspan.top)) check_mode.top)
 
-leaf_rules : (kind : Kind) → All IsKnownRule (leaf kind).rules
-leaf_rules kind = grind (arith, All-from_recursion, kind)
+-- the rules of a subcommand, for the option of a name
+abbrev HasKnownRules : Text → Kind → Type 0
+HasKnownRules id kind = All (IsKnownRule id) (leaf kind).rules
 
--- The words are a subcommand's, with both numbers.
+line_rules : (kind : Kind) → HasKnownRules (codes "lines") kind
+line_rules kind = grind (arith, All-from_recursion, kind)
+
+col_rules : (kind : Kind) → HasKnownRules (codes "cols") kind
+col_rules kind = grind (arith, All-from_recursion, kind)
+
+-- The words are a subcommand's, and each number that they give is a size.
 pub record NamesKind (words : List Text) : Type 0 where
   pub kind : Kind
   pub rows : List Row
   pub subcommand : subcommand_of curspan words ≡ Some (kind_text kind, rows)
-  pub lines : KeepsSize (codes "lines") rows
-  pub cols : KeepsSize (codes "cols") rows
-
-both_given : (a b : Bool) → cond (not a || (not b || false)) (kind.MissingRequiredArgument ∷ []) [] ≡ [] → (a ≡ true) × (b ≡ true)
-both_given a b e = grind arith
+  pub lines : MayKeep (codes "lines") rows
+  pub cols : MayKeep (codes "cols") rows
 
 kind_taken : (kind : Kind) (words rest : List Text) → subcommand_of curspan words ≡ Some (kind_text kind, rows_after (leaf kind).rules [] rest)
     → level_fault (leaf kind) [] nothing_held rest false [] ≡ []
@@ -104,9 +118,9 @@ kind_taken : (kind : Kind) (words rest : List Text) → subcommand_of curspan wo
 kind_taken kind words rest is none =
     let rows = rows_after (leaf kind).rules [] rest in
     let passes = level_passes (leaf kind) [] rest false [] none in
-    let sizes : HasSizes rows = level_keeps (leaf kind) (leaf_rules kind) [] rest false [] passes in
-    let given = both_given (is_given (codes "lines") rows) (is_given (codes "cols") rows) passes.checks in
-    record { kind = kind; rows = rows; subcommand = is; lines = given_size (codes "lines") rows sizes given.0; cols = given_size (codes "cols") rows sizes given.1 }
+    let lines : HasSizes (codes "lines") rows = level_keeps (codes "lines") (leaf kind) (line_rules kind) [] rest false [] passes in
+    let cols : HasSizes (codes "cols") rows = level_keeps (codes "cols") (leaf kind) (col_rules kind) [] rest false [] passes in
+    record { kind = kind; rows = rows; subcommand = is; lines = size_kept (codes "lines") rows lines; cols = size_kept (codes "cols") rows cols }
 
 -- the program enters the level of the subcommand that is named
 entered_taken : (kind : Kind) (words rest : List Text) → subcommand_of curspan words ≡ entered program (Some (kind_text kind, rest)) → entered_fault program (Some (kind_text kind, rest)) ≡ []
@@ -115,9 +129,13 @@ entered_taken Run words rest is below = kind_taken Run words rest is below
 entered_taken Paint words rest is below = kind_taken Paint words rest is below
 entered_taken Show words rest is below = kind_taken Show words rest is below
 
--- the words are those of the subcommand that needs no size, or a subcommand's with both numbers
+-- the words are those of the subcommand that needs no size
+abbrev pub NamesCheck : List Text → Type 0
+NamesCheck words = (rows : List Row) × (subcommand_of curspan words ≡ Some (check_text, rows))
+
+-- or of another
 abbrev NamesOne : List Text → Type 0
-NamesOne words = NamesKind words ⊎ AsksCheckIn (subcommand_of curspan words)
+NamesOne words = NamesKind words ⊎ NamesCheck words
 
 -- the subcommand at which the walk over the words stops
 abbrev stop_at : List Text → Option (Text × List Text)
@@ -146,34 +164,72 @@ first_byte (byte ∷ bytes) = byte
 no_kind : (kind : Kind) → kind_text kind ≡ check_text → ⊥
 no_kind kind e = grind (arith, both_ways, eq-eqb, ap first_byte e)
 
-named_kind : (words : List Text) (job : Job) → AsksIn (subcommand_of curspan words) job → NamesOne words → NamesKind words
-named_kind words job asked one = grind (arith, no_kind)
+-- ---- what the words ask for
 
--- what the subcommand asks for has sizes
-pub sizes_of_job : (words : List Text) (job : Job) → IsTaken words → AsksIn (subcommand_of curspan words) job → Asks words job
-sizes_of_job words job none asked =
-    let t = named_kind words job asked (taken words none) in
-    let rows : t.rows ≡ asked.rows = ap (λ (o : Option (Text × List Row)). option_map_or (λ p. p.1) o []) (sym t.subcommand ∙ asked.named) in
+abbrev name_in : Option (Text × List Row) → Text
+name_in o = option_map_or (λ p. p.0) o []
+
+abbrev rows_in : Option (Text × List Row) → List Row
+rows_in o = option_map_or (λ p. p.1) o []
+
+given_size : (variable : Option Text) (option : Text) (rows : List Row) (n : ℕ) → MayKeep option rows → GivesSize variable option rows n → IsSize n
+given_size variable option rows n (inl none) (inl read) = let never : None ≡ Some read.text = sym none ∙ read.is_text in cc
+given_size variable option rows n (inr kept) (inl read) = size_read option rows n kept read
+given_size variable option rows n kept (inr by) = by.3.fits
+
+-- a job of that name
+job_asked : (sizes : Sizes) (words : List Text) (name : Text) (rows : List Row) (job : Job) → NamesOne words → subcommand_of curspan words ≡ Some (name, rows)
+    → name ≡ kind_text job.kind → SizesOf sizes rows job → AsksJob sizes name rows job
+job_asked sizes words name rows job (inl t) is named given =
+    let same : t.rows ≡ rows = ap rows_in (sym t.subcommand ∙ is) in
     record {
-      taken = none;
-      asked = asked;
-      lines = size_read (codes "lines") asked.rows job.lines (rw rows at t.lines) asked.lines;
-      cols = size_read (codes "cols") asked.rows job.cols (rw rows at t.cols) asked.cols;
+      named = named;
+      given = given;
+      lines = given_size sizes.lines (codes "lines") rows job.lines (rw same at t.lines) given.lines;
+      cols = given_size sizes.columns (codes "cols") rows job.cols (rw same at t.cols) given.cols;
     }
+job_asked sizes words name rows job (inr check) is named given =
+    absurd (no_kind job.kind (sym named ∙ ap name_in (sym is ∙ check.1)))
 
-read_size : (option : Text) (rows : List Row) (kept : KeepsSize option rows) → ReadsNumber option rows (digits_value 10 (without_leading_plus kept.text))
-read_size option rows kept = record { text = kept.text; is_text = kept.is_text; is_number = kept.is_number; value = refl }
+check_asked : (words : List Text) (name : Text) (rows : List Row) → NamesOne words → subcommand_of curspan words ≡ Some (name, rows)
+    → ((kind : Kind) → name ≡ kind_text kind → ⊥) → name ≡ check_text
+check_asked words name rows (inl t) is none = absurd (none t.kind (ap name_in (sym is ∙ t.subcommand)))
+check_asked words name rows (inr check) is none = ap name_in (sym is ∙ check.1)
 
-job_named : (words : List Text) → NamesKind words → (job : Job) × AsksIn (subcommand_of curspan words) job
-job_named words t = (
-  record { kind = t.kind; lines = digits_value 10 (without_leading_plus t.lines.text); cols = digits_value 10 (without_leading_plus t.cols.text) },
-  record { rows = t.rows; named = t.subcommand; lines = read_size (codes "lines") t.rows t.lines; cols = read_size (codes "cols") t.rows t.cols },
-)
+request_asked : (sizes : Sizes) (words : List Text) (name : Text) (rows : List Row) (r : Request) → NamesOne words → subcommand_of curspan words ≡ Some (name, rows)
+    → RequestBy sizes name rows r → AsksFor sizes name rows r
+request_asked sizes words name rows (requests.Job job) one is by = job_asked sizes words name rows job one is by.0 by.1
+request_asked sizes words name rows requests.Check one is by = check_asked words name rows one is by
 
--- such words ask for something
-pub nothing_else : (words : List Text) → IsTaken words → ((job : Job) → AsksIn (subcommand_of curspan words) job → ⊥) → (AsksCheckIn (subcommand_of curspan words) → ⊥) → ⊥
-nothing_else words none no_job no_check = go (taken words none)
+-- what a subcommand's rows ask for, the words do
+pub asked : (sizes : Sizes) (words : List Text) (name : Text) (rows : List Row) (i : Invocation) → IsTaken words → subcommand_of curspan words ≡ Some (name, rows)
+    → AsksBy sizes name rows i → Asks sizes words i
+asked sizes words name rows i none is by = record {
+  taken = none;
+  name = name;
+  rows = rows;
+  subcommand = is;
+  request = request_asked sizes words name rows i.request (taken words none) is by.request;
+  script = by.script;
+  log = by.log;
+  quiet = by.quiet;
+}
+
+-- a size that isn't given
+no_screen : (sizes : Sizes) (words : List Text) (name : Text) (rows : List Row) (kind : ErrorKind) → IsTaken words → subcommand_of curspan words ≡ Some (name, rows)
+    → IsRefusedBy sizes name rows kind → HasNoScreen sizes words kind
+no_screen sizes words name rows kind none is by =
+    record { taken = none; job = by.0.0; rows = rows; subcommand = is ∙ ap (λ n. Some (n, rows)) by.0.1; lacks = by.1 }
+
+pub refused_asked : (sizes : Sizes) (words : List Text) (name : Text) (rows : List Row) (e : Error) → IsTaken words → subcommand_of curspan words ≡ Some (name, rows)
+    → (kind_of e ≡ OutOfMemory) ⊎ IsRefusedBy sizes name rows (kind_of e) → (kind_of e ≡ OutOfMemory) ⊎ IsRefused sizes words (kind_of e)
+refused_asked sizes words name rows e none is (inl memory) = inl memory
+refused_asked sizes words name rows e none is (inr by) = inr (inr (no_screen sizes words name rows (kind_of e) none is by))
+
+-- such words name a subcommand
+pub some_subcommand : (words : List Text) → IsTaken words → subcommand_of curspan words ≡ None → ⊥
+some_subcommand words none is = go (taken words none)
   where
     go : NamesOne words → ⊥
-    go (inl t) = let asked = job_named words t in no_job asked.0 asked.1
-    go (inr check) = no_check check
+    go (inl t) = let never : false ≡ true = ap is_some (sym is ∙ t.subcommand) in cc
+    go (inr check) = let never : false ≡ true = ap is_some (sym is ∙ check.1) in cc

@@ -1,30 +1,56 @@
 -- The command line, in the words of clap's definition of a simple command.
-use Rattle.std.specs.Prelude.{◌≡◌, ◌∷◌, ◌<◌, ◌^◌, ℕ, List, [], true, false, fold, pos, codes, Option, Some}
+use Rattle.std.specs.Prelude.{◌≡◌, ◌⊎◌, ◌∷◌, ◌<◌, ◌^◌, ℕ, Bool, List, [], true, false, fold, pos, codes, Option, Some, None, option_and_then, option_map, if◌then◌else◌}
+use Rattle.std.specs.Borrow.{Bor}
+use Rattle.std.specs.Option.{option_map_or}
+use Rattle.std.specs.Str.{bytes_eq}
 use Rattle.std.specs.Str.Parse.{IsNumeral, digits_value, without_leading_plus}
-use Rattle.clap.specs.Words.{App, Row, Rule, Text, fault_of, new_app, new_rule, one_of, subcommand_of, with_rule, with_subcommand}
-use Rattle.clap.specs.declared.builder.action.ArgAction.TheVariants.{Set}
+use Rattle.clap.specs.Words.{App, IsAmong, Row, Rule, Text, fault_of, first_of, new_app, new_rule, one_of, subcommand_of, with_rule, with_subcommand}
+use Rattle.clap.specs.declared.builder.action.ArgAction.TheVariants.{Set, SetTrue}
 use Rattle.clap.specs.declared.builder.value_parser.ValueParser.TheVariants as parsers
+use Rattle.clap.specs.declared.error.kind.ErrorKind.{ErrorKind}
+use Rattle.clap.specs.declared.error.kind.ErrorKind.TheVariants as errors
 use Rattle.cell.specs.Limits.{is_no_size}
 use Rattle.cell.specs.declared.limits.TheConstants.{LARGEST_SCREEN}
+use Rattle.commands.specs.declared.requests.Invocation.{Invocation}
 use Rattle.commands.specs.declared.requests.Request.{Request}
 use Rattle.commands.specs.declared.requests.Request.TheVariants as requests
 use Rattle.commands.specs.declared.requests.Job.{Job}
 use Rattle.commands.specs.declared.requests.Kind.{Kind}
 use Rattle.commands.specs.declared.requests.Kind.TheVariants.{Run, Paint, Show}
+use Rattle.commands.specs.declared.requests.Variables.{Variables}
 
--- a required option for a number of lines or columns that a screen may have
+-- ---- the definition
+
+-- an option for a number of lines or columns that a screen may have
 abbrev pub size_rule : Text → Rule
 size_rule name = record (new_rule name) {
   long = Some name;
   value_names = 1;
-  required = true;
   action = Some Set;
   parser = Some (parsers.Signed (pos 1) (pos LARGEST_SCREEN));
 }
 
--- a subcommand with the number of lines and of columns
-abbrev pub mode : Text → App
-mode name = with_rule (with_rule (new_app name) (size_rule (codes "lines"))) (size_rule (codes "cols"))
+-- an option for the file that gets the log
+abbrev pub log_rule : Rule
+log_rule = record (new_rule (codes "log")) { long = Some (codes "log"); value_names = 1; action = Some Set }
+
+-- the file that is read, a word without an option
+abbrev pub file_rule : Rule
+file_rule = record (new_rule (codes "file")) { value_names = 1; action = Some Set }
+
+-- a flag by which answers aren't logged
+abbrev pub quiet_rule : Rule
+quiet_rule = record (new_rule (codes "quiet")) { long = Some (codes "quiet"); action = Some SetTrue }
+
+abbrev pub with_size : App → App
+with_size app = with_rule (with_rule app (size_rule (codes "lines"))) (size_rule (codes "cols"))
+
+abbrev pub with_files : App → App
+with_files app = with_rule (with_rule app log_rule) file_rule
+
+-- a subcommand that needs a screen, by its name
+abbrev pub on_screen : Text → App
+on_screen name = with_files (with_size (new_app name))
 
 -- a command that has a version and is nothing without a subcommand
 abbrev pub demanding : App → App
@@ -42,12 +68,23 @@ kind_text Run = codes "run"
 kind_text Paint = codes "paint"
 kind_text Show = codes "show"
 
--- the subcommand that needs no screen
+-- the subcommands that need a screen
+abbrev pub mode : Kind → App
+mode Run = with_rule (on_screen (kind_text Run)) quiet_rule
+mode Paint = with_rule (on_screen (kind_text Paint)) quiet_rule
+mode Show = on_screen (kind_text Show)
+
+-- the subcommand that needs none
 abbrev pub check_text : Text
 check_text = codes "check"
 
+abbrev pub check_mode : App
+check_mode = with_files (new_app check_text)
+
 abbrev pub curspan : App
-curspan = with_subcommand (fold (λ app kind. with_subcommand app (mode (kind_text kind)).top) bare kinds) (new_app check_text).top
+curspan = with_subcommand (fold (λ app kind. with_subcommand app (mode kind).top) bare kinds) check_mode.top
+
+-- ---- a size
 
 -- `u16` reads a number from the text
 abbrev pub IsNumber : Text → Type 0
@@ -68,33 +105,92 @@ pub record ReadsNumber (option : Text) (rows : List Row) (n : ℕ) : Type 0 wher
 abbrev pub ReadsNone : Text → List Row → Type 0
 ReadsNone option rows = (text : Text) → one_of option rows ≡ Some text → IsNumber text → ⊥
 
--- A subcommand's name and rows ask for this job: its kind is the one of that name, and its numbers are those of its options.
-pub record AsksIn (subcommand : Option (Text × List Row)) (job : Job) : Type 0 where
-  pub rows : List Row
-  pub named : subcommand ≡ Some (kind_text job.kind, rows)
-  pub lines : ReadsNumber (codes "lines") rows job.lines
-  pub cols : ReadsNumber (codes "cols") rows job.cols
+-- a text says a size, in decimal digits, before which a plus may stand
+pub record SaysSize (text : Text) (n : ℕ) : Type 0 where
+  pub is_number : IsNumber text
+  pub value : n ≡ digits_value 10 (without_leading_plus text)
+  pub fits : IsSize n
+
+-- the text of a variable, or a name, if there is one
+abbrev pub text_of : Option (Bor Text) → Option Text
+text_of = option_map (λ s. s.now)
+
+-- the texts of the variables `LINES` and `COLUMNS`
+pub record Sizes : Type 0 where
+  pub lines : Option Text
+  pub columns : Option Text
+
+abbrev pub sizes_of : Variables → Sizes
+sizes_of v = record { lines = text_of v.lines; columns = text_of v.columns }
+
+-- The size is the number of the option; or that of the variable, where the option gives none.
+abbrev pub GivesSize : Option Text → Text → List Row → ℕ → Type 0
+GivesSize variable option rows n =
+    ReadsNumber option rows n ⊎ (ReadsNone option rows × (text : Text) × (variable ≡ Some text) × SaysSize text n)
+
+-- The option gives no number, and the variable isn't there, or is no size; by the kind of error that says so.
+abbrev pub LacksSize : Option Text → Text → List Row → ErrorKind → Type 0
+LacksSize None option rows kind = ReadsNone option rows × (kind ≡ errors.MissingRequiredArgument)
+LacksSize (Some text) option rows kind = ReadsNone option rows × ((n : ℕ) → SaysSize text n → ⊥) × (kind ≡ errors.ValueValidation)
+
+-- the lines and the columns of a job are those of the options or the variables
+pub record SizesOf (sizes : Sizes) (rows : List Row) (job : Job) : Type 0 where
+  pub lines : GivesSize sizes.lines (codes "lines") rows job.lines
+  pub cols : GivesSize sizes.columns (codes "cols") rows job.cols
+
+-- the lines or the columns aren't given
+abbrev pub LacksSizes : Sizes → List Row → ErrorKind → Type 0
+LacksSizes sizes rows kind = LacksSize sizes.lines (codes "lines") rows kind ⊎ LacksSize sizes.columns (codes "cols") rows kind
+
+-- ---- files
+
+-- the name of the file to read, if one is named, and not standard input by a minus
+abbrev pub script_by : List Row → Option Text
+script_by rows = option_and_then (λ name. if bytes_eq name (codes "-") then None else Some name) (first_of (codes "file") rows)
+
+abbrev pub log_by : List Row → Option Text
+log_by = first_of (codes "log")
+
+abbrev pub is_quiet_by : List Row → Bool
+is_quiet_by rows = option_map_or (λ text. bytes_eq text (codes "true")) (first_of (codes "quiet") rows) false
+
+-- ---- what words ask for
 
 -- clap finds no fault in the words
 abbrev pub IsTaken : List Text → Type 0
 IsTaken words = fault_of curspan words ≡ []
 
--- The words ask for this job: they have no fault, their subcommand asks for it, and its numbers are sizes of a screen.
-pub record Asks (words : List Text) (job : Job) : Type 0 where
-  pub taken : IsTaken words
-  pub asked : AsksIn (subcommand_of curspan words) job
+-- A subcommand asks for this job: its kind is the one of that name, and its size is given and fits.
+pub record AsksJob (sizes : Sizes) (name : Text) (rows : List Row) (job : Job) : Type 0 where
+  pub named : name ≡ kind_text job.kind
+  pub given : SizesOf sizes rows job
   pub lines : IsSize job.lines
   pub cols : IsSize job.cols
 
--- A subcommand's name asks for what is wrong with a script.
-abbrev pub AsksCheckIn : Option (Text × List Row) → Type 0
-AsksCheckIn subcommand = (rows : List Row) × (subcommand ≡ Some (check_text, rows))
+-- or for what is wrong with a script
+abbrev pub AsksFor : Sizes → Text → List Row → Request → Type 0
+AsksFor sizes name rows (requests.Job job) = AsksJob sizes name rows job
+AsksFor sizes name rows requests.Check = name ≡ check_text
 
-pub record AsksCheck (words : List Text) : Type 0 where
+-- The words ask for this: they have no fault, and their subcommand and its options say so.
+pub record Asks (sizes : Sizes) (words : List Text) (invocation : Invocation) : Type 0 where
   pub taken : IsTaken words
-  pub asked : AsksCheckIn (subcommand_of curspan words)
+  pub name : Text
+  pub rows : List Row
+  pub subcommand : subcommand_of curspan words ≡ Some (name, rows)
+  pub request : AsksFor sizes name rows invocation.request
+  pub script : text_of invocation.script ≡ script_by rows
+  pub log : text_of invocation.log ≡ log_by rows
+  pub quiet : invocation.is_quiet ≡ is_quiet_by rows
 
--- what the words ask for
-abbrev pub AsksFor : List Text → Request → Type 0
-AsksFor words (requests.Job job) = Asks words job
-AsksFor words requests.Check = AsksCheck words
+-- The words have no fault, but their subcommand is to have a size which isn't given.
+pub record HasNoScreen (sizes : Sizes) (words : List Text) (kind : ErrorKind) : Type 0 where
+  pub taken : IsTaken words
+  pub job : Kind
+  pub rows : List Row
+  pub subcommand : subcommand_of curspan words ≡ Some (kind_text job, rows)
+  pub lacks : LacksSizes sizes rows kind
+
+-- The words are refused by an error of this kind: clap gives it for them, or there is no size.
+abbrev pub IsRefused : Sizes → List Text → ErrorKind → Type 0
+IsRefused sizes words kind = IsAmong kind (fault_of curspan words) ⊎ HasNoScreen sizes words kind

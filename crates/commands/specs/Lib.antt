@@ -4,6 +4,7 @@ pub mod Written
 pub mod Escapes
 pub mod Statuses
 pub mod RefusedWords
+pub mod Opening
 pub mod Shows
 pub mod Checks
 pub mod steps

@@ -1,3 +1,4 @@
 pub mod Feeding
 pub mod Putting
 pub mod Checking
+pub mod Sizing

@@ -1,107 +1,21 @@
 //! Reads the command line.
 
-ghost use Rattle.std.specs.Prelude.{◌≡◌, IfOk, MatchOption, false, map, true};
-ghost use Rattle.clap.specs.Words.{FailsBy, app_of, fault_of, found_of, new_app, rows_of, rule_of, subcommand_rows_of};
-ghost use Rattle.clap.specs.declared.builder.command.Command.TheViews.{out-Command};
-ghost use Rattle.commands.specs.declared.requests.Job.{Job};
+ghost use Rattle.std.specs.Prelude.{◌≡◌, ◌⊎◌, IfErr, IfOk, MatchOption, map};
+ghost use Rattle.clap.specs.Words.{found_of, kind_of, rows_of};
+ghost use Rattle.clap.specs.declared.error.kind.ErrorKind.TheVariants.{OutOfMemory};
 ghost use Rattle.commands.specs.declared.requests.Kind.{Kind};
-ghost use Rattle.commands.specs.CommandLine.{AsksCheckIn, AsksFor, AsksIn, ReadsNone, ReadsNumber, bare, check_text, curspan, kind_text, mode, size_rule};
+ghost use Rattle.commands.specs.declared.sizes.NoSize.TheVariants.{Bad, Missing};
+ghost use Rattle.commands.specs.CommandLine.{Asks, IsRefused, LacksSizes, SizesOf, is_quiet_by, kind_text, script_by, sizes_of, text_of};
+ghost use Rattle.commands.specs.steps.Sizing.{AsksBy, IsRefusedBy, RequestBy, error_kind};
 
-use crate::requests::{Job, Kind, Request};
+use crate::requests::{Invocation, Job, Kind, Request, Variables};
+use crate::sizes::{NoSize, size_of};
+use crate::subcommands::{command, subcommand};
 use cell::LARGEST_SCREEN;
 use clap::error::ErrorKind;
-use clap::{Arg, ArgAction, ArgMatches, Command, Error};
+use clap::{ArgMatches, Error};
 use std::alloc::{AllocError, Global};
 use std::convert::AsStr;
-
-/// The version of the program. What follows `commit` is as long as the name of a commit, and `./install` writes that over it.
-const VERSION: &str = "0.1.0, commit not written in by ./install or ./package";
-
-/// What follows the help of the program.
-const EXAMPLE: &str = "\
-A script has a call a line, and is read from standard input, as the terminal bytes do for show.
-`man curspan` lists the calls.
-
-Example:
-  printf 'addstr 0 hi\\nupdate_panels\\ndoupdate\\n' | curspan run --lines 24 --cols 80";
-
-/// The help of the option for the lines of a screen.
-pub const LINES_HELP: &str = "Lines of the screen, 1 to 999";
-
-/// The help of the option for its columns.
-pub const COLS_HELP: &str = "Columns of the screen, 1 to 999";
-
-/// An option for a number of lines or columns of a screen.
-fn size<'a>(alloc: Global, name: &'a str, help: &'a str) -> Arg<'a>
-    ensures rule { rule_of result ≡ size_rule name.entry.now }
-    ensures local { result.global ≡ false }
-{
-    Arg::new(alloc, name)
-        .long(name)
-        .value_name("N")
-        .help(help)
-        .required(true)
-        .action(ArgAction::Set)
-        .value_parser(clap::value_parser!(u16).range(1..=i64::from(LARGEST_SCREEN)))
-}
-
-/// A subcommand that needs a size.
-fn subcommand<'a>(alloc: Global, name: &'a str, about: &'a str) -> Result<Command<'a>, AllocError>
-    ensures mode { IfOk result (λ c. app_of c ≡ mode name.entry.now) }
-    ensures local { IfOk result (λ c. (out-Command c).has_globals ≡ false) }
-{
-    Command::new(alloc, name)
-        .about(about)
-        .arg(size(alloc, "lines", LINES_HELP))?
-        .arg(size(alloc, "cols", COLS_HELP))
-}
-
-/// The program without its subcommands.
-fn program<'a>(alloc: Global) -> Command<'a>
-    ensures app { app_of result ≡ bare }
-    ensures local { (out-Command result).has_globals ≡ false }
-{
-    Command::new(alloc, "curspan")
-        .about("Run scripts of curses window calls")
-        .version(VERSION)
-        .after_help(EXAMPLE)
-        .subcommand_required(true)
-}
-
-/// The subcommand that needs no size.
-fn check<'a>(alloc: Global) -> Command<'a>
-    ensures app { app_of result ≡ new_app check_text }
-    ensures local { (out-Command result).has_globals ≡ false }
-{
-    Command::new(alloc, "check").about(
-        "Tell what is wrong with the script on standard input, and run nothing",
-    )
-}
-
-fn command<'a>(alloc: Global) -> Result<Command<'a>, AllocError>
-    ensures { IfOk result (λ c. app_of c ≡ curspan) }
-{
-    let run = subcommand(
-        alloc,
-        "run",
-        "Run the script on standard input, and send the terminal bytes",
-    )?;
-    let paint = subcommand(
-        alloc,
-        "paint",
-        "Run the script on standard input, and print its panels over the standard screen",
-    )?;
-    let show = subcommand(
-        alloc,
-        "show",
-        "Print the picture that terminal bytes on standard input leave",
-    )?;
-    program(alloc)
-        .subcommand(run)?
-        .subcommand(paint)?
-        .subcommand(show)?
-        .subcommand(check(alloc))
-}
 
 /// The subcommand of a name.
 fn kind_of(name: &str) -> Option<Kind>
@@ -115,50 +29,162 @@ fn kind_of(name: &str) -> Option<Kind>
     }
 }
 
-/// The number of an option of the matches.
-fn number(found: &ArgMatches<'_>, option: &str) -> Option<u16>
-    ensures { MatchOption result (ReadsNone option.now (rows_of (found_of found.now))) (λ n. ReadsNumber option.now (rows_of (found_of found.now)) n) }
-{
-    found.get_one::<u16>(option)
+/// The program and the subcommand of a kind, as they are called.
+fn name_in_usage(kind: Kind) -> &'static str {
+    match kind {
+        Kind::Run => "curspan run",
+        Kind::Paint => "curspan paint",
+        Kind::Show => "curspan show",
+    }
 }
 
-/// What the matches ask for, if they name a subcommand and give both numbers.
-fn job_of(matches: &ArgMatches<'_>) -> Option<Job>
-    ensures { MatchOption result ((job : Job) → AsksIn (subcommand_rows_of matches.now) job → ⊥) (λ job. AsksIn (subcommand_rows_of matches.now) job) }
+/// A usage fault of a subcommand.
+fn usage_fault(
+    alloc: Global,
+    kind: Kind,
+    error: ErrorKind,
+    message: &str,
+) -> Result<Error, AllocError>
+    ensures { IfOk result (λ e. kind_of e ≡ error) }
 {
-    let (name, found) = matches.subcommand()?;
-    Some(Job {
-        kind: kind_of(name)?,
-        lines: number(found, "lines")?,
-        cols: number(found, "cols")?,
-    })
+    subcommand(alloc, kind)?
+        .bin_name(name_in_usage(kind))?
+        .error(error, message)
 }
 
-/// Whether the matches name the subcommand that needs no size.
-fn asks_check(matches: &ArgMatches<'_>) -> bool
-    ensures yes { result ≡ true → AsksCheckIn (subcommand_rows_of matches.now) }
-    ensures no { result ≡ false → AsksCheckIn (subcommand_rows_of matches.now) → ⊥ }
+/// The usage fault of a variable that is no size.
+fn bad_variable(
+    alloc: Global,
+    kind: Kind,
+    name: &str,
+    text: Option<&str>,
+) -> Result<Error, AllocError>
+    ensures { IfOk result (λ e. kind_of e ≡ error_kind Bad) }
 {
-    match matches.subcommand() {
-        Some((name, _)) => name == "check",
+    let text = text.unwrap_or("");
+    let message = format!(in alloc;
+        "invalid value '{text}' of the variable {name}: it is no number from 1 to {LARGEST_SCREEN}"
+    )?;
+    usage_fault(alloc, kind, ErrorKind::ValueValidation, message.as_str())
+}
+
+/// The usage fault of sizes that nothing gives.
+fn missing(
+    alloc: Global,
+    kind: Kind,
+    lacks_lines: bool,
+    lacks_columns: bool,
+) -> Result<Error, AllocError>
+    ensures { IfOk result (λ e. kind_of e ≡ error_kind Missing) }
+{
+    let mut message = String::from_str(
+        alloc,
+        "the following required arguments were not provided:",
+    )?;
+    if lacks_lines {
+        message.push_str("\n  --lines <N>, or the variable LINES")?;
+    }
+    if lacks_columns {
+        message.push_str("\n  --cols <N>, or the variable COLUMNS")?;
+    }
+    usage_fault(
+        alloc,
+        kind,
+        ErrorKind::MissingRequiredArgument,
+        message.as_str(),
+    )
+}
+
+/// The job of a kind on a screen of the size that the matches or the variables give.
+fn job_of(
+    alloc: Global,
+    kind: Kind,
+    found: &ArgMatches<'_>,
+    variables: &Variables<'_>,
+) -> Result<Job, Error>
+    ensures job { IfOk result (λ job. (job.kind ≡ kind) × SizesOf (sizes_of variables.now) (rows_of (found_of found.now)) job) }
+    ensures faults { IfErr result (λ e. (kind_of e ≡ OutOfMemory) ⊎ LacksSizes (sizes_of variables.now) (rows_of (found_of found.now)) (kind_of e)) }
+{
+    let lines = size_of(found, "lines", variables.lines);
+    let cols = size_of(found, "cols", variables.columns);
+    match (lines, cols) {
+        (Ok(lines), Ok(cols)) => Ok(Job { kind, lines, cols }),
+        (Err(NoSize::Bad), _) => Err(bad_variable(alloc, kind, "LINES", variables.lines)?),
+        (_, Err(NoSize::Bad)) => Err(bad_variable(alloc, kind, "COLUMNS", variables.columns)?),
+        (lines, cols) => Err(missing(alloc, kind, lines.is_err(), cols.is_err())?),
+    }
+}
+
+/// The file that the matches name to be read, unless it is standard input.
+fn script_of<'a>(found: &ArgMatches<'a>) -> Option<&'a str>
+    ensures { text_of result ≡ script_by (rows_of (found_of found.now)) }
+{
+    let name = found.get_str("file")?;
+    if name == "-" { None } else { Some(name) }
+}
+
+/// Whether the matches ask for no answers.
+fn is_quiet(found: &ArgMatches<'_>) -> bool
+    ensures { result ≡ is_quiet_by (rows_of (found_of found.now)) }
+{
+    match found.get_str("quiet") {
+        Some(text) => text == "true",
         None => false,
     }
 }
 
-/// What the words ask for. The first word is the program's name. An error is lack of memory, or has one of the kinds that clap's definition
-/// gives for the words, a usage fault or a request for help; where it gives none, lack of memory is the only error.
-pub fn job<S: AsStr>(alloc: Global, words: &[S]) -> Result<Request, Error>
-    ensures job { IfOk result (λ request. AsksFor (map S.text words.now) request) }
-    ensures faults { FailsBy (fault_of curspan (map S.text words.now)) result }
+/// What a subcommand of a name asks for, by its matches.
+fn request_of(
+    alloc: Global,
+    name: &str,
+    found: &ArgMatches<'_>,
+    variables: &Variables<'_>,
+) -> Result<Request, Error>
+    ensures request { IfOk result (λ request. RequestBy (sizes_of variables.now) name.now (rows_of (found_of found.now)) request) }
+    ensures faults { IfErr result (λ e. (kind_of e ≡ OutOfMemory) ⊎ IsRefusedBy (sizes_of variables.now) name.now (rows_of (found_of found.now)) (kind_of e)) }
+{
+    match kind_of(name) {
+        Some(kind) => Ok(Request::Job(job_of(alloc, kind, found, variables)?)),
+        None => Ok(Request::Check),
+    }
+}
+
+/// The same, with its files.
+fn invocation<'a>(
+    alloc: Global,
+    name: &str,
+    found: &ArgMatches<'a>,
+    variables: &Variables<'_>,
+) -> Result<Invocation<'a>, Error>
+    ensures asked { IfOk result (λ invocation. AsksBy (sizes_of variables.now) name.now (rows_of (found_of found.now)) invocation) }
+    ensures faults { IfErr result (λ e. (kind_of e ≡ OutOfMemory) ⊎ IsRefusedBy (sizes_of variables.now) name.now (rows_of (found_of found.now)) (kind_of e)) }
+{
+    let request = request_of(alloc, name, found, variables)?;
+    Ok(Invocation {
+        request,
+        script: script_of(found),
+        log: found.get_str("log"),
+        is_quiet: is_quiet(found),
+    })
+}
+
+/// What the words ask for, where the variables give the sizes that no option does. The first word is the program's name.
+/// An error is lack of memory, or has one of the kinds that clap's definition gives for the words, a usage fault or a
+/// request for help; where it gives none, it is lack of memory, or says that a size is given neither by an option nor
+/// by its variable (`MissingRequiredArgument`), or by a variable that is no such number (`ValueValidation`).
+pub fn job<'a, S: AsStr>(
+    alloc: Global,
+    words: &'a [S],
+    variables: &Variables<'_>,
+) -> Result<Invocation<'a>, Error>
+    ensures asked { IfOk result (λ invocation. Asks (sizes_of variables.now) (map S.text words.entry.now) invocation) }
+    ensures faults { IfErr result (λ e. (kind_of e ≡ OutOfMemory) ⊎ IsRefused (sizes_of variables.now) (map S.text words.entry.now) (kind_of e)) }
 {
     let mut command = command(alloc)?;
     let matches = command.try_get_matches_from_mut(words)?;
-    if asks_check(&matches) {
-        return Ok(Request::Check);
-    }
-    match job_of(&matches) {
-        Some(job) => Ok(Request::Job(job)),
-        // What clap accepts always asks for a job, so this is never reached.
+    match matches.subcommand() {
+        Some((name, found)) => invocation(alloc, name, found, variables),
+        // What clap accepts always names a subcommand, so this is never reached.
         None => Err(command.error(ErrorKind::MissingSubcommand, "no subcommand")?),
     }
 }

@@ -46,7 +46,7 @@ fn escaped_text(piece: &[u8]) -> Escaped
 }
 
 /// Writes a text with its bytes escaped, and answers whether all of it went out. Nothing is flushed.
-fn put_escaped<W: Sink>(sink: &mut W, text: &[u8]) -> bool
+pub fn put_escaped<W: Sink>(sink: &mut W, text: &[u8]) -> bool
     ensures { PuttingEnds result (W.seen sink.old) (W.seen sink.new) (escaped_text text.now) }
 {
     let mut rest = text;

@@ -2,10 +2,10 @@
 
 ghost use Rattle.std.specs.Prelude.{◌≡◌, ◌++◌, codes, decimal};
 ghost use Rattle.cell.specs.declared.limits.TheConstants.{LARGEST_SCREEN};
-ghost use Rattle.commands.specs.declared.command.TheConstants.{COLS_HELP, LINES_HELP};
+ghost use Rattle.commands.specs.declared.subcommands.TheConstants.{COLS_HELP, LINES_HELP};
 
 /// The numerals in the help of the options are the limits of a screen.
 pub fn limits_in_help()
-    ensures lines { LINES_HELP.now ≡ codes "Lines of the screen, 1 to " ++ decimal LARGEST_SCREEN }
-    ensures columns { COLS_HELP.now ≡ codes "Columns of the screen, 1 to " ++ decimal LARGEST_SCREEN }
+    ensures lines { LINES_HELP.now ≡ codes "Lines of the screen, 1 to " ++ decimal LARGEST_SCREEN ++ codes " [env: LINES]" }
+    ensures columns { COLS_HELP.now ≡ codes "Columns of the screen, 1 to " ++ decimal LARGEST_SCREEN ++ codes " [env: COLUMNS]" }
 {}

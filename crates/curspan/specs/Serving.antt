@@ -1,6 +1,6 @@
 -- What the program does, by the words of its command line and the status that it answers.
-use Rattle.std.specs.Prelude.{◌≡◌, ◌⊎◌, ℕ, List, Some, None, false, is_some, MatchOption}
-use Rattle.clap.specs.Words.{IsAmong, Text, fault_of}
+use Rattle.std.specs.Prelude.{◌≡◌, ◌⊎◌, ◌<◌, ℕ, Bool, List, Option, Some, None, false, true, is_some, MatchOption}
+use Rattle.clap.specs.Words.{Text}
 use Rattle.clap.specs.declared.error.kind.ErrorKind.{ErrorKind}
 use Rattle.clap.specs.declared.error.kind.ErrorKind.TheVariants.{OutOfMemory}
 use Rattle.cell.specs.Shown.{no_rendition}
@@ -17,24 +17,33 @@ use Rattle.compose.specs.Desks.{world}
 use Rattle.desk.specs.ScriptEnds.{ScriptEnds, read_failed, write_fault}
 use Rattle.desk.specs.States.{ScreenOver}
 use Rattle.commands.specs.Checks.{Checks}
-use Rattle.commands.specs.CommandLine.{Asks, AsksCheck, curspan}
+use Rattle.commands.specs.CommandLine.{Asks, IsRefused, Sizes, text_of}
+use Rattle.commands.specs.Opening.{SaysUnopened}
 use Rattle.commands.specs.Printing.{printed_picture}
 use Rattle.commands.specs.Shows.{Shows}
 use Rattle.commands.specs.Statuses.{LacksMemory, status_of}
 use Rattle.commands.specs.RefusedWords.{Explains}
-use Rattle.commands.specs.Written.{IsNotWritten, IsWritten, Outputs, TriesToLog}
+use Rattle.commands.specs.Written.{IsNotWritten, IsWritten, Outputs, TriesToLog, outputs}
+use Rattle.commands.specs.declared.opening.OpenFault.{OpenFault}
+use Rattle.commands.specs.declared.requests.Invocation.{Invocation}
 use Rattle.commands.specs.declared.status.Need.TheVariants.{Screen}
 use Rattle.commands.specs.declared.requests.Job.{Job}
 use Rattle.commands.specs.declared.requests.Kind.{Kind}
 use Rattle.commands.specs.declared.requests.Kind.TheVariants.{Run, Paint, Show}
+use Rattle.commands.specs.declared.requests.Request.{Request}
+use Rattle.commands.specs.declared.requests.Request.TheVariants as requests
 
 -- ---- words that are refused
 
--- Memory ran out, or clap refuses the words by a kind, and that is said.
-abbrev pub Refuses : List Text → Outputs → Outputs → ℕ → Type 0
-Refuses words old new status = (kind : ErrorKind) × ((kind ≡ OutOfMemory) ⊎ IsAmong kind (fault_of curspan words)) × Explains kind old new status
+-- Memory ran out, or the words are refused by a kind, and that is said.
+abbrev pub Refuses : Sizes → List Text → Outputs → Outputs → ℕ → Type 0
+Refuses sizes words old new status = (kind : ErrorKind) × ((kind ≡ OutOfMemory) ⊎ IsRefused sizes words kind) × Explains kind old new status
 
 -- ---- a script
+
+-- of a sink that keeps nothing
+abbrev pub nothing_seen : Seen
+nothing_seen = record { taken = None; failures = 0; flushes = 0; flushed = false }
 
 -- The script that was read ran on a screen, and ended so. A failure was counted exactly where its end has such a fault. After the lines of
 -- the calls the log gets a line about the fault, if there is one, and nothing else.
@@ -46,23 +55,38 @@ pub record RunsAndLogs {W : Type 0} (seen : W → Seen) (first last : ScreenOver
   pub writes : (seen last.writer).failures ≡ count_after (is_some (write_fault end.fault)) (seen first.writer).failures
   pub logs : MatchOption end.fault (log_after ≡ logged) (λ fault. TriesToLog logged log_after (last_line fault))
 
+-- The same, but what the calls answer was thrown away: the log gets a line about the fault, if there is one, and nothing
+-- else.
+pub record RunsQuietly {W : Type 0} (seen : W → Seen) (first last : ScreenOver W) (input rest : SourceSeen) (log log_after : Seen)
+    (end : ScriptEnd) : Type 0 where
+  pub discarded : Seen
+  pub script : ScriptEnds seen first last input rest nothing_seen discarded end
+  pub reads : rest.failures ≡ count_after (read_failed end.fault) input.failures
+  pub writes : (seen last.writer).failures ≡ count_after (is_some (write_fault end.fault)) (seen first.writer).failures
+  pub logs : MatchOption end.fault (log_after ≡ log) (λ fault. TriesToLog log log_after (last_line fault))
+
+-- The one or the other, by whether it is to be quiet.
+abbrev pub RunsBy : Bool → {W : Type 0} → (W → Seen) → ScreenOver W → ScreenOver W → SourceSeen → SourceSeen → Seen → Seen → ScriptEnd → Type 0
+RunsBy false seen first last input rest log log_after end = RunsAndLogs seen first last input rest log log_after end
+RunsBy true seen first last input rest log log_after end = RunsQuietly seen first last input rest log log_after end
+
 -- The screen was blank at first, and over a sink of which this had been seen.
-pub record RunsScript {W : Type 0} (seen : W → Seen) (job : Job) (input rest : SourceSeen) (sink log log_after : Seen)
+pub record RunsScript {W : Type 0} (seen : W → Seen) (is_quiet : Bool) (job : Job) (input rest : SourceSeen) (sink log log_after : Seen)
     (last : ScreenOver W) (end : ScriptEnd) : Type 0 where
   pub first : ScreenOver W
   pub blank : world first.desk ≡ first_world job.lines job.cols
   pub unpainted : first.painter ≡ first_painter job.lines job.cols
   pub over : seen first.writer ≡ sink
-  pub runs : RunsAndLogs seen first last input rest log log_after end
+  pub runs : RunsBy is_quiet seen first last input rest log log_after end
 
 -- ---- run: the terminal bytes go to the output
 
 -- The output took what the screen sent, and nothing else.
 module _ {W : Type 0} (seen : W → Seen) where
-  pub record Runs (job : Job) (input rest : SourceSeen) (old new : Outputs) (status : ℕ) : Type 0 where
+  pub record Runs (is_quiet : Bool) (job : Job) (input rest : SourceSeen) (old new : Outputs) (status : ℕ) : Type 0 where
     pub last : ScreenOver W
     pub end : ScriptEnd
-    pub script : RunsScript seen job input rest old.output old.log new.log last end
+    pub script : RunsScript seen is_quiet job input rest old.output old.log new.log last end
     pub output : new.output ≡ seen last.writer
     pub status_is : status ≡ status_of end
 
@@ -80,34 +104,75 @@ Prints end world log_after old new status = MatchOption end.fault
     ⊎ ((status ≡ 3) × IsNotWritten old.output new.output (picture_text world) × TriesToLog log_after new.log (last_line Log)))
     (λ fault. (status ≡ status_of end) × (new.output ≡ old.output) × (new.log ≡ log_after))
 
--- of a sink that keeps nothing
-abbrev pub nothing_seen : Seen
-nothing_seen = record { taken = None; failures = 0; flushes = 0; flushed = false }
-
 module _ {V : Type 0} (discarded : V → Seen) where
-  pub record Paints (job : Job) (input rest : SourceSeen) (old new : Outputs) (status : ℕ) : Type 0 where
+  pub record Paints (is_quiet : Bool) (job : Job) (input rest : SourceSeen) (old new : Outputs) (status : ℕ) : Type 0 where
     pub last : ScreenOver V
     pub end : ScriptEnd
     pub log_after : Seen
-    pub script : RunsScript discarded job input rest nothing_seen old.log log_after last end
+    pub script : RunsScript discarded is_quiet job input rest nothing_seen old.log log_after last end
     pub prints : Prints end (world last.desk) log_after old new status
 
--- ---- the program
+-- ---- what is asked for
 
 module _ {W V : Type 0} (seen : W → Seen) (discarded : V → Seen) where
   -- What was asked for was done.
-  abbrev pub Does : Kind → Job → SourceSeen → SourceSeen → Outputs → Outputs → ℕ → Type 0
-  Does Run job input rest old new status = Runs seen job input rest old new status
-  Does Paint job input rest old new status = Paints discarded job input rest old new status
-  Does Show job input rest old new status = Shows job input rest old new status
+  abbrev pub DoesKind : Kind → Bool → Job → SourceSeen → SourceSeen → Outputs → Outputs → ℕ → Type 0
+  DoesKind Run is_quiet job input rest old new status = Runs seen is_quiet job input rest old new status
+  DoesKind Paint is_quiet job input rest old new status = Paints discarded is_quiet job input rest old new status
+  DoesKind Show is_quiet job input rest old new status = Shows job input rest old new status
 
   -- There was no memory for the screen, and nothing was read, or it was done.
-  abbrev pub ServesJob : Job → SourceSeen → SourceSeen → Outputs → Outputs → ℕ → Type 0
-  ServesJob job input rest old new status = (LacksMemory Screen old new status × (rest ≡ input)) ⊎ Does job.kind job input rest old new status
+  abbrev pub DoesJob : Bool → Job → SourceSeen → SourceSeen → Outputs → Outputs → ℕ → Type 0
+  DoesJob is_quiet job input rest old new status =
+      (LacksMemory Screen old new status × (rest ≡ input)) ⊎ DoesKind job.kind is_quiet job input rest old new status
 
-  -- The words are refused, and nothing is read; or they ask for a job, and it was done; or for what is wrong with a script, and that is
-  -- reported.
-  abbrev pub Serves : List Text → SourceSeen → SourceSeen → Outputs → Outputs → ℕ → Type 0
-  Serves words input rest old new status =
-      (Refuses words old new status × (rest ≡ input)) ⊎ ((job : Job) × Asks words job × ServesJob job input rest old new status)
-      ⊎ (AsksCheck words × Checks input rest old new status)
+  -- A job was done; or what is wrong with a script was reported.
+  abbrev pub Does : Bool → Request → SourceSeen → SourceSeen → Outputs → Outputs → ℕ → Type 0
+  Does is_quiet (requests.Job job) input rest old new status = DoesJob is_quiet job input rest old new status
+  Does is_quiet requests.Check input rest old new status = Checks input rest old new status
+
+-- ---- files
+
+-- A status below 2 means that no write or flush of the log failed.
+abbrev pub KeepsLog : Seen → Seen → ℕ → Type 0
+KeepsLog log log_after status = status < 2 → log_after.failures ≡ log.failures
+
+-- A file is named, and can't be opened, and the log says so.
+abbrev pub IsUnopened : Option Text → Seen → Seen → ℕ → Type 0
+IsUnopened None log log_after status = ⊥
+IsUnopened (Some name) log log_after status = (fault : OpenFault) × SaysUnopened name fault log log_after status
+
+-- The source is as it was, or on the file that is named, of which nothing was read.
+abbrev pub IsOpened : (Text → SourceSeen → Type 0) → Option Text → SourceSeen → SourceSeen → Type 0
+IsOpened opens None input opened = opened ≡ input
+IsOpened opens (Some name) input opened = opens name opened × (opened.met_end ≡ false)
+
+-- The log is as it was, or on the file that is named.
+abbrev pub IsCreated : (Text → Seen → Type 0) → Option Text → Seen → Seen → Type 0
+IsCreated creates None log created = created ≡ log
+IsCreated creates (Some name) log created = creates name created
+
+module _ {W V : Type 0} (seen : W → Seen) (discarded : V → Seen) (opens : Text → SourceSeen → Type 0) where
+  -- The script that is named can't be opened, and nothing was read or sent; or it was opened, or none is named, and what
+  -- is asked for was done with what is read.
+  abbrev pub ServesScript : Invocation → SourceSeen → SourceSeen → Outputs → Outputs → ℕ → Type 0
+  ServesScript invocation input rest old new status =
+      (IsUnopened (text_of invocation.script) old.log new.log status × (new.output ≡ old.output) × (rest ≡ input))
+      ⊎ ((opened : SourceSeen) × IsOpened opens (text_of invocation.script) input opened
+      × Does seen discarded invocation.is_quiet invocation.request opened rest old new status × KeepsLog old.log new.log status)
+
+  -- The log that is named can't be made, and nothing was read or sent; or it was made, or none is named, and what is asked
+  -- for was done with the script and this log.
+  abbrev pub ServesInvocation : (Text → Seen → Type 0) → Invocation → SourceSeen → SourceSeen → Outputs → Outputs → ℕ → Type 0
+  ServesInvocation creates invocation input rest old new status =
+      (IsUnopened (text_of invocation.log) old.log new.log status × (new.output ≡ old.output) × (rest ≡ input))
+      ⊎ ((log : Seen) × IsCreated creates (text_of invocation.log) old.log log
+      × ServesScript invocation input rest (outputs old.output log) new status)
+
+  -- ---- the program
+
+  -- The words are refused, and nothing is read; or they ask for something, and it was done.
+  abbrev pub Serves : (Text → Seen → Type 0) → Sizes → List Text → SourceSeen → SourceSeen → Outputs → Outputs → ℕ → Type 0
+  Serves creates sizes words input rest old new status =
+      (Refuses sizes words old new status × (rest ≡ input) × KeepsLog old.log new.log status)
+      ⊎ ((invocation : Invocation) × Asks sizes words invocation × ServesInvocation creates invocation input rest old new status)

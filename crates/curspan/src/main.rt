@@ -3,19 +3,22 @@
 //! `serve` has `run` and `paint`; the command line and what needs no screen is in the library `commands`.
 #![tactic(auto)]
 
+mod environment;
+mod files;
+mod opening;
 mod serve;
 
-use commands::{BAD_TEXT, Need, no_memory, write_log};
-use desk::{Counted, CountedReader, Sink};
+use commands::{BAD_TEXT, Need, Variables, no_memory, write_log};
+use desk::Counted;
+use environment::variable;
+use files::{Log, Script};
+use opening::FileSink;
 use pipes::{Output, OutputLog, Patient};
 use serve::serve;
 use std::cell::Cell;
-use std::io::{BufReader, BufWriter, ErrorKind};
+use std::io::{BufWriter, ErrorKind};
 use std::process::ExitCode;
 use std::{env, io};
-
-/// How many bytes are read of standard input at once.
-const READ_AT_ONCE: usize = 4096;
 
 /// How many bytes wait before they are written to standard output. A painter's piece of more goes out as it is.
 const WRITTEN_AT_ONCE: usize = 1024;
@@ -30,12 +33,11 @@ enum Obstacle {
 
 fn main(rt: HostRuntime) -> ExitCode {
     let is_closed = Cell::new(false);
-    let mut log = Counted::new(OutputLog {
-        writer: Patient {
-            stream: rt.stderr(),
-        },
+    let stderr = OutputLog {
+        writer: rt.stderr(),
         is_closed: &is_closed,
-    });
+    };
+    let mut log = Log::new(&rt, stderr);
     let status = match run(&rt, &is_closed, &mut log) {
         Ok(status) => status,
         Err(Obstacle::NoMemory(need)) => no_memory(&mut log, need),
@@ -52,17 +54,23 @@ fn words(rt: &HostRuntime) -> io::Result<Vec<String>> {
     Ok(env::args(rt)?.collect(rt.alloc())?)
 }
 
-/// Does what the command line asks for, on the standard streams, and answers the status. It notes once nobody reads
+/// Does what the command line asks for, on the standard streams or files, and answers the status. It notes once nobody reads
 /// standard output.
-fn run<L: Sink>(rt: &HostRuntime, is_closed: &Cell<bool>, log: &mut L) -> Result<u8, Obstacle> {
+fn run<L: FileSink>(rt: &HostRuntime, is_closed: &Cell<bool>, log: &mut L) -> Result<u8, Obstacle> {
     let alloc = rt.alloc();
     let words = words(rt).map_err(|error| match error.kind() {
         ErrorKind::OutOfMemory => Obstacle::NoMemory(Need::CommandLine),
         _ => Obstacle::BadWord,
     })?;
+    let lacks_variable = |_| Obstacle::NoMemory(Need::CommandLine);
+    let lines = variable(rt, "LINES").map_err(lacks_variable)?;
+    let columns = variable(rt, "COLUMNS").map_err(lacks_variable)?;
+    let variables = Variables {
+        lines: lines.as_ref().map(|text| text.as_str()),
+        columns: columns.as_ref().map(|text| text.as_str()),
+    };
     let lacks_streams = |_| Obstacle::NoMemory(Need::Streams);
-    let input = Patient { stream: rt.stdin() };
-    let input = BufReader::with_capacity(alloc, READ_AT_ONCE, input).map_err(lacks_streams)?;
+    let mut input = Script::new(rt, rt.stdin()).map_err(lacks_streams)?;
     let out = Output {
         writer: Patient {
             stream: rt.stdout(),
@@ -73,7 +81,8 @@ fn run<L: Sink>(rt: &HostRuntime, is_closed: &Cell<bool>, log: &mut L) -> Result
     Ok(serve(
         alloc,
         words.as_slice(),
-        &mut CountedReader::new(input),
+        &variables,
+        &mut input,
         &mut Counted::new(out),
         log,
     ))

@@ -1,12 +1,12 @@
 //! Does what the command line asks for, over any reader and writers.
 
-ghost use Rattle.std.specs.Prelude.{◌≡◌, ◌<◌, ◌⊎◌, IfOk, None, Some, map};
+ghost use Rattle.std.specs.Prelude.{◌≡◌, ◌<◌, ◌⊎◌, IfOk, MatchResult, None, Some, map};
 ghost use Rattle.cell.specs.Refusals.{RefusedBy};
 ghost use Rattle.cell.specs.Shown.{no_rendition};
-ghost use Rattle.commands.specs.CommandLine.{IsSize};
+ghost use Rattle.commands.specs.CommandLine.{IsSize, sizes_of, text_of};
 ghost use Rattle.commands.specs.Printing.{printed_picture};
-ghost use Rattle.curspan.specs.steps.Painting.{PaintsScreen};
-ghost use Rattle.curspan.specs.Serving.{Paints, Runs, RunsAndLogs, Serves, nothing_seen};
+ghost use Rattle.curspan.specs.steps.Painting.{HasSize, PaintsScreen};
+ghost use Rattle.curspan.specs.Serving.{Does, DoesJob, IsCreated, IsOpened, IsUnopened, Paints, Runs, RunsAndLogs, RunsBy, RunsQuietly, Serves, ServesInvocation, ServesScript, nothing_seen};
 ghost use Rattle.commands.specs.Statuses.{LacksMemory};
 ghost use Rattle.commands.specs.declared.status.Need.{Need};
 ghost use Rattle.commands.specs.Written.{WritingEnds, outputs};
@@ -18,10 +18,11 @@ ghost use Rattle.world.specs.calls.Dispatch.{world_after};
 ghost use Rattle.world.specs.declared.call.Call.{Call};
 ghost use Rattle.world.specs.declared.call.Refresh.{Refresh};
 
+use crate::opening::{FileSink, FileSource};
 use cell::Rendition;
 use commands::{
-    Job, Kind, Need, Request, check_script, job, log_failure, log_fault, no_memory, print,
-    show_stream, status_of, usage,
+    Invocation, Job, Kind, Need, Request, Variables, check_script, job, log_failure, log_fault,
+    log_unopened, no_memory, print, show_stream, status_of, usage,
 };
 use desk::{
     Call, Calls, Desk, Refusal, Screen, ScriptEnd, ScriptFault, Sink, Source, VirtualScreen,
@@ -56,9 +57,45 @@ fn run_and_log<W: Sink, R: Source, L: Sink>(
     end
 }
 
+/// The same, but for what the calls answer: that is thrown away.
+fn run_quietly<W: Sink, R: Source, L: Sink>(
+    screen: &mut Screen<W>,
+    input: &mut R,
+    log: &mut L,
+) -> ScriptEnd
+    ensures ran { RunsQuietly W.seen screen.old screen.new (R.seen input.old) (R.seen input.new) (L.seen log.old) (L.seen log.new) result }
+    ensures log { result.fault ≡ None → (L.seen log.new).failures ≡ (L.seen log.old).failures }
+    ensures same { W.name screen.new.writer ≡ W.name screen.old.writer }
+{
+    let mut answers = Discard::new();
+    let end = screen.run_script(input, &mut answers);
+    log_fault(log, end.fault);
+    end
+}
+
+/// Runs a script on a screen, and writes to the log what the calls answer, unless it is to be quiet, and the fault that
+/// ended the script.
+fn run_script<W: Sink, R: Source, L: Sink>(
+    is_quiet: bool,
+    screen: &mut Screen<W>,
+    input: &mut R,
+    log: &mut L,
+) -> ScriptEnd
+    ensures ran { RunsBy is_quiet W.seen screen.old screen.new (R.seen input.old) (R.seen input.new) (L.seen log.old) (L.seen log.new) result }
+    ensures log { result.fault ≡ None → (L.seen log.new).failures ≡ (L.seen log.old).failures }
+    ensures same { W.name screen.new.writer ≡ W.name screen.old.writer }
+{
+    if is_quiet {
+        run_quietly(screen, input, log)
+    } else {
+        run_and_log(screen, input, log)
+    }
+}
+
 /// Runs a script on a screen of the job's size over the output, and answers the status.
 fn run<'a, R: Source, O: Sink, L: Sink>(
     alloc: Global,
+    is_quiet: bool,
     job: Job,
     input: &mut R,
     out: &'a mut O,
@@ -67,7 +104,7 @@ fn run<'a, R: Source, O: Sink, L: Sink>(
     requires { IsSize job.lines × IsSize job.cols }
     ensures ran { (LacksMemory Need.Screen (outputs (O.seen out.old) (L.seen log.old)) (outputs (O.seen out.new) (L.seen log.new)) result ×
         (R.seen input.new ≡ R.seen input.old))
-        ⊎ Runs ⟦<&'a mut O as Sink>⟧.seen job (R.seen input.old) (R.seen input.new) (outputs (O.seen out.old) (L.seen log.old))
+        ⊎ Runs ⟦<&'a mut O as Sink>⟧.seen is_quiet job (R.seen input.old) (R.seen input.new) (outputs (O.seen out.old) (L.seen log.old))
         (outputs (O.seen out.new) (L.seen log.new)) result }
     ensures log { result < 2 → (L.seen log.new).failures ≡ (L.seen log.old).failures }
 {
@@ -75,7 +112,7 @@ fn run<'a, R: Source, O: Sink, L: Sink>(
         Ok(screen) => screen.with_writer(out),
         Err(_) => return no_memory(log, Need::Screen),
     };
-    let end = run_and_log(&mut screen, input, log);
+    let end = run_script(is_quiet, &mut screen, input, log);
     // Taken apart, so that the proof knows the output again: it has what the screen sent.
     screen.into_writer();
     status_of(end)
@@ -99,16 +136,17 @@ fn print_desk<O: Sink>(out: &mut O, desk: &Desk) -> bool
 
 /// Runs a script on a screen, prints the picture that it leaves, and answers the status.
 fn paint_screen<R: Source, O: Sink, L: Sink>(
+    is_quiet: bool,
     screen: &mut Screen<Discard>,
     input: &mut R,
     out: &mut O,
     log: &mut L,
 ) -> u8
-    ensures painted { PaintsScreen ⟦<Discard as Sink>⟧.seen screen.old (R.seen input.old) (R.seen input.new)
+    ensures painted { PaintsScreen ⟦<Discard as Sink>⟧.seen is_quiet screen.old (R.seen input.old) (R.seen input.new)
         (outputs (O.seen out.old) (L.seen log.old)) (outputs (O.seen out.new) (L.seen log.new)) result }
     ensures log { result < 2 → (L.seen log.new).failures ≡ (L.seen log.old).failures }
 {
-    let end = run_and_log(screen, input, log);
+    let end = run_script(is_quiet, screen, input, log);
     if end.fault.is_some() {
         return status_of(end);
     }
@@ -123,6 +161,7 @@ fn paint_screen<R: Source, O: Sink, L: Sink>(
 /// Runs a script on a screen of the job's size, prints the picture that it leaves, and answers the status.
 fn paint<R: Source, O: Sink, L: Sink>(
     alloc: Global,
+    is_quiet: bool,
     job: Job,
     input: &mut R,
     out: &mut O,
@@ -131,7 +170,7 @@ fn paint<R: Source, O: Sink, L: Sink>(
     requires { IsSize job.lines × IsSize job.cols }
     ensures painted { (LacksMemory Need.Screen (outputs (O.seen out.old) (L.seen log.old)) (outputs (O.seen out.new) (L.seen log.new)) result ×
         (R.seen input.new ≡ R.seen input.old))
-        ⊎ Paints ⟦<Discard as Sink>⟧.seen job (R.seen input.old) (R.seen input.new) (outputs (O.seen out.old) (L.seen log.old))
+        ⊎ Paints ⟦<Discard as Sink>⟧.seen is_quiet job (R.seen input.old) (R.seen input.new) (outputs (O.seen out.old) (L.seen log.old))
         (outputs (O.seen out.new) (L.seen log.new)) result }
     ensures log { result < 2 → (L.seen log.new).failures ≡ (L.seen log.old).failures }
 {
@@ -139,34 +178,152 @@ fn paint<R: Source, O: Sink, L: Sink>(
         Ok(screen) => screen,
         Err(_) => return no_memory(log, Need::Screen),
     };
-    let status = paint_screen(&mut screen, input, out, log);
+    let status = paint_screen(is_quiet, &mut screen, input, out, log);
     // Taken apart, since no clause says what a drop would do.
     let _ = screen.into_writer();
     status
 }
 
-/// Does what the words ask for, and answers the status. Where clap refuses the words, nothing is read, and help is on the
-/// output, with status 0, or a usage fault on the log, with status 2. Else the status is that of how the script ended, 3
-/// where its picture can't be written, or 4 where there is no memory. The first word is the program's name. A status below
-/// 2 means that no write or flush of the log failed.
-pub fn serve<'a, S: AsStr, R: Source, O: Sink, L: Sink>(
+/// Does what is asked for with a screen, and answers the status.
+fn do_job<'a, R: Source, O: Sink, L: Sink>(
     alloc: Global,
-    words: &[S],
+    is_quiet: bool,
+    job: Job,
     input: &mut R,
     out: &'a mut O,
     log: &mut L,
 ) -> u8
-    ensures served { Serves ⟦<&'a mut O as Sink>⟧.seen ⟦<Discard as Sink>⟧.seen (map S.text words.now) (R.seen input.old) (R.seen input.new)
+    requires { IsSize job.lines × IsSize job.cols }
+    ensures done { DoesJob ⟦<&'a mut O as Sink>⟧.seen ⟦<Discard as Sink>⟧.seen is_quiet job (R.seen input.old) (R.seen input.new)
         (outputs (O.seen out.old) (L.seen log.old)) (outputs (O.seen out.new) (L.seen log.new)) result }
     ensures log { result < 2 → (L.seen log.new).failures ≡ (L.seen log.old).failures }
 {
-    match job(alloc, words) {
-        Ok(Request::Check) => check_script(input, out, log),
-        Ok(Request::Job(job)) => match job.kind {
-            Kind::Run => run(alloc, job, input, out, log),
-            Kind::Paint => paint(alloc, job, input, out, log),
-            Kind::Show => show_stream(alloc, job, input, out, log),
-        },
+    match job.kind {
+        Kind::Run => run(alloc, is_quiet, job, input, out, log),
+        Kind::Paint => paint(alloc, is_quiet, job, input, out, log),
+        Kind::Show => show_stream(alloc, job, input, out, log),
+    }
+}
+
+/// Does what is asked for, and answers the status.
+fn perform<'a, R: Source, O: Sink, L: Sink>(
+    alloc: Global,
+    is_quiet: bool,
+    request: Request,
+    input: &mut R,
+    out: &'a mut O,
+    log: &mut L,
+) -> u8
+    requires { HasSize request }
+    ensures done { Does ⟦<&'a mut O as Sink>⟧.seen ⟦<Discard as Sink>⟧.seen is_quiet request (R.seen input.old) (R.seen input.new)
+        (outputs (O.seen out.old) (L.seen log.old)) (outputs (O.seen out.new) (L.seen log.new)) result }
+    ensures log { result < 2 → (L.seen log.new).failures ≡ (L.seen log.old).failures }
+{
+    match request {
+        Request::Check => check_script(input, out, log),
+        Request::Job(job) => do_job(alloc, is_quiet, job, input, out, log),
+    }
+}
+
+/// Goes on with the file that is named, if one is. Where it can't be opened, the log says so, and the status is
+/// answered.
+fn open_script<R: FileSource, L: Sink>(
+    name: Option<&str>,
+    input: &mut R,
+    log: &mut L,
+) -> Result<(), u8>
+    ensures { MatchResult result
+        (λ _. (log.new ≡ log.old) × IsOpened (R.opens input.old) (text_of name.entry) (R.seen input.old) (R.seen input.new))
+        (λ status. (R.seen input.new ≡ R.seen input.old) × IsUnopened (text_of name.entry) (L.seen log.old) (L.seen log.new) status) }
+{
+    let Some(name) = name else {
+        return Ok(());
+    };
+    match input.open(name) {
+        Ok(()) => Ok(()),
+        Err(fault) => Err(log_unopened(log, name, fault)),
+    }
+}
+
+/// Goes on with the log that is named, if one is. Where it can't be made, the log that is there says so, and the status
+/// is answered.
+fn open_log<L: FileSink>(name: Option<&str>, log: &mut L) -> Result<(), u8>
+    ensures { MatchResult result
+        (λ _. IsCreated (L.creates log.old) (text_of name.entry) (L.seen log.old) (L.seen log.new))
+        (λ status. IsUnopened (text_of name.entry) (L.seen log.old) (L.seen log.new) status) }
+{
+    let Some(name) = name else {
+        return Ok(());
+    };
+    match log.create(name) {
+        Ok(()) => Ok(()),
+        Err(fault) => Err(log_unopened(log, name, fault)),
+    }
+}
+
+/// Reads the script that is named, and does with it what is asked for, and answers the status.
+fn perform_on_script<'a, R: FileSource, O: Sink, L: Sink>(
+    alloc: Global,
+    invocation: &Invocation<'_>,
+    input: &mut R,
+    out: &'a mut O,
+    log: &mut L,
+) -> u8
+    requires { HasSize invocation.now.request }
+    ensures { ServesScript ⟦<&'a mut O as Sink>⟧.seen ⟦<Discard as Sink>⟧.seen (R.opens input.old) invocation.now (R.seen input.old) (R.seen input.new)
+        (outputs (O.seen out.old) (L.seen log.old)) (outputs (O.seen out.new) (L.seen log.new)) result }
+{
+    match open_script(invocation.script, input, log) {
+        Ok(()) => perform(
+            alloc,
+            invocation.is_quiet,
+            invocation.request,
+            input,
+            out,
+            log,
+        ),
+        Err(status) => status,
+    }
+}
+
+/// Opens the log that is named, reads the script, does with it what is asked for, and answers the status.
+fn perform_invocation<'a, R: FileSource, O: Sink, L: FileSink>(
+    alloc: Global,
+    invocation: &Invocation<'_>,
+    input: &mut R,
+    out: &'a mut O,
+    log: &mut L,
+) -> u8
+    requires { HasSize invocation.now.request }
+    ensures { ServesInvocation ⟦<&'a mut O as Sink>⟧.seen ⟦<Discard as Sink>⟧.seen (R.opens input.old) (L.creates log.old) invocation.now
+        (R.seen input.old) (R.seen input.new)
+        (outputs (O.seen out.old) (L.seen log.old)) (outputs (O.seen out.new) (L.seen log.new)) result }
+{
+    match open_log(invocation.log, log) {
+        Ok(()) => perform_on_script(alloc, invocation, input, out, log),
+        Err(status) => status,
+    }
+}
+
+/// Does what the words ask for, and answers the status. Where they are refused, nothing is read, and help is on the
+/// output, with status 0, or a usage fault on the log, with status 2. Else the log and the script that are named are
+/// opened, in that order; where one can't be, the log says so, nothing is read or drawn, and the status is 3, or 4 for
+/// want of memory. Else the status is that of how the script ended, 3 where its picture can't be written, or 4 where there
+/// is no memory. The first word is the program's name. A status below 2 means that no write or flush of the log failed.
+pub fn serve<'a, S: AsStr, R: FileSource, O: Sink, L: FileSink>(
+    alloc: Global,
+    words: &[S],
+    variables: &Variables<'_>,
+    input: &mut R,
+    out: &'a mut O,
+    log: &mut L,
+) -> u8
+    ensures served { Serves ⟦<&'a mut O as Sink>⟧.seen ⟦<Discard as Sink>⟧.seen (R.opens input.old) (L.creates log.old)
+        (sizes_of variables.now) (map S.text words.now) (R.seen input.old) (R.seen input.new)
+        (outputs (O.seen out.old) (L.seen log.old)) (outputs (O.seen out.new) (L.seen log.new)) result }
+{
+    match job(alloc, words, variables) {
+        Ok(invocation) => perform_invocation(alloc, &invocation, input, out, log),
         Err(error) => usage(alloc, &error, out, log),
     }
 }

@@ -1,17 +1,25 @@
--- What `paint` does on a screen that is there.
-use Rattle.std.specs.Prelude.{ℕ}
+-- What `paint` does on a screen that is there, and what is asked for with a size of a screen.
+use Rattle.std.specs.Prelude.{ℕ, Bool, ⊤}
 use Rattle.streams.specs.Sinks.{Seen}
 use Rattle.streams.specs.Sources.{SourceSeen}
 use Rattle.script.specs.declared.fault.ScriptEnd.{ScriptEnd}
 use Rattle.compose.specs.Desks.{world}
 use Rattle.desk.specs.States.{ScreenOver}
+use Rattle.commands.specs.CommandLine.{IsSize}
 use Rattle.commands.specs.Written.{Outputs}
-use Rattle.curspan.specs.Serving.{Prints, RunsAndLogs}
+use Rattle.commands.specs.declared.requests.Request.{Request}
+use Rattle.commands.specs.declared.requests.Request.TheVariants as requests
+use Rattle.curspan.specs.Serving.{Prints, RunsBy}
+
+-- A job has a size that a screen may have.
+abbrev pub HasSize : Request → Type 0
+HasSize (requests.Job job) = IsSize job.lines × IsSize job.cols
+HasSize requests.Check = ⊤
 
 module _ {V : Type 0} (discarded : V → Seen) where
-  pub record PaintsScreen (first : ScreenOver V) (input rest : SourceSeen) (old new : Outputs) (status : ℕ) : Type 0 where
+  pub record PaintsScreen (is_quiet : Bool) (first : ScreenOver V) (input rest : SourceSeen) (old new : Outputs) (status : ℕ) : Type 0 where
     pub last : ScreenOver V
     pub end : ScriptEnd
     pub log_after : Seen
-    pub runs : RunsAndLogs discarded first last input rest old.log log_after end
+    pub runs : RunsBy is_quiet discarded first last input rest old.log log_after end
     pub prints : Prints end (world last.desk) log_after old new status

@@ -10,37 +10,37 @@ use Rattle.curspan.proofs.serve.paint_screen.Goals as goal
 
 pub returns-else-print_desk-clause-painted : goal.returns-else-print_desk-clause-painted
 returns-else-print_desk-clause-painted g c =
-    let fault : is_some c.run_and_log-end.result.fault ≡ false = sym c.is_some.ensures ∙ c.if-is_some.false in
+    let fault : is_some c.run_script-end.result.fault ≡ false = sym c.is_some.ensures ∙ c.if-is_some.false in
     let text = ap (λ (w : World). printed_picture w.virtual.picture (Some w.virtual.cursor) no_rendition) c.take_picture.ensures in
     let not_written = subst (IsNotWritten (g.O.Sink.seen c.args.out.now) (g.O.Sink.seen c.print_desk.new.out)) text (rw (c.desk.ensures, c.if-print_desk.false) at c.print_desk.ensures) in
     record {
-      last = c.run_and_log-end.new.screen;
-      end = c.run_and_log-end.result;
-      log_after = g.L.Sink.seen c.run_and_log-end.new.log;
-      runs = c.run_and_log-end.ensures.ran;
+      last = c.run_script-end.new.screen;
+      end = c.run_script-end.result;
+      log_after = g.L.Sink.seen c.run_script-end.new.log;
+      runs = c.run_script-end.ensures.ran;
       prints = without _ _ fault (inr (c.log_failure.ensures.status, not_written, c.log_failure.ensures.logs));
     }
 
 pub returns-then-print_desk-clause-painted : goal.returns-then-print_desk-clause-painted
 returns-then-print_desk-clause-painted g c =
-    let fault : is_some c.run_and_log-end.result.fault ≡ false = sym c.is_some.ensures ∙ c.if-is_some.false in
+    let fault : is_some c.run_script-end.result.fault ≡ false = sym c.is_some.ensures ∙ c.if-is_some.false in
     let text = ap (λ (w : World). printed_picture w.virtual.picture (Some w.virtual.cursor) no_rendition) c.take_picture.ensures in
     let written = subst (IsWritten (g.O.Sink.seen c.args.out.now) (g.O.Sink.seen c.print_desk.new.out)) text (rw (c.desk.ensures, c.if-print_desk.true) at c.print_desk.ensures) in
     record {
-      last = c.run_and_log-end.new.screen;
-      end = c.run_and_log-end.result;
-      log_after = g.L.Sink.seen c.run_and_log-end.new.log;
-      runs = c.run_and_log-end.ensures.ran;
+      last = c.run_script-end.new.screen;
+      end = c.run_script-end.result;
+      log_after = g.L.Sink.seen c.run_script-end.new.log;
+      runs = c.run_script-end.ensures.ran;
       prints = without _ _ fault (inl (c.status_of-then-print_desk.ensures.status, written, refl));
     }
 
 pub returns-then-is_some-clause-painted : goal.returns-then-is_some-clause-painted
 returns-then-is_some-clause-painted g c =
-    let fault : is_some c.run_and_log-end.result.fault ≡ true = sym c.is_some.ensures ∙ c.if-is_some.true in
+    let fault : is_some c.run_script-end.result.fault ≡ true = sym c.is_some.ensures ∙ c.if-is_some.true in
     record {
-      last = c.run_and_log-end.new.screen;
-      end = c.run_and_log-end.result;
-      log_after = g.L.Sink.seen c.run_and_log-end.new.log;
-      runs = c.run_and_log-end.ensures.ran;
+      last = c.run_script-end.new.screen;
+      end = c.run_script-end.result;
+      log_after = g.L.Sink.seen c.run_script-end.new.log;
+      runs = c.run_script-end.ensures.ran;
       prints = of-some _ _ _ fault (λ _. (c.status_of.ensures.status, refl, refl));
     }

@@ -1,7 +1,7 @@
 use Rattle.std.specs.Str.Parse.{ExplainsUnsignedError, HasUnsignedDigitsIfOk, ParsesUnsigned}
 use Rattle.clap.specs.Words.{found_of}
 use Rattle.commands.proofs.JobLemmas.{number_read}
-use Rattle.commands.proofs.command.number.Goals as goal
+use Rattle.commands.proofs.sizes.number.Goals as goal
 
 pub returns : goal.returns
 returns c =

@@ -1,0 +1,155 @@
+//! The script and the log of the program: standard streams, or files of the system.
+
+ghost use Rattle.std.specs.Prelude.{◌≡◌, IfOk, false};
+
+use crate::opening::{FileSink, FileSource};
+use commands::OpenFault;
+use desk::{Counted, CountedReader, Sink, Source};
+use pipes::Patient;
+use std::fs::File;
+use std::io;
+use std::io::{BufReader, ErrorKind, Read, Write};
+
+/// How many bytes are read at once.
+const READ_AT_ONCE: usize = 4096;
+
+/// A standard stream, or the file that took its place.
+#[derive(Drop)]
+enum Place<S> {
+    Standard(S),
+    File(File),
+}
+
+impl<S: Read> Read for Place<S> {
+    fn read(&mut self, buffer: &mut [u8]) -> io::Result<usize> {
+        match self {
+            Place::Standard(stream) => stream.read(buffer),
+            Place::File(file) => file.read(buffer),
+        }
+    }
+}
+
+impl<S: Write> Write for Place<S> {
+    fn write(&mut self, piece: &[u8]) -> io::Result<usize> {
+        match self {
+            Place::Standard(stream) => stream.write(piece),
+            Place::File(file) => file.write(piece),
+        }
+    }
+
+    fn flush(&mut self) -> io::Result<()> {
+        match self {
+            Place::Standard(stream) => stream.flush(),
+            Place::File(file) => file.flush(),
+        }
+    }
+}
+
+/// Why a file of the system can't be opened.
+fn open_fault(error: io::Error) -> OpenFault {
+    match error.kind() {
+        ErrorKind::NotFound => OpenFault::Missing,
+        ErrorKind::PermissionDenied => OpenFault::Denied,
+        ErrorKind::IsADirectory => OpenFault::Folder,
+        ErrorKind::OutOfMemory => OpenFault::NoMemory,
+        _ => OpenFault::Refused,
+    }
+}
+
+/// Opens a file to be read, which is no folder.
+fn open_to_read(rt: &HostRuntime, name: &str) -> io::Result<File> {
+    let file = File::open(rt, name)?;
+    if file.metadata()?.is_dir() {
+        return Err(io::Error::from(ErrorKind::IsADirectory));
+    }
+    Ok(file)
+}
+
+/// The script or the stream that the program reads.
+#[derive(Drop)]
+pub struct Script<'a, S> {
+    rt: &'a HostRuntime,
+    reader: CountedReader<BufReader<Patient<Place<S>>>>,
+}
+
+impl<'a, S: Read + Drop> Script<'a, S> {
+    /// A script on a standard stream. An error says that there is no memory for its buffer.
+    pub fn new(rt: &'a HostRuntime, stream: S) -> io::Result<Script<'a, S>> {
+        let reader = reader_of(rt, Place::Standard(stream))?;
+        Ok(Script { rt, reader })
+    }
+}
+
+/// A reader with a buffer.
+fn reader_of<S: Read + Drop>(
+    rt: &HostRuntime,
+    place: Place<S>,
+) -> io::Result<CountedReader<BufReader<Patient<Place<S>>>>>
+    ensures { IfOk result (λ reader. (⟦<CountedReader<BufReader<Patient<Place<S>>>> as Source>⟧.seen reader).met_end ≡ false) }
+{
+    let place = Patient { stream: place };
+    Ok(CountedReader::new(BufReader::with_capacity(rt.alloc(), READ_AT_ONCE, place)?))
+}
+
+impl<S: Read + Drop> Source for Script<'_, S> {
+    ghost seen = { λ s. ⟦<CountedReader<BufReader<Patient<Place<S>>>> as Source>⟧.seen s.reader };
+
+    fn read(&mut self, buffer: &mut [u8]) -> io::Result<usize> {
+        self.reader.read(buffer)
+    }
+}
+
+impl<S: Read + Drop> FileSource for Script<'_, S> {
+    // nothing is known of what a file holds
+    ghost opens = { λ s name seen. Unit {0} };
+
+    fn open(&mut self, name: &str) -> Result<(), OpenFault> {
+        let file = open_to_read(self.rt, name).map_err(open_fault)?;
+        self.reader = reader_of(self.rt, Place::File(file)).map_err(open_fault)?;
+        Ok(())
+    }
+}
+
+/// The log of the program.
+#[derive(Drop)]
+pub struct Log<'a, S> {
+    rt: &'a HostRuntime,
+    writer: Counted<Patient<Place<S>>>,
+}
+
+impl<'a, S: Write + Drop> Log<'a, S> {
+    /// A log on a standard stream.
+    pub fn new(rt: &'a HostRuntime, stream: S) -> Log<'a, S> {
+        Log {
+            rt,
+            writer: Counted::new(Patient {
+                stream: Place::Standard(stream),
+            }),
+        }
+    }
+}
+
+impl<S: Write + Drop> Sink for Log<'_, S> {
+    ghost seen = { λ s. ⟦<Counted<Patient<Place<S>>> as Sink>⟧.seen s.writer };
+
+    fn write(&mut self, piece: &[u8]) -> io::Result<usize> {
+        self.writer.write(piece)
+    }
+
+    fn flush(&mut self) -> io::Result<()> {
+        self.writer.flush()
+    }
+}
+
+impl<S: Write + Drop> FileSink for Log<'_, S> {
+    // nothing is known of what a file holds
+    ghost creates = { λ s name seen. Unit {0} };
+
+    fn create(&mut self, name: &str) -> Result<(), OpenFault> {
+        let file = File::create(self.rt, name).map_err(open_fault)?;
+        self.writer = Counted::new(Patient {
+            stream: Place::File(file),
+        });
+        Ok(())
+    }
+}
