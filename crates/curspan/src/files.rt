@@ -74,7 +74,9 @@ pub struct Script<'a, S> {
 
 impl<'a, S: Read + Drop> Script<'a, S> {
     /// A script on a standard stream. An error says that there is no memory for its buffer.
-    pub fn new(rt: &'a HostRuntime, stream: S) -> io::Result<Script<'a, S>> {
+    pub fn new(rt: &'a HostRuntime, stream: S) -> io::Result<Script<'a, S>>
+        ensures { IfOk result (λ script. (⟦<Script<'a, S> as Source>⟧.seen script).met_end ≡ false) }
+    {
         let reader = reader_of(rt, Place::Standard(stream))?;
         Ok(Script { rt, reader })
     }
@@ -119,7 +121,9 @@ pub struct Log<'a, S> {
 
 impl<'a, S: Write + Drop> Log<'a, S> {
     /// A log on a standard stream.
-    pub fn new(rt: &'a HostRuntime, stream: S) -> Log<'a, S> {
+    pub fn new(rt: &'a HostRuntime, stream: S) -> Log<'a, S>
+        ensures { (⟦<Log<'a, S> as Sink>⟧.seen result).failures ≡ 0 }
+    {
         Log {
             rt,
             writer: Counted::new(Patient {
