@@ -13,18 +13,36 @@ use std::io::{BufReader, ErrorKind, Read, Write};
 /// How many bytes are read at once.
 const READ_AT_ONCE: usize = 4096;
 
+/// A file that was named. Beside it folders are open: where a standard stream is closed, one of them has its number, and not the file, so
+/// that reads and writes of that stream still fail.
+#[derive(Drop)]
+struct Named {
+    file: File,
+    folders: [Option<File>; 3],
+}
+
+/// A folder, unless it can't be opened.
+fn folder(rt: &HostRuntime) -> Option<File> {
+    File::open(rt, "/").ok()
+}
+
+/// As many folders as there are standard streams. They are opened before a file is.
+fn folders(rt: &HostRuntime) -> [Option<File>; 3] {
+    [folder(rt), folder(rt), folder(rt)]
+}
+
 /// A standard stream, or the file that took its place.
 #[derive(Drop)]
 enum Place<S> {
     Standard(S),
-    File(File),
+    File(Named),
 }
 
 impl<S: Read> Read for Place<S> {
     fn read(&mut self, buffer: &mut [u8]) -> io::Result<usize> {
         match self {
             Place::Standard(stream) => stream.read(buffer),
-            Place::File(file) => file.read(buffer),
+            Place::File(named) => named.file.read(buffer),
         }
     }
 }
@@ -33,14 +51,14 @@ impl<S: Write> Write for Place<S> {
     fn write(&mut self, piece: &[u8]) -> io::Result<usize> {
         match self {
             Place::Standard(stream) => stream.write(piece),
-            Place::File(file) => file.write(piece),
+            Place::File(named) => named.file.write(piece),
         }
     }
 
     fn flush(&mut self) -> io::Result<()> {
         match self {
             Place::Standard(stream) => stream.flush(),
-            Place::File(file) => file.flush(),
+            Place::File(named) => named.file.flush(),
         }
     }
 }
@@ -106,8 +124,10 @@ impl<S: Read + Drop> FileSource for Script<'_, S> {
     ghost opens = { λ s name seen. Unit {0} };
 
     fn open(&mut self, name: &str) -> Result<(), OpenFault> {
+        let folders = folders(self.rt);
         let file = open_to_read(self.rt, name).map_err(open_fault)?;
-        self.reader = reader_of(self.rt, Place::File(file)).map_err(open_fault)?;
+        let named = Named { file, folders };
+        self.reader = reader_of(self.rt, Place::File(named)).map_err(open_fault)?;
         Ok(())
     }
 }
@@ -150,9 +170,11 @@ impl<S: Write + Drop> FileSink for Log<'_, S> {
     ghost creates = { λ s name seen. Unit {0} };
 
     fn create(&mut self, name: &str) -> Result<(), OpenFault> {
+        let folders = folders(self.rt);
         let file = File::create(self.rt, name).map_err(open_fault)?;
+        let named = Named { file, folders };
         self.writer = Counted::new(Patient {
-            stream: Place::File(file),
+            stream: Place::File(named),
         });
         Ok(())
     }
