@@ -30,14 +30,15 @@ def failed_line(script, log):
 
 def is_failed_run(program, script, came, limit):
     """Of a run of which so many bytes went out: they are the first ones, and the failure is reported of the doupdate that has the next. It
-    counts these bytes, or as far as the last piece goes of which the buffer before standard output had taken the end, with all before it."""
+    counts these bytes, or as far as the pieces go that the buffer before standard output had taken: to the end of the write that fails, or to
+    that of the text."""
     want('the status where a write failed', 3, came.status)
     number, taken = failed_line(script, came.log)
     start, end = len(sent_before(program, script, number)), len(sent_before(program, script, number + 1))
     want_that(f'the write that fails is that of byte {limit}', start <= limit < end, (number, start, end))
     gone = limit - start
     ends = [at for at in program.ends_of_writes(script.words('run'), script.text) if limit < at <= min(end, limit + BUFFERED)]
-    counts = [gone, *(at - start for at in ends[-1:])]
+    counts = [gone, *(at - start for at in ends[:1] + ends[-1:])]
     want_that(f'as many bytes of the doupdate were taken as one of {counts}', taken in counts, taken)
 
 
