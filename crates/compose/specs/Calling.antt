@@ -7,6 +7,7 @@ use Rattle.world.specs.calls.Dispatch.{refusal, reply_of, takes_memory, world_af
 use Rattle.cell.specs.Differences.{difference}
 use Rattle.cell.specs.declared.refusal.Refusal.{Refusal}
 use Rattle.cell.specs.declared.refusal.Refusal.TheVariants.{NoMemory}
+use Rattle.extents.specs.Extents.{AddsChanges}
 use Rattle.compose.specs.Desks.{DeskTable, is_damaged_line, world}
 use Rattle.world.specs.declared.call.Call.{Call}
 use Rattle.world.specs.declared.call.Call.TheVariants as calls
@@ -48,7 +49,8 @@ abbrev pub CountsReads : DeskTable → Call → Reply → DeskTable → Type 0
 CountsReads old (calls.Refresh UpdatePanels) reply new = new.cells_read ≡ (old.cells_read + cells_of_reply reply) % 2 ^ 64
 CountsReads old call reply new = new.cells_read ≡ old.cells_read
 
--- The call, which sends nothing, was made on a desk, and leaves it sound. A refused one changed nothing.
+-- The call, which sends nothing, was made on a desk, and leaves it sound. What it changed on the virtual screen is among the changes. A
+-- refused one changed nothing.
 abbrev pub Called : DeskTable → Call → Result Reply Refusal → DeskTable → Type 0
 Called old call (Ok reply) new =
     (refusal (world old) call ≡ None)
@@ -57,4 +59,5 @@ Called old call (Ok reply) new =
     × DamagesFew old call new
     × IsSound (world new)
     × CountsReads old call reply new
+    × AddsChanges old.changes old.virtual.picture new.changes new.virtual.picture
 Called old call (Err e) new = MayRefuse (world old) call e × (new ≡ old)

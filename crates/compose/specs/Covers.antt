@@ -1,5 +1,5 @@
--- What always holds of a desk: its world is sound, and its damage covers each place at which the virtual screen shows something else than
--- the search from the top finds.
+-- What always holds of a desk: its world is sound, its damage covers each place at which the virtual screen shows something else than the
+-- search from the top finds, and it keeps the changes of each line.
 use Rattle.std.specs.Prelude.{◌≡◌, ℕ, ◌<◌, false, length}
 use Rattle.cell.specs.Pictures.{shown_at}
 use Rattle.world.specs.Sound.{AreColumnsWithin, IsSound}
@@ -15,3 +15,4 @@ pub record IsCovered (t : DeskTable) : Type 0 where
 pub record IsDesk (t : DeskTable) : Type 0 where
   pub sound : IsSound (world t)
   pub covered : IsCovered t
+  pub changes : length t.changes ≡ t.windows.lines

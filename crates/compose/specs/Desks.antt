@@ -6,15 +6,16 @@ use Rattle.world.specs.World.{World}
 use Rattle.world.specs.declared.settings.Columns.{Columns}
 use Rattle.grids.specs.Tables.{WindowTable, windows}
 use Rattle.stack.specs.Tables.{PanelTable, panels}
-use Rattle.picture.specs.Damages.{columns_of, has_damage, has_damage_at}
+use Rattle.extents.specs.Extents.{columns_of, has_columns, is_among}
 
--- the table of windows, the panels, the colour pairs, the virtual screen, of each line of the screen the columns that are damaged, and how
--- many cells of windows update_panels has read, modulo 2^64
+-- the table of windows, the panels, the colour pairs, the virtual screen, of each line of the screen the columns in which that changed since
+-- it was last taken, and the columns that are damaged, and how many cells of windows update_panels has read, modulo 2^64
 pub record DeskTable : Type 0 where
   pub windows : WindowTable
   pub panels : PanelTable
   pub pairs : Pairs
   pub virtual : VirtualScreen
+  pub changes : List (Option Columns)
   pub damage : List (Option Columns)
   pub cells_read : ℕ
 
@@ -28,7 +29,7 @@ abbrev pub damaged_columns : DeskTable → ℕ → Option Columns
 damaged_columns t y = columns_of t.damage y
 
 abbrev pub is_damaged_line : DeskTable → ℕ → Bool
-is_damaged_line t y = has_damage t.damage y
+is_damaged_line t y = has_columns t.damage y
 
 abbrev pub is_damaged_at : DeskTable → ℕ → ℕ → Bool
-is_damaged_at t y x = has_damage_at t.damage y x
+is_damaged_at t y x = is_among t.damage y x

@@ -8,13 +8,16 @@ ghost use Rattle.world.specs.Effects.{asks_for_clear, with_unmarked};
 ghost use Rattle.world.specs.Panels.{cursor_of_topmost, found_from_top, standard_screen, windows_from_top};
 ghost use Rattle.grids.specs.Tables.{windows as windows_of};
 ghost use Rattle.stack.specs.Tables.{panels};
-ghost use Rattle.picture.specs.Damages.{cells_above, columns_of};
+ghost use Rattle.extents.specs.Extents.{AddsChanges, columns_of};
+ghost use Rattle.picture.specs.Damages.{cells_above};
 ghost use Rattle.picture.specs.Repairs.{IsRepairable};
 
 use crate::marks::{clear_asked, unmark_composed};
-use cell::{Grid, Pairs, Shown};
+use crate::virtual_picture::VirtualPicture;
+use cell::Pairs;
 use grids::Grids;
-use picture::{Damage, Owners, TableRows, show_damaged, wanted_cursor};
+use extents::Extents;
+use picture::{Owners, TableRows, show_damaged, wanted_cursor};
 use stack::Stack;
 
 /// A table of windows, and how many of their cells were read, modulo 2^64. Only what is here has the table: all else reads cells by
@@ -42,29 +45,40 @@ impl<'a> CountedWindows<'a> {
         self.cells
     }
 
-    /// Puts what a search from the top finds at each damaged place into a picture, and clears the damage. It answers how many cells it
-    /// read, and counts them.
+    /// Puts what a search from the top finds at each damaged place into a virtual picture, and clears the damage. It answers how many
+    /// cells it read, and counts them.
     pub(crate) fn show_damaged(
         &mut self,
         stack: &Stack,
         pairs: &Pairs,
         owners: &mut Owners,
-        damage: &mut Damage,
-        picture: &mut Grid<Shown>,
+        damage: &mut Extents,
+        picture: &mut VirtualPicture,
     ) -> u32
-        requires { IsRepairable (windows_of self.old.table.now) (panels stack.now) pairs.now damage.old picture.old }
-        ensures shown { picture.new ≡ picture_of self.old.table.now.lines self.old.table.now.columns
+        requires repairable { IsRepairable (windows_of self.old.table.now) (panels stack.now) pairs.now damage.old picture.old.cells }
+        requires height { length picture.old.changes ≡ self.old.table.now.lines }
+        ensures shown { picture.new.cells ≡ picture_of self.old.table.now.lines self.old.table.now.columns
             (λ y x. shown pairs.now (found_from_top (windows_of self.old.table.now).window (panels stack.now) y x)) }
         ensures height { length damage.new ≡ self.old.table.now.lines }
         ensures none { (y : ℕ) → columns_of damage.new y ≡ None }
         ensures read { result ≡ cells_above damage.old self.old.table.now.lines }
+        ensures changes { AddsChanges picture.old.changes picture.old.cells picture.new.changes picture.new.cells }
         ensures count { self.new.cells ≡ (self.old.cells + result) % 2 ^ 64 }
         ensures same { self.new.table.ghost_name ≡ self.old.table.ghost_name }
         ensures table { self.new.table.now ≡ self.old.table.now }
     {
         let (lines, _) = self.table.screen_size();
         let mut rows = TableRows::of(self.table, self.cells);
-        let cells = show_damaged(&mut rows, stack, pairs, owners, lines, damage, picture);
+        let cells = show_damaged(
+            &mut rows,
+            stack,
+            pairs,
+            owners,
+            lines,
+            damage,
+            &mut picture.cells,
+            &mut picture.changes,
+        );
         self.cells = rows.cells_read();
         cells
     }

@@ -4,10 +4,7 @@ ghost use Rattle.std.specs.Prelude.{◌≡◌, ◌<◌, ◌≤◌, ◌+◌, ◌=
 ghost use Rattle.std.specs.List.{list_any};
 ghost use Rattle.cell.specs.declared.limits.TheConstants.{LARGEST_SCREEN};
 ghost use Rattle.world.specs.Panels.{windows_from_top};
-ghost use Rattle.world.specs.Sound.{AreSoundWindows};
 ghost use Rattle.world.specs.calls.Affected.{frame_shows_at};
-ghost use Rattle.world.specs.calls.Refresh.{touched_cells};
-ghost use Rattle.world.specs.calls.Queries.{place_on_screen};
 ghost use Rattle.world.specs.Windows.{with_change};
 ghost use Rattle.grids.specs.Tables.{windows as windows_of};
 ghost use Rattle.stack.specs.Tables.{panels};
@@ -16,8 +13,9 @@ ghost use Rattle.picture.specs.Damages.{Damages};
 ghost use Rattle.compose.specs.steps.Changes.{IsPossible, affected_shows_at, any_shows_at};
 
 use cell::{Rect, WinId};
+use extents::Extents;
 use grids::Grids;
-use picture::{Damage, following_part, shared_part};
+use picture::{following_part, shared_part};
 use stack::Stack;
 
 /// What a call affects of what windows show: a rectangle of a window, which it wrote, or a derived window, which it moved in its parent.
@@ -30,7 +28,7 @@ pub enum Affected {
 /// Damages what the standard screen and the windows of visible panels show of what a call affected, if it affected something.
 #[inline(always)]
 pub(crate) fn damage_affected(
-    damage: &mut Damage,
+    damage: &mut Extents,
     table: &Grids,
     stack: &Stack,
     affected: Option<Affected>,
@@ -51,7 +49,7 @@ pub(crate) fn damage_affected(
 /// Damages what the standard screen and the windows of visible panels show of a write: its frame, where it is in the standard screen and no
 /// panel is visible.
 #[inline(always)]
-fn damage_written(damage: &mut Damage, table: &Grids, stack: &Stack, win: WinId, frame: Rect)
+fn damage_written(damage: &mut Extents, table: &Grids, stack: &Stack, win: WinId, frame: Rect)
     requires height { length damage.old ≡ table.now.lines }
     requires inside { IsPossible (windows_of table.now).window (Affected.Written win frame) }
     ensures damaged { Damages table.now.columns (frame_shows_at (windows_of table.now).window (panels stack.now) win.0 (Some frame)) damage.old damage.new }
@@ -74,7 +72,7 @@ fn has_no_panel(stack: &Stack) -> bool
 
 /// Damages what the standard screen shows of a write, and then what the windows of visible panels show of it.
 #[inline(never)]
-fn damage_shown(damage: &mut Damage, table: &Grids, stack: &Stack, win: WinId, frame: Rect)
+fn damage_shown(damage: &mut Extents, table: &Grids, stack: &Stack, win: WinId, frame: Rect)
     requires height { length damage.old ≡ table.now.lines }
     requires inside { IsPossible (windows_of table.now).window (Affected.Written win frame) }
     ensures damaged { Damages table.now.columns (frame_shows_at (windows_of table.now).window (panels stack.now) win.0 (Some frame)) damage.old damage.new }
@@ -86,7 +84,7 @@ fn damage_shown(damage: &mut Damage, table: &Grids, stack: &Stack, win: WinId, f
 
 /// Damages what the windows of visible panels show of a change.
 #[inline(always)]
-fn damage_visible(damage: &mut Damage, table: &Grids, stack: &Stack, affected: Affected)
+fn damage_visible(damage: &mut Extents, table: &Grids, stack: &Stack, affected: Affected)
     requires height { length damage.old ≡ table.now.lines }
     requires possible { IsPossible (windows_of table.now).window affected }
     ensures damaged { Damages table.now.columns (λ y x. list_any (affected_shows_at (windows_of table.now).window affected y x)
@@ -101,7 +99,7 @@ fn damage_visible(damage: &mut Damage, table: &Grids, stack: &Stack, affected: A
 
 /// Damages what window `u` shows of a change.
 #[inline(always)]
-fn damage_change(damage: &mut Damage, table: &Grids, affected: Affected, u: WinId)
+fn damage_change(damage: &mut Extents, table: &Grids, affected: Affected, u: WinId)
     requires height { length damage.old ≡ table.now.lines }
     requires possible { IsPossible (windows_of table.now).window affected }
     ensures damaged { Damages table.now.columns (λ y x. affected_shows_at (windows_of table.now).window affected y x u.0) damage.old damage.new }
@@ -124,34 +122,11 @@ fn changed_part(table: &Grids, affected: Affected, u: WinId) -> Option<Rect>
 }
 
 /// Damages a part of the screen, if there is one.
-pub(crate) fn damage_part(damage: &mut Damage, part: Option<Rect>)
-    requires few { length damage.old ≤ LARGEST_SCREEN }
+pub(crate) fn damage_part(damage: &mut Extents, part: Option<Rect>)
     requires inside { MatchOption part ⊤ (λ r. IsFrameWithin (length damage.old) (r.right + 1) r) }
     ensures damaged { (columns : ℕ) → MatchOption part ⊤ (λ r. r.right < columns) → Damages columns (part_holds part) damage.old damage.new }
 {
     if let Some(frame) = part {
         damage.rectangle(frame);
-    }
-}
-
-/// Damages what is touched of a window that begins at this place of the screen.
-pub(crate) fn damage_touched(damage: &mut Damage, table: &Grids, win: WinId, top: u16, left: u16)
-    requires height { length damage.old ≡ table.now.lines }
-    requires windows { AreSoundWindows (windows_of table.now) }
-    requires place { place_on_screen (windows_of table.now).window win.0 ≡ Some (top, left) }
-    ensures damaged { Damages table.now.columns (λ y x. is_some (touched_cells (windows_of table.now).window win.0 y x)) damage.old damage.new }
-{
-    let Ok((lines, _)) = table.getmaxyx(win) else {
-        unreachable!();
-    };
-    for y in 0..lines {
-        if let Some(columns) = table.touched_columns(win, y) {
-            damage.rectangle(Rect {
-                top: top + y,
-                left: left + columns.first,
-                bottom: top + y,
-                right: left + columns.last,
-            });
-        }
     }
 }

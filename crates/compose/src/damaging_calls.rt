@@ -22,7 +22,8 @@ use crate::damaging::{damage_affected, damage_part};
 use crate::dispatch::{arrange, changed_panel, copy, make, named_panel, ordered_panel, write};
 use cell::{Rect, Refusal, WinId};
 use grids::Grids;
-use picture::{Damage, panel_part};
+use extents::Extents;
+use picture::panel_part;
 use stack::Stack;
 use windows::Windows;
 use world::{Copying, Making, PanelId, Reply, Stacking, Writing};
@@ -32,7 +33,7 @@ use world::{Copying, Making, PanelId, Reply, Stacking, Writing};
 pub(crate) fn make_damaging(
     table: &mut Grids,
     stack: &Stack,
-    damage: &mut Damage,
+    damage: &mut Extents,
     making: Making,
 ) -> Result<Reply, Refusal>
     requires panels { AreSoundPanels (windows_of table.old).window (panels stack.now) }
@@ -51,7 +52,7 @@ pub(crate) fn make_damaging(
 pub(crate) fn write_damaging(
     windows: &mut Windows,
     stack: &Stack,
-    damage: &mut Damage,
+    damage: &mut Extents,
     writing: Writing<'_>,
 ) -> Result<Reply, Refusal>
     requires height { length damage.old ≡ windows.old.table.lines }
@@ -69,7 +70,7 @@ pub(crate) fn write_damaging(
 pub(crate) fn copy_damaging(
     windows: &mut Windows,
     stack: &Stack,
-    damage: &mut Damage,
+    damage: &mut Extents,
     copying: Copying,
 ) -> Result<Reply, Refusal>
     requires height { length damage.old ≡ windows.old.table.lines }
@@ -87,7 +88,7 @@ pub(crate) fn copy_damaging(
 pub(crate) fn arrange_damaging(
     table: &mut Grids,
     stack: &mut Stack,
-    damage: &mut Damage,
+    damage: &mut Extents,
     stacking: Stacking,
 ) -> Result<Reply, Refusal>
     requires panels { AreSoundPanels (windows_of table.old).window (panels stack.old) }

@@ -15,6 +15,7 @@ ghost use Rattle.world.specs.Windows.{HasPlace};
 ghost use Rattle.cell.specs.Refusals.{RefusedBy, first_of};
 ghost use Rattle.grids.specs.Tables.{windows as windows_of};
 ghost use Rattle.stack.specs.Tables.{panels};
+ghost use Rattle.extents.specs.Extents.{columns_of};
 ghost use Rattle.picture.specs.Spans.{IsSpan};
 ghost use Rattle.world.specs.declared.call.Call.{Call};
 ghost use Rattle.world.specs.declared.call.Refresh.{Refresh};
@@ -27,10 +28,12 @@ use crate::damaging_calls::{arrange_damaging, copy_damaging, make_damaging, writ
 use crate::dispatch::refresh;
 use crate::queries::{answer, of_marks, of_panels, of_window};
 use crate::update::update_panels;
+use crate::virtual_picture::VirtualPicture;
 use calls::{Calls, is_query};
 use cell::{Cell, Colour, Grid, PairId, Pairs, Refusal, Shown, VirtualScreen, WinId};
+use extents::Extents;
 use grids::Grids;
-use picture::{Damage, Owners, Span, TableRows, cell_found, owner_span, window_part};
+use picture::{Owners, Span, TableRows, cell_found, owner_span, window_part};
 use stack::Stack;
 use std::alloc::{AllocError, Global};
 use std::marker::Model;
@@ -44,10 +47,10 @@ pub struct Desk {
     pub(crate) windows: Windows,
     pub(crate) stack: Stack,
     pub(crate) pairs: Pairs,
-    pub(crate) picture: Grid<Shown>,
+    pub(crate) picture: VirtualPicture,
     pub(crate) cursor: (u16, u16),
     pub(crate) clear: bool,
-    pub(crate) damage: Damage,
+    pub(crate) damage: Extents,
     pub(crate) cells_read: u64,
     // Room for the search.
     owners: Box<Owners>,
@@ -63,7 +66,8 @@ impl Model for Desk {
       windows = d.windows.table;
       panels = d.stack;
       pairs = d.pairs;
-      virtual = record { picture = d.picture; cursor = d.cursor; clear = d.clear };
+      virtual = record { picture = d.picture.cells; cursor = d.cursor; clear = d.clear };
+      changes = d.picture.changes;
       damage = d.damage;
       cells_read = d.cells_read;
     } };
@@ -72,7 +76,8 @@ impl Model for Desk {
       windows = d.windows.table;
       panels = d.stack;
       pairs = d.pairs;
-      virtual = record { picture = d.picture; cursor = d.cursor; clear = d.clear };
+      virtual = record { picture = d.picture.cells; cursor = d.cursor; clear = d.clear };
+      changes = d.picture.changes;
       damage = d.damage;
       cells_read = d.cells_read;
     }) };
@@ -91,8 +96,8 @@ impl Desk {
         ensures refused { RefusedBy (new_refusal lines cols) result }
     {
         let windows = Windows::new(alloc, lines, cols)?;
-        let picture = Grid::new(alloc, lines, cols)?;
-        let damage = Damage::new(alloc, lines)?;
+        let picture = VirtualPicture::new(alloc, lines, cols)?;
+        let damage = Extents::none(alloc, lines)?;
         let owners = room_for_search(alloc)?;
         Ok(Desk {
             windows,
@@ -232,14 +237,24 @@ impl Desk {
         requires { y < self.now.windows.lines }
         ensures { result.now ≡ line_of self.now.virtual.picture y }
     {
-        self.picture.row(usize::from(y))
+        self.picture.cells.row(usize::from(y))
     }
 
-    /// The terminal needn't be cleared any more.
-    pub fn clear_done(&mut self)
-        ensures { self.new ≡ record self.old { virtual = record self.old.virtual { clear = false } } }
+    /// Of each line the columns in which the virtual screen may show something else than when it was last taken.
+    pub fn changes(&self) -> &Extents
+        ensures changes { result.now ≡ self.now.changes }
+        ensures height { length result.now ≡ self.now.windows.lines }
+    {
+        &self.picture.changes
+    }
+
+    /// The virtual screen was taken: from now on nothing of it has changed, and the terminal needn't be cleared any more.
+    pub fn mark_taken(&mut self)
+        ensures desk { self.new ≡ record self.old { virtual = record self.old.virtual { clear = false }; changes = self.new.changes } }
+        ensures none { (y : ℕ) → columns_of self.new.changes y ≡ None }
     {
         self.clear = false;
+        self.picture.changes.clear();
     }
 }
 
@@ -247,7 +262,7 @@ impl VirtualScreen for Desk {
     ghost shown = { λ desk. desk.virtual };
 
     fn virtual_screen(&self) -> &Grid<Shown> {
-        &self.picture
+        &self.picture.cells
     }
 
     fn wanted_cursor(&self) -> (u16, u16) {

@@ -23,6 +23,7 @@ mod panels;
 mod queries;
 mod refresh;
 mod update;
+mod virtual_picture;
 
 pub use desk::Desk;
 pub use picture::{Rows, Span, compose_row};

@@ -1,6 +1,6 @@
 //! The calls that copy what is touched of a window, or a rectangle of a pad, to the virtual screen.
 
-ghost use Rattle.std.specs.Prelude.{◌≡◌, ◌<◌, ◌≤◌, ◌+◌, ◌-◌, ◌==◌, ◌&&◌, ◌^◌, ℕ, None, Some, IsSomeAnd, false, if◌then◌else◌, nat_le, nat_lt};
+ghost use Rattle.std.specs.Prelude.{◌≡◌, ◌<◌, ◌≤◌, ◌+◌, ◌-◌, ◌==◌, ◌&&◌, ◌^◌, ℕ, None, Some, IsSomeAnd, false, is_some, length, if◌then◌else◌, nat_le, nat_lt};
 ghost use Rattle.std.specs.Result.{result_err};
 ghost use Rattle.cell.specs.Pictures.{HasSize, picture_of, shown_at};
 ghost use Rattle.cell.specs.Shown.{shown};
@@ -11,17 +11,21 @@ ghost use Rattle.cell.specs.Refusals.{first_of};
 ghost use Rattle.world.specs.calls.Refresh.{touched_cells, among_lines, pnoutrefresh_tests};
 ghost use Rattle.world.specs.Effects.{shown_over, unmarked_lines};
 ghost use Rattle.world.specs.Windows.{with_change};
+ghost use Rattle.extents.specs.Extents.{AddsChanges};
 ghost use Rattle.grids.specs.Tables.{windows as windows_of};
+ghost use Rattle.picture.specs.Damages.{Damages};
 ghost use Rattle.world.specs.declared.call.Call.{Call};
 ghost use Rattle.world.specs.declared.call.Refresh.{Refresh};
 ghost use Rattle.compose.specs.Calling.{Called};
 
-use crate::damaging::{damage_part, damage_touched};
+use crate::damaging::damage_part;
 use crate::desk::Desk;
 use crate::marks::asks;
-use cell::{Grid, Pairs, Rect, Refusal, Shown, WinId};
+use crate::virtual_picture::VirtualPicture;
+use cell::{Pairs, Rect, Refusal, WinId};
+use extents::Extents;
 use grids::{Grids, Place};
-use picture::{cursor_on_screen, show_piece};
+use picture::cursor_on_screen;
 use windows::Windows;
 use world::Reply;
 
@@ -41,9 +45,9 @@ impl Desk {
             win,
             top,
             left,
+            &mut self.damage,
             &mut self.picture,
         );
-        damage_touched(&mut self.damage, &self.windows.table, win, top, left);
         self.cursor = cursor_on_screen(&self.windows.table, win);
         self.clear |= asks(&self.windows.table, win);
         self.windows.table.unmark(win);
@@ -96,20 +100,26 @@ impl Desk {
     }
 }
 
-/// Copies the touched cells of a window, which begins at this place of the screen, to a picture of the screen's size.
+/// Copies the touched cells of a window, which begins at this place of the screen, to a picture of the screen's size, and damages where
+/// they are.
 fn show_touched(
     table: &Grids,
     pairs: &Pairs,
     win: WinId,
     top: u16,
     left: u16,
-    picture: &mut Grid<Shown>,
+    damage: &mut Extents,
+    picture: &mut VirtualPicture,
 )
     requires windows { AreSoundWindows (windows_of table.now) }
     requires place { place_on_screen (windows_of table.now).window win.0 ≡ Some (top, left) }
-    requires size { HasSize table.now.lines table.now.columns picture.old }
-    ensures { picture.new ≡ picture_of table.now.lines table.now.columns (shown_over pairs.now picture.old
+    requires size { HasSize table.now.lines table.now.columns picture.old.cells }
+    requires height { length picture.old.changes ≡ table.now.lines }
+    requires damage { length damage.old ≡ table.now.lines }
+    ensures shown { picture.new.cells ≡ picture_of table.now.lines table.now.columns (shown_over pairs.now picture.old.cells
         (touched_cells (windows_of table.now).window win.0)) }
+    ensures changes { AddsChanges picture.old.changes picture.old.cells picture.new.changes picture.new.cells }
+    ensures damaged { Damages table.now.columns (λ y x. is_some (touched_cells (windows_of table.now).window win.0 y x)) damage.old damage.new }
 {
     let Ok((lines, _)) = table.getmaxyx(win) else {
         unreachable!();
@@ -121,15 +131,21 @@ fn show_touched(
                 line: y,
                 column: columns.first,
             };
-            show_piece(
+            let frame = Rect {
+                top: top + y,
+                left: left + columns.first,
+                bottom: top + y,
+                right: left + columns.last,
+            };
+            picture.show_piece(
                 table,
                 pairs,
                 source,
                 columns.last - columns.first + 1,
-                top + y,
-                left + columns.first,
-                picture,
+                frame.top,
+                frame.left,
             );
+            damage.rectangle(frame);
         }
     }
 }
@@ -140,14 +156,16 @@ fn show_rectangle(
     pairs: &Pairs,
     source: Place,
     frame: Rect,
-    picture: &mut Grid<Shown>,
+    picture: &mut VirtualPicture,
 )
     requires windows { AreSoundWindows (windows_of table.now) }
     requires accepted { first_of (pnoutrefresh_tests (windows_of table.now) source.win.0 source.line source.column frame.top frame.left frame.bottom
         frame.right) ≡ None }
-    requires size { HasSize table.now.lines table.now.columns picture.old }
-    ensures { picture.new ≡ picture_of table.now.lines table.now.columns (shown_over pairs.now picture.old
+    requires size { HasSize table.now.lines table.now.columns picture.old.cells }
+    requires height { length picture.old.changes ≡ table.now.lines }
+    ensures shown { picture.new.cells ≡ picture_of table.now.lines table.now.columns (shown_over pairs.now picture.old.cells
         (copywin_drawing (windows_of table.now).window source.win.0 source.line source.column frame.top frame.left frame.bottom frame.right false)) }
+    ensures changes { AddsChanges picture.old.changes picture.old.cells picture.new.changes picture.new.cells }
 {
     let columns = frame.right - frame.left + 1;
     for y in 0..frame.bottom - frame.top + 1 {
@@ -155,15 +173,7 @@ fn show_rectangle(
             line: source.line + y,
             ..source
         };
-        show_piece(
-            table,
-            pairs,
-            line,
-            columns,
-            frame.top + y,
-            frame.left,
-            picture,
-        );
+        picture.show_piece(table, pairs, line, columns, frame.top + y, frame.left);
     }
 }
 

@@ -9,8 +9,10 @@ ghost use Rattle.compose.specs.Covers.{IsDesk};
 ghost use Rattle.compose.specs.steps.Parts.{desk_of};
 
 use crate::counted::CountedWindows;
-use cell::{Grid, Pairs, Shown};
-use picture::{Damage, Owners};
+use crate::virtual_picture::VirtualPicture;
+use cell::Pairs;
+use extents::Extents;
+use picture::Owners;
 use stack::Stack;
 use world::Composed;
 
@@ -22,16 +24,16 @@ pub(crate) fn update_panels(
     stack: &Stack,
     pairs: &Pairs,
     owners: &mut Owners,
-    damage: &mut Damage,
-    picture: &mut Grid<Shown>,
+    damage: &mut Extents,
+    picture: &mut VirtualPicture,
     cursor: &mut (u16, u16),
     clear: &mut bool,
 ) -> Composed
-    requires { IsDesk (desk_of windows.old.table.now windows.old.cells stack.now pairs.now damage.old picture.old cursor.old clear.old) }
-    ensures desk { IsDesk (desk_of windows.new.table.now windows.new.cells stack.now pairs.now damage.new picture.new cursor.new clear.new) }
-    ensures called { Called (desk_of windows.old.table.now windows.old.cells stack.now pairs.now damage.old picture.old cursor.old clear.old)
+    requires { IsDesk (desk_of windows.old.table.now windows.old.cells stack.now pairs.now damage.old picture.old.cells picture.old.changes cursor.old clear.old) }
+    ensures desk { IsDesk (desk_of windows.new.table.now windows.new.cells stack.now pairs.now damage.new picture.new.cells picture.new.changes cursor.new clear.new) }
+    ensures called { Called (desk_of windows.old.table.now windows.old.cells stack.now pairs.now damage.old picture.old.cells picture.old.changes cursor.old clear.old)
         (Call.Refresh Refresh.UpdatePanels) (Ok (Reply.Composed result))
-        (desk_of windows.new.table.now windows.new.cells stack.now pairs.now damage.new picture.new cursor.new clear.new) }
+        (desk_of windows.new.table.now windows.new.cells stack.now pairs.now damage.new picture.new.cells picture.new.changes cursor.new clear.new) }
     ensures same { windows.new.table.ghost_name ≡ windows.old.table.ghost_name }
 {
     let cells = windows.show_damaged(stack, pairs, owners, damage, picture);

@@ -1,13 +1,12 @@
 -- Pictures that differ in some columns only.
-use Rattle.std.proofs.Common.{◌≡◌, ℕ, ◌+◌, ◌<◌, ◌≤◌, false, List, [], length, get_or, take, drop, sym, ◌∙◌, arith}
+use Rattle.std.proofs.Common.{◌≡◌, ℕ, ◌+◌, ◌<◌, ◌≤◌, false, Option, None, List, [], length, get_or, take, drop, sym, ◌∙◌, arith}
 use Rattle.std.proofs.lemmas.List.{ext_get_or, get_or-drop, get_or-take, length-drop, length-take}
 use Rattle.cell.specs.Pictures.{Picture, HasSize, line_of}
 use Rattle.cell.specs.Shown.{shown_blank}
 use Rattle.cell.proofs.PictureLemmas.{length-line}
-use Rattle.paint.specs.Changes.{DifferOnly, may_change, no_stretch, stretch_of}
-use Rattle.paint.specs.declared.changes.Stretch.{Stretch}
-use Rattle.paint.specs.steps.Walks.{DifferWithin, IsWithin}
-use Rattle.paint.proofs.Changed.{is_out}
+use Rattle.world.specs.declared.settings.Columns.{Columns}
+use Rattle.extents.specs.Extents.{DifferOnly, IsWithin, columns_of, is_among}
+use Rattle.paint.specs.steps.Walks.{DifferWithin}
 
 -- ---- lists that have the same items in part
 
@@ -24,7 +23,7 @@ drop-same other n a b same h =
 
 -- ---- pictures
 
-module _ {lines columns : ℕ} {changes : List Stretch} {shown wanted : Picture} (old_size : HasSize lines columns shown) (new_size : HasSize lines columns wanted)
+module _ {lines columns : ℕ} {changes : List (Option Columns)} {shown wanted : Picture} (old_size : HasSize lines columns shown) (new_size : HasSize lines columns wanted)
     (only : DifferOnly changes shown wanted) where
   abbrev width : (y : ℕ) → y < lines → length (line_of shown y) ≡ columns
   width y below = length-line y old_size below
@@ -32,22 +31,22 @@ module _ {lines columns : ℕ} {changes : List Stretch} {shown wanted : Picture}
   pub same-width : (y : ℕ) → y < lines → length (line_of shown y) ≡ length (line_of wanted y)
   same-width y below = length-line y old_size below ∙ sym (length-line y new_size below)
 
-  pub line-alike : (y : ℕ) → y < lines → ((x : ℕ) → x < columns → may_change changes y x ≡ false) → line_of shown y ≡ line_of wanted y
+  pub line-alike : (y : ℕ) → y < lines → ((x : ℕ) → x < columns → is_among changes y x ≡ false) → line_of shown y ≡ line_of wanted y
   line-alike y below none =
       ext_get_or shown_blank (line_of shown y) (line_of wanted y) (same-width y below) (λ x left. only.others y x (none x (omega (arith, left, length-line y old_size below))))
 
-  pub line-none : (y : ℕ) → y < lines → stretch_of changes y ≡ no_stretch → line_of shown y ≡ line_of wanted y
-  line-none y below none = grind (arith, line-alike, is_out)
+  pub line-none : (y : ℕ) → y < lines → columns_of changes y ≡ None → line_of shown y ≡ line_of wanted y
+  line-none y below none = grind (arith, line-alike)
 
-  line-prefix : (y : ℕ) {part : ℕ × ℕ} → y < lines → IsWithin columns (stretch_of changes y) part → take part.0 (line_of shown y) ≡ take part.0 (line_of wanted y)
+  line-prefix : (y : ℕ) {part : ℕ × ℕ} → y < lines → IsWithin columns (columns_of changes y) part → take part.0 (line_of shown y) ≡ take part.0 (line_of wanted y)
   line-prefix y below h = take-same shown_blank _ (line_of shown y) (line_of wanted y) (same-width y below) (λ x few left. only.others y x (h.before x few))
 
-  line-back : (y : ℕ) {part : ℕ × ℕ} → y < lines → IsWithin columns (stretch_of changes y) part → drop part.1 (line_of shown y) ≡ drop part.1 (line_of wanted y)
+  line-back : (y : ℕ) {part : ℕ × ℕ} → y < lines → IsWithin columns (columns_of changes y) part → drop part.1 (line_of shown y) ≡ drop part.1 (line_of wanted y)
   line-back y below h =
       drop-same shown_blank _ (line_of shown y) (line_of wanted y) (same-width y below) (λ x from left. only.others y x (h.after x from (omega (arith, left, length-line y old_size below))))
 
   -- and the other columns of a line are alike
-  pub line-part : (y : ℕ) {part : ℕ × ℕ} → y < lines → IsWithin columns (stretch_of changes y) part → DifferWithin part.0 part.1 (line_of shown y) (line_of wanted y)
+  pub line-part : (y : ℕ) {part : ℕ × ℕ} → y < lines → IsWithin columns (columns_of changes y) part → DifferWithin part.0 part.1 (line_of shown y) (line_of wanted y)
   line-part y below h = record {
     same = same-width y below;
     ordered = h.ordered;
@@ -56,11 +55,11 @@ module _ {lines columns : ℕ} {changes : List Stretch} {shown wanted : Picture}
     after = line-back y below h;
   }
 
-  pub lines-prefix : (n : ℕ) → ((y : ℕ) → y < n → stretch_of changes y ≡ no_stretch) → take n shown ≡ take n wanted
+  pub lines-prefix : (n : ℕ) → ((y : ℕ) → y < n → columns_of changes y ≡ None) → take n shown ≡ take n wanted
   lines-prefix n none = take-same [] n shown wanted (old_size.height ∙ sym new_size.height) (λ y few below. line-none y (omega (arith, below, old_size.height)) (none y few))
 
-  pub lines-first : (n : ℕ) → ((y x : ℕ) → y < n → may_change changes y x ≡ false) → take n shown ≡ take n wanted
+  pub lines-first : (n : ℕ) → ((y x : ℕ) → y < n → is_among changes y x ≡ false) → take n shown ≡ take n wanted
   lines-first n none = take-same [] n shown wanted (old_size.height ∙ sym new_size.height) (λ y few below. line-alike y (omega (arith, below, old_size.height)) (λ x left. none y x few))
 
-  pub lines-back : (n : ℕ) → ((y : ℕ) → n ≤ y → stretch_of changes y ≡ no_stretch) → drop n shown ≡ drop n wanted
+  pub lines-back : (n : ℕ) → ((y : ℕ) → n ≤ y → columns_of changes y ≡ None) → drop n shown ≡ drop n wanted
   lines-back n none = drop-same [] n shown wanted (old_size.height ∙ sym new_size.height) (λ y from below. line-none y (omega (arith, below, old_size.height)) (none y from))

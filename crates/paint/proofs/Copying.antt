@@ -1,5 +1,5 @@
 -- The columns in which two pictures may differ are copied from one to the other.
-use Rattle.std.proofs.Common.{◌≡◌, ℕ, ◌+◌, ◌-◌, ◌<◌, ◌≤◌, ◌==◌, ◌&&◌, nat_le, nat_lt, false, inl, inr, List, [], length, get_or, take, drop, ap, arith}
+use Rattle.std.proofs.Common.{◌≡◌, ℕ, ◌+◌, ◌-◌, ◌<◌, ◌≤◌, ◌==◌, ◌&&◌, nat_le, nat_lt, false, inl, inr, Option, None, List, [], length, get_or, take, drop, ap, arith}
 use Rattle.std.specs.Prelude.{if◌then◌else◌}
 use Rattle.std.proofs.lemmas.Bool.{cases_eq, cases_lt}
 use Rattle.std.proofs.lemmas.Bool.Decides.{nat_tests}
@@ -7,10 +7,8 @@ use Rattle.std.proofs.lemmas.List.{get_or-drop, get_or-take, get_or_past}
 use Rattle.cell.specs.Pictures.{Picture, HasSize, line_of, shown_at}
 use Rattle.cell.specs.Shown.{Shown, shown_blank}
 use Rattle.cell.proofs.PictureLemmas.{length-line, same_pictures}
-use Rattle.paint.specs.Changes.{DifferOnly, is_in, no_stretch, stretch_of}
-use Rattle.paint.specs.declared.changes.Stretch.{Stretch}
-use Rattle.paint.specs.steps.Walks.{IsWithin}
-use Rattle.paint.proofs.Changed.{is_out}
+use Rattle.world.specs.declared.settings.Columns.{Columns}
+use Rattle.extents.specs.Extents.{DifferOnly, IsWithin, columns_of}
 
 -- nothing but blanks is shown outside of a picture
 shown-outside : {lines columns : ℕ} {picture : Picture} → HasSize lines columns picture → (y x : ℕ) → (y < lines → x < columns → ⊥) → shown_at picture (y, x) ≡ shown_blank
@@ -28,9 +26,9 @@ same-outside size other_size y x out = grind (arith, shown-outside)
 
 -- ---- a line is copied
 
-module _ {lines columns : ℕ} {changes : List Stretch} {old new wanted : Picture} (old_size : HasSize lines columns old) (new_size : HasSize lines columns new)
+module _ {lines columns : ℕ} {changes : List (Option Columns)} {old new wanted : Picture} (old_size : HasSize lines columns old) (new_size : HasSize lines columns new)
     (wanted_size : HasSize lines columns wanted)
-    (only : DifferOnly changes old wanted) (y : ℕ) (below : y < lines) {part : ℕ × ℕ} (within : IsWithin columns (stretch_of changes y) part) (piece : List Shown)
+    (only : DifferOnly changes old wanted) (y : ℕ) (below : y < lines) {part : ℕ × ℕ} (within : IsWithin columns (columns_of changes y) part) (piece : List Shown)
     (is : piece ≡ take (part.1 - part.0) (drop part.0 (line_of wanted y))) (long : length piece ≡ part.1 - part.0)
     (put : (v u : ℕ) → shown_at new (v, u) ≡ (if (v == y) && (nat_le part.0 u && nat_lt u (part.0 + length piece)) then get_or piece (u - part.0) shown_blank else shown_at old (v, u))) where
   put-there : (v u : ℕ) → v ≡ y → part.0 ≤ u → u < part.1 → shown_at new (v, u) ≡ shown_at wanted (v, u)
@@ -50,13 +48,9 @@ module _ {lines columns : ℕ} {changes : List Stretch} {old new wanted : Pictur
   one-more done v u few = grind (arith, cases_lt, stays, here)
 
 -- lines without such columns
-pub none-there : {changes : List Stretch} {one other : Picture} → DifferOnly changes one other → (y x : ℕ) → stretch_of changes y ≡ no_stretch → shown_at one (y, x) ≡ shown_at other (y, x)
-none-there only y x none = grind (arith, is_out)
+pub none-there : {changes : List (Option Columns)} {one other : Picture} → DifferOnly changes one other → (y x : ℕ) → columns_of changes y ≡ None → shown_at one (y, x) ≡ shown_at other (y, x)
+none-there only y x none = grind arith
 
-pub all-copied : {lines columns : ℕ} {changes : List Stretch} {one other : Picture} → HasSize lines columns one → HasSize lines columns other → DifferOnly changes one other
-    → (some : Stretch) → ((y : ℕ) → is_in some y ≡ false → stretch_of changes y ≡ no_stretch) → (n : ℕ) → some.end ≤ n
+pub all-copied : {lines columns : ℕ} {one other : Picture} → HasSize lines columns one → HasSize lines columns other → (n : ℕ) → lines ≤ n
     → ((v u : ℕ) → v < n → shown_at one (v, u) ≡ shown_at other (v, u)) → one ≡ other
-all-copied size other_size only some others n far done = same_pictures shown_blank size other_size (λ y x below left. elim (cases_lt y n) [
-  | inl before ↦ done y x before
-  | inr from ↦ none-there only y x (others y (is_out some y (inr (omega arith))))
-])
+all-copied size other_size n far done = same_pictures shown_blank size other_size (λ y x below left. done y x (omega (arith, below, far)))

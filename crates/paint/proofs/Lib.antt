@@ -21,8 +21,6 @@ pub mod SentTexts
 pub mod Repair
 -- Runs of cells: printed one after another, and drawn in a line; for `are_all`, `paint_cells`, `paint_run` and others
 pub mod CellRuns
--- Columns in which a picture may differ from another; for `changed_lines`, `clear`, `copy_changes` and others
-pub mod Changed
 -- Lines that are the same before one column and from another one on; for `changed_tail`, `first_changed`, `last_changed`
 pub mod LineParts
 -- Pictures that differ in some columns only; for `changed_lines`, `paint_picture`

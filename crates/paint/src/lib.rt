@@ -1,8 +1,7 @@
 //! The `Painter`, which sends pictures to a terminal; the crate is named for what it does.
 //!
-//! - `changes`: of each line the columns in which a picture may differ from the last one, and a frame of both
 //! - `counting`: how many bytes passes take
-//! - `frame`: a frame, in one walk or in passes
+//! - `frame`: a frame, drawn in one walk or in passes
 //! - `gap`: what is printed again between changed cells
 //! - `laws`: laws of agreement
 //! - `line`: the walk over cells
@@ -16,7 +15,6 @@
 //! - `tail`: what is erased at the end of a line
 #![tactic(auto)]
 
-mod changes;
 mod counting;
 mod frame;
 mod gap;
@@ -31,6 +29,6 @@ mod room;
 mod runs;
 mod tail;
 
-pub use changes::{Changes, Stretch};
+pub use extents::Extents;
 pub use painter::Painter;
 pub use streams::{Counted, Sent, Sink, WriteFault};

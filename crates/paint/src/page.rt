@@ -3,14 +3,15 @@
 ghost use Rattle.std.specs.Prelude.{◌≡◌, ◌≢◌, ℕ, ◌-◌, ◌<◌, ◌≤◌, drop, false, length, map, min};
 ghost use Rattle.cell.specs.Pictures.{line_of};
 ghost use Rattle.ecma.specs.Terminals.{blank_line};
-ghost use Rattle.paint.specs.Changes.{may_change};
+ghost use Rattle.extents.specs.Extents.{is_among};
 ghost use Rattle.paint.specs.steps.Strokes.{SameTerminals, Strokes, picture_bytes};
 
-use crate::changes::{Changes, Frame};
+use crate::frame::Frame;
 use crate::line::{Row, paint_last_line, paint_line};
 use crate::pen::Pen;
 use crate::tail::{first_changed, is_written, tail_start};
 use cell::{Grid, Shown};
+use extents::Extents;
 use streams::Sink;
 
 /// Draws the wanted picture of a frame over the one that is shown. Where the page's end is blank and more than one line of it is changed,
@@ -48,10 +49,10 @@ pub fn paint_picture<W: Sink>(pen: &mut Pen, sink: &mut W, frame: &Frame<'_>)
 }
 
 /// The next line to look at, from one on: the first that may differ, or the pen's, where that comes before and all below it is blank.
-fn next_line(pen: &Pen, changes: &Changes, blank: u16, from: u16) -> u16
+fn next_line(pen: &Pen, changes: &Extents, blank: u16, from: u16) -> u16
     ensures from { from ≤ result }
     ensures inside { from ≤ length changes.now → result ≤ length changes.now }
-    ensures none { (y x : ℕ) → from ≤ y → y < result → may_change changes.now y x ≡ false }
+    ensures none { (y x : ℕ) → from ≤ y → y < result → is_among changes.now y x ≡ false }
 {
     let next = changes.next(from);
     match pen.line() {
@@ -61,7 +62,7 @@ fn next_line(pen: &Pen, changes: &Changes, blank: u16, from: u16) -> u16
 }
 
 /// The line from which on all are blank, where the last changed one is blank. Else, and where none is changed, the number of lines.
-fn page_end(picture: &Grid<Shown>, lines: u16, changed: u16, changes: &Changes) -> u16
+fn page_end(picture: &Grid<Shown>, lines: u16, changed: u16, changes: &Extents) -> u16
     requires height { length picture.now ≡ lines }
     requires changed { changed ≤ lines }
     requires same { length changes.now ≡ lines }
@@ -71,8 +72,9 @@ fn page_end(picture: &Grid<Shown>, lines: u16, changed: u16, changes: &Changes) 
     if changed == 0 {
         return lines;
     }
-    let column = usize::from(changes.line(changed - 1).start);
-    if is_written(picture.row(usize::from(changed - 1)), column) {
+    let row = picture.row(usize::from(changed - 1));
+    let (column, _) = changes.within(changed - 1, row.len());
+    if is_written(row, column) {
         return lines;
     }
     blank_lines(picture, lines)
@@ -100,9 +102,9 @@ fn changed_lines(frame: &Frame<'_>) -> u16
     ensures kept { drop result frame.now.shown.now ≡ drop result frame.now.wanted.now }
     ensures changed { 0 < result → line_of frame.now.shown.now (result - 1) ≢ line_of frame.now.wanted.now (result - 1) }
 {
-    let lines = frame.changes.lines();
-    let mut end = lines.end;
-    while end > lines.start {
+    let start = frame.changes.next(0);
+    let mut end = frame.changes.end();
+    while end > start {
         let at = usize::from(end - 1);
         let (from, to) = frame.changes.within(end - 1, usize::from(frame.columns));
         if first_changed(frame.shown.row(at), frame.wanted.row(at), from, to).is_some() {

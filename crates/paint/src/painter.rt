@@ -5,18 +5,18 @@ ghost use Rattle.cell.specs.Pictures.{HasSize, blank_picture, origin};
 ghost use Rattle.cell.specs.Limits.{is_no_size};
 ghost use Rattle.cell.specs.declared.limits.TheConstants.{LARGEST_SCREEN};
 ghost use Rattle.streams.specs.Sinks.{Seen};
-ghost use Rattle.paint.specs.Changes.{DifferOnly};
+ghost use Rattle.extents.specs.Extents.{DifferOnly};
 ghost use Rattle.paint.specs.Updates.{CanShow, PainterState, ShownPicture, UpdateEnds, UpdateMade, first_painter, known_picture, opening, start_from};
 ghost use Rattle.paint.specs.steps.Gathering.{IsGathered};
 ghost use Rattle.paint.specs.steps.Holding.{CanDraw, HoldsUpdate, last_shown};
 ghost use Rattle.paint.specs.steps.Strokes.{IsPlainAt, SameTerminals};
 
-use crate::changes::{Changes, Frame};
-use crate::frame::draw_frame;
+use crate::frame::{Frame, draw_frame};
 use crate::page::paint_picture;
 use crate::pen::Pen;
 use crate::runs::Runs;
 use cell::{Grid, LARGEST_SCREEN, Refusal, Shown, VirtualScreen, is_no_size};
+use extents::Extents;
 use std::alloc::Global;
 use std::marker::Model;
 use streams::{Sent, Sink, WriteFault};
@@ -36,7 +36,7 @@ pub struct Painter {
     // The line and column where the cursor was put with the picture, and none where what was shown last is unknown.
     cursor: Option<(u16, u16)>,
     // All columns of all lines: those of a picture of which nothing is said.
-    whole: Changes,
+    whole: Extents,
     pen: Pen,
     // Room for the runs of a frame.
     runs: Runs,
@@ -74,7 +74,7 @@ impl Painter {
             return Err(Refusal::BadSize);
         }
         let picture = Grid::new(alloc, lines, columns)?;
-        let whole = Changes::whole(alloc, lines, columns)?;
+        let whole = Extents::whole(alloc, lines, columns)?;
         let cells = usize::from(lines) * usize::from(columns);
         let pen = Pen::new(alloc, columns, cells * BYTES_OF_CELL)?;
         let runs = Runs::new(alloc, usize::from(lines) * RUNS_OF_LINE)?;
@@ -132,7 +132,7 @@ impl Painter {
     pub fn doupdate_changes<V: VirtualScreen, W: Sink>(
         &mut self,
         screen: &V,
-        changes: &Changes,
+        changes: &Extents,
         sink: &mut W,
     ) -> Result<Sent, WriteFault>
         requires can { CanShow self.old (V.shown screen.now) }
@@ -175,7 +175,7 @@ fn show<W: Sink>(
     shown: &mut Grid<Shown>,
     picture: &Grid<Shown>,
     cursor: (u16, u16),
-    changes: &Changes,
+    changes: &Extents,
 ) -> Result<Sent, WriteFault>
     requires can { CanDraw pen.old size.0 size.1 cursor }
     requires lines { size.0 ≤ LARGEST_SCREEN }
@@ -221,15 +221,15 @@ fn show<W: Sink>(
 }
 
 /// Takes over the columns of a picture, of lines of so many, in which it may differ from another.
-fn copy_changes(shown: &mut Grid<Shown>, wanted: &Grid<Shown>, columns: u16, changes: &Changes)
+fn copy_changes(shown: &mut Grid<Shown>, wanted: &Grid<Shown>, columns: u16, changes: &Extents)
     requires shown { HasSize (length changes.now) columns shown.old }
     requires wanted { HasSize (length changes.now) columns wanted.now }
     requires changes { DifferOnly changes.now shown.old wanted.now }
     ensures { shown.new ≡ wanted.now }
 {
-    let lines = changes.lines();
-    let mut y = changes.next(lines.start);
-    while y < lines.end {
+    let lines = changes.height();
+    let mut y = changes.next(0);
+    while y < lines {
         let at = usize::from(y);
         let (start, end) = changes.within(y, usize::from(columns));
         shown.put_cells(at, start, &wanted.row(at)[start..end]);

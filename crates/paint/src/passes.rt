@@ -6,7 +6,7 @@ ghost use Rattle.paint.specs.steps.Listing.{AreRuns};
 ghost use Rattle.paint.specs.steps.Passes.{HasNoted, changed_renditions, line_renditions, order_for, pass_of, picture_after, saturating_usize, selections, with_pass};
 ghost use Rattle.paint.specs.steps.Strokes.{SameTerminals, Strokes, all_have, picture_bytes};
 
-use crate::changes::Frame;
+use crate::frame::Frame;
 use crate::gap::are_all;
 use crate::line::{Row, paint_run};
 use crate::pen::Pen;
@@ -232,9 +232,8 @@ pub fn order_of(frame: &Frame<'_>) -> Order
     ensures { result ≡ order_for (changed_renditions frame.now.shown.now frame.now.wanted.now) }
 {
     let mut renditions = Renditions::new();
-    let end = frame.changes.lines().end;
     let mut line = frame.changes.next(0);
-    while line < end {
+    while line < frame.lines {
         let at = usize::from(line);
         let (start, stop) = frame.changes.within(line, usize::from(frame.columns));
         let shown = &frame.shown.row(at)[start..stop];

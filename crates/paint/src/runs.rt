@@ -5,7 +5,7 @@ ghost use Rattle.cell.specs.Pictures.{Picture, line_of};
 ghost use Rattle.paint.specs.declared.passes.TheConstants.{MOST};
 ghost use Rattle.paint.specs.steps.Listing.{AreRuns};
 
-use crate::changes::Frame;
+use crate::frame::Frame;
 use crate::line::{Row, next_changed, run_end};
 use crate::passes::pass_of;
 use cell::{Rendition, Shown, first_diff};
@@ -98,9 +98,8 @@ impl Runs {
         ensures { result ≡ true → AreRuns order.now frame.now.shown.now frame.now.wanted.now self.new (frame.now.lines, 0) }
     {
         self.clear();
-        let end = frame.changes.lines().end;
         let mut line = frame.changes.next(0);
-        while line < end {
+        while line < frame.lines {
             let at = usize::from(line);
             let (start, stop) = frame.changes.within(line, usize::from(frame.columns));
             let row = Row {

@@ -11,7 +11,8 @@ use Rattle.cell.specs.Shown.{Shown}
 use Rattle.cell.specs.declared.limits.TheConstants.{LARGEST_SCREEN}
 use Rattle.world.specs.Sound.{AreColumnsWithin}
 use Rattle.world.specs.declared.settings.Columns.{Columns}
-use Rattle.picture.specs.Damages.{cells_above, cells_of_line, columns_of, has_damage_at}
+use Rattle.extents.specs.Extents.{columns_of, is_among}
+use Rattle.picture.specs.Damages.{cells_above, cells_of_line}
 use Rattle.picture.proofs.Lines.{ShownAbove}
 
 -- ---- how many cells
@@ -57,7 +58,7 @@ pub record ComposedAbove (f : ℕ → ℕ → Shown) (lines columns : ℕ) (befo
   pub done : (v : ℕ) → v < y → columns_of damage v ≡ None
 
 module _ (f : ℕ → ℕ → Shown) (lines columns : ℕ) (before : List (Option Columns)) (old : Picture)
-    (covered : (y x : ℕ) → y < lines → x < columns → has_damage_at before y x ≡ false → shown_at old (y, x) ≡ f y x) where
+    (covered : (y x : ℕ) → y < lines → x < columns → is_among before y x ≡ false → shown_at old (y, x) ≡ f y x) where
   pub composed-none : length before ≡ lines → HasSize lines columns old → ComposedAbove f lines columns before old 0 before old
   composed-none height size = grind arith
 

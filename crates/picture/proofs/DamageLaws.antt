@@ -1,4 +1,4 @@
--- What steps do to the damage, one after another; and that a rectangle is damaged line by line.
+-- What steps do to the damage, one after another; and what is damaged of a rectangle.
 use Rattle.std.proofs.Common.{◌≡◌, ℕ, ◌+◌, ◌<◌, ◌≤◌, Bool, true, false, ◌&&◌, ◌||◌, nat_le, nat_lt, if◌then◌else◌, Option, Some, None, is_some, List, length, inl, inr, refl, sym}
 use Rattle.std.proofs.Common.{arith, get_or-set_other, get_or-set_same, rules}
 use Rattle.std.specs.Prelude.{MatchOption, slice_set, ⊤}
@@ -10,7 +10,8 @@ use Rattle.cell.specs.declared.window.Rect.{Rect}
 use Rattle.world.specs.declared.settings.Columns.{Columns}
 use Rattle.world.specs.Windows.{any_below, joined_columns}
 use Rattle.world.proofs.Below.{any_below-some}
-use Rattle.picture.specs.Damages.{AreEnds, Damages, columns_of, has_damage}
+use Rattle.extents.specs.Extents.{columns_of, has_columns}
+use Rattle.picture.specs.Damages.{AreEnds, Damages}
 use Rattle.picture.specs.Parts.{IsFrameWithin, frame_has_line, frame_holds}
 
 -- ---- one step after another
@@ -39,31 +40,17 @@ line-of columns before test (Some r) h some = elim h.0 [
   was-some None x is = cc
   was-some (Some c) x is = refl
 
-pub damages-line : (columns : ℕ) (places : ℕ → ℕ → Bool) (old new : List (Option Columns)) → Damages columns places old new → (y : ℕ) → has_damage new y ≡ true
-    → (has_damage old y || any_below columns (places y)) ≡ true
+pub damages-line : (columns : ℕ) (places : ℕ → ℕ → Bool) (old new : List (Option Columns)) → Damages columns places old new → (y : ℕ) → has_columns new y ≡ true
+    → (has_columns old y || any_below columns (places y)) ≡ true
 damages-line columns places old new h y is = line-of columns (columns_of old y) (places y) (columns_of new y) (h.few y) is
 
 -- ---- a rectangle
 
--- the lines from the top, before line n, were widened
-pub record Widened (r : Rect) (n : ℕ) (old now : List (Option Columns)) : Type 0 where
-  pub height : length now ≡ length old
-  pub each : (v : ℕ) → columns_of now v ≡ (if frame_has_line r v && nat_lt v n then joined_columns (columns_of old v) r.left r.right else columns_of old v)
-
-not-yet : {A : Type 0} (top bottom n v : ℕ) (a b : A) → n ≤ top → (if (nat_le top v && nat_le v bottom) && nat_lt v n then a else b) ≡ b
-not-yet top bottom n v a b h = grind (arith, nat_tests)
-
-pub widened-none : (r : Rect) (old : List (Option Columns)) → Widened r r.top old old
-widened-none r old = record { height = refl; each = λ v. sym (not-yet r.top r.bottom r.top v (joined_columns (columns_of old v) r.left r.right) (columns_of old v) (omega arith)) }
-
-pub widened-more : (r : Rect) (n : ℕ) (old now : List (Option Columns)) → Widened r n old now → r.top ≤ n → n ≤ r.bottom → n < length now
-    → Widened r (n + 1) old (slice_set now n (joined_columns (columns_of now n) r.left r.right))
-widened-more r n old now h from to below = search (rules, length-set, cases_eq, nat_tests, get_or-set_same, and_from, le-leb, lt-ltb, get_or-set_other, cases_lt)
-
 -- all of it was widened
-pub damages-rectangle : (columns : ℕ) (r : Rect) (n : ℕ) (old new : List (Option Columns)) → Widened r n old new → r.bottom < n → r.left ≤ r.right → r.right < columns
+pub damages-rectangle : (columns : ℕ) (r : Rect) (old new : List (Option Columns)) → length new ≡ length old
+    → ((v : ℕ) → columns_of new v ≡ (if frame_has_line r v then joined_columns (columns_of old v) r.left r.right else columns_of old v)) → r.left ≤ r.right → r.right < columns
     → Damages columns (frame_holds r) old new
-damages-rectangle columns r n old new h past ordered inside = search (rules, and_parts, leb-true, and_from, le-leb, cases_lt, nat_tests)
+damages-rectangle columns r old new height each ordered inside = search (rules, and_parts, leb-true, and_from, le-leb, cases_lt, nat_tests)
 
 pub part-right : (lines columns : ℕ) (part : Option Rect) → MatchOption part ⊤ (IsFrameWithin lines columns) → MatchOption part ⊤ (λ r. r.right < columns)
 part-right lines columns part h = grind arith

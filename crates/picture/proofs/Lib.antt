@@ -20,7 +20,7 @@ pub mod SpanLaws
 pub mod Lines
 -- a piece of a row, for piece
 pub mod RowPieces
--- what steps do to the damage, for Damage::rectangle and compose's calls
+-- what steps do to the damage, for compose's calls
 pub mod DamageLaws
 -- damaged lines composed one by one, for show_damaged
 pub mod Composing

@@ -1,30 +1,9 @@
--- The damaged columns of each line of the screen, from a first to a last, or none; and what a step does to them.
-use Rattle.std.specs.Prelude.{◌≡◌, ◌⊎◌, ℕ, zero, suc, ◌+◌, ◌-◌, ◌<◌, ◌≤◌, Bool, true, MatchOption, Option, Some, None, List, length, is_some, slice_index_or, ⊤}
+-- What a step does to the damaged columns of the screen's lines, and how many they are.
+use Rattle.std.specs.Prelude.{◌≡◌, ◌⊎◌, ℕ, zero, suc, ◌+◌, ◌-◌, ◌<◌, Bool, true, MatchOption, Option, Some, List, length, ⊤}
 use Rattle.std.specs.Option.{option_map, option_map_or}
-use Rattle.cell.specs.declared.limits.TheConstants.{LARGEST_SCREEN}
-use Rattle.small_set.specs.Sets.{contains}
 use Rattle.world.specs.Sound.{AreColumnsWithin}
-use Rattle.world.specs.calls.Refresh.{among}
 use Rattle.world.specs.declared.settings.Columns.{Columns}
-
--- the damaged columns of a line
-abbrev pub columns_of : List (Option Columns) → ℕ → Option Columns
-columns_of damage y = slice_index_or damage y None
-
--- the line has some
-abbrev pub has_damage : List (Option Columns) → ℕ → Bool
-has_damage damage y = is_some (columns_of damage y)
-
--- the place is among them
-abbrev pub has_damage_at : List (Option Columns) → ℕ → ℕ → Bool
-has_damage_at damage y x = among (columns_of damage y) x
-
--- a set of lines is that of the damaged ones, and there are no more lines than a screen has
-pub record IsDamage (damaged : List ℕ) (damage : List (Option Columns)) : Type 0 where
-  pub few : length damage ≤ LARGEST_SCREEN
-  pub lines : (y : ℕ) → contains damaged y ≡ has_damage damage y
-
--- ---- a step
+use Rattle.extents.specs.Extents.{columns_of, is_among}
 
 -- a column is this one, if there is one, or one of the first n that pass a test
 abbrev pub IsEnd : ℕ → Option ℕ → (ℕ → Bool) → ℕ → Type 0
@@ -40,8 +19,8 @@ AreEnds n before test columns =
 pub record Damages (columns : ℕ) (places : ℕ → ℕ → Bool) (old new : List (Option Columns)) : Type 0 where
   pub height : length new ≡ length old
   pub within : (y : ℕ) → AreColumnsWithin columns (columns_of old y) → AreColumnsWithin columns (columns_of new y)
-  pub keeps : (y x : ℕ) → has_damage_at old y x ≡ true → has_damage_at new y x ≡ true
-  pub covers : (y x : ℕ) → y < length old → x < columns → places y x ≡ true → has_damage_at new y x ≡ true
+  pub keeps : (y x : ℕ) → is_among old y x ≡ true → is_among new y x ≡ true
+  pub covers : (y x : ℕ) → y < length old → x < columns → places y x ≡ true → is_among new y x ≡ true
   pub few : (y : ℕ) → AreEnds columns (columns_of old y) (places y) (columns_of new y)
 
 -- how many columns are damaged of a line, and of the lines before y

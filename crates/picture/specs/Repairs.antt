@@ -6,7 +6,7 @@ use Rattle.world.specs.Panels.{Panels, found_from_top}
 use Rattle.world.specs.Sound.{AreColumnsWithin, AreSoundPanels, AreSoundWindows}
 use Rattle.world.specs.Windows.{Windows}
 use Rattle.world.specs.declared.settings.Columns.{Columns}
-use Rattle.picture.specs.Damages.{columns_of, has_damage_at}
+use Rattle.extents.specs.Extents.{columns_of, is_among}
 
 -- The windows and the panels are sound, and everywhere but at the damage a picture of the screen's size shows what the search from the top finds.
 pub record IsRepairable (ws : Windows) (ps : Panels) (pairs : Pairs) (damage : List (Option Columns)) (picture : Picture) : Type 0 where
@@ -15,4 +15,4 @@ pub record IsRepairable (ws : Windows) (ps : Panels) (pairs : Pairs) (damage : L
   pub height : length damage ≡ ws.lines
   pub within : (y : ℕ) → AreColumnsWithin ws.columns (columns_of damage y)
   pub size : HasSize ws.lines ws.columns picture
-  pub covered : (y x : ℕ) → y < ws.lines → x < ws.columns → has_damage_at damage y x ≡ false → shown_at picture (y, x) ≡ shown pairs (found_from_top ws.window ps y x)
+  pub covered : (y x : ℕ) → y < ws.lines → x < ws.columns → is_among damage y x ≡ false → shown_at picture (y, x) ≡ shown pairs (found_from_top ws.window ps y x)

@@ -1,6 +1,5 @@
-//! What the picture of the screen is made of: spans of the lines of windows, put into a line, and of each line the damaged columns.
+//! What the picture of the screen is made of: spans of the lines of windows, put into a line.
 //!
-//! - `damage`: the damaged columns of each line
 //! - `line`: `compose_row`
 //! - `owners`: the search from the top, along the lines of the screen
 //! - `parts`: which part of the screen shows something of a window
@@ -12,7 +11,6 @@
 //! - `spans`: the spans of a line, over which panels are laid
 #![tactic(auto)]
 
-mod damage;
 mod line;
 mod owners;
 mod parts;
@@ -25,7 +23,7 @@ mod spans;
 #[cfg(test)]
 mod tests;
 
-pub use damage::Damage;
+pub use extents::Extents;
 pub use line::compose_row;
 pub use owners::Owners;
 pub use parts::{following_part, panel_part, shared_part, window_part};

@@ -6,36 +6,41 @@ ghost use Rattle.cell.specs.Shown.{shown};
 ghost use Rattle.world.specs.Panels.{found_from_top};
 ghost use Rattle.stack.specs.Tables.{panels};
 ghost use Rattle.picture.specs.Counts.{GrewBy};
-ghost use Rattle.picture.specs.Damages.{cells_above, columns_of};
+ghost use Rattle.extents.specs.Extents.{AddsChanges, columns_of};
+ghost use Rattle.picture.specs.Damages.{cells_above};
 ghost use Rattle.picture.specs.Repairs.{IsRepairable};
 
-use crate::damage::Damage;
 use crate::line::compose_columns;
 use crate::owners::Owners;
 use crate::rows::Rows;
 use cell::{Grid, Pairs, Shown};
+use extents::Extents;
 use stack::Stack;
 use world::Columns;
 
-/// Puts what a search from the top finds at each damaged place of so many lines into a picture, and clears the damage. It answers how many
-/// cells of windows it read. The owners of any lines may be passed: they only save the room.
+/// Puts what a search from the top finds at each damaged place of so many lines into a picture, and clears the damage. The damaged columns
+/// are added to the picture's changes. It answers how many cells of windows it read. The owners of any lines may be passed: they only save
+/// the room.
 pub fn show_damaged<'a, R: Rows<'a>>(
     rows: &mut R,
     stack: &Stack,
     pairs: &Pairs,
     owners: &mut Owners,
     lines: u16,
-    damage: &mut Damage,
+    damage: &mut Extents,
     picture: &mut Grid<Shown>,
+    changes: &mut Extents,
 ) -> u32
     requires repairable { IsRepairable (R.windows rows.old) (panels stack.now) pairs.now damage.old picture.old }
     requires lines { lines ≡ (R.windows rows.old).lines }
+    requires height { length changes.old ≡ (R.windows rows.old).lines }
     ensures shown { picture.new ≡ picture_of (R.windows rows.old).lines (R.windows rows.old).columns
         (λ y x. shown pairs.now (found_from_top (R.windows rows.old).window (panels stack.now) y x)) }
     ensures cells { AreShown picture.new }
     ensures height { length damage.new ≡ (R.windows rows.old).lines }
     ensures none { (y : ℕ) → columns_of damage.new y ≡ None }
     ensures read { result ≡ cells_above damage.old (R.windows rows.old).lines }
+    ensures changes { AddsChanges changes.old picture.old changes.new picture.new }
     ensures count { GrewBy result (R.cells_read rows.old) (R.cells_read rows.new) }
 {
     owners.start_over();
@@ -45,7 +50,8 @@ pub fn show_damaged<'a, R: Rows<'a>>(
         if let Some(Columns { first, last }) = damage.line(y) {
             compose_columns(rows, stack, pairs, owners, y, first, last, picture);
             cells += u32::from(last - first) + 1;
-            damage.clear(y);
+            changes.widen(y, first, last);
+            damage.clear_line(y);
         }
         y = damage.next(y + 1);
     }

@@ -10,3 +10,7 @@ contains words n = bit_at (slice_index words (n / 64)) (n % 64) == 1
 abbrev pub IsNext : List ℕ → ℕ → Option ℕ → Type 0
 IsNext words from next = MatchOption next ((n : ℕ) → from ≤ n → contains words n ≡ false)
     (λ found. (from ≤ found) × (contains words found ≡ true) × ((n : ℕ) → from ≤ n → n < found → contains words n ≡ false))
+
+-- what the greatest number of the set is, if it has any
+abbrev pub IsLast : List ℕ → Option ℕ → Type 0
+IsLast words last = MatchOption last ((n : ℕ) → contains words n ≡ false) (λ found. (contains words found ≡ true) × ((n : ℕ) → found < n → contains words n ≡ false))

@@ -24,3 +24,13 @@ pub(crate) fn lowest_bit(word: u64) -> u16
 {
     word.trailing_zeros() as u16
 }
+
+/// The highest bit that is set.
+pub(crate) fn highest_bit(word: u64) -> u16
+    requires { 0 < word }
+    ensures inside { result < WIDTH }
+    ensures set { bit_at word result ≡ 1 }
+    ensures above { (i : ℕ) → result < i → bit_at word i ≡ 0 }
+{
+    63 - word.leading_zeros() as u16
+}

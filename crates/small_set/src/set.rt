@@ -1,9 +1,9 @@
 //! A set of numbers below 1,024.
 
 ghost use Rattle.std.specs.Prelude.{◌≡◌, ◌<◌, ◌==◌, ◌||◌, ℕ, true, false, if◌then◌else◌};
-ghost use Rattle.small_set.specs.Sets.{IsNext, contains};
+ghost use Rattle.small_set.specs.Sets.{IsLast, IsNext, contains};
 
-use crate::bits::{WIDTH, bits_from, lowest_bit};
+use crate::bits::{WIDTH, bits_from, highest_bit, lowest_bit};
 use std::marker::Model;
 
 const WORDS: u16 = 16;
@@ -82,6 +82,21 @@ impl SmallSet {
             word = self.words[usize::from(at)];
         }
         Some(at * WIDTH + lowest_bit(word))
+    }
+
+    /// The greatest number.
+    pub fn last(&self) -> Option<u16>
+        ensures { IsLast self.now result }
+    {
+        let mut at = WORDS;
+        while at > 0 {
+            at -= 1;
+            let word = self.words[usize::from(at)];
+            if word != 0 {
+                return Some(at * WIDTH + highest_bit(word));
+            }
+        }
+        None
     }
 
     /// Removes all numbers.

@@ -5,8 +5,6 @@ use Rattle.cell.specs.Pictures.{Picture, line_of}
 use Rattle.cell.specs.Differences.{DiffersAt, same_rendition, same_shown}
 use Rattle.streams.specs.Sinks.{Seen}
 use Rattle.paint.specs.declared.pen.Pen.{Pen}
-use Rattle.paint.specs.declared.changes.Stretch.{Stretch}
-use Rattle.paint.specs.Changes.{is_in}
 use Rattle.paint.specs.steps.Strokes.{IsPlainAt, Strokes, line_bytes, picture_bytes}
 
 -- a list whose first items are those of another one
@@ -95,10 +93,3 @@ abbrev pub IsChangedEnd : List Shown → List Shown → ℕ → Option (ℕ × �
 IsChangedEnd shown wanted tail None = ⊤
 IsChangedEnd shown wanted tail (Some columns) =
     (take columns.0 shown ≡ take columns.0 wanted) × (columns.0 ≤ columns.1) × (tail ≤ columns.1) × DiffersAt shown wanted columns.1
-
--- Some of a line's columns, from the first up to the second, which isn't one of them: no other is one of a stretch.
-pub record IsWithin (columns : ℕ) (stretch : Stretch) (part : ℕ × ℕ) : Type 0 where
-  pub ordered : part.0 ≤ part.1
-  pub inside : part.1 ≤ columns
-  pub before : (x : ℕ) → x < part.0 → is_in stretch x ≡ false
-  pub after : (x : ℕ) → part.1 ≤ x → x < columns → is_in stretch x ≡ false

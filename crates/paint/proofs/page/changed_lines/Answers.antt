@@ -1,12 +1,11 @@
--- `changed_lines`: pictures that differ in some columns only (`Alike`); columns in which a picture may differ from another (`Changed`).
-use Rattle.std.proofs.Common.{◌≡◌, ◌-◌, ◌++◌, inl, take, sym, ◌∙◌, arith}
+-- `changed_lines`: pictures that differ in some columns only (`Alike`).
+use Rattle.std.proofs.Common.{◌≡◌, ◌-◌, ◌++◌, take, sym, ◌∙◌, arith}
 use Rattle.std.proofs.lemmas.List.{take-append-drop}
 use Rattle.paint.proofs.Alike.{line-part, lines-back, lines-prefix}
-use Rattle.paint.proofs.Changed.{is_out}
 use Rattle.paint.proofs.page.changed_lines.Goals as goal
 
 pub loop-end-init : goal.loop-end-init
-loop-end-init c = grind (arith, lines-back, is_out)
+loop-end-init c = grind (arith, lines-back)
 
 pub first_changed-requires : goal.first_changed-requires
 first_changed-requires c =
@@ -22,5 +21,5 @@ returns-clause-kept c =
     let shown = c.args.frame.now.shown.now in
     let wanted = c.args.frame.now.wanted.now in
     let prefix : take end shown ≡ take end wanted = lines-prefix f.shown f.wanted f.changes end
-    (λ y before. c.lines-lines.ensures.others y (is_out c.lines-lines.result y (inl (omega (arith, c.loop-end-test.false))))) in
+    (λ y before. c.next-start.ensures.none y (omega arith) (omega (arith, before, c.loop-end-test.false))) in
     sym (take-append-drop end shown) ∙ (λ i. prefix i ++ c.loop-end.invariant.kept i) ∙ take-append-drop end wanted

@@ -1,17 +1,15 @@
--- `copy_changes`: columns in which a picture may differ from another (`Changed`); the columns in which two pictures may differ are copied from one
--- to the other (`Copying`).
+-- `copy_changes`: the columns in which two pictures may differ are copied from one to the other (`Copying`).
 use Rattle.std.proofs.Common.{◌≡◌, ◌+◌, ◌-◌, ◌<◌, take, drop, length, inl, inr, List, ap, ◌∙◌, arith}
 use Rattle.std.proofs.lemmas.Bool.{cases_lt}
 use Rattle.std.proofs.lemmas.List.{length-drop, length-take-le}
 use Rattle.cell.specs.Pictures.{line_of}
 use Rattle.cell.specs.Shown.{Shown}
 use Rattle.cell.proofs.PictureLemmas.{length-line}
-use Rattle.paint.proofs.Changed.{is_out}
 use Rattle.paint.proofs.Copying.{all-copied, none-there, one-more, still-only}
 use Rattle.paint.proofs.painter.copy_changes.Goals as goal
 
 pub loop-y-init : goal.loop-y-init
-loop-y-init c = grind (arith, cases_lt, none-there, is_out)
+loop-y-init c = grind (arith, none-there)
 
 pub loop-y-preserved : goal.loop-y-preserved
 loop-y-preserved c =
@@ -20,7 +18,7 @@ loop-y-preserved c =
     let part = c.within-start.result in
     let row = c.row.result.now in
     let piece = take (part.1 - part.0) (drop part.0 row) in
-    let below : y < length c.args.changes.now = omega (arith, c.loop-y-test.true, c.lines-lines.ensures.inside) in
+    let below : y < length c.args.changes.now = omega (arith, c.loop-y-test.true, c.height-lines.ensures) in
     let within = rw c.from.ensures at c.within-start.ensures in
     let is_row : row ≡ line_of c.args.wanted.now y = c.row.ensures.row ∙ ap (line_of c.args.wanted.now) c.from-at.ensures in
     let wide : length row ≡ c.args.columns = ap length is_row ∙ length-line y c.requires.wanted below in
@@ -34,11 +32,11 @@ loop-y-preserved c =
       only = only;
       done = λ v u before. elim (cases_lt v (y + 1)) [
         | inl early ↦ one-more h.size size c.requires.wanted h.only y below within piece is long put h.done v u early
-        | inr from ↦ only.others v u (c.next-y-in-loop-y.ensures.none v u from before)
+        | inr from ↦ none-there only v u (c.next-y-in-loop-y.ensures.none v from before)
       ];
     }
 
 pub returns : goal.returns
 returns c =
     let h = c.loop-y.invariant in
-    all-copied h.size c.requires.wanted h.only c.lines-lines.result c.lines-lines.ensures.others c.loop-y.y c.loop-y-test.false h.done
+    all-copied h.size c.requires.wanted c.loop-y.y (let past = c.loop-y-test.false in omega (arith, past, c.height-lines.ensures)) h.done

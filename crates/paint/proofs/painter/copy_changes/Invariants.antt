@@ -1,6 +1,6 @@
 use Rattle.std.proofs.Common.{◌≡◌, ℕ, ◌-◌, ◌<◌, length}
 use Rattle.cell.specs.Pictures.{HasSize, shown_at}
-use Rattle.paint.specs.Changes.{DifferOnly}
+use Rattle.extents.specs.Extents.{DifferOnly}
 use Rattle.paint.proofs.painter.copy_changes.Given as goal
 
 abbrev pub invariant-loop-y : goal.invariant-loop-y
@@ -11,4 +11,4 @@ invariant-loop-y l = record {
 }
 
 abbrev pub decreases-loop-y : goal.decreases-loop-y
-decreases-loop-y l = l.lines.end - l.y
+decreases-loop-y l = l.lines - l.y

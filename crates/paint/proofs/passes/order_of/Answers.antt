@@ -1,10 +1,9 @@
 -- `order_of`: only a line that may differ has renditions of changed cells, and only in the columns that may (`Alike`, `PassOrders`).
-use Rattle.std.proofs.Common.{◌≡◌, ◌+◌, ◌<◌, ◌≤◌, ◌∙◌, ◌++◌, inr, length, take, sym, ap, subst, arith}
+use Rattle.std.proofs.Common.{◌≡◌, ◌+◌, ◌<◌, ◌≤◌, ◌∙◌, ◌++◌, length, take, sym, ap, subst, arith}
 use Rattle.cell.specs.Pictures.{line_of}
 use Rattle.paint.specs.steps.Passes.{HasNoted, changed_renditions, line_renditions}
 use Rattle.paint.specs.steps.Walks.{cells_between}
-use Rattle.paint.proofs.Alike.{line-alike, line-none, line-part}
-use Rattle.paint.proofs.Changed.{is_out}
+use Rattle.paint.proofs.Alike.{line-none, line-part}
 use Rattle.paint.proofs.PassOrders.{noted-order, picture-next, picture-passed, picture-whole, renditions-part}
 use Rattle.paint.proofs.passes.order_of.Goals as goal
 
@@ -17,7 +16,7 @@ loop-line-init c =
       inside = few;
       noted = subst (HasNoted c.new-renditions.result)
           (sym (picture-passed 0 next.result c.args.frame.now.shown.now c.args.frame.now.wanted.now (omega arith) (omega (arith, few, f.shown.height)) (f.shown.height ∙ sym f.wanted.height)
-          (λ v from to. line-alike f.shown f.wanted f.changes v (omega (arith, to, few)) (λ x left. next.ensures.none v x from to))))
+          (λ v from to. line-none f.shown f.wanted f.changes v (omega (arith, to, few)) (next.ensures.none v from to))))
           c.new-renditions.ensures;
     }
 
@@ -29,7 +28,7 @@ loop-line-preserved c =
     let wanted = c.args.frame.now.wanted.now in
     let part = c.within-start.result in
     let same : length shown ≡ length wanted = f.shown.height ∙ sym f.wanted.height in
-    let below : y < c.args.frame.now.lines = omega (arith, c.loop-line-test.true, c.lines-end.ensures.inside, f.height) in
+    let below : y < c.args.frame.now.lines = c.loop-line-test.true in
     let next = c.next-line-in-loop-line in
     let few : next.result ≤ c.args.frame.now.lines = omega (arith, next.ensures.inside (omega (arith, below, f.height)), f.height) in
     let row : c.row.result.now ≡ line_of shown y = c.row.ensures.row ∙ ap (line_of shown) c.from-at.ensures in
@@ -40,7 +39,7 @@ loop-line-preserved c =
     (λ i. line_renditions (cells_between part.0 part.1 (row i)) (cells_between part.0 part.1 (other i)))
     ∙ sym (renditions-part part.0 part.1 (line_of shown y) (line_of wanted y) within.ordered within.before within.after) in
     let passed = picture-passed (y + 1) next.result shown wanted next.ensures.from (omega (arith, few, f.shown.height)) same
-    (λ v from to. line-alike f.shown f.wanted f.changes v (omega (arith, to, few)) (λ x left. next.ensures.none v x from to)) in
+    (λ v from to. line-none f.shown f.wanted f.changes v (omega (arith, to, few)) (next.ensures.none v from to)) in
     record {
       inside = few;
       noted = subst (HasNoted c.note_part.new.self)
@@ -53,8 +52,7 @@ returns-then-are_saved c =
     let f = c.args.frame.now.sound in
     let whole = picture-whole c.loop-line.line c.args.frame.now.shown.now c.args.frame.now.wanted.now (omega (arith, c.loop-line.invariant.inside, f.shown.height))
     (f.shown.height ∙ sym f.wanted.height)
-    (λ v from to. line-none f.shown f.wanted f.changes v (omega (arith, to, f.shown.height))
-    (c.lines-end.ensures.others v (is_out c.lines-end.result v (inr (omega (arith, from, c.loop-line-test.false)))))) in
+    (λ v from to. absurd (omega (arith, from, to, f.shown.height, c.loop-line-test.false))) in
     rw (sym c.are_saved.ensures.value ∙ c.if-are_saved.true) at (noted-order (subst (HasNoted c.loop-line.renditions) whole c.loop-line.invariant.noted) c.are_saved.ensures.few)
 
 pub returns-else-are_saved : goal.returns-else-are_saved
@@ -62,7 +60,6 @@ returns-else-are_saved c =
     let f = c.args.frame.now.sound in
     let whole = picture-whole c.loop-line.line c.args.frame.now.shown.now c.args.frame.now.wanted.now (omega (arith, c.loop-line.invariant.inside, f.shown.height))
     (f.shown.height ∙ sym f.wanted.height)
-    (λ v from to. line-none f.shown f.wanted f.changes v (omega (arith, to, f.shown.height))
-    (c.lines-end.ensures.others v (is_out c.lines-end.result v (inr (omega (arith, from, c.loop-line-test.false)))))) in
+    (λ v from to. absurd (omega (arith, from, to, f.shown.height, c.loop-line-test.false))) in
     c.new.ensures
     ∙ rw (sym c.are_saved.ensures.value ∙ c.if-are_saved.false) at (noted-order (subst (HasNoted c.loop-line.renditions) whole c.loop-line.invariant.noted) c.are_saved.ensures.few)

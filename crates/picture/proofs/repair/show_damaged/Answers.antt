@@ -7,7 +7,9 @@ use Rattle.world.specs.Panels.{found_from_top, holds, standard_screen}
 use Rattle.world.specs.Sound.{AreColumnsWithin}
 use Rattle.world.specs.Windows.{Windows}
 use Rattle.stack.specs.Tables.{panels}
-use Rattle.picture.specs.Damages.{cells_above, cells_of_line, columns_of}
+use Rattle.extents.specs.Extents.{AddsChanges, columns_of}
+use Rattle.extents.proofs.Changing.{changes-more, changes-none}
+use Rattle.picture.specs.Damages.{cells_above, cells_of_line}
 use Rattle.picture.specs.Spans.{HasPanelWindows}
 use Rattle.picture.specs.steps.Owners.{KnowsOwners}
 use Rattle.picture.proofs.Composing.{ComposedAbove, composed-bare, composed-more, composed-none, composed-to, fits-more, no-more-to}
@@ -59,6 +61,7 @@ loop-y-init g c =
       windows = refl;
       known = c.start_over.ensures old.window (panels c.args.stack.now);
       read = sym (no-more-to before 0 c.next-y.result (omega arith) none);
+      changes = changes-none c.args.changes.now c.args.picture.now;
       count = search rules;
       composed = composed-to f old.lines old.columns before c.args.picture.now c.requires.repairable.covered 0 c.next-y.result before c.args.picture.now
           (composed-none f old.lines old.columns before c.args.picture.now c.requires.repairable.covered c.requires.repairable.height c.requires.repairable.size)
@@ -81,7 +84,7 @@ loop-y-preserved g c =
     let composed : ComposedAbove f old.lines old.columns before c.args.picture.now (y + 1) c.match-line.damage c.match-line.picture = elim c.match-line.branch [
       | in-Some s ↦
           let r = s.in-Some.field-0 in
-          rw (s.damage-is, s.picture-is, s.clear.ensures)
+          rw (s.damage-is, s.picture-is, s.clear_line.ensures)
           (composed-more f old.lines old.columns before c.args.picture.now c.requires.repairable.covered y r c.loop-y.damage c.loop-y.picture s.compose_columns.new.picture h.composed below
           (sym c.line.ensures ∙ s.in-Some.is)
           (λ v u. s.compose_columns.ensures.shown v u
@@ -95,6 +98,13 @@ loop-y-preserved g c =
       | in-Some s ↦ rw s.owners-is (subst (λ (ws : Windows). KnowsOwners ws.window ps s.compose_columns.new.owners) h.windows s.compose_columns.ensures.known)
       | in_default s ↦ rw s.owners-is h.known
     ] in
+    let changes : AddsChanges c.args.changes.now c.args.picture.now c.match-line.changes c.match-line.picture = elim c.match-line.branch [
+      | in-Some s ↦
+          let r = s.in-Some.field-0 in
+          rw (s.changes-is, s.picture-is, s.widen.ensures)
+          (changes-more c.args.changes.now c.args.picture.now c.loop-y.changes c.loop-y.picture s.compose_columns.new.picture y r.first (r.last + 1 - r.first) _ h.changes ? s.compose_columns.ensures.shown r.last ?)
+      | in_default s ↦ rw (s.changes-is, s.picture-is) h.changes
+    ] in
     let next = c.next-y-in-loop-y.result in
     let from : y + 1 ≤ next = c.next-y-in-loop-y.ensures.from in
     let none : (v : ℕ) → y + 1 ≤ v → v < next → columns_of c.match-line.damage v ≡ None = λ v a b. c.next-y-in-loop-y.ensures.none v a b in
@@ -105,6 +115,7 @@ loop-y-preserved g c =
       windows = grind arith;
       known = known;
       read = grind arith;
+      changes = changes;
       count = grind (arith, mod-add-mod, add_assoc);
       composed = grind (arith, composed-to);
       inside = omega (arith, inside, height);

@@ -3,6 +3,7 @@ use Rattle.cell.specs.Shown.{shown}
 use Rattle.world.specs.Panels.{found_from_top}
 use Rattle.stack.specs.Tables.{panels}
 use Rattle.picture.specs.Counts.{GrewBy}
+use Rattle.extents.specs.Extents.{AddsChanges}
 use Rattle.picture.specs.Damages.{cells_above}
 use Rattle.picture.specs.steps.Owners.{KnowsOwners}
 use Rattle.picture.proofs.Composing.{ComposedAbove}
@@ -15,6 +16,7 @@ invariant-loop-y g l = record {
   known : KnowsOwners (g.R.Rows.windows l.fn.rows).window (panels l.fn.stack) l.owners;
   inside : l.y ≤ (g.R.Rows.windows l.fn.rows).lines;
   read : l.cells ≡ cells_above l.fn.damage l.y;
+  changes : AddsChanges l.fn.changes l.fn.picture l.changes l.picture;
   count : GrewBy l.cells (g.R.Rows.cells_read l.fn.rows) (g.R.Rows.cells_read l.rows);
   composed : ComposedAbove (λ v u. shown l.fn.pairs (found_from_top (g.R.Rows.windows l.fn.rows).window (panels l.fn.stack) v u)) (g.R.Rows.windows l.fn.rows).lines
       (g.R.Rows.windows l.fn.rows).columns l.fn.damage l.fn.picture l.y l.damage l.picture;

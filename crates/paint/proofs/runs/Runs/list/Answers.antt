@@ -1,10 +1,9 @@
 -- `list`: only in the columns that may differ there are runs (`Listing`).
-use Rattle.std.proofs.Common.{◌≡◌, ◌+◌, ◌<◌, ◌∙◌, inl, inr, sym, ap, arith}
+use Rattle.std.proofs.Common.{◌≡◌, ◌+◌, ◌<◌, ◌∙◌, inl, inr, sym, ap, subst, arith}
+use Rattle.paint.specs.steps.Listing.{AreRuns}
 use Rattle.std.proofs.lemmas.Bool.{cases_lt}
 use Rattle.cell.specs.Pictures.{line_of}
-use Rattle.paint.specs.Changes.{is_in, no_stretch}
-use Rattle.paint.specs.declared.changes.Stretch.{Stretch}
-use Rattle.paint.proofs.Changed.{is_out}
+use Rattle.paint.proofs.Copying.{none-there}
 use Rattle.paint.proofs.Listing.{runs-further, runs-none, same-in_line, same-lines, same-past, same-then, same-to_end}
 use Rattle.paint.proofs.runs.Runs.list.Goals as goal
 
@@ -18,7 +17,7 @@ loop-line-init c =
     record {
       inside = omega (arith, next.ensures.inside (omega arith), f.height);
       listed = rw c.clear.ensures (runs-further (runs-none order shown wanted)
-          (same-lines shown wanted 0 next.result (omega arith) (λ v u from to. f.changes.others v u (next.ensures.none v u from to))));
+          (same-lines shown wanted 0 next.result (omega arith) (λ v u from to. none-there f.changes v u (next.ensures.none v from to))));
     }
 
 pub loop-line-preserved : goal.loop-line-preserved
@@ -27,7 +26,7 @@ loop-line-preserved c =
     let y = c.loop-line.line in
     let shown = c.args.frame.now.shown.now in
     let wanted = c.args.frame.now.wanted.now in
-    let below : y < c.args.frame.now.lines = omega (arith, c.loop-line-test.true, c.lines-end.ensures.inside, f.height) in
+    let below : y < c.args.frame.now.lines = c.loop-line-test.true in
     let part = rw c.from.ensures at c.within-start.ensures in
     let start = c.within-start.result.0 in
     let stop = c.within-start.result.1 in
@@ -43,12 +42,11 @@ loop-line-preserved c =
             | inl few ↦ f.changes.others y u (part.after u from few)
             | inr past ↦ same-past f.shown f.wanted y u below past
           ]))
-          (same-lines shown wanted (y + 1) next.result next.ensures.from (λ v u from to. f.changes.others v u (next.ensures.none v u from to))));
+          (same-lines shown wanted (y + 1) next.result next.ensures.from (λ v u from to. none-there f.changes v u (next.ensures.none v from to))));
     }
 
 pub returns : goal.returns
 returns c = λ _.
     let f = c.args.frame.now.sound in
-    runs-further c.loop-line.invariant.listed (same-lines c.args.frame.now.shown.now c.args.frame.now.wanted.now c.loop-line.line c.args.frame.now.lines c.loop-line.invariant.inside
-    (λ v u from to. f.changes.others v u
-    (ap (λ (s : Stretch). is_in s u) (c.lines-end.ensures.others v (is_out c.lines-end.result v (inr (omega arith)))) ∙ is_out no_stretch u (inr (omega arith)))))
+    let past : c.loop-line.line ≡ c.args.frame.now.lines = omega (arith, c.loop-line-test.false, c.loop-line.invariant.inside) in
+    subst (λ n. AreRuns c.args.order.now c.args.frame.now.shown.now c.args.frame.now.wanted.now c.loop-line.self (n, 0)) past c.loop-line.invariant.listed

@@ -9,4 +9,4 @@ invariant-loop-line l = record {
 }
 
 abbrev pub decreases-loop-line : goal.decreases-loop-line
-decreases-loop-line l = l.end - l.line
+decreases-loop-line l = l.frame.lines - l.line

@@ -1,0 +1,69 @@
+-- The lines that have columns, one after another; and a rectangle that is added line by line.
+use Rattle.std.proofs.Common.{◌≡◌, ℕ, ◌+◌, ◌-◌, ◌<◌, ◌≤◌, ◌==◌, ◌||◌, ◌&&◌, Bool, true, false, nat_le, nat_lt, if◌then◌else◌, List, Option, Some, None, length, set, refl, sym, arith, rules}
+use Rattle.std.specs.Prelude.{MatchOption, slice_set}
+use Rattle.std.specs.Option.{option_map_or}
+use Rattle.std.proofs.Common.{get_or-set_other, get_or-set_same}
+use Rattle.std.proofs.lemmas.Bool.{and_from, cases_eq, cases_lt, eq-eqb, le-leb, lt-ltb, ne_eqb}
+use Rattle.std.proofs.lemmas.Bool.Decides.{nat_tests}
+use Rattle.std.proofs.lemmas.List.{length-set}
+use Rattle.cell.specs.declared.window.Rect.{Rect}
+use Rattle.small_set.specs.Sets.{IsNext, contains}
+use Rattle.world.specs.Windows.{joined_columns}
+use Rattle.world.specs.declared.settings.Columns.{Columns}
+use Rattle.extents.specs.Extents.{columns_of}
+
+-- a number below another, and that one
+pub below-or-here : (v y : ℕ) → (v == y || nat_lt v y) ≡ nat_lt v (y + 1)
+below-or-here v y = grind (arith, cases_eq, eq-eqb, nat_tests, ne_eqb)
+
+-- Lines that aren't in the set have no columns, nor have those before the next one of it that is looked at.
+pub record ClearedBefore (lines : List ℕ) (next : Option ℕ) (extents : List (Option Columns)) : Type 0 where
+  pub others : (v : ℕ) → contains lines v ≡ false → columns_of extents v ≡ None
+  pub rest : MatchOption next ((v : ℕ) → columns_of extents v ≡ None) (λ y. (contains lines y ≡ true) × ((v : ℕ) → v < y → columns_of extents v ≡ None))
+
+-- how many lines are left at most
+abbrev pub lines-left : Option ℕ → ℕ
+lines-left next = option_map_or (λ y. 1024 - y) next 0
+
+module _ (lines : List ℕ) (extents : List (Option Columns)) (others : (v : ℕ) → contains lines v ≡ false → columns_of extents v ≡ None) where
+  -- where those before one have none
+  cleared-on : (from : ℕ) → ((v : ℕ) → v < from → columns_of extents v ≡ None) → (next : Option ℕ) → IsNext lines from next → ClearedBefore lines next extents
+  cleared-on from before y none = grind (arith, cases_lt)
+
+-- the line that is looked at
+pub looked-at : (lines : List ℕ) (extents : List (Option Columns)) (next : Option ℕ) (y : ℕ) → next ≡ Some y → ClearedBefore lines next extents → ClearedBefore lines (Some y) extents
+looked-at lines extents next y is = grind arith
+
+module _ (lines : List ℕ) (extents : List (Option Columns)) (y : ℕ) (inside : y < length extents) (h : ClearedBefore lines (Some y) extents) where
+  pub cleared-more : (next : Option ℕ) → IsNext lines (y + 1) next → ClearedBefore lines next (set extents y None)
+  cleared-more = grind (arith, cleared-on, cases_eq, get_or-set_same, get_or-set_other)
+
+  pub fewer-left : y < 1024 → (next : Option ℕ) → IsNext lines (y + 1) next → lines-left next < lines-left (Some y)
+  fewer-left small z none = grind arith
+
+-- ---- a rectangle
+
+-- the lines from the top, before line n, were widened
+pub record Widened (r : Rect) (n : ℕ) (old now : List (Option Columns)) : Type 0 where
+  pub height : length now ≡ length old
+  pub each : (v : ℕ) → columns_of now v
+      ≡ (if (nat_le r.top v && nat_le v r.bottom) && nat_lt v n then joined_columns (columns_of old v) r.left r.right else columns_of old v)
+
+not-yet : {A : Type 0} (top bottom n v : ℕ) (a b : A) → n ≤ top → (if (nat_le top v && nat_le v bottom) && nat_lt v n then a else b) ≡ b
+not-yet top bottom n v a b h = grind (arith, nat_tests)
+
+pub widened-none : (r : Rect) (old : List (Option Columns)) → Widened r r.top old old
+widened-none r old = record { height = refl; each = λ v. sym (not-yet r.top r.bottom r.top v (joined_columns (columns_of old v) r.left r.right) (columns_of old v) (omega arith)) }
+
+pub widened-more : (r : Rect) (n : ℕ) (old now : List (Option Columns)) → Widened r n old now → r.top ≤ n → n ≤ r.bottom → n < length now
+    → Widened r (n + 1) old (slice_set now n (joined_columns (columns_of now n) r.left r.right))
+widened-more r n old now h from to below = search (rules, length-set, cases_eq, nat_tests, get_or-set_same, and_from, le-leb, lt-ltb, get_or-set_other, cases_lt)
+
+all-lines : {A : Type 0} (top bottom n v : ℕ) (a b : A) → bottom < n
+    → (if (nat_le top v && nat_le v bottom) && nat_lt v n then a else b) ≡ (if nat_le top v && nat_le v bottom then a else b)
+all-lines top bottom n v a b h = grind (arith, nat_tests)
+
+-- all of it was
+pub widened-all : (r : Rect) (n : ℕ) (old now : List (Option Columns)) → Widened r n old now → r.bottom < n → (v : ℕ) → columns_of now v
+    ≡ (if nat_le r.top v && nat_le v r.bottom then joined_columns (columns_of old v) r.left r.right else columns_of old v)
+widened-all r n old now h past v = grind (arith, all-lines)

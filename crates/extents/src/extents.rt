@@ -1,0 +1,196 @@
+//! Of each line of a screen some columns.
+
+ghost use Rattle.std.specs.Prelude.{◌≡◌, ◌<◌, ◌≤◌, ◌&&◌, ◌-◌, ℕ, None, Some, IfOk, if◌then◌else◌, length, nat_le, nat_lt, replicate, slice_set, true};
+ghost use Rattle.cell.specs.declared.limits.TheConstants.{LARGEST_SCREEN};
+ghost use Rattle.small_set.specs.Sets.{contains};
+ghost use Rattle.world.specs.Windows.{joined_columns};
+ghost use Rattle.extents.specs.Extents.{IsWithin, columns_of, has_columns};
+
+use cell::Rect;
+use small_set::SmallSet;
+use std::alloc::{AllocError, Global};
+use std::marker::Model;
+use world::Columns;
+
+/// Of each line of a screen the columns from a first to a last, or none.
+#[derive(Drop)]
+pub struct Extents {
+    lines: Vec<Option<Columns>>,
+    // Which lines have some.
+    some: SmallSet,
+}
+
+impl Model for Extents {
+    ghost use Rattle.std.specs.Prelude.{List, Option};
+    ghost use Rattle.world.specs.declared.settings.Columns.{Columns};
+    ghost use Rattle.extents.specs.Extents.{AreExtents};
+
+    ghost Value = { List (Option Columns) };
+
+    ghost view = { λ extents. extents.lines.items };
+
+    ghost invariant = { λ extents. AreExtents extents.some extents.lines.items };
+}
+
+impl Extents {
+    /// So many lines, none of which has any.
+    pub fn none(alloc: Global, lines: u16) -> Result<Extents, AllocError>
+        requires { lines ≤ LARGEST_SCREEN }
+        ensures { IfOk result (λ extents. extents ≡ replicate lines None) }
+    {
+        Ok(Extents {
+            lines: vec![in alloc; None; usize::from(lines)]?,
+            some: SmallSet::new(),
+        })
+    }
+
+    /// So many lines, each of which has all of so many columns.
+    pub fn whole(alloc: Global, lines: u16, columns: u16) -> Result<Extents, AllocError>
+        requires few { lines ≤ LARGEST_SCREEN }
+        requires some { 0 < columns }
+        ensures { IfOk result (λ extents. extents ≡ replicate lines (Some (record { first = 0; last = columns - 1 }))) }
+    {
+        let all = Columns {
+            first: 0,
+            last: columns - 1,
+        };
+        Ok(Extents {
+            lines: vec![in alloc; Some(all); usize::from(lines)]?,
+            some: all_lines(lines),
+        })
+    }
+
+    /// How many lines there are.
+    pub fn height(&self) -> u16
+        ensures { result ≡ length self.now }
+    {
+        self.lines.len() as u16
+    }
+
+    /// The columns of a line.
+    pub fn line(&self, y: u16) -> Option<Columns>
+        requires { y < length self.now }
+        ensures { result ≡ columns_of self.now y }
+    {
+        self.lines[usize::from(y)]
+    }
+
+    /// The columns of a line, of the first so many, from one up to another, which isn't one of them.
+    pub fn within(&self, y: u16, columns: usize) -> (usize, usize)
+        requires { y < length self.now }
+        ensures { IsWithin columns (columns_of self.now y) result }
+    {
+        match self.line(y) {
+            Some(Columns { first, last }) => {
+                let end = columns.min(usize::from(last) + 1);
+                (end.min(usize::from(first)), end)
+            }
+            None => (0, 0),
+        }
+    }
+
+    /// The first line from one on that has columns, and where there is none, a line past the last.
+    pub fn next(&self, from: u16) -> u16
+        ensures from { from ≤ result }
+        ensures inside { from ≤ length self.now → result ≤ length self.now }
+        ensures none { (y : ℕ) → from ≤ y → y < result → columns_of self.now y ≡ None }
+        ensures found { result < length self.now → has_columns self.now result ≡ true }
+    {
+        match self.some.next(from) {
+            Some(y) => y,
+            None => from.max(self.height()),
+        }
+    }
+
+    /// The line from which on none has columns; the one before it has some.
+    pub fn end(&self) -> u16
+        ensures inside { result ≤ length self.now }
+        ensures none { (y : ℕ) → result ≤ y → columns_of self.now y ≡ None }
+        ensures found { 0 < result → has_columns self.now (result - 1) ≡ true }
+    {
+        match self.some.last() {
+            Some(y) => y + 1,
+            None => 0,
+        }
+    }
+
+    /// Adds columns of a line, from a first to a last, and those between them and the ones that it has.
+    #[inline(always)]
+    pub fn widen(&mut self, y: u16, first: u16, last: u16)
+        requires { y < length self.old }
+        ensures { self.new ≡ slice_set self.old y (joined_columns (columns_of self.old y) first last) }
+    {
+        let at = usize::from(y);
+        self.lines[at] = Some(Columns::join(self.lines[at], first, last));
+        self.some.insert(y);
+    }
+
+    /// Adds a rectangle.
+    #[inline(always)]
+    pub fn rectangle(&mut self, frame: Rect)
+        requires { frame.bottom < length self.old }
+        ensures height { length self.new ≡ length self.old }
+        ensures each { (y : ℕ) → columns_of self.new y
+            ≡ (if nat_le frame.top y && nat_le y frame.bottom then joined_columns (columns_of self.old y) frame.left frame.right else columns_of self.old y) }
+    {
+        if frame.top == frame.bottom {
+            self.widen(frame.top, frame.left, frame.right);
+        } else {
+            self.widen_lines(frame);
+        }
+    }
+
+    /// Adds a rectangle line by line.
+    #[inline(never)]
+    fn widen_lines(&mut self, frame: Rect)
+        requires { frame.bottom < length self.old }
+        ensures height { length self.new ≡ length self.old }
+        ensures each { (y : ℕ) → columns_of self.new y
+            ≡ (if nat_le frame.top y && nat_le y frame.bottom then joined_columns (columns_of self.old y) frame.left frame.right else columns_of self.old y) }
+    {
+        let Rect {
+            top,
+            left,
+            bottom,
+            right,
+        } = frame;
+        prove!(usize::from(bottom) < self.lines.len());
+        for y in top..bottom + 1 {
+            self.widen(y, left, right);
+        }
+    }
+
+    /// Takes away the columns of a line.
+    pub fn clear_line(&mut self, y: u16)
+        requires { y < length self.old }
+        ensures { self.new ≡ slice_set self.old y None }
+    {
+        self.lines[usize::from(y)] = None;
+        self.some.remove(y);
+    }
+
+    /// Takes away all columns.
+    pub fn clear(&mut self)
+        ensures height { length self.new ≡ length self.old }
+        ensures none { (y : ℕ) → columns_of self.new y ≡ None }
+    {
+        let mut next = self.some.next(0);
+        while let Some(y) = next {
+            self.lines[usize::from(y)] = None;
+            next = self.some.next(y + 1);
+        }
+        self.some.clear();
+    }
+}
+
+/// The first lines, so many.
+fn all_lines(lines: u16) -> SmallSet
+    requires { lines ≤ LARGEST_SCREEN }
+    ensures { (y : ℕ) → contains result y ≡ nat_lt y lines }
+{
+    let mut set = SmallSet::new();
+    for y in 0..lines {
+        set.insert(y);
+    }
+    set
+}
