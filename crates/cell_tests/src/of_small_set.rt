@@ -1,4 +1,4 @@
-//! Which numbers of a set are next, and which are absent.
+//! Which numbers of a set are next, which is the last, and which are absent.
 
 use small_set::SmallSet;
 
@@ -44,4 +44,19 @@ fn the_least_absent_number_follows_those_that_are_there(rt: HostRuntime) {
     let of_all = set.least_absent();
     set.remove(130);
     assert_eq!(rt; [of_none, of_all, set.least_absent()], [0, 200, 130]);
+}
+
+#[test]
+fn the_last_number_is_the_greatest(rt: HostRuntime) {
+    let mut set = SmallSet::new();
+    let of_none = set.last();
+    let mut found = [None; 3];
+    for (place, number) in found.iter_mut().zip([3, 998, 64]) {
+        set.insert(number);
+        *place = set.last();
+    }
+    set.remove(998);
+    assert_eq!(rt; of_none, None);
+    assert_eq!(rt; found, [Some(3), Some(998), Some(998)]);
+    assert_eq!(rt; set.last(), Some(64));
 }

@@ -18,6 +18,7 @@ use Rattle.compose.specs.Calling.{Called}
 use Rattle.compose.specs.Covers.{IsDesk}
 use Rattle.compose.specs.Desks.{DeskTable}
 use Rattle.compose.specs.steps.Outcomes.{Ordered, OrderedDamaging}
+use Rattle.extents.proofs.Changing.{changes-none}
 use Rattle.compose.proofs.DamageCovers.{call-accepted}
 use Rattle.compose.proofs.DeskLemmas.{accepted-by, call-refused}
 
@@ -50,5 +51,5 @@ pub order-made : (old : DeskTable) (w : WindowTable) (ps : PanelTable) (d : List
     → OrderedDamaging old.windows old.panels stacking old.damage r w ps d
     → IsDesk (record old { windows = w; panels = ps; damage = d }) × Called old (calls.Stacking stacking) r (record old { windows = w; panels = ps; damage = d })
 order-made old w ps d stacking (Ok reply) h m =
-    call-accepted old _ (calls.Stacking stacking) h (accepted-by _ _ _ m.call.refused reply refl) refl (grind arith) m.damaged refl reply m.call.reply
+    call-accepted old _ (calls.Stacking stacking) h (accepted-by _ _ _ m.call.refused reply refl) refl (grind arith) m.damaged refl (changes-none old.changes old.virtual.picture) reply m.call.reply
 order-made old w ps d stacking (Err e) h m = call-refused old _ (calls.Stacking stacking) e h (grind arith) m.call.refused

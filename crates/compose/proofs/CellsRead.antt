@@ -13,7 +13,8 @@ use Rattle.world.specs.declared.call.Reply.TheVariants.{Composed}
 use Rattle.world.specs.declared.settings.Columns.{Columns}
 use Rattle.world.proofs.RefreshLaws.{found-unmarked}
 use Rattle.world.proofs.SoundCalls.{sound-call}
-use Rattle.picture.specs.Damages.{cells_above, columns_of}
+use Rattle.extents.specs.Extents.{AddsChanges, columns_of}
+use Rattle.picture.specs.Damages.{cells_above}
 use Rattle.compose.specs.Calling.{Called, DamagesFew, MayRead}
 use Rattle.compose.specs.Covers.{IsCovered, IsDesk}
 use Rattle.compose.specs.Desks.{DeskTable, is_damaged_line, world}
@@ -47,9 +48,9 @@ shown-composed old new left =
 -- so the desk that it leaves is one, and the call was made
 pub update-made : (old new : DeskTable) (cells : ℕ) → IsDesk old → world new ≡ world_after (world old) (calls.Refresh UpdatePanels) → length new.damage ≡ old.windows.lines
     → ((y : ℕ) → columns_of new.damage y ≡ None) → cells ≡ cells_above old.damage old.windows.lines
-    → new.cells_read ≡ (old.cells_read + cells) % 2 ^ 64 → IsDesk new × Called old (calls.Refresh UpdatePanels) (Ok (Composed (record { cells = cells }))) new
-update-made old new cells h left height none read counted =
+    → new.cells_read ≡ (old.cells_read + cells) % 2 ^ 64 → AddsChanges old.changes old.virtual.picture new.changes new.virtual.picture → IsDesk new × Called old (calls.Refresh UpdatePanels) (Ok (Composed (record { cells = cells }))) new
+update-made old new cells h left height none read counted adds =
     let whole = subst IsSound (sym left) (sound-call (world old) (calls.Refresh UpdatePanels) h.sound refl) in let lines = ap (λ (w : World). w.windows.lines) left in (
-      record { sound = whole; covered = covered-composed new (height ∙ sym lines) none (shown-composed (world old) (world new) left) },
-      (refl, (cells, may-read old h cells read, refl), left, none-damaged old new none, whole, counted),
+      record { sound = whole; covered = covered-composed new (height ∙ sym lines) none (shown-composed (world old) (world new) left); changes = adds.height ∙ h.changes ∙ sym lines },
+      (refl, (cells, may-read old h cells read, refl), left, none-damaged old new none, whole, counted, adds),
     )

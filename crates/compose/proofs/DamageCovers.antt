@@ -17,7 +17,8 @@ use Rattle.world.specs.declared.call.Call.TheVariants as calls
 use Rattle.world.specs.declared.call.Refresh.TheVariants.{UpdatePanels}
 use Rattle.world.specs.declared.call.Reply.{Reply}
 use Rattle.world.proofs.Sizes.{size-call}
-use Rattle.picture.specs.Damages.{Damages, has_damage_at}
+use Rattle.extents.specs.Extents.{AddsChanges, is_among}
+use Rattle.picture.specs.Damages.{Damages}
 use Rattle.picture.proofs.DamageLaws.{damages-line}
 use Rattle.world.proofs.CallLaws.{picture-kept, virtual-kept}
 use Rattle.world.proofs.SoundCalls.{sound-call}
@@ -37,11 +38,11 @@ uncounted-counts old new call reply other same = same
 
 module _ (old new : DeskTable) (call : Call) (h : IsDesk old) (accepted : refusal (world old) call ≡ None) (other : is_update_panels call ≡ false)
     (leaves : MayLeave old call new) (damages : Damages old.windows.columns (affects_place (world old) call) old.damage new.damage)
-    (uncounted : new.cells_read ≡ old.cells_read) where
+    (uncounted : new.cells_read ≡ old.cells_read) (adds : AddsChanges old.changes old.virtual.picture new.changes new.virtual.picture) where
   left : world new ≡ world_after (world old) call
   left = world-left old new call leaves
 
-  shown-after : (y x : ℕ) → y < new.windows.lines → x < new.windows.columns → has_damage_at new.damage y x ≡ false → shown_at new.virtual.picture (y, x) ≡ picture (world new) y x
+  shown-after : (y x : ℕ) → y < new.windows.lines → x < new.windows.columns → is_among new.damage y x ≡ false → shown_at new.virtual.picture (y, x) ≡ picture (world new) y x
   shown-after y x below inside free =
       let (on_line, on_column) : (y < old.windows.lines) × (x < old.windows.columns) = grind (arith, left, size-call) in
       let off = off-both _ _ _ (damages.covers y x (omega (arith, h.covered.height, on_line)) on_column) (damages.keeps y x) free in
@@ -74,8 +75,9 @@ blank-at zero columns y x = refl
 blank-at (suc n) columns zero x = replicated columns x shown_blank
 blank-at (suc n) columns (suc y) x = blank-at n columns y x
 
-pub IsDesk-new : (t : DeskTable) (lines columns : ℕ) → world t ≡ first_world lines columns → AreSoundWindows (windows t.windows) → t.damage ≡ replicate lines None → IsDesk t
-IsDesk-new t lines columns first sound undamaged = record {
+pub IsDesk-new : (t : DeskTable) (lines columns : ℕ) → world t ≡ first_world lines columns → AreSoundWindows (windows t.windows) → t.damage ≡ replicate lines None → t.changes ≡ replicate lines None
+    → IsDesk t
+IsDesk-new t lines columns first sound undamaged unchanged = record {
   sound = IsSound-first (world t) lines columns first sound;
   covered = record {
     height = grind (arith, length-replicate);
@@ -83,4 +85,5 @@ IsDesk-new t lines columns first sound undamaged = record {
     shown = λ y x below left free.
         ap (λ (w : World). shown_at w.virtual.picture (y, x)) first ∙ blank-at lines columns y x ∙ sym (ap (λ (w : World). picture w y x) first ∙ first-picture lines columns y x);
   };
+  changes = grind (arith, length-replicate);
 }

@@ -12,7 +12,8 @@ use Rattle.cell.specs.Shown.{Shown, shown_blank}
 use Rattle.world.specs.Sound.{AreColumnsWithin}
 use Rattle.world.specs.calls.Refresh.{among}
 use Rattle.world.specs.declared.settings.Columns.{Columns}
-use Rattle.picture.specs.Damages.{cells_above, cells_of_line, columns_of, has_damage}
+use Rattle.extents.specs.Extents.{columns_of, has_columns}
+use Rattle.picture.specs.Damages.{cells_above, cells_of_line}
 
 -- ---- at most the columns of each damaged line
 
@@ -26,10 +27,10 @@ times-sum : (a b n : ℕ) → (a + b) * n ≡ a * n + b * n
 times-sum a b n = grind arith
 
 pub few-cells : (columns : ℕ) (d : List (Option Columns)) → ((y : ℕ) → AreColumnsWithin columns (columns_of d y)) → (n s : ℕ)
-    → cells_above d (s + n) ≤ cells_above d s + count_by (has_damage d) (range_with_len s n) * columns
+    → cells_above d (s + n) ≤ cells_above d s + count_by (has_columns d) (range_with_len s n) * columns
 few-cells columns d h zero s = let e : s + 0 ≡ s = omega arith in rw e (omega arith)
 few-cells columns d h (suc n) s =
-    rw (count-first (has_damage d) s n, times-sum (if has_damage d s then 1 else 0) (count_by (has_damage d) (range_with_len (s + 1) n)) columns)
+    rw (count-first (has_columns d) s n, times-sum (if has_columns d s then 1 else 0) (count_by (has_columns d) (range_with_len (s + 1) n)) columns)
     (grind (arith, (few-cells columns d h n (s + 1)), (line-few columns (columns_of d s) (h s))))
 
 -- ---- at least the places that differ

@@ -22,6 +22,7 @@ use Rattle.compose.specs.Calling.{Called, CountsReads, DamagesFew, MayLeave, May
 use Rattle.compose.specs.Covers.{IsDesk}
 use Rattle.compose.specs.Desks.{DeskTable, is_damaged_line, world}
 use Rattle.compose.specs.steps.Outcomes.{Answered, ChangedDamaging}
+use Rattle.extents.proofs.Changing.{changes-none}
 use Rattle.compose.proofs.DamageCovers.{call-accepted}
 use Rattle.compose.proofs.DeskLemmas.{accepted-by, call-refused}
 
@@ -33,7 +34,7 @@ module _ (old : DeskTable) (w : WindowTable) (d : List (Option Columns)) (call :
       → IfOk r (λ reply. MayTell (world old) (is_damaged_line old) call reply) → (world new ≡ world_after (world old) call → MayLeave old call new) → IsDesk new × Called old call r new
   change-made (Ok reply) m other tells leaves =
       call-accepted old new call h (accepted-by _ _ _ m.call.refused reply refl) other (leaves (rw is (λ i. record (world old) { windows = m.call.changed i })))
-      (subst (λ (e : Effect). Damages old.windows.columns (effect_shows_at (world old) e) old.damage d) (sym is) m.damaged) refl reply tells
+      (subst (λ (e : Effect). Damages old.windows.columns (effect_shows_at (world old) e) old.damage d) (sym is) m.damaged) refl (changes-none old.changes old.virtual.picture) reply tells
   change-made (Err e) m other tells leaves = grind (arith, call-refused)
 
 -- ---- a call that only asks
@@ -63,5 +64,5 @@ query-counts old query reply asks = refl
 -- it leaves the desk as it was
 pub query-made : (old : DeskTable) (query : Call) (r : Result Reply Refusal) → is_query query ≡ true → IsSound (world old) → Answered (refusal (world old) query) (reply_of (world old) query) r
     → Called old query r old
-query-made old query (Ok reply) asks sound h = (sym h.refused, query-tells (world old) (is_damaged_line old) query reply asks h.reply, query-leaves old query asks, query-damages old query asks, sound, query-counts old query reply asks)
+query-made old query (Ok reply) asks sound h = (sym h.refused, query-tells (world old) (is_damaged_line old) query reply asks h.reply, query-leaves old query asks, query-damages old query asks, sound, query-counts old query reply asks, changes-none old.changes old.virtual.picture)
 query-made old query (Err e) asks sound h = (inl (sym h.refused), refl)

@@ -15,8 +15,8 @@ ghost use Rattle.picture.specs.Repairs.{IsRepairable};
 use crate::marks::{clear_asked, unmark_composed};
 use crate::virtual_picture::VirtualPicture;
 use cell::Pairs;
-use grids::Grids;
 use extents::Extents;
+use grids::Grids;
 use picture::{Owners, TableRows, show_damaged, wanted_cursor};
 use stack::Stack;
 

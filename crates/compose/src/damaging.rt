@@ -1,8 +1,7 @@
 //! What a call damages of the screen: a rectangle for each window that shows what it changed.
 
-ghost use Rattle.std.specs.Prelude.{◌≡◌, ◌<◌, ◌≤◌, ◌+◌, ◌==◌, ℕ, MatchOption, Some, ⊤, is_some, length, true};
+ghost use Rattle.std.specs.Prelude.{◌≡◌, ◌<◌, ◌+◌, ◌==◌, ℕ, MatchOption, Some, ⊤, length, true};
 ghost use Rattle.std.specs.List.{list_any};
-ghost use Rattle.cell.specs.declared.limits.TheConstants.{LARGEST_SCREEN};
 ghost use Rattle.world.specs.Panels.{windows_from_top};
 ghost use Rattle.world.specs.calls.Affected.{frame_shows_at};
 ghost use Rattle.world.specs.Windows.{with_change};
@@ -123,7 +122,7 @@ fn changed_part(table: &Grids, affected: Affected, u: WinId) -> Option<Rect>
 
 /// Damages a part of the screen, if there is one.
 pub(crate) fn damage_part(damage: &mut Extents, part: Option<Rect>)
-    requires inside { MatchOption part ⊤ (λ r. IsFrameWithin (length damage.old) (r.right + 1) r) }
+    requires { MatchOption part ⊤ (λ r. IsFrameWithin (length damage.old) (r.right + 1) r) }
     ensures damaged { (columns : ℕ) → MatchOption part ⊤ (λ r. r.right < columns) → Damages columns (part_holds part) damage.old damage.new }
 {
     if let Some(frame) = part {

@@ -21,8 +21,8 @@ ghost use Rattle.compose.specs.steps.Outcomes.{ChangedDamaging, OrderedDamaging}
 use crate::damaging::{damage_affected, damage_part};
 use crate::dispatch::{arrange, changed_panel, copy, make, named_panel, ordered_panel, write};
 use cell::{Rect, Refusal, WinId};
-use grids::Grids;
 use extents::Extents;
+use grids::Grids;
 use picture::panel_part;
 use stack::Stack;
 use windows::Windows;

@@ -1,6 +1,6 @@
 //! The windows and panels under a virtual screen.
 
-ghost use Rattle.std.specs.Prelude.{◌≡◌, ◌<◌, ◌≤◌, ◌-◌, ◌==◌, ◌&&◌, ℕ, None, Ok, Some, IfOk, false, true, if◌then◌else◌, length, nat_le, nat_lt};
+ghost use Rattle.std.specs.Prelude.{◌≡◌, ◌<◌, ◌≤◌, ◌-◌, ◌==◌, ◌&&◌, ℕ, None, Ok, Some, IfOk, false, true, if◌then◌else◌, length, nat_le, nat_lt, replicate};
 ghost use Rattle.std.specs.Prelude.{slice_index_or};
 ghost use Rattle.std.specs.Result.{result_err};
 ghost use Rattle.cell.specs.Pictures.{AreShown, HasSize, line_of, picture_of, shown_at};
@@ -15,7 +15,6 @@ ghost use Rattle.world.specs.Windows.{HasPlace};
 ghost use Rattle.cell.specs.Refusals.{RefusedBy, first_of};
 ghost use Rattle.grids.specs.Tables.{windows as windows_of};
 ghost use Rattle.stack.specs.Tables.{panels};
-ghost use Rattle.extents.specs.Extents.{columns_of};
 ghost use Rattle.picture.specs.Spans.{IsSpan};
 ghost use Rattle.world.specs.declared.call.Call.{Call};
 ghost use Rattle.world.specs.declared.call.Refresh.{Refresh};
@@ -250,8 +249,10 @@ impl Desk {
 
     /// The virtual screen was taken: from now on nothing of it has changed, and the terminal needn't be cleared any more.
     pub fn mark_taken(&mut self)
-        ensures desk { self.new ≡ record self.old { virtual = record self.old.virtual { clear = false }; changes = self.new.changes } }
-        ensures none { (y : ℕ) → columns_of self.new.changes y ≡ None }
+        ensures { self.new ≡ record self.old {
+          virtual = record self.old.virtual { clear = false };
+          changes = replicate (length self.old.changes) None;
+        } }
     {
         self.clear = false;
         self.picture.changes.clear();

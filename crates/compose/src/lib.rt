@@ -11,6 +11,7 @@
 //! - `queries`: the calls that only ask
 //! - `refresh`: what a window or a pad puts into the virtual screen
 //! - `update`: the step that composes the picture
+//! - `virtual_picture`: what the virtual screen shows, and what changed of it
 #![tactic(auto)]
 
 mod counted;

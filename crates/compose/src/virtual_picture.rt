@@ -35,7 +35,15 @@ impl VirtualPicture {
     }
 
     /// Puts so many cells of a line of a window, from a place of it on, into line `y` from column `x` on, and adds these to the changes.
-    pub(crate) fn show_piece(&mut self, table: &Grids, pairs: &Pairs, source: Place, n: u16, y: u16, x: u16)
+    pub(crate) fn show_piece(
+        &mut self,
+        table: &Grids,
+        pairs: &Pairs,
+        source: Place,
+        n: u16,
+        y: u16,
+        x: u16,
+    )
         requires some { 0 < n }
         requires from { HasPlace (windows_of table.now).window source.win.0 source.line (source.column + n - 1) }
         requires line { y < table.now.lines }

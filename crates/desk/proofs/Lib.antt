@@ -21,5 +21,3 @@ pub mod AnswerLemmas
 pub mod LineEndLemmas
 -- A script is run a line at a time; for `run_lines`, `run_script`, `close_log`
 pub mod ScriptLemmas
--- In which columns calls change the virtual screen; for `call`, `widen_damaged`, `widen_for_refresh` and others
-pub mod Widening

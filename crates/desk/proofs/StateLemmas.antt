@@ -1,16 +1,20 @@
 -- States with more lines damaged: the outcomes that calls may have in one, they may have in the other.
-use Rattle.std.proofs.Common.{◌≡◌, ◌≤◌, ℕ, ◌||◌, if◌then◌else◌, Bool, true, false, cond, List, [], ◌∷◌, Result, Ok, Err, subst, arith}
+use Rattle.std.proofs.Common.{◌≡◌, ◌≤◌, ℕ, ◌||◌, if◌then◌else◌, Bool, true, false, cond, List, [], ◌∷◌, Result, Ok, Err, subst, sym, ◌∙◌, arith}
 use Rattle.std.proofs.Math.Nat.{mul-le-mul_right}
 use Rattle.std.proofs.lemmas.List.Sums.{sum_by-le-sum_by}
 use Rattle.std.specs.List.{count_by}
+use Rattle.std.specs.Prelude.{MatchOption, Option, None, Some, ⊤}
+use Rattle.cell.specs.Pictures.{Picture}
+use Rattle.world.specs.declared.settings.Columns.{Columns}
 use Rattle.cell.specs.declared.refusal.Refusal.{Refusal}
-use Rattle.paint.specs.Updates.{PainterState}
+use Rattle.paint.specs.Updates.{PainterState, ShownPicture}
 use Rattle.world.specs.Sound.{IsSound}
 use Rattle.world.specs.World.{World}
 use Rattle.world.specs.calls.Affected.{affected_after}
 use Rattle.world.specs.calls.Dispatch.{is_doupdate}
-use Rattle.compose.specs.Calling.{MayRead}
-use Rattle.paint.specs.declared.changes.Stretch.{Stretch}
+use Rattle.compose.specs.Calling.{Called, MayRead}
+use Rattle.compose.proofs.DeskLemmas.{size-called, sound-called}
+use Rattle.extents.specs.Extents.{DifferOnly}
 use Rattle.compose.specs.Desks.{DeskTable, world}
 use Rattle.desk.specs.States.{HasOneSize, IsScreen, IsWithin, ScreenOver, State, after, state_of}
 use Rattle.desk.specs.Runs.{MayAnswer, Outcome, Run, state_after, state_at_end}
@@ -88,8 +92,26 @@ Run-within calls outcomes h run = absurd run
 
 -- ---- what always holds of a screen
 
-pub of-screen : {W : Type 0} {s t : ScreenOver W} {changes : List Stretch} → s ≡ t → IsScreen s.desk s.painter changes → HasOneSize t.desk t.painter × IsSound (world t.desk)
+pub of-screen : {W : Type 0} {s t : ScreenOver W} → s ≡ t → IsScreen s.desk s.painter → HasOneSize t.desk t.painter × IsSound (world t.desk)
 of-screen is h = grind arith
 
-pub sound-cleared : (t : DeskTable) → IsSound (world t) → IsSound (world (record t { virtual = record t.virtual { clear = false } }))
-sound-cleared t h = grind arith
+pub sound-taken : (t : DeskTable) (changes : List (Option Columns)) → IsSound (world t)
+    → IsSound (world (record t { virtual = record t.virtual { clear = false }; changes = changes }))
+sound-taken t changes h = grind arith
+
+-- a call adds what it changes to the changes
+still-differ : (old new : DeskTable) (call : Call) (r : Result Reply Refusal) (shown : Picture) → Called old call r new → DifferOnly old.changes shown old.virtual.picture
+    → DifferOnly new.changes shown new.virtual.picture
+still-differ old new call (Ok reply) shown made h = record { others = λ y x none. h.others y x (made.6.keeps y x none) ∙ sym (made.6.same y x none) }
+still-differ old new call (Err e) shown made h = subst (λ (t : DeskTable). DifferOnly t.changes shown t.virtual.picture) (sym made.1) h
+
+pub screen-called : (old new : DeskTable) (call : Call) (r : Result Reply Refusal) (painter : PainterState) → Called old call r new → IsScreen old painter → IsScreen new painter
+screen-called old new call r painter made h = record {
+  sound = sound-called old new call r h.sound made;
+  size = grind (arith, size-called);
+  changed = elim painter.last as (λ o. MatchOption o ⊤ (λ (s : ShownPicture). DifferOnly old.changes s.picture old.virtual.picture)
+      → MatchOption o ⊤ (λ (s : ShownPicture). DifferOnly new.changes s.picture new.virtual.picture)) [
+        | None ↦ λ h. h
+        | Some s ↦ still-differ old new call r s.picture made
+      ] h.changed;
+}

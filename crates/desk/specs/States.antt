@@ -1,14 +1,13 @@
 -- A screen between two calls.
 -- X/Open Curses Issue 7: doupdate shows the virtual screen.
-use Rattle.std.specs.Prelude.{◌≡◌, ℕ, Bool, true, List, length, MatchOption, Some, ⊤, if◌then◌else◌}
+use Rattle.std.specs.Prelude.{◌≡◌, ℕ, Bool, true, MatchOption, Some, ⊤, if◌then◌else◌}
 use Rattle.world.specs.Sound.{IsSound}
 use Rattle.world.specs.World.{World}
 use Rattle.world.specs.calls.Affected.{affected_after}
 use Rattle.world.specs.calls.Dispatch.{is_doupdate, world_after}
 use Rattle.world.specs.declared.call.Call.{Call}
-use Rattle.paint.specs.Changes.{DifferOnly}
+use Rattle.extents.specs.Extents.{DifferOnly}
 use Rattle.paint.specs.Updates.{PainterState, ShownPicture, wanted_of}
-use Rattle.paint.specs.declared.changes.Stretch.{Stretch}
 use Rattle.compose.specs.Desks.{DeskTable, is_damaged_line, world}
 
 -- its world, what its painter knows, and the lines of the screen that may be damaged: those that are to be composed
@@ -57,14 +56,8 @@ pub record HasOneSize (desk : DeskTable) (painter : PainterState) : Type 0 where
   pub lines : painter.lines ≡ desk.windows.lines
   pub columns : painter.columns ≡ desk.windows.columns
 
--- The places at which the painter has to look: where it knows what it showed last, the virtual screen shows the same at all others. There
--- are as many lines of them as the screen has.
-pub record IsKept (desk : DeskTable) (painter : PainterState) (changes : List Stretch) : Type 0 where
-  pub height : length changes ≡ desk.windows.lines
-  pub changed : MatchOption painter.last ⊤ (λ shown. DifferOnly changes shown.picture desk.virtual.picture)
-
--- what always holds of a screen
-pub record IsScreen (desk : DeskTable) (painter : PainterState) (changes : List Stretch) : Type 0 where
+-- What always holds of a screen: where its painter knows what it showed last, the virtual screen shows the same, but at its changes.
+pub record IsScreen (desk : DeskTable) (painter : PainterState) : Type 0 where
   pub sound : IsSound (world desk)
   pub size : HasOneSize desk painter
-  pub kept : IsKept desk painter changes
+  pub changed : MatchOption painter.last ⊤ (λ shown. DifferOnly desk.changes shown.picture desk.virtual.picture)

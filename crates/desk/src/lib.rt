@@ -1,13 +1,11 @@
 //! The `Screen`: a desk, for which the crate is named, with a painter over a writer; and runs of calls and of script lines, with what they
 //! send and log.
 //!
-//! - `changing`: in which columns a call may change the virtual screen
 //! - `history`: a list of calls that are all made, whatever becomes of the writes
 //! - `run_script`: the calls of a script, with their log
 //! - `screen`: the `Screen`: calls and runs
 #![tactic(auto)]
 
-mod changing;
 mod history;
 mod run_script;
 mod screen;

@@ -14,11 +14,10 @@ ghost use Rattle.compose.specs.Calling.{cells_of_reply};
 ghost use Rattle.compose.specs.Desks.{is_damaged_line, world};
 ghost use Rattle.desk.specs.declared.screen.Fault.TheVariants.{Refused};
 
-use crate::changing::widen_for;
 use calls::Calls;
 use cell::Refusal;
 use compose::Desk;
-use paint::{Changes, Painter};
+use paint::Painter;
 use std::alloc::Global;
 use std::marker::Model;
 use streams::{Sent, Sink, WriteFault};
@@ -30,8 +29,6 @@ pub struct Screen<W> {
     pub(crate) desk: Desk,
     painter: Painter,
     writer: W,
-    // Where the virtual screen may show something else than the painter showed last.
-    changes: Changes,
 }
 
 impl<W> Model for Screen<W> {
@@ -41,7 +38,7 @@ impl<W> Model for Screen<W> {
 
     ghost view = { λ s. record { desk = s.desk; painter = s.painter; writer = s.writer } };
 
-    ghost invariant = { λ s. IsScreen s.desk s.painter s.changes };
+    ghost invariant = { λ s. IsScreen s.desk s.painter };
 }
 
 /// Why a call did nothing, or not all of it.
@@ -85,12 +82,10 @@ impl<W: Sink + Drop> Screen<W> {
     {
         let desk = Desk::new(alloc, lines, cols)?;
         let painter = Painter::new(alloc, lines, cols)?;
-        let changes = Changes::new(alloc, lines)?;
         Ok(Screen {
             desk,
             painter,
             writer,
-            changes,
         })
     }
 
@@ -102,14 +97,12 @@ impl<W: Sink + Drop> Screen<W> {
             desk,
             mut painter,
             writer: _,
-            changes,
         } = self;
         painter.invalidate();
         Screen {
             desk,
             painter,
             writer,
-            changes,
         }
     }
 }
@@ -123,7 +116,6 @@ impl<W> Screen<W> {
             desk: _,
             painter: _,
             writer,
-            changes: _,
         } = self;
         writer
     }
@@ -161,11 +153,10 @@ impl<W: Sink> Screen<W> {
         let screen = &self.desk;
         match self
             .painter
-            .doupdate_changes(screen, &self.changes, &mut self.writer)
+            .doupdate_changes(screen, screen.changes(), &mut self.writer)
         {
             Ok(sent) => {
-                self.desk.clear_done();
-                self.changes.clear();
+                self.desk.mark_taken();
                 Ok(sent)
             }
             Err(fault) => Err(Fault::Write(fault)),
@@ -231,10 +222,7 @@ impl<W: Sink> Calls for Screen<W> {
     {
         match *call {
             Call::Refresh(Refresh::Doupdate) => Ok(Reply::Sent(self.doupdate()?)),
-            _ => {
-                widen_for(&mut self.changes, &self.desk, call);
-                Ok(self.desk.call(call)?)
-            }
+            _ => Ok(self.desk.call(call)?),
         }
     }
 

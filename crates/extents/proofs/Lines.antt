@@ -1,11 +1,12 @@
 -- The lines that have columns, one after another; and a rectangle that is added line by line.
-use Rattle.std.proofs.Common.{◌≡◌, ℕ, ◌+◌, ◌-◌, ◌<◌, ◌≤◌, ◌==◌, ◌||◌, ◌&&◌, Bool, true, false, nat_le, nat_lt, if◌then◌else◌, List, Option, Some, None, length, set, refl, sym, arith, rules}
-use Rattle.std.specs.Prelude.{MatchOption, slice_set}
+use Rattle.std.proofs.Common.{◌≡◌, ℕ, ◌+◌, ◌-◌, ◌<◌, ◌≤◌, ◌==◌, ◌||◌, ◌&&◌, true, false, nat_le, nat_lt, if◌then◌else◌, List, Option, Some, None, length, set, refl, subst, sym, ◌∙◌, arith, rules}
+use Rattle.std.specs.Prelude.{MatchOption, replicate, slice_set}
 use Rattle.std.specs.Option.{option_map_or}
 use Rattle.std.proofs.Common.{get_or-set_other, get_or-set_same}
 use Rattle.std.proofs.lemmas.Bool.{and_from, cases_eq, cases_lt, eq-eqb, le-leb, lt-ltb, ne_eqb}
 use Rattle.std.proofs.lemmas.Bool.Decides.{nat_tests}
-use Rattle.std.proofs.lemmas.List.{length-set}
+use Rattle.std.proofs.lemmas.List.{ext_get_or, length-set}
+use Rattle.std.proofs.lemmas.Simd.{get_or-replicate, length-replicate}
 use Rattle.cell.specs.declared.window.Rect.{Rect}
 use Rattle.small_set.specs.Sets.{IsNext, contains}
 use Rattle.world.specs.Windows.{joined_columns}
@@ -34,12 +35,21 @@ module _ (lines : List ℕ) (extents : List (Option Columns)) (others : (v : ℕ
 pub looked-at : (lines : List ℕ) (extents : List (Option Columns)) (next : Option ℕ) (y : ℕ) → next ≡ Some y → ClearedBefore lines next extents → ClearedBefore lines (Some y) extents
 looked-at lines extents next y is = grind arith
 
+-- and where there is no more
+pub none-next : (lines : List ℕ) (extents : List (Option Columns)) (next : Option ℕ) → next ≡ None → ClearedBefore lines next extents → (v : ℕ) → columns_of extents v ≡ None
+none-next lines extents next is h v = (subst (λ (o : Option ℕ). ClearedBefore lines o extents) is h).rest v
+
 module _ (lines : List ℕ) (extents : List (Option Columns)) (y : ℕ) (inside : y < length extents) (h : ClearedBefore lines (Some y) extents) where
   pub cleared-more : (next : Option ℕ) → IsNext lines (y + 1) next → ClearedBefore lines next (set extents y None)
   cleared-more = grind (arith, cleared-on, cases_eq, get_or-set_same, get_or-set_other)
 
   pub fewer-left : y < 1024 → (next : Option ℕ) → IsNext lines (y + 1) next → lines-left next < lines-left (Some y)
   fewer-left small z none = grind arith
+
+-- lines of which none has any
+pub none-left : (n : ℕ) (extents : List (Option Columns)) → length extents ≡ n → ((y : ℕ) → columns_of extents y ≡ None) → extents ≡ replicate n None
+none-left n extents long none =
+    ext_get_or None extents (replicate n None) (long ∙ sym (length-replicate n None)) (λ k below. none k ∙ sym (get_or-replicate n k None None (omega (arith, below, long))))
 
 -- ---- a rectangle
 

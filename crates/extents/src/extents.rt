@@ -171,8 +171,7 @@ impl Extents {
 
     /// Takes away all columns.
     pub fn clear(&mut self)
-        ensures height { length self.new ≡ length self.old }
-        ensures none { (y : ℕ) → columns_of self.new y ≡ None }
+        ensures { self.new ≡ replicate (length self.old) None }
     {
         let mut next = self.some.next(0);
         while let Some(y) = next {

@@ -6,13 +6,13 @@ use Rattle.world.specs.declared.settings.Columns.{Columns}
 use Rattle.extents.specs.Extents.{DifferOnly, is_among}
 
 -- a picture that is shown and one that is wanted, of one size, no larger than a screen, differ at no other place
-pub record IsFrame (lines columns : ℕ) (changes : List (Option Columns)) (old new : Picture) : Type 0 where
+pub record IsFrame (lines columns : ℕ) (extents : List (Option Columns)) (old new : Picture) : Type 0 where
   pub few_lines : lines ≤ LARGEST_SCREEN
   pub few_columns : columns ≤ LARGEST_SCREEN
-  pub height : length changes ≡ lines
+  pub height : length extents ≡ lines
   pub shown : HasSize lines columns old
   pub wanted : HasSize lines columns new
-  pub changes : DifferOnly changes old new
+  pub changes : DifferOnly extents old new
 
 -- every place of a screen is one of them
 pub record IsWhole (lines columns : ℕ) (changes : List (Option Columns)) : Type 0 where

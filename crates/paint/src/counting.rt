@@ -4,7 +4,7 @@ ghost use Rattle.std.specs.Prelude.{◌≡◌, ◌<◌, nat_lt};
 ghost use Rattle.cell.specs.declared.limits.TheConstants.{LARGEST_SCREEN};
 ghost use Rattle.paint.specs.steps.Counting.{AreInside, IsInside, count_from, passes_bytes, with_pass, with_run};
 
-use crate::frame::Frame;
+use crate::changes::Frame;
 use crate::gap::{approach_length, moved_length};
 use crate::pen::{PenState, state_after};
 use crate::runs::Run;

@@ -1,32 +1,19 @@
 //! A frame over what is shown: drawn in one walk or in passes, whichever takes fewer bytes.
 
 ghost use Rattle.std.specs.Prelude.{◌≤◌, length};
-ghost use Rattle.std.proofs.Props.{props};
-ghost use Rattle.paint.specs.Changes.{IsFrame};
 ghost use Rattle.paint.specs.declared.passes.TheConstants.{MOST};
 ghost use Rattle.paint.specs.steps.Holding.{CanDraw, HoldsFrame};
 ghost use Rattle.paint.specs.steps.Listing.{AreRuns};
 ghost use Rattle.paint.specs.steps.Strokes.{SameTerminals};
 
+use crate::changes::Frame;
 use crate::counting::are_passes_shorter;
 use crate::page::paint_picture;
 use crate::passes::{order_of, paint_passes};
 use crate::pen::Pen;
 use crate::runs::{Run, Runs};
-use cell::{Grid, Rendition, Shown};
-use extents::Extents;
+use cell::Rendition;
 use streams::{Discard, Sink};
-
-/// A wanted picture over the one that is shown, with the columns in which alone it may differ from that.
-#[derive(Drop)]
-pub struct Frame<'a> {
-    pub lines: u16,
-    pub columns: u16,
-    pub shown: &'a Grid<Shown>,
-    pub wanted: &'a Grid<Shown>,
-    pub changes: &'a Extents,
-    pub ghost sound: { IsFrame lines columns changes.now shown.now wanted.now } by { Prim.hlevel props },
-}
 
 /// Draws the wanted picture of a frame over the one that is shown, from where the cursor is, and goes to a place. Where passes may take
 /// fewer bytes than one walk over all lines, the walk is drawn into the pen's room first, and what passes take is counted. If that is

@@ -1,7 +1,8 @@
 //! The `Painter`, which sends pictures to a terminal; the crate is named for what it does.
 //!
+//! - `changes`: a picture that is wanted over the one that is shown, and where they may differ
 //! - `counting`: how many bytes passes take
-//! - `frame`: a frame, drawn in one walk or in passes
+//! - `frame`: a frame, in one walk or in passes
 //! - `gap`: what is printed again between changed cells
 //! - `laws`: laws of agreement
 //! - `line`: the walk over cells
@@ -15,6 +16,7 @@
 //! - `tail`: what is erased at the end of a line
 #![tactic(auto)]
 
+mod changes;
 mod counting;
 mod frame;
 mod gap;

@@ -6,7 +6,7 @@ ghost use Rattle.ecma.specs.Terminals.{blank_line};
 ghost use Rattle.extents.specs.Extents.{is_among};
 ghost use Rattle.paint.specs.steps.Strokes.{SameTerminals, Strokes, picture_bytes};
 
-use crate::frame::Frame;
+use crate::changes::Frame;
 use crate::line::{Row, paint_last_line, paint_line};
 use crate::pen::Pen;
 use crate::tail::{first_changed, is_written, tail_start};

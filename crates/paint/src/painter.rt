@@ -11,7 +11,8 @@ ghost use Rattle.paint.specs.steps.Gathering.{IsGathered};
 ghost use Rattle.paint.specs.steps.Holding.{CanDraw, HoldsUpdate, last_shown};
 ghost use Rattle.paint.specs.steps.Strokes.{IsPlainAt, SameTerminals};
 
-use crate::frame::{Frame, draw_frame};
+use crate::changes::Frame;
+use crate::frame::draw_frame;
 use crate::page::paint_picture;
 use crate::pen::Pen;
 use crate::runs::Runs;

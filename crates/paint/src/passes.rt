@@ -6,7 +6,7 @@ ghost use Rattle.paint.specs.steps.Listing.{AreRuns};
 ghost use Rattle.paint.specs.steps.Passes.{HasNoted, changed_renditions, line_renditions, order_for, pass_of, picture_after, saturating_usize, selections, with_pass};
 ghost use Rattle.paint.specs.steps.Strokes.{SameTerminals, Strokes, all_have, picture_bytes};
 
-use crate::frame::Frame;
+use crate::changes::Frame;
 use crate::gap::are_all;
 use crate::line::{Row, paint_run};
 use crate::pen::Pen;

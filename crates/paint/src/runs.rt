@@ -5,7 +5,7 @@ ghost use Rattle.cell.specs.Pictures.{Picture, line_of};
 ghost use Rattle.paint.specs.declared.passes.TheConstants.{MOST};
 ghost use Rattle.paint.specs.steps.Listing.{AreRuns};
 
-use crate::frame::Frame;
+use crate::changes::Frame;
 use crate::line::{Row, next_changed, run_end};
 use crate::passes::pass_of;
 use cell::{Rendition, Shown, first_diff};

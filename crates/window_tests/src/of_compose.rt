@@ -104,7 +104,7 @@ fn update_twice(desk: &mut Desk, alloc: Global) -> Result<([Composed; 2], [bool;
     run(desk, alloc, "addch 0 a\nclearok 0 on")?;
     let first = desk.update_panels();
     let asked = desk.clear_wanted();
-    desk.clear_done();
+    desk.mark_taken();
     run(desk, alloc, "clearok 0 on\nclearok 0 off")?;
     let second = desk.update_panels();
     Ok(([first, second], [asked, desk.clear_wanted()]))
@@ -120,6 +120,21 @@ fn an_update_reads_what_changed(rt: HostRuntime) -> Result<(), Fail> {
     let (composed, clear) = updated_screen(rt.alloc())?;
     assert_eq!(rt; composed, [Composed { cells: 1 }, Composed { cells: 0 }]);
     assert_eq!(rt; clear, [true, false]);
+    Ok(())
+}
+
+fn lines_changed(alloc: Global) -> Result<[u16; 2], Fail> {
+    let mut desk = Desk::new(alloc, 2, 5)?;
+    run(&mut desk, alloc, "addch 0 a")?;
+    desk.update_panels();
+    let changed = desk.changes().end();
+    desk.mark_taken();
+    Ok([changed, desk.changes().end()])
+}
+
+#[test]
+fn changes_are_kept_until_they_are_taken(rt: HostRuntime) -> Result<(), Fail> {
+    assert_eq!(rt; lines_changed(rt.alloc())?, [1, 0]);
     Ok(())
 }
 

@@ -3,7 +3,7 @@ use Rattle.std.specs.Prelude.{◌≡◌, ℕ, ◌<◌, ◌^◌, Bool, List, leng
 use Rattle.std.specs.Option.{option_map}
 use Rattle.cell.specs.Pictures.{Picture, Place}
 use Rattle.streams.specs.Sinks.{Seen}
-use Rattle.paint.specs.declared.frame.Frame.{Frame}
+use Rattle.paint.specs.declared.changes.Frame.{Frame}
 use Rattle.paint.specs.declared.pen.Pen.{Pen}
 use Rattle.paint.specs.Updates.{PainterState, ShownPicture, IsUpdateText, known_picture}
 use Rattle.paint.specs.steps.Gathering.{IsGathered, Outbox}

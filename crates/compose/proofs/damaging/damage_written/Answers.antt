@@ -8,7 +8,7 @@ use Rattle.grids.specs.Tables.{windows}
 use Rattle.stack.specs.Tables.{panels}
 use Rattle.picture.specs.Parts.{frame_holds}
 use Rattle.picture.specs.Damages.{Damages}
-use Rattle.picture.proofs.DamageLaws.{damages-as}
+use Rattle.picture.proofs.DamageLaws.{damages-as, damages-rectangle}
 use Rattle.compose.proofs.StandardWrites.{standard-inside, standard-alone}
 use Rattle.compose.proofs.damaging.damage_written.Goals as goal
 
@@ -27,5 +27,5 @@ returns-then-has_no_panel c =
     record {
       damaged = subst (λ (w : ℕ). Damages ws.columns (frame_shows_at ws.window ps w (Some r)) a.damage.now c.rectangle.new.self) (sym same)
           (damages-as ws.columns (frame_holds r) (frame_shows_at ws.window ps standard_screen (Some r)) a.damage.now c.rectangle.new.self
-          (c.rectangle.ensures.damaged ws.columns (standard-inside ws r sound inside).1) (λ y x below left is. shows y x ∙ is) (λ y x left is. sym (shows y x) ∙ is));
+          (damages-rectangle ws.columns r a.damage.now c.rectangle.new.self c.rectangle.ensures.height c.rectangle.ensures.each possible.1 (standard-inside ws r sound inside).1) (λ y x below left is. shows y x ∙ is) (λ y x left is. sym (shows y x) ∙ is));
     }

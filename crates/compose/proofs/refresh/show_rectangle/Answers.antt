@@ -3,6 +3,7 @@
 use Rattle.std.proofs.Common.{◌≡◌, ◌+◌, ◌-◌, false, arith, subst}
 use Rattle.world.specs.Windows.{Drawing, cell_at}
 use Rattle.world.specs.calls.Copying.{copywin_drawing}
+use Rattle.extents.proofs.Changing.{changes-then}
 use Rattle.grids.specs.Tables.{windows}
 use Rattle.compose.proofs.Laying.{LaidAbove, laid-all, laid-more}
 use Rattle.compose.proofs.RefreshedLines.{of-pad, pad-below, pad-piece}
@@ -36,11 +37,14 @@ loop-y-preserved c =
     let h = of-pad ws w a.source.line a.source.column a.frame.top a.frame.left a.frame.bottom a.frame.right c.requires.windows c.requires.accepted in
     let f : Drawing = copywin_drawing ws.window w a.source.line a.source.column a.frame.top a.frame.left a.frame.bottom a.frame.right false in
     let next : a.frame.top + y + 1 ≡ a.frame.top + (y + 1) = omega arith in
-    subst (λ n. LaidAbove a.pairs.now f table.lines table.columns a.picture.now n c.show_piece.new.picture) next
-    (laid-more a.pairs.now f table.lines table.columns a.picture.now (a.frame.top + y) a.frame.left (a.frame.right - a.frame.left + 1)
-    (λ u. cell_at ws.window w (a.source.line + y) (a.source.column + (u - a.frame.left))) c.loop-y.picture c.show_piece.new.picture c.loop-y.invariant
-    (pad-piece ws w a.source.line a.source.column a.frame.top a.frame.left a.frame.bottom a.frame.right h y c.loop-y-test.true)
-    c.show_piece.ensures.shown c.show_piece.ensures.size)
+    record {
+      laid = subst (λ n. LaidAbove a.pairs.now f table.lines table.columns a.picture.now.cells n c.show_piece.new.self.cells) next
+          (laid-more a.pairs.now f table.lines table.columns a.picture.now.cells (a.frame.top + y) a.frame.left (a.frame.right - a.frame.left + 1)
+          (λ u. cell_at ws.window w (a.source.line + y) (a.source.column + (u - a.frame.left))) c.loop-y.picture.cells c.show_piece.new.self.cells c.loop-y.invariant.laid
+          (pad-piece ws w a.source.line a.source.column a.frame.top a.frame.left a.frame.bottom a.frame.right h y c.loop-y-test.true)
+          c.show_piece.ensures.shown c.show_piece.ensures.size);
+      changes = changes-then c.loop-y.invariant.changes c.show_piece.ensures.changes;
+    }
 
 pub returns : goal.returns
 returns c =
@@ -49,6 +53,9 @@ returns c =
     let ws = windows table in
     let w = a.source.win.0 in
     let h = of-pad ws w a.source.line a.source.column a.frame.top a.frame.left a.frame.bottom a.frame.right c.requires.windows c.requires.accepted in
-    laid-all a.pairs.now (copywin_drawing ws.window w a.source.line a.source.column a.frame.top a.frame.left a.frame.bottom a.frame.right false) table.lines table.columns
-    a.picture.now (a.frame.top + c.loop-y.y) c.loop-y.picture c.loop-y.invariant
-    (λ v from below. pad-below ws w a.source.line a.source.column a.frame.top a.frame.left a.frame.bottom a.frame.right h v (omega (arith, c.loop-y-test.false)))
+    record {
+      shown = laid-all a.pairs.now (copywin_drawing ws.window w a.source.line a.source.column a.frame.top a.frame.left a.frame.bottom a.frame.right false) table.lines table.columns
+          a.picture.now.cells (a.frame.top + c.loop-y.y) c.loop-y.picture.cells c.loop-y.invariant.laid
+          (λ v from below. pad-below ws w a.source.line a.source.column a.frame.top a.frame.left a.frame.bottom a.frame.right h v (let end = c.loop-y-test.false in omega (arith, from, end)));
+      changes = c.loop-y.invariant.changes;
+    }

@@ -1,10 +1,13 @@
 use Rattle.std.proofs.Common.{◌+◌, false}
 use Rattle.world.specs.calls.Copying.{copywin_drawing}
+use Rattle.extents.specs.Extents.{AddsChanges}
 use Rattle.grids.specs.Tables.{windows}
 use Rattle.compose.proofs.Laying.{LaidAbove}
 use Rattle.compose.proofs.refresh.show_rectangle.Given as goal
 
 abbrev pub invariant-loop-y : goal.invariant-loop-y
-invariant-loop-y l =
-    LaidAbove l.pairs (copywin_drawing (windows l.table).window l.source.win.0 l.source.line l.source.column l.frame.top l.frame.left l.frame.bottom l.frame.right false) l.table.lines
-    l.table.columns l.fn.picture (l.frame.top + l.y) l.picture
+invariant-loop-y l = record {
+  laid : LaidAbove l.pairs (copywin_drawing (windows l.table).window l.source.win.0 l.source.line l.source.column l.frame.top l.frame.left l.frame.bottom l.frame.right false) l.table.lines
+      l.table.columns l.fn.picture.cells (l.frame.top + l.y) l.picture.cells;
+  changes : AddsChanges l.fn.picture.changes l.fn.picture.cells l.picture.changes l.picture.cells;
+}

@@ -19,12 +19,12 @@ use Rattle.compose.proofs.update.update_panels.Goals as goal
 abbrev old : goal.After-unmark_composed → DeskTable
 old c =
     let a = c.args in
-    desk_of a.windows.now.table.now a.windows.now.cells a.stack.now a.pairs.now a.damage.now a.picture.now a.cursor.now a.clear.now
+    desk_of a.windows.now.table.now a.windows.now.cells a.stack.now a.pairs.now a.damage.now a.picture.now.cells a.picture.now.changes a.cursor.now a.clear.now
 
 abbrev new : goal.After-unmark_composed → DeskTable
 new c =
     let a = c.args in
-    desk_of c.unmark_composed.new.self.table.now c.unmark_composed.new.self.cells a.stack.now a.pairs.now c.show_damaged-cells.new.damage c.show_damaged-cells.new.picture
+    desk_of c.unmark_composed.new.self.table.now c.unmark_composed.new.self.cells a.stack.now a.pairs.now c.show_damaged-cells.new.damage c.show_damaged-cells.new.picture.cells c.show_damaged-cells.new.picture.changes
     c.wanted_cursor.result (a.clear.now || c.clear_asked.result)
 
 left : (c : goal.After-unmark_composed) → world (new c) ≡ world_after (world (old c)) (calls.Refresh UpdatePanels)
@@ -45,7 +45,7 @@ made : (c : goal.After-unmark_composed)
     → IsDesk (new c) × Called (old c) (calls.Refresh UpdatePanels) (Ok (Composed (record { cells = c.show_damaged-cells.result }))) (new c)
 made c =
     let done = c.show_damaged-cells.ensures in
-    update-made (old c) (new c) c.show_damaged-cells.result c.requires (left c) done.height done.none done.read (c.unmark_composed.ensures.cells ∙ done.count)
+    update-made (old c) (new c) c.show_damaged-cells.result c.requires (left c) done.height done.none done.read (c.unmark_composed.ensures.cells ∙ done.count) done.changes
 
 pub returns : goal.returns
 returns c = record { desk = (made c).0; called = (made c).1; same = c.unmark_composed.ensures.same ∙ c.show_damaged-cells.ensures.same }

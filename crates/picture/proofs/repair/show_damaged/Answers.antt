@@ -102,7 +102,8 @@ loop-y-preserved g c =
       | in-Some s ↦
           let r = s.in-Some.field-0 in
           rw (s.changes-is, s.picture-is, s.widen.ensures)
-          (changes-more c.args.changes.now c.args.picture.now c.loop-y.changes c.loop-y.picture s.compose_columns.new.picture y r.first (r.last + 1 - r.first) _ h.changes ? s.compose_columns.ensures.shown r.last ?)
+          (changes-more c.args.changes.now c.args.picture.now c.loop-y.changes c.loop-y.picture s.compose_columns.new.picture y r.first (r.last + 1)
+          (λ u. shown c.args.pairs.now (found_from_top (g.R.Rows.windows c.loop-y.rows).window ps y u)) h.changes (let same = h.changes.height in omega (arith, same, c.requires.height, below)) s.compose_columns.ensures.shown r.last refl)
       | in_default s ↦ rw (s.changes-is, s.picture-is) h.changes
     ] in
     let next = c.next-y-in-loop-y.result in

@@ -11,8 +11,8 @@ use Rattle.compose.proofs.counted.CountedWindows.show_damaged.Goals as goal
 pub show_damaged-cells-requires : goal.show_damaged-cells-requires
 show_damaged-cells-requires c κs =
     let a = c.args in let back = sym c.of-rows.ensures.windows in
-    let repairable = subst (λ (ws : Windows). IsRepairable ws (panels a.stack.now) a.pairs.now a.damage.now a.picture.now) back c.requires in
-    ((refl, record {}), (repairable, ap (λ (p : ℕ × ℕ). p.0) c.screen_size-lines.ensures ∙ ap (λ (ws : Windows). ws.lines) back))
+    let repairable = subst (λ (ws : Windows). IsRepairable ws (panels a.stack.now) a.pairs.now a.damage.now a.picture.now.cells) back c.requires.repairable in
+    ((refl, record {}), (repairable, (ap (λ (p : ℕ × ℕ). p.0) c.screen_size-lines.ensures ∙ ap (λ (ws : Windows). ws.lines) back, c.requires.height ∙ ap (λ (ws : Windows). ws.lines) back)))
 
 pub returns-clause-shown : goal.returns-clause-shown
 returns-clause-shown c =

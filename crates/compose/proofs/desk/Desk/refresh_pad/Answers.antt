@@ -19,7 +19,8 @@ use Rattle.compose.proofs.desk.Desk.refresh_pad.Goals as goal
 abbrev new : goal.After-unmark_lines → DeskTable
 new c = record (the_view c.self.inside) {
   windows = c.unmark_lines.new.windows.table;
-  virtual = record { picture = c.show_rectangle.new.picture; cursor = c.self.inside.cursor; clear = c.self.inside.clear || c.asks.result };
+  virtual = record { picture = c.show_rectangle.new.picture.cells; cursor = c.self.inside.cursor; clear = c.self.inside.clear || c.asks.result };
+  changes = c.show_rectangle.new.picture.changes;
   damage = c.damage_part.new.damage;
 }
 
@@ -34,7 +35,7 @@ made c =
     let of = of-pad ws a.pad.0 a.pminrow a.pmincol a.sminrow a.smincol a.smaxrow a.smaxcol h.sound.windows accepted in
     let damaged = c.damage_part.ensures.damaged ws.columns of.on_column in
     call-accepted (the_view c.self.inside) (new c) (calls.Refresh (refresh c)) h accepted refl (search rules)
-    (pad-damages ws a.pad.0 a.pminrow a.pmincol a.sminrow a.smincol a.smaxrow a.smaxcol of frame refl refl refl refl c.self.inside.damage c.damage_part.new.damage damaged) refl Nothing refl
+    (pad-damages ws a.pad.0 a.pminrow a.pmincol a.sminrow a.smincol a.smaxrow a.smaxcol of frame refl refl refl refl c.self.inside.damage c.damage_part.new.damage damaged) refl c.show_rectangle.ensures.changes Nothing refl
 
 pub invariant_of-self : goal.invariant_of-self
 invariant_of-self c = (made c).0

@@ -14,8 +14,9 @@ use Rattle.compose.proofs.desk.Desk.refresh_window.Goals as goal
 abbrev new : goal.After-unmark → DeskTable
 new c = record (the_view c.self.inside) {
   windows = c.unmark.new.self;
-  virtual = record { picture = c.show_touched.new.picture; cursor = c.cursor_on_screen-self-inside.result; clear = c.self.inside.clear || c.asks.result };
-  damage = c.damage_touched.new.damage;
+  virtual = record { picture = c.show_touched.new.picture.cells; cursor = c.cursor_on_screen-self-inside.result; clear = c.self.inside.clear || c.asks.result };
+  changes = c.show_touched.new.picture.changes;
+  damage = c.show_touched.new.damage;
 }
 
 abbrev call : goal.After-unmark → Call
@@ -26,8 +27,8 @@ made c =
     call-accepted (the_view c.self.inside) (new c) (call c) c.self.invariant (search rules) refl
     (λ i. record (world (the_view c.self.inside)) {
       windows = c.unmark.ensures.unmarked i;
-      virtual = record { picture = c.show_touched.ensures i; cursor = c.cursor_on_screen-self-inside.ensures i; clear = c.self.inside.clear || c.asks.ensures i };
-    }) c.damage_touched.ensures.damaged refl Nothing refl
+      virtual = record { picture = c.show_touched.ensures.shown i; cursor = c.cursor_on_screen-self-inside.ensures i; clear = c.self.inside.clear || c.asks.ensures i };
+    }) c.show_touched.ensures.damaged refl c.show_touched.ensures.changes Nothing refl
 
 pub invariant_of-self : goal.invariant_of-self
 invariant_of-self c = (made c).0

@@ -5,21 +5,21 @@ use Rattle.world.specs.declared.call.Refresh.TheVariants.{Doupdate}
 use Rattle.world.specs.declared.call.Reply.TheVariants.{Sent}
 use Rattle.desk.specs.declared.screen.Fault.TheVariants.{Write}
 use Rattle.desk.proofs.ShowingLemmas.{call-made}
-use Rattle.desk.proofs.StateLemmas.{sound-cleared}
+use Rattle.desk.proofs.StateLemmas.{sound-taken}
 use Rattle.desk.proofs.screen.Screen.doupdate.Goals as goal
 
 pub invariant_of-self : goal.invariant_of-self
 invariant_of-self g c = record {
-  sound = rw c.clear_done.ensures (sound-cleared c.self.inside.desk c.self.invariant.sound);
+  sound = rw c.mark_taken.ensures (sound-taken c.self.inside.desk _ c.self.invariant.sound);
   size = search rules;
-  kept = search rules;
+  changed = search rules;
 }
 
 pub returns-in-Ok : goal.returns-in-Ok
 returns-in-Ok g c =
     rw (← c.self.view_is)
     (call-made g.W.Sink.seen g.W.Sink.name _ _ (Refresh Doupdate) (Ok (Sent c.in-Ok.sent)) c.self.invariant.size (search rules) (search rules) (search rules)
-    (rw c.clear_done.ensures (sound-cleared c.self.inside.desk c.self.invariant.sound)))
+    (rw c.mark_taken.ensures (sound-taken c.self.inside.desk _ c.self.invariant.sound)))
 
 pub returns-in-Err : goal.returns-in-Err
 returns-in-Err g c =

@@ -1,26 +1,20 @@
--- `call`: in which columns calls change the virtual screen (`Widening`), and all that is known of a call follows from how it ended
--- (`ShowingLemmas`, `WriterLemmas`).
+-- `call`: what it changes is among the changes (`StateLemmas`), and all that is known of a call follows from how it ended (`ShowingLemmas`,
+-- `WriterLemmas`).
 use Rattle.std.proofs.Common.{◌≡◌, Ok, Err, false, rules, refl}
 use Rattle.std.proofs.lemmas.Result.{err_from_is_err_and}
 use Rattle.world.specs.calls.Dispatch.{is_doupdate}
 use Rattle.compose.proofs.DeskLemmas.{sound-called}
 use Rattle.desk.specs.declared.screen.Fault.TheVariants.{Refused}
 use Rattle.desk.proofs.ShowingLemmas.{call-made}
-use Rattle.desk.proofs.Widening.{screen-called}
+use Rattle.desk.proofs.StateLemmas.{screen-called}
 use Rattle.desk.proofs.WriterLemmas.{called-ends, refused-ends}
 use Rattle.desk.proofs.screen.ScreenCalls.call.Goals as goal
 
 pub invariant_of-self : goal.invariant_of-self
-invariant_of-self g c =
-    let h = c.widen_for.ensures in
-    screen-called c.self.inside.desk c.call.new.self c.args.call.now c.call.result c.self.inside.painter c.self.inside.changes c.widen_for.new.changes c.call.ensures h.height h.keeps h.same
-    c.self.invariant
+invariant_of-self g c = screen-called c.self.inside.desk c.call.new.self c.args.call.now c.call.result c.self.inside.painter c.call.ensures c.self.invariant
 
 pub invariant_of-self-in_default : goal.invariant_of-self-in_default
-invariant_of-self-in_default g c =
-    let h = c.widen_for.ensures in
-    screen-called c.self.inside.desk c.call.new.self c.args.call.now c.call.result c.self.inside.painter c.self.inside.changes c.widen_for.new.changes c.call.ensures h.height h.keeps h.same
-    c.self.invariant
+invariant_of-self-in_default g c = screen-called c.self.inside.desk c.call.new.self c.args.call.now c.call.result c.self.inside.painter c.call.ensures c.self.invariant
 
 pub returns-in_ok-call-in_default : goal.returns-in_ok-call-in_default
 returns-in_ok-call-in_default g c =

@@ -3,7 +3,7 @@ use Rattle.std.proofs.Common.{◌≡◌, ◌+◌, ◌<◌, ℕ, true, false, Opt
 use Rattle.std.proofs.lemmas.Bool.{cases_lt}
 use Rattle.std.proofs.lemmas.List.{get_or_past}
 use Rattle.small_set.specs.Sets.{IsNext}
-use Rattle.extents.proofs.Lines.{cleared-more, looked-at}
+use Rattle.extents.proofs.Lines.{cleared-more, looked-at, none-left, none-next}
 use Rattle.world.specs.declared.settings.Columns.{Columns}
 use Rattle.extents.proofs.extents.Extents.clear.Goals as goal
 
@@ -25,3 +25,8 @@ loop-next-preserved c =
       same = h.same;
       cleared = rw c.from.ensures (cleared-more lines items y below here c.next-next-in-Some.result found);
     }
+
+pub returns : goal.returns
+returns c =
+    let h = c.loop-next.invariant in
+    rw (← c.self.view_is) (none-left _ _ h.height (none-next c.self.inside.some c.loop-next.self-inside.lines.items c.loop-next.next c.in_default.is h.cleared))
