@@ -26,7 +26,8 @@ impl VirtualPicture {
     pub(crate) fn new(alloc: Global, lines: u16, columns: u16) -> Result<VirtualPicture, AllocError>
         requires lines { lines ≤ LARGEST_SCREEN }
         requires columns { columns ≤ LARGEST_SCREEN }
-        ensures { IfOk result (λ made. made ≡ record { cells = blank_picture lines columns; changes = replicate lines None }) }
+        ensures cells { IfOk result (λ made. made.cells ≡ blank_picture lines columns) }
+        ensures changes { IfOk result (λ made. made.changes ≡ replicate lines None) }
     {
         Ok(VirtualPicture {
             cells: Grid::new(alloc, lines, columns)?,

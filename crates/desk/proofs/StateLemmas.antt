@@ -108,7 +108,7 @@ still-differ old new call (Err e) shown made h = subst (λ (t : DeskTable). Diff
 pub screen-called : (old new : DeskTable) (call : Call) (r : Result Reply Refusal) (painter : PainterState) → Called old call r new → IsScreen old painter → IsScreen new painter
 screen-called old new call r painter made h = record {
   sound = sound-called old new call r h.sound made;
-  size = grind (arith, size-called);
+  size = let sized = size-called old new call r made in record { lines = h.size.lines ∙ sym sized.0; columns = h.size.columns ∙ sym sized.1 };
   changed = elim painter.last as (λ o. MatchOption o ⊤ (λ (s : ShownPicture). DifferOnly old.changes s.picture old.virtual.picture)
       → MatchOption o ⊤ (λ (s : ShownPicture). DifferOnly new.changes s.picture new.virtual.picture)) [
         | None ↦ λ h. h

@@ -1,9 +1,9 @@
 -- `show_touched`: a drawing is laid over a picture line by line (`Laying`), as noutrefresh draws on each line of the screen (`RefreshedLines`), and is
 -- damaged line by line (`Touching`).
-use Rattle.std.proofs.Common.{◌≡◌, ◌+◌, ◌-◌, arith, length, refl, subst, sym, ◌∙◌}
+use Rattle.std.proofs.Common.{◌≡◌, ◌+◌, ◌-◌, arith, refl, rules, subst, sym, ◌∙◌}
+use Rattle.std.proofs.lemmas.Grind.{common_steps}
 use Rattle.world.specs.Windows.{Drawing, cell_at}
 use Rattle.world.specs.calls.Refresh.{touched_cells}
-use Rattle.extents.specs.Extents.{AddsChanges}
 use Rattle.extents.proofs.Changing.{changes-none, changes-then}
 use Rattle.grids.specs.Tables.{windows}
 use Rattle.picture.proofs.DamageLaws.{damages-rectangle}
@@ -20,7 +20,7 @@ loop-y-init c =
     let ws = windows a.table.now in
     let placed = placed_at ws a.win.0 (a.top, a.left) c.in-Ok.lines c.in-Ok.field-0-1 c.requires.windows c.requires.place c.in-Ok.ensures.answer in
     record {
-      laid = search rules;
+      laid = first_of (search rules, grind (arith, common_steps));
       changes = changes-none a.picture.now.changes a.picture.now.cells;
       height = c.requires.damage;
       damaged = above-none ws.columns (touched_cells ws.window a.win.0) a.damage.now (a.top + 0) (λ v before. bare-above ws a.win.0 (a.top, a.left) c.in-Ok.lines placed v (omega (arith, before)));
