@@ -8,7 +8,7 @@ ghost use Rattle.world.specs.Windows.{HasPlace, cell_at};
 ghost use Rattle.extents.specs.Extents.{AddsChanges};
 ghost use Rattle.grids.specs.Tables.{windows as windows_of};
 
-use cell::{Grid, Pairs, Shown};
+use cell::{Grid, Pairs, Shown, WinId};
 use extents::Extents;
 use grids::{Grids, Place};
 use picture::show_piece;
@@ -56,6 +56,7 @@ impl VirtualPicture {
         ensures size { HasSize table.now.lines table.now.columns self.new.cells }
         ensures changes { AddsChanges self.old.changes self.old.cells self.new.changes self.new.cells }
     {
+        prove!(table.has_window(WinId::STANDARD));
         show_piece(table, pairs, source, n, y, x, &mut self.cells);
         self.changes.widen(y, x, x + (n - 1));
     }

@@ -17,16 +17,9 @@ pub part_of-after-requires : goal.part_of-after-requires
 unfolding Rearranges
 part_of-after-requires c = panels-ordered c.args.table.now c.args.stack.now c.args.stacking _ c.arrange.new.table c.arrange.new.stack c.requires.panels c.in_ok-reply.ensures
 
-pub damage_part-requires-2-clause-few : goal.damage_part-requires-2-clause-few
+pub damage_part-requires-2 : goal.damage_part-requires-2
 unfolding Rearranges
-damage_part-requires-2-clause-few c =
-    let t = c.args.table.now in
-    let damaged = c.damage_part.ensures.damaged t.columns (part-right t.lines t.columns c.part_of-before.result c.part_of-before.ensures.within) in
-    let few = c.has_window.ensures.sound.few_lines in grind (arith, damaged, few)
-
-pub damage_part-requires-2-clause-inside : goal.damage_part-requires-2-clause-inside
-unfolding Rearranges
-damage_part-requires-2-clause-inside c =
+damage_part-requires-2 c =
     let t = c.args.table.now in
     let damaged = c.damage_part.ensures.damaged t.columns (part-right t.lines t.columns c.part_of-before.result c.part_of-before.ensures.within) in
     let inside = c.part_of-after.ensures.within in grind (arith, damaged, inside, size-ordered, part-within)

@@ -2,6 +2,7 @@
 -- damaged line by line (`Touching`).
 use Rattle.std.proofs.Common.{◌≡◌, ◌+◌, ◌-◌, arith, refl, rules, subst, sym, ◌∙◌}
 use Rattle.std.proofs.lemmas.Grind.{common_steps}
+use Rattle.cell.specs.declared.window.Rect.{Rect}
 use Rattle.world.specs.Windows.{Drawing, cell_at}
 use Rattle.world.specs.calls.Refresh.{touched_cells}
 use Rattle.extents.proofs.Changing.{changes-none, changes-then}
@@ -66,7 +67,7 @@ loop-y-preserved c =
             let inside = touched-inside ws w (a.top, a.left) c.in-Ok.lines placed y s.in-Some.columns (sym s.in-Some.ensures.columns) in
             let ordered = inside.0 in
             let right = inside.1 in
-            let r = record { top = a.top + y; left = a.left + first; bottom = a.top + y; right = a.left + last } in
+            let r : Rect = record { top = a.top + y; left = a.left + first; bottom = a.top + y; right = a.left + last } in
             rw s.damage-is
             (above-more ws.columns f a.damage.now (a.top + y) (a.left + first) (last - first + 1) (λ u. cell_at ws.window w y (first + (u - (a.left + first))))
             r c.loop-y.damage s.rectangle.new.self h.damaged

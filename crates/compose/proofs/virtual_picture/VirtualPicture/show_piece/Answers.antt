@@ -15,3 +15,6 @@ returns-clause-changes c =
     (changes-more changes cells changes cells c.show_piece.new.picture a.y a.x (a.x + a.n)
     (λ u. shown a.pairs.now (cell_at (windows a.table.now).window a.source.win.0 a.source.line (a.source.column + (u - a.x)))) (changes-none changes cells)
     (omega (arith, c.requires.line, c.requires.height)) c.show_piece.ensures.shown (a.x + (a.n - 1)) (omega (arith, c.requires.some)))
+
+pub overflow_add-x : goal.overflow_add-x
+overflow_add-x c = let few = c.has_window.ensures.sound.few_columns in omega (arith, few, c.requires.columns)
