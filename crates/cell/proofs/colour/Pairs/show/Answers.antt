@@ -12,6 +12,6 @@ loop-start-preserved c = record {
 }
 
 pub returns-clause-shown : goal.returns-clause-shown
-returns-clause-shown c = shown_rest _ _ _ _ _ within c.loop-start.invariant.long (grind (arith, common_steps)) c.show_each.ensures.shown c.loop-start.invariant.shown where
+returns-clause-shown c = shown_rest _ _ _ _ _ within c.loop-start.invariant.long (grind (arith, common_steps)) c.show_rest.ensures.shown c.loop-start.invariant.shown where
   within : c.loop-start.start ≤ length c.loop-start.places
   within = omega (arith, c.loop-start.invariant.within, c.loop-start.invariant.long)
