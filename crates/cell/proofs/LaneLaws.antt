@@ -168,12 +168,12 @@ module _ (k : ℕ) (within : (x : ℕ) → x / 2 ^ k ≡ 0 → x < 2 ^ k) (none 
   -- one more number, where `found` has what others differ in
   pub one_more_alike : (found a b : ℕ) → nat_lt (bit_or found (bit_xor a b)) (2 ^ k) ≡ (nat_lt found (2 ^ k) && (a / 2 ^ k == b / 2 ^ k))
   one_more_alike found a b = sym (ltb_from_iff (
-      (λ both. let parts = and_parts (nat_lt found (2 ^ k)) (a / 2 ^ k == b / 2 ^ k) both in
-          or_lt k found (bit_xor a b) (ltb-true found (2 ^ k) parts.0) (to a b parts.1)),
-      (λ low. and_from _ _
-          (lt-ltb found (2 ^ k) (omega (arith, le_or_l found (bit_xor a b), low)))
-          (from a b (omega (arith, le_or_r found (bit_xor a b), low)))),
-    ))
+    (λ both. let parts = and_parts (nat_lt found (2 ^ k)) (a / 2 ^ k == b / 2 ^ k) both in
+        or_lt k found (bit_xor a b) (ltb-true found (2 ^ k) parts.0) (to a b parts.1)),
+    (λ low. and_from _ _
+        (lt-ltb found (2 ^ k) (omega (arith, le_or_l found (bit_xor a b), low)))
+        (from a b (omega (arith, le_or_r found (bit_xor a b), low)))),
+  ))
 
   -- and one more of a list, which is alike where a test says so
   pub one_more_of : {A : Type 0} (f : A → Bool) (cells : List A) (i : ℕ) (cell : A) (found a b : ℕ) → i < length cells → cell ≡ get_or cells i cell

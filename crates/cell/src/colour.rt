@@ -3,12 +3,11 @@
 ghost use Rattle.std.specs.Prelude.{◌≡◌, ◌==◌, ◌&&◌, is_none, ◌≤◌, nat_le, if◌then◌else◌, length, map, slice_set, true};
 ghost use Rattle.std.specs.List.{AllByRecursion, list_all};
 ghost use Rattle.cell.specs.Shown.{ArePairs, IsColour, IsShown, first_pairs, pair_at, shown, shown_in};
-ghost use Rattle.cell.specs.declared.colour.TheConstants.{BLOCK};
-ghost use Rattle.cell.specs.declared.lanes.TheConstants.{LANES};
+ghost use Rattle.cell.specs.declared.lanes.TheConstants.{BLOCK, LANES};
 
 use crate::cell::Cell;
 use crate::colour_bits::ColourBits;
-use crate::lanes::{LANES, have_pair};
+use crate::lanes::{BLOCK, LANES, have_pair};
 use crate::limits::{LAST_COLOUR, LAST_PAIR};
 use crate::shown::Shown;
 use std::marker::Model;
@@ -152,9 +151,6 @@ pub struct Pairs {
     pairs: [ColourBits; PAIRS],
 }
 
-/// How many cells of a line are tried to be shown in one pair's colours.
-const BLOCK: usize = 4 * LANES;
-
 /// How many pairs there are.
 const PAIRS: usize = LAST_PAIR as usize + 1;
 
@@ -218,7 +214,10 @@ impl Pairs {
             self.show_block(&cells[start..end], &mut places[start..end]);
             start = end;
         }
-        self.show_rest(&cells[start..], &mut places[start..]);
+        if start < cells.len() {
+            let rest = start.min(cells.len().saturating_sub(LANES));
+            self.show_rest(&cells[rest..], &mut places[rest..]);
+        }
     }
 
     /// The same of so many cells. Most have one pair, which is looked up once.
@@ -236,7 +235,7 @@ impl Pairs {
         }
     }
 
-    /// The same of fewer cells, or of a block's of several pairs.
+    /// The same of fewer cells, or of a block's of several pairs. The last of them are shown twice, many together, where they aren't as many.
     fn show_rest(&self, cells: &[Cell], places: &mut [Shown])
         requires { length places.old ≡ length cells.now }
         ensures shown { places.new ≡ map (shown self.now) cells.now }
@@ -248,7 +247,15 @@ impl Pairs {
             self.show_many(&cells[start..end], &mut places[start..end]);
             start = end;
         }
-        self.show_each(&cells[start..], &mut places[start..]);
+        if start >= cells.len() {
+            return;
+        }
+        if cells.len() < LANES {
+            self.show_each(cells, places);
+            return;
+        }
+        let last = cells.len() - LANES;
+        self.show_many(&cells[last..], &mut places[last..]);
     }
 
     /// The same of as many cells as are looked at together.

@@ -14,6 +14,9 @@ use std::simd::prelude::*;
 /// How many cells are looked at together.
 pub const LANES: usize = 16;
 
+/// How many cells of a line are tried first, as most lines have long pieces of one rendition.
+pub const BLOCK: usize = 4 * LANES;
+
 /// Whether so many cells are the same.
 pub(crate) fn same_lanes(old: &[Shown], new: &[Shown]) -> bool
     requires old { length old.now ≡ LANES }

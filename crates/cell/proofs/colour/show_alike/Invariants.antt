@@ -1,7 +1,7 @@
 use Rattle.std.proofs.Common.{◌≡◌, ◌≤◌, ◌-◌, ◌%◌, length, map, take}
 use Rattle.std.specs.List.{AllByRecursion}
 use Rattle.cell.specs.Shown.{IsShown, shown_in}
-use Rattle.cell.specs.declared.colour.TheConstants.{BLOCK}
+use Rattle.cell.specs.declared.lanes.TheConstants.{BLOCK}
 use Rattle.cell.proofs.colour.show_alike.Given as goal
 
 abbrev pub invariant-loop-start : goal.invariant-loop-start
