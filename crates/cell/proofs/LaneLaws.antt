@@ -1,18 +1,24 @@
 -- Cells as numbers, one in each lane, and a mask of the lanes in which two differ.
-use Rattle.std.proofs.Common.{◌≡◌, ℕ, ◌+◌, ◌-◌, ◌*◌, ◌^◌, ◌%◌, ◌<◌, true, false, List, [], ◌∷◌, length, get_or, set, take, drop, map, refl, sym, ap, subst, ◌∙◌, arith, eq-eqb, ne_eqb, eqb, cond, inl, inr, w32}
-use Rattle.std.specs.Prelude.{not, replicate, ◌==◌, ◌&&◌, ◌≤◌, Bool, slice_index_or}
+use Rattle.std.proofs.Common.{◌≡◌, ℕ, ◌+◌, ◌-◌, ◌*◌, ◌^◌, ◌/◌, ◌%◌, ◌<◌, true, false, List, [], ◌∷◌, length, get_or, set, take, drop, map, refl, sym, ap, subst, ◌∙◌, arith, eq-eqb, ne_eqb, eqb, cond, inl, inr, w32}
+use Rattle.std.specs.Prelude.{not, replicate, ◌==◌, ◌&&◌, ◌≤◌, Bool, slice_index_or, nat_lt}
 use Rattle.std.specs.List.{common_prefix_len, list_all, prefix_len}
 use lib.Count.{count_trailing_zeros}
 use Rattle.std.specs.Simd.Lanes.{mask_l, top, zip2}
-use Rattle.std.proofs.lemmas.Bool.{cases_eq, eqb-true}
+use Rattle.std.proofs.lemmas.Bool.{and_parts, and_from, cases_eq, eqb-true, lt-ltb, ltb-true, ltb_from_iff}
+use Rattle.std.specs.Int.{bit_at}
+use Rattle.std.specs.Int.RustNames.{bit_or, bit_xor}
+use Rattle.std.proofs.lemmas.Nat.{le_or_l, le_or_r, or_lt, xor_shr}
+use Rattle.std.proofs.lemmas.Nat.Bits.{bit_at-lt, bit_at-zero, bit_at_xor, same_from_bits}
 use Rattle.std.proofs.lemmas.List.{get_or-map, length-map, take-map, take_more, take_more_set, map-append}
+use Rattle.std.proofs.lemmas.List.Folds.{list_all-append}
 use Rattle.std.proofs.lemmas.List.Sums.{common_prefix_len-le}
 use Rattle.std.proofs.lemmas.Simd.{bitmask_splat, length-zip2, mask_l-mod, tops_compared, trailing_mask_l}
 use Rattle.cell.specs.Differences.{DiffersAt, same_rendition}
 use Rattle.cell.specs.EqualityLaws.{same_rendition-equal, same_rendition-equivalence}
-use Rattle.cell.specs.Packing.{rendition_bits, rendition_of, shown_bits, shown_of}
+use Rattle.cell.specs.Glyphs.{Glyph, IsCell}
+use Rattle.cell.specs.Packing.{colour_of, glyph_bits, rendition_bits, rendition_of, shown_bits, shown_of}
 use Rattle.cell.specs.PackingLaws.{same_bits}
-use Rattle.cell.specs.Shown.{Rendition, Shown, shown_blank}
+use Rattle.cell.specs.Shown.{IsShown, Rendition, Shown, rendition_with, shown_blank}
 
 -- ---- one more cell
 
@@ -23,11 +29,6 @@ more_held cells numbers x cell number inside long is value before = grind (arith
 pub more_numbers : {A : Type 0} (f : A → ℕ) (cells : List A) (numbers : List ℕ) (x : ℕ) (cell : A) (number : ℕ) → x < length cells → x < length numbers
     → cell ≡ get_or cells x cell → number ≡ f cell → take x numbers ≡ map f (take x cells) → take (x + 1) (set numbers x number) ≡ map f (take (x + 1) cells)
 more_numbers f cells numbers x cell number inside long is value before = grind (arith, take_more cells x cell, take_more_set numbers x number, map-append)
-
-pub more_renditions_held : (cells : List Shown) (numbers : List ℕ) (x : ℕ) (cell : Shown) (number : ℕ) → x < length cells → x < length numbers
-    → cell ≡ get_or cells x cell → cell.rendition ≡ rendition_of number → map (λ cell. cell.rendition) (take x cells) ≡ map rendition_of (take x numbers)
-    → map (λ cell. cell.rendition) (take (x + 1) cells) ≡ map rendition_of (take (x + 1) (set numbers x number))
-more_renditions_held cells numbers x cell number inside long is value before = grind (arith, take_more cells x cell, take_more_set numbers x number, map-append)
 
 -- ---- where no lane differs
 
@@ -71,49 +72,6 @@ module _ (old new : List Shown) (xs ys : List ℕ) (one : xs ≡ map shown_bits 
   mask-from_same same =
       let equal : xs ≡ ys = one ∙ ap (map shown_bits) same ∙ sym other in
       eq-eqb mask 0 (mask-of_different xs ys numbers others ∙ subst (λ zs. mask_l (zip2 (λ a b. not (eqb a b)) xs zs) ≡ 0) equal (unmarked_same xs))
-
--- ---- where all lanes have one number
-
--- one lane and those after it
-one_more : (same : Bool) (rest : ℕ) → eqb (cond (not same) 1 0 + 2 * rest) 0 ≡ (same && eqb rest 0)
-one_more true rest = grind (arith, cases_eq)
-one_more false rest = grind (arith, cases_eq)
-
-all_numbers : {A : Type 0} (f : A → ℕ) (cells : List A) (n : ℕ) → eqb (mask_l (map (λ x. not (eqb x n)) (map f cells))) 0 ≡ list_all (λ cell. f cell == n) cells
-all_numbers f [] n = refl
-all_numbers f (c ∷ cells) n =
-    one_more (eqb (f c) n) (mask_l (map (λ x. not (eqb x n)) (map f cells))) ∙ ap (λ rest. eqb (f c) n && rest) (all_numbers f cells n)
-
-pub all_marked : {A : Type 0} (f : A → ℕ) (cells : List A) (xs : List ℕ) (n : ℕ) → xs ≡ map f cells → length cells ≡ 16
-    → eqb (mask_l (map (top 31) (zip2 (λ a b. cond (not (eqb a b)) (2 ^ 32 - 1) 0) xs (replicate 16 n))) % 2 ^ 64) 0 ≡ list_all (λ cell. f cell == n) cells
-all_marked f cells xs n one long =
-    ap (λ marks. eqb marks 0) (bitmask_splat w32 (λ a b. not (eqb a b)) xs 16 n (ap length one ∙ length-map cells f ∙ long) (omega arith))
-    ∙ ap (λ ys. eqb (mask_l (map (λ x. not (eqb x n)) ys)) 0) one
-    ∙ all_numbers f cells n
-
--- ---- cells of one rendition
-
-same_number : (x n : ℕ) (one other : Rendition) → x ≡ rendition_bits one → one ≡ rendition_of x → n ≡ rendition_bits other → other ≡ rendition_of n
-    → eqb x n ≡ same_rendition one other
-same_number x n one other is held also kept =
-    same_bits same_rendition-equivalence same_rendition-equal rendition_of rendition_bits x n (ap rendition_bits (sym held) ∙ sym is) (ap rendition_bits (sym kept) ∙ sym also)
-    ∙ ap (λ r. same_rendition r (rendition_of n)) (sym held) ∙ ap (same_rendition one) (sym kept)
-
-all_same : (cells : List Shown) (n : ℕ) (rendition : Rendition) → map (λ cell. cell.rendition) cells ≡ map rendition_of (map (λ cell. rendition_bits cell.rendition) cells)
-    → n ≡ rendition_bits rendition → rendition ≡ rendition_of n
-    → list_all (λ cell. rendition_bits cell.rendition == n) cells ≡ list_all (λ cell. same_rendition cell.rendition rendition) cells
-all_same [] n rendition held other also = refl
-all_same (c ∷ cells) n rendition held other also =
-    ap (λ same. same && list_all (λ cell. rendition_bits cell.rendition == n) cells)
-    (same_number (rendition_bits c.rendition) n c.rendition rendition refl (ap (λ (l : List Rendition). get_or l 0 rendition) held) other also)
-    ∙ ap (λ rest. same_rendition c.rendition rendition && rest) (all_same cells n rendition (ap (drop 1) held) other also)
-
-pub all_from_mask : (cells : List Shown) (xs : List ℕ) (rendition : Rendition) (n : ℕ) → xs ≡ map (λ cell. rendition_bits cell.rendition) cells
-    → map (λ cell. cell.rendition) cells ≡ map rendition_of xs → n ≡ rendition_bits rendition → rendition ≡ rendition_of n → length cells ≡ 16
-    → eqb (mask_l (map (top 31) (zip2 (λ a b. cond (not (eqb a b)) (2 ^ 32 - 1) 0) xs (replicate 16 n))) % 2 ^ 64) 0
-    ≡ list_all (λ cell. same_rendition cell.rendition rendition) cells
-all_from_mask cells xs rendition n one held other also long =
-    all_marked (λ cell. rendition_bits cell.rendition) cells xs n one long ∙ all_same cells n rendition (held ∙ ap (map rendition_of) one) other also
 
 -- ---- the first lane in which two differ
 
@@ -188,3 +146,71 @@ module _ (old new : List Shown) (xs ys : List ℕ) (one : xs ≡ map shown_bits 
     differs = λ same. unlike_after xs ys (numbers-16 ∙ sym others-16) (omega (arith, first_marked some, numbers-16))
         (subst (λ k. get_or xs k 0 ≡ get_or ys k 0) (first_marked some) (bits_at (count_trailing_zeros 64 marks) within same));
   }
+
+-- ---- the bits that two have not in common
+
+xor_none : (a b : ℕ) → bit_xor a b ≡ 0 → a ≡ b
+xor_none a b none = same_from_bits a b (λ i.
+    omega (arith, bit_at_xor a b i, ap (λ n. bit_at n i) none ∙ bit_at-zero i, bit_at-lt a i, bit_at-lt b i))
+
+xor_same : (a : ℕ) → bit_xor a a ≡ 0
+xor_same a = same_from_bits (bit_xor a a) 0 (λ i. omega (arith, bit_at_xor a a i, bit_at-zero i))
+
+-- two numbers from bit k on
+module _ (k : ℕ) (within : (x : ℕ) → x / 2 ^ k ≡ 0 → x < 2 ^ k) (none : (x : ℕ) → x < 2 ^ k → x / 2 ^ k ≡ 0) where
+  to : (a b : ℕ) → (a / 2 ^ k == b / 2 ^ k) ≡ true → bit_xor a b < 2 ^ k
+  to a b same = within (bit_xor a b)
+      (xor_shr a b k ∙ ap (λ n. bit_xor (a / 2 ^ k) n) (sym (eqb-true (a / 2 ^ k) (b / 2 ^ k) same)) ∙ xor_same (a / 2 ^ k))
+
+  from : (a b : ℕ) → bit_xor a b < 2 ^ k → (a / 2 ^ k == b / 2 ^ k) ≡ true
+  from a b low = eq-eqb (a / 2 ^ k) (b / 2 ^ k) (xor_none (a / 2 ^ k) (b / 2 ^ k) (sym (xor_shr a b k) ∙ none (bit_xor a b) low))
+
+  -- one more number, where `found` has what others differ in
+  pub one_more_alike : (found a b : ℕ) → nat_lt (bit_or found (bit_xor a b)) (2 ^ k) ≡ (nat_lt found (2 ^ k) && (a / 2 ^ k == b / 2 ^ k))
+  one_more_alike found a b = sym (ltb_from_iff (
+    (λ both. let parts = and_parts (nat_lt found (2 ^ k)) (a / 2 ^ k == b / 2 ^ k) both in
+        or_lt k found (bit_xor a b) (ltb-true found (2 ^ k) parts.0) (to a b parts.1)),
+    (λ low. and_from _ _
+        (lt-ltb found (2 ^ k) (omega (arith, le_or_l found (bit_xor a b), low)))
+        (from a b (omega (arith, le_or_r found (bit_xor a b), low)))),
+  ))
+
+  -- and one more of a list, which is alike where a test says so
+  pub one_more_of : {A : Type 0} (f : A → Bool) (cells : List A) (i : ℕ) (cell : A) (found a b : ℕ) → i < length cells → cell ≡ get_or cells i cell
+      → (a / 2 ^ k == b / 2 ^ k) ≡ f cell → nat_lt found (2 ^ k) ≡ list_all f (take i cells)
+      → nat_lt (bit_or found (bit_xor a b)) (2 ^ k) ≡ list_all f (take (i + 1) cells)
+  one_more_of f cells i cell found a b inside is same before =
+      one_more_alike found a b ∙ (λ j. before j && same j) ∙ sym (grind (arith, take_more cells i cell, list_all-append))
+
+-- ---- a cell of a rendition, and one of a pair
+
+-- the rendition is in the bits from 8 on
+high_bits : (bits x ch n : ℕ) → bits ≡ x + ch → ch < 256 → x % 256 ≡ 0 → n % 256 ≡ 0 → (bits / 256 == n / 256) ≡ (x == n)
+high_bits bits x ch n is low one other = elim (cases_eq x n) [
+  | inl e ↦ eq-eqb (bits / 256) (n / 256) (omega (arith, is, low, e)) ∙ sym (eq-eqb x n e)
+  | inr apart ↦ ne_eqb (bits / 256) (n / 256) (λ h. apart (omega (arith, is, low, one, other, h))) ∙ sym (ne_eqb x n apart)
+]
+
+rendition-high : (bits x ch : ℕ) → bits ≡ x + ch → ch < 256 → x % 256 ≡ 0 → rendition_of bits ≡ rendition_of x
+rendition-high bits x ch is low one =
+    let shifted : bits / 256 ≡ x / 256 = omega (arith, is, low, one) in
+    let colours : bits / 65536 ≡ x / 65536 = omega (arith, is, low, one) in
+    let background : bits / 1048576 ≡ x / 1048576 = omega (arith, is, low, one) in
+    λ i. rendition_with (record { foreground = colour_of (colours i % 16); background = colour_of (background i) }) (shifted i % 256)
+
+pub same_above : (cell : Shown) (bits n : ℕ) (rendition : Rendition) → bits ≡ shown_bits cell → cell ≡ shown_of bits → IsShown cell → n ≡ rendition_bits rendition
+    → rendition ≡ rendition_of n → (bits / 256 == n / 256) ≡ same_rendition cell.rendition rendition
+same_above cell bits n rendition is held sound also kept =
+    let x = rendition_bits cell.rendition in
+    let low : cell.character < 256 = omega (arith, sound.to_tilde) in
+    high_bits bits x cell.character n is low (omega arith) (omega (arith, also))
+    ∙ same_bits same_rendition-equivalence same_rendition-equal rendition_of rendition_bits x n (ap rendition_bits (sym one)) (ap rendition_bits (sym kept) ∙ sym also)
+    ∙ (λ i. same_rendition (sym one i) (sym kept i)) where
+      one : cell.rendition ≡ rendition_of (rendition_bits cell.rendition)
+      one = ap (λ (c : Shown). c.rendition) held ∙ rendition-high bits (rendition_bits cell.rendition) cell.character is (omega (arith, sound.to_tilde)) (omega arith)
+
+pub same_pair : (glyph : Glyph) (bits pair : ℕ) → bits ≡ glyph_bits glyph → IsCell glyph → (bits / 65536 == pair * 65536 / 65536) ≡ (glyph.pair == pair)
+same_pair glyph bits pair is sound =
+    let one : bits / 65536 ≡ glyph.pair = omega (arith, is, sound.to_tilde, sound.of_the_six) in
+    let other : pair * 65536 / 65536 ≡ pair = omega arith in
+    λ i. one i == other i

@@ -1,11 +1,11 @@
 -- Cells that are shown many together.
-use Rattle.std.proofs.Common.{◌≡◌, ℕ, ◌+◌, ◌-◌, ◌≤◌, ◌==◌, true, List, [], ◌∷◌, ◌++◌, length, map, take, drop, refl, sym, ap, arith, ◌∙◌}
+use Rattle.std.proofs.Common.{◌≡◌, ℕ, ◌+◌, ◌-◌, ◌≤◌, ◌==◌, true, subst, List, [], ◌∷◌, ◌++◌, length, map, take, drop, take-take, refl, sym, ap, arith, ◌∙◌}
 use Rattle.std.specs.List.{AllByRecursion, list_all}
 use Rattle.std.proofs.Math.Seq.{take-add, take-length}
 use Rattle.std.proofs.lemmas.Bool.{cases_eq}
 use Rattle.std.proofs.lemmas.Bool.Decides.{nat_tests}
-use Rattle.std.proofs.lemmas.List.{length-drop, length-take-le, map-append}
-use Rattle.std.proofs.lemmas.List.Elements.{All-from_recursion, recursion_from_All, All-append}
+use Rattle.std.proofs.lemmas.List.{length-drop, length-take-le, map-append, take-map}
+use Rattle.std.proofs.lemmas.List.Elements.{All-take, All-from_recursion, recursion_from_All, All-append}
 use Rattle.std.proofs.lemmas.Slice.{take-put_mid}
 use borrow.Rule.Slice.PartMut.{put_mid, same_len_mid}
 use Rattle.cell.specs.Glyphs.{Glyph}
@@ -25,6 +25,12 @@ pub shown_more : {A B : Type 0} (f : A → B) (cells : List A) (places new : Lis
 shown_more f cells places new start n inside long is before =
     take-put_mid start n places new (start + n) (omega (arith, long)) inside
     ∙ grind (arith, take-add, map-append, is, before)
+
+-- fewer of those that are shown
+pub shown_fewer : {A B : Type 0} (f : A → B) (cells : List A) (places : List B) (n start : ℕ) → n ≤ start → take start places ≡ map f (take start cells)
+    → take n places ≡ map f (take n cells)
+shown_fewer f cells places n start fewer before =
+    sym (take-take n start places fewer) ∙ ap (take n) before ∙ take-map f n (take start cells) ∙ ap (map f) (take-take n start cells fewer)
 
 -- the last piece
 pub shown_rest : {A B : Type 0} (f : A → B) (cells : List A) (places new : List B) (start : ℕ) → start ≤ length places → length places ≡ length cells
@@ -47,3 +53,16 @@ pub sound_more : {B : Type 0} (Is : B → Type 0) (places new : List B) (start n
 sound_more Is places new start n inside long before sound =
     rw (take-put_mid start n places new (start + n) (omega (arith, long)) inside)
     (recursion_from_All Is (take start places ++ new) (All-append Is (take start places) new (All-from_recursion Is (take start places) before) (All-from_recursion Is new sound)))
+
+-- the last of them, from a piece on that is known to be sound already
+pub sound_rest : {B : Type 0} (Is : B → Type 0) (places new : List B) (n start : ℕ) → n ≤ start → start ≤ length places → length new ≡ length places - n
+    → AllByRecursion Is (take start places) → AllByRecursion Is new → AllByRecursion Is (put_mid n (length places - n) places new)
+sound_rest {B = B} Is places new n start fewer inside long before sound =
+    subst (AllByRecursion Is) (ap (λ m. take m whole) (omega (arith, fewer, inside, same)) ∙ take-length whole)
+    (sound_more Is places new n (length places - n) (omega (arith, fewer, inside)) long
+    (subst (AllByRecursion Is) (take-take n start places fewer) (recursion_from_All Is (take n (take start places)) (All-take Is n (take start places) (All-from_recursion Is (take start places) before)))) sound) where
+      whole : List B
+      whole = put_mid n (length places - n) places new
+
+      same : length whole ≡ length places
+      same = same_len_mid n (length places - n) places new (grind (arith, long, length-drop, length-take-le))

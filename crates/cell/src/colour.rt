@@ -3,11 +3,11 @@
 ghost use Rattle.std.specs.Prelude.{◌≡◌, ◌==◌, ◌&&◌, is_none, ◌≤◌, nat_le, if◌then◌else◌, length, map, slice_set, true};
 ghost use Rattle.std.specs.List.{AllByRecursion, list_all};
 ghost use Rattle.cell.specs.Shown.{ArePairs, IsColour, IsShown, first_pairs, pair_at, shown, shown_in};
-ghost use Rattle.cell.specs.declared.lanes.TheConstants.{LANES};
+ghost use Rattle.cell.specs.declared.lanes.TheConstants.{BLOCK, LANES};
 
 use crate::cell::Cell;
 use crate::colour_bits::ColourBits;
-use crate::lanes::{LANES, have_pair};
+use crate::lanes::{BLOCK, LANES, have_pair};
 use crate::limits::{LAST_COLOUR, LAST_PAIR};
 use crate::shown::Shown;
 use std::marker::Model;
@@ -209,15 +209,56 @@ impl Pairs {
         ensures cells { AllByRecursion IsShown places.new }
     {
         let mut start = 0;
+        while cells.len() - start >= BLOCK {
+            let end = start + BLOCK;
+            self.show_block(&cells[start..end], &mut places[start..end]);
+            start = end;
+        }
+        if start < cells.len() {
+            let rest = start.min(cells.len().saturating_sub(LANES));
+            self.show_rest(&cells[rest..], &mut places[rest..]);
+        }
+    }
+
+    /// The same of so many cells. Most have one pair, which is looked up once.
+    fn show_block(&self, cells: &[Cell], places: &mut [Shown])
+        requires cells { length cells.now ≡ BLOCK }
+        requires places { length places.old ≡ BLOCK }
+        ensures shown { places.new ≡ map (shown self.now) cells.now }
+        ensures cells { AllByRecursion IsShown places.new }
+    {
+        let pair = cells[0].pair();
+        if have_pair(cells, pair) {
+            show_alike(self.colours_of(pair), cells, places);
+        } else {
+            self.show_rest(cells, places);
+        }
+    }
+
+    /// The same of fewer cells, or of a block's of several pairs. The last of them are shown twice, many together, where they aren't as many.
+    fn show_rest(&self, cells: &[Cell], places: &mut [Shown])
+        requires { length places.old ≡ length cells.now }
+        ensures shown { places.new ≡ map (shown self.now) cells.now }
+        ensures cells { AllByRecursion IsShown places.new }
+    {
+        let mut start = 0;
         while cells.len() - start >= LANES {
             let end = start + LANES;
             self.show_many(&cells[start..end], &mut places[start..end]);
             start = end;
         }
-        self.show_each(&cells[start..], &mut places[start..]);
+        if start >= cells.len() {
+            return;
+        }
+        if cells.len() < LANES {
+            self.show_each(cells, places);
+            return;
+        }
+        let last = cells.len() - LANES;
+        self.show_many(&cells[last..], &mut places[last..]);
     }
 
-    /// The same of so many cells. Most have one pair, which is looked up once.
+    /// The same of as many cells as are looked at together.
     fn show_many(&self, cells: &[Cell], places: &mut [Shown])
         requires cells { length cells.now ≡ LANES }
         requires places { length places.old ≡ LANES }
@@ -231,7 +272,6 @@ impl Pairs {
             self.show_each(cells, places);
         }
     }
-
     /// The same, one after another.
     fn show_each(&self, cells: &[Cell], places: &mut [Shown])
         requires { length places.old ≡ length cells.now }
@@ -243,6 +283,21 @@ impl Pairs {
             prove!(shown.ch() >= b' ');
             places[x] = shown;
         }
+    }
+}
+
+/// Writes the cells of a block in colours into as many places, whatever their pairs are.
+fn show_alike(colours: ColourBits, cells: &[Cell], places: &mut [Shown])
+    requires cells { length cells.now ≡ BLOCK }
+    requires places { length places.old ≡ BLOCK }
+    ensures shown { places.new ≡ map (shown_in colours) cells.now }
+    ensures cells { AllByRecursion IsShown places.new }
+{
+    let mut start = 0;
+    while start < BLOCK {
+        let end = start + LANES;
+        places[start..end].copy_from_slice(&show_in(colours, &cells[start..end]));
+        start = end;
     }
 }
 

@@ -3,7 +3,7 @@
 ghost use Rattle.std.specs.Prelude.{◌≡◌, ◌≤◌, ◌<◌, ◌==◌, ◌↔◌, length, map, take, true};
 ghost use Rattle.std.specs.List.{list_all};
 ghost use Rattle.cell.specs.Differences.{DiffersAt, same_rendition};
-ghost use Rattle.cell.specs.Packing.{rendition_bits, rendition_of, shown_bits, shown_of};
+ghost use Rattle.cell.specs.Packing.{shown_bits, shown_of};
 ghost use Rattle.cell.specs.declared.lanes.TheConstants.{LANES};
 
 use crate::cell::Cell;
@@ -13,6 +13,9 @@ use std::simd::prelude::*;
 
 /// How many cells are looked at together.
 pub const LANES: usize = 16;
+
+/// How many cells of a line are tried first, as most lines have long pieces of one rendition.
+pub const BLOCK: usize = 4 * LANES;
 
 /// Whether so many cells are the same.
 pub(crate) fn same_lanes(old: &[Shown], new: &[Shown]) -> bool
@@ -39,22 +42,28 @@ pub(crate) fn same_before(old: &[Shown], new: &[Shown]) -> usize
     }
 }
 
-/// Whether so many cells all have a rendition.
+/// Whether some cells all have a rendition. It looks at each of them, by a loop that the compiler vectorizes.
 pub fn have_rendition(cells: &[Shown], rendition: Rendition) -> bool
-    requires { length cells.now ≡ LANES }
     ensures { result ≡ list_all (λ cell. same_rendition cell.rendition rendition) cells.now }
 {
-    let wanted = u32x16::splat(rendition.bits());
-    rendition_lanes(cells).simd_ne(wanted).to_bitmask() == 0
+    let wanted = rendition.bits();
+    let mut different = 0;
+    for cell in cells {
+        different |= cell.bits() ^ wanted;
+    }
+    different < 256
 }
 
-/// Whether so many cells of windows all have a pair.
+/// Whether some cells of windows all have a pair, by a loop of the same form.
 pub(crate) fn have_pair(cells: &[Cell], pair: PairId) -> bool
-    requires { length cells.now ≡ LANES }
     ensures { result ≡ list_all (λ cell. cell.pair == pair) cells.now }
 {
-    let wanted = u32x16::splat(u32::from(pair.number()));
-    pair_lanes(cells).simd_ne(wanted).to_bitmask() == 0
+    let wanted = u32::from(pair.number()) * 65_536;
+    let mut different = 0;
+    for cell in cells {
+        different |= cell.bits() ^ wanted;
+    }
+    different < 65_536
 }
 
 /// So many cells as numbers, one in each lane.
@@ -66,31 +75,6 @@ fn lanes(cells: &[Shown]) -> u32x16
     let mut numbers = [0; LANES];
     for x in 0..LANES {
         numbers[x] = cells[x].bits();
-    }
-    u32x16::from_array(numbers)
-}
-
-/// The renditions of so many cells as numbers, one in each lane.
-fn rendition_lanes(cells: &[Shown]) -> u32x16
-    requires { length cells.now ≡ LANES }
-    ensures bits { result ≡ map (λ cell. rendition_bits cell.rendition) cells.now }
-    ensures held { map (λ cell. cell.rendition) cells.now ≡ map rendition_of result }
-{
-    let mut numbers = [0; LANES];
-    for x in 0..LANES {
-        numbers[x] = cells[x].rendition().bits();
-    }
-    u32x16::from_array(numbers)
-}
-
-/// The numbers of the pairs of so many cells of windows, one in each lane.
-fn pair_lanes(cells: &[Cell]) -> u32x16
-    requires { length cells.now ≡ LANES }
-    ensures { result ≡ map (λ cell. cell.pair) cells.now }
-{
-    let mut numbers = [0; LANES];
-    for x in 0..LANES {
-        numbers[x] = u32::from(cells[x].pair().number());
     }
     u32x16::from_array(numbers)
 }

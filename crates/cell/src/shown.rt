@@ -168,6 +168,7 @@ impl Shown {
     pub(crate) fn bits(self) -> u32
         ensures value { result ≡ shown_bits self }
         ensures held { self ≡ shown_of result }
+        ensures sound { IsShown self }
     {
         self.bits
     }

@@ -19,7 +19,7 @@ pub mod SentTexts
 -- The text of a doupdate after a stream that agrees with the painter: where it clears, it doesn't matter what was sent before; for
 -- `agrees_after_fault`, `agrees_after_update`, `shows_after_update` and others
 pub mod Repair
--- Runs of cells: printed one after another, and drawn in a line; for `are_all`, `paint_cells`, `paint_run` and others
+-- Runs of cells: printed one after another, and drawn in a line; for `have_rendition`, `paint_cells`, `paint_run` and others
 pub mod CellRuns
 -- Lines that are the same before one column and from another one on; for `changed_tail`, `first_changed`, `last_changed`
 pub mod LineParts

@@ -4,6 +4,7 @@ use Rattle.std.proofs.Common.{refl, sym, ap, ◌∙◌, subst, arith, append_ass
 use Rattle.std.specs.Prelude.{if◌then◌else◌, nat_lt}
 use Rattle.std.proofs.lemmas.Bool.{and_parts, cases_Bool, cases_lt, le-ltb, lt-ltb, ne_eqb}
 use Rattle.std.proofs.lemmas.List.{drop-take, take-take, take_all}
+use Rattle.std.proofs.Math.Seq.{take-length}
 use Rattle.cell.specs.EqualityLaws.{same_rendition-equal, same_shown-self}
 use Rattle.cell.specs.Pictures.{Picture, line_of}
 use Rattle.cell.specs.Shown.{Rendition, Shown, no_rendition, shown_blank}
@@ -145,6 +146,27 @@ noted-all {renditions} {came} (a ∷ shown) (b ∷ wanted) all h =
           rw other (subst (HasNoted renditions) (append_assoc came (renditions.last ∷ []) (line_renditions shown wanted) ∙ ap (λ r. came ++ r ∷ line_renditions shown wanted) (sym is))
           (noted-all shown wanted parts.1 (noted-again h)))
     ]
+
+-- a piece of a line more
+pub noted-more : {renditions : Renditions} (came : List Rendition) (start end : ℕ) (shown wanted : List Shown) → start ≤ end
+    → HasNoted renditions ((came ++ line_renditions (take start shown) (take start wanted)) ++ line_renditions (take (end - start) (drop start shown)) (take (end - start) (drop start wanted)))
+    → HasNoted renditions (came ++ line_renditions (take end shown) (take end wanted))
+noted-more {renditions} came start end shown wanted ordered h =
+    subst (HasNoted renditions)
+    (append_assoc came (line_renditions (take start shown) (take start wanted)) (line_renditions (take (end - start) (drop start shown)) (take (end - start) (drop start wanted)))
+    ∙ ap (λ l. came ++ l) (sym (renditions-between start end shown wanted ordered)))
+    h
+
+-- the rest of a line
+pub noted-rest : {renditions : Renditions} (came : List Rendition) (start : ℕ) (shown wanted : List Shown) → length shown ≡ length wanted → start ≤ length wanted
+    → HasNoted renditions ((came ++ line_renditions (take start shown) (take start wanted)) ++ line_renditions (take (length shown - start) (drop start shown)) (take (length wanted - start) (drop start wanted)))
+    → HasNoted renditions (came ++ line_renditions shown wanted)
+noted-rest {renditions} came start shown wanted same within h =
+    subst (HasNoted renditions) (λ i. came ++ line_renditions (whole i) (take-length wanted i))
+    (noted-more came start (length wanted) shown wanted within
+    (subst (λ n. HasNoted renditions ((came ++ line_renditions (take start shown) (take start wanted)) ++ line_renditions (take (n - start) (drop start shown)) (take (length wanted - start) (drop start wanted)))) same h)) where
+      whole : take (length wanted) shown ≡ shown
+      whole = ap (λ n. take n shown) (sym same) ∙ take-length shown
 
 -- and a changed cell that has another
 pub noted-cell : {old new : Renditions} {came : List Rendition} (a b : Shown) → HasNoted old came → same_shown a b ≡ false → same_rendition b.rendition old.last ≡ false

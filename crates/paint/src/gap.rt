@@ -2,10 +2,10 @@
 
 ghost use Rattle.std.specs.Prelude.{◌≡◌, ◌+◌, ◌<◌, ◌≤◌, Some, drop, take, length};
 ghost use Rattle.cell.specs.Pictures.{Picture, line_of};
-ghost use Rattle.paint.specs.steps.Strokes.{SameTerminals, Strokes, again_bytes, all_have, approach_bytes, change, is_printed_again, moved_bytes};
+ghost use Rattle.paint.specs.steps.Strokes.{SameTerminals, Strokes, again_bytes, approach_bytes, change, is_printed_again, moved_bytes};
 
 use crate::pen::{Pen, PenState};
-use cell::{LARGEST_SCREEN, Rendition, Shown};
+use cell::{LARGEST_SCREEN, Rendition, Shown, have_rendition};
 use ecma::{position_length, selection_length};
 use streams::Sink;
 
@@ -85,13 +85,13 @@ fn is_printed_again(
         return false;
     }
     let end = start + gap.len() as u16;
-    if are_all(gap, pen.rendition) {
+    if have_rendition(gap, pen.rendition) {
         return gap.len() <= position_length(line, end);
     }
     let again = again_length(gap, pen.rendition, rendition);
     let moved = moved_length(pen, line, end, rendition);
     if again == moved {
-        return are_all(gap, rendition);
+        return have_rendition(gap, rendition);
     }
     again < moved
 }
@@ -135,16 +135,4 @@ fn change_length(old: Rendition, new: Rendition) -> usize
         return 0;
     }
     selection_length(new)
-}
-
-/// Whether all cells have a rendition.
-pub fn are_all(cells: &[Shown], rendition: Rendition) -> bool
-    ensures { result ≡ all_have rendition cells.now }
-{
-    for cell in cells {
-        if cell.rendition() != rendition {
-            return false;
-        }
-    }
-    true
 }

@@ -4,14 +4,13 @@ ghost use Rattle.std.specs.Prelude.{◌≡◌, ◌+◌, ◌<◌, ◌≤◌, ◌+
 ghost use Rattle.cell.specs.Shown.{Rendition as AnyRendition};
 ghost use Rattle.paint.specs.steps.Listing.{AreRuns};
 ghost use Rattle.paint.specs.steps.Passes.{HasNoted, changed_renditions, line_renditions, order_for, pass_of, picture_after, saturating_usize, selections, with_pass};
-ghost use Rattle.paint.specs.steps.Strokes.{SameTerminals, Strokes, all_have, picture_bytes};
+ghost use Rattle.paint.specs.steps.Strokes.{SameTerminals, Strokes, picture_bytes};
 
 use crate::changes::Frame;
-use crate::gap::are_all;
 use crate::line::{Row, paint_run};
 use crate::pen::Pen;
 use crate::runs::Run;
-use cell::{LANES, Rendition, Shown, have_rendition};
+use cell::{BLOCK, LANES, Rendition, Shown, have_rendition};
 use std::marker::Model;
 use streams::Sink;
 
@@ -186,19 +185,45 @@ impl Renditions {
         }
     }
 
-    /// The same of a part of a line. Cells that have the last rendition all are looked at together.
+    /// The same of more cells, of which as many as are looked at together mostly have the last rendition all.
+    fn note_pieces(&mut self, shown: &[Shown], wanted: &[Shown])
+        requires { length shown.now ≡ length wanted.now }
+        ensures { (came : List AnyRendition) → HasNoted self.old came → HasNoted self.new (came ++ line_renditions shown.now wanted.now) }
+    {
+        let mut start = 0;
+        while wanted.len() - start >= LANES {
+            let end = start + LANES;
+            if !have_rendition(&wanted[start..end], self.last) {
+                self.note_cells(&shown[start..end], &wanted[start..end]);
+            }
+            start = end;
+        }
+        self.note_cells(&shown[start..], &wanted[start..]);
+    }
+
+    /// The same of cells that are tried as a block first.
+    #[inline(always)]
+    fn note_block(&mut self, shown: &[Shown], wanted: &[Shown])
+        requires { length shown.now ≡ length wanted.now }
+        ensures { (came : List AnyRendition) → HasNoted self.old came → HasNoted self.new (came ++ line_renditions shown.now wanted.now) }
+    {
+        if !have_rendition(wanted, self.last) {
+            self.note_pieces(shown, wanted);
+        }
+    }
+
+    /// The same of a part of a line.
     fn note_part(&mut self, shown: &[Shown], wanted: &[Shown])
         requires { length shown.now ≡ length wanted.now }
         ensures { (came : List AnyRendition) → HasNoted self.old came → HasNoted self.new (came ++ line_renditions shown.now wanted.now) }
     {
         let mut start = 0;
-        while start < wanted.len() {
-            let end = wanted.len().min(start + LANES);
-            if !all_have(self.last, &wanted[start..end]) {
-                self.note_cells(&shown[start..end], &wanted[start..end]);
-            }
+        while wanted.len() - start >= BLOCK {
+            let end = start + BLOCK;
+            self.note_block(&shown[start..end], &wanted[start..end]);
             start = end;
         }
+        self.note_block(&shown[start..], &wanted[start..]);
     }
 
     /// Whether passes select renditions less often than one walk over all lines does. Both end with none.
@@ -213,17 +238,6 @@ impl Renditions {
         };
         selected > self.order.renditions().len()
     }
-}
-
-/// Whether some cells all have a rendition. Mostly they are as many as are looked at together.
-#[inline(always)]
-fn all_have(rendition: Rendition, cells: &[Shown]) -> bool
-    ensures { result ≡ all_have rendition cells.now }
-{
-    if cells.len() == LANES {
-        return have_rendition(cells, rendition);
-    }
-    are_all(cells, rendition)
 }
 
 /// The order of the passes for the renditions of changed cells, where they select these less often than one walk over all lines, and else

@@ -1,6 +1,7 @@
 use Rattle.std.proofs.Common.{◌≤◌, length, arith}
 use Rattle.std.proofs.lemmas.Grind.{common_steps}
-use Rattle.cell.proofs.ShownPieces.{shown_more, shown_rest, sound_more}
+use Rattle.cell.proofs.ShownPieces.{shown_fewer, shown_more, shown_rest, sound_more, sound_rest}
+use Rattle.cell.specs.Shown.{IsShown}
 use Rattle.cell.proofs.colour.Pairs.show.Goals as goal
 
 pub loop-start-preserved : goal.loop-start-preserved
@@ -11,7 +12,14 @@ loop-start-preserved c = record {
   each = search (arith, common_steps, sound_more);
 }
 
-pub returns-clause-shown : goal.returns-clause-shown
-returns-clause-shown c = shown_rest _ _ _ _ _ within c.loop-start.invariant.long (grind (arith, common_steps)) c.show_each.ensures.shown c.loop-start.invariant.shown where
-  within : c.loop-start.start ≤ length c.loop-start.places
-  within = omega (arith, c.loop-start.invariant.within, c.loop-start.invariant.long)
+pub returns-then-start-cells-clause-shown : goal.returns-then-start-cells-clause-shown
+returns-then-start-cells-clause-shown c =
+    let fewer : c.min-rest.result ≤ c.loop-start.start = omega (arith, c.min-rest.ensures) in
+    shown_rest _ _ _ _ c.min-rest.result (omega (arith, fewer, c.loop-start.invariant.within, c.loop-start.invariant.long)) c.loop-start.invariant.long
+    (grind (arith, common_steps)) c.show_rest.ensures.shown (shown_fewer _ _ _ _ c.loop-start.start fewer c.loop-start.invariant.shown)
+
+pub returns-then-start-cells-clause-cells : goal.returns-then-start-cells-clause-cells
+returns-then-start-cells-clause-cells c =
+    let fewer : c.min-rest.result ≤ c.loop-start.start = omega (arith, c.min-rest.ensures) in
+    sound_rest IsShown _ _ c.min-rest.result c.loop-start.start fewer (omega (arith, c.loop-start.invariant.within, c.loop-start.invariant.long))
+    (grind (arith, common_steps)) c.loop-start.invariant.each c.show_rest.ensures.cells

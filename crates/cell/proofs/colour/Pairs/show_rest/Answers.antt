@@ -1,0 +1,22 @@
+use Rattle.std.proofs.Common.{◌-◌, length, arith}
+use Rattle.std.proofs.lemmas.Grind.{common_steps}
+use Rattle.cell.proofs.ShownPieces.{shown_fewer, shown_more, shown_rest, sound_more, sound_rest}
+use Rattle.cell.specs.Shown.{IsShown}
+use Rattle.cell.proofs.colour.Pairs.show_rest.Goals as goal
+
+pub loop-start-preserved : goal.loop-start-preserved
+loop-start-preserved c = record {
+  within = omega (arith, c.loop-start.invariant.within, c.loop-start-test.true);
+  long = grind (arith, common_steps);
+  shown = grind (arith, common_steps, shown_more);
+  each = search (arith, common_steps, sound_more);
+}
+
+pub returns-clause-shown : goal.returns-clause-shown
+returns-clause-shown c = shown_rest _ _ _ _ (length c.args.cells.now - 16) (omega (arith, c.loop-start.invariant.long)) c.loop-start.invariant.long
+    (grind (arith, common_steps)) c.show_many-2.ensures.shown
+    (shown_fewer _ _ _ _ c.loop-start.start (omega (arith, c.loop-start-test.false)) c.loop-start.invariant.shown)
+
+pub returns-clause-cells : goal.returns-clause-cells
+returns-clause-cells c = sound_rest IsShown _ _ (length c.args.cells.now - 16) c.loop-start.start (omega (arith, c.loop-start-test.false))
+    (omega (arith, c.loop-start.invariant.within, c.loop-start.invariant.long)) (grind (arith, common_steps)) c.loop-start.invariant.each c.show_many-2.ensures.cells

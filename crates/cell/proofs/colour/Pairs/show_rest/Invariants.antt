@@ -1,0 +1,15 @@
+use Rattle.std.proofs.Common.{◌≡◌, ◌≤◌, ◌-◌, length, map, take}
+use Rattle.std.specs.List.{AllByRecursion}
+use Rattle.cell.specs.Shown.{IsShown, shown}
+use Rattle.cell.proofs.colour.Pairs.show_rest.Given as goal
+
+abbrev pub invariant-loop-start : goal.invariant-loop-start
+invariant-loop-start l = record {
+  within : l.start ≤ length l.cells;
+  long : length l.places ≡ length l.cells;
+  shown : take l.start l.places ≡ map (shown l.self) (take l.start l.cells);
+  each : AllByRecursion IsShown (take l.start l.places);
+}
+
+abbrev pub decreases-loop-start : goal.decreases-loop-start
+decreases-loop-start l = length l.cells - l.start
