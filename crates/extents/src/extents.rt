@@ -44,22 +44,6 @@ impl Extents {
         })
     }
 
-    /// So many lines, each of which has all of so many columns.
-    pub fn whole(alloc: Global, lines: u16, columns: u16) -> Result<Extents, AllocError>
-        requires few { lines ≤ LARGEST_SCREEN }
-        requires some { 0 < columns }
-        ensures { IfOk result (λ extents. extents ≡ replicate lines (Some (record { first = 0; last = columns - 1 }))) }
-    {
-        let all = Columns {
-            first: 0,
-            last: columns - 1,
-        };
-        Ok(Extents {
-            lines: vec![in alloc; Some(all); usize::from(lines)]?,
-            some: all_lines(lines),
-        })
-    }
-
     /// How many lines there are.
     pub fn height(&self) -> u16
         ensures { result ≡ length self.now }
@@ -160,6 +144,23 @@ impl Extents {
         }
     }
 
+    /// Gives each line all of so many columns, and no other.
+    pub fn fill(&mut self, columns: u16)
+        requires lines { 0 < length self.old }
+        requires columns { 0 < columns }
+        ensures height { length self.new ≡ length self.old }
+        ensures all { (y : ℕ) → y < length self.old → columns_of self.new y ≡ Some (record { first = 0; last = columns - 1 }) }
+    {
+        self.clear();
+        let bottom = self.height() - 1;
+        self.rectangle(Rect {
+            top: 0,
+            left: 0,
+            bottom,
+            right: columns - 1,
+        });
+    }
+
     /// Takes away the columns of a line.
     pub fn clear_line(&mut self, y: u16)
         requires { y < length self.old }
@@ -180,16 +181,4 @@ impl Extents {
         }
         self.some.clear();
     }
-}
-
-/// The first lines, so many.
-fn all_lines(lines: u16) -> SmallSet
-    requires { lines ≤ LARGEST_SCREEN }
-    ensures { (y : ℕ) → contains result y ≡ nat_lt y lines }
-{
-    let mut set = SmallSet::new();
-    for y in 0..lines {
-        set.insert(y);
-    }
-    set
 }

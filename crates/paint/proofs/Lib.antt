@@ -25,6 +25,8 @@ pub mod CellRuns
 pub mod LineParts
 -- Pictures that differ in some columns only; for `changed_lines`, `paint_picture`
 pub mod Alike
+-- The columns of a line from the first in which two pictures differ to the last; for `find_differences`
+pub mod Finding
 -- The columns in which two pictures may differ are copied from one to the other; for `copy_changes`
 pub mod Copying
 -- A picture is drawn in passes, and what each may cost; for `is_drawn_in`, `paint_part`, `paint_pass` and others

@@ -1,9 +1,10 @@
 -- In which columns of each line a picture may differ from the one that was shown last.
-use Rattle.std.specs.Prelude.{◌≡◌, ℕ, ◌<◌, ◌≤◌, true, Option, List, length}
-use Rattle.cell.specs.Pictures.{HasSize, Picture}
+use Rattle.std.specs.Prelude.{◌≡◌, ℕ, ◌≤◌, ⊤, MatchOption, Option, List, length}
+use Rattle.cell.specs.Differences.{DiffersAt}
+use Rattle.cell.specs.Pictures.{HasSize, Picture, line_of}
 use Rattle.cell.specs.declared.limits.TheConstants.{LARGEST_SCREEN}
 use Rattle.world.specs.declared.settings.Columns.{Columns}
-use Rattle.extents.specs.Extents.{DifferOnly, is_among}
+use Rattle.extents.specs.Extents.{DifferOnly, columns_of}
 
 -- a picture that is shown and one that is wanted, of one size, no larger than a screen, differ at no other place
 pub record IsFrame (lines columns : ℕ) (extents : List (Option Columns)) (old new : Picture) : Type 0 where
@@ -14,7 +15,7 @@ pub record IsFrame (lines columns : ℕ) (extents : List (Option Columns)) (old 
   pub wanted : HasSize lines columns new
   pub changes : DifferOnly extents old new
 
--- every place of a screen is one of them
-pub record IsWhole (lines columns : ℕ) (changes : List (Option Columns)) : Type 0 where
-  pub height : length changes ≡ lines
-  pub all : (y x : ℕ) → y < lines → x < columns → is_among changes y x ≡ true
+-- a line's columns begin and end where two pictures differ
+pub record HaveEnds (extents : List (Option Columns)) (old new : Picture) : Type 0 where
+  pub ends : (y : ℕ) → MatchOption (columns_of extents y) ⊤ (λ columns.
+      DiffersAt (line_of old y) (line_of new y) columns.first × DiffersAt (line_of old y) (line_of new y) columns.last)

@@ -2,6 +2,7 @@
 //!
 //! - `changes`: a picture that is wanted over the one that is shown, and where they may differ
 //! - `counting`: how many bytes passes take
+//! - `differences`: the columns in which a picture differs from the one that is shown
 //! - `frame`: a frame, in one walk or in passes
 //! - `gap`: what is printed again between changed cells
 //! - `laws`: laws of agreement
@@ -18,6 +19,7 @@
 
 mod changes;
 mod counting;
+mod differences;
 mod frame;
 mod gap;
 pub mod laws;

@@ -12,6 +12,7 @@ ghost use Rattle.paint.specs.steps.Holding.{CanDraw, HoldsUpdate, last_shown};
 ghost use Rattle.paint.specs.steps.Strokes.{IsPlainAt, SameTerminals};
 
 use crate::changes::Frame;
+use crate::differences::find_differences;
 use crate::frame::draw_frame;
 use crate::page::paint_picture;
 use crate::pen::Pen;
@@ -36,8 +37,8 @@ pub struct Painter {
     picture: Grid<Shown>,
     // The line and column where the cursor was put with the picture, and none where what was shown last is unknown.
     cursor: Option<(u16, u16)>,
-    // All columns of all lines: those of a picture of which nothing is said.
-    whole: Extents,
+    // Where a picture may differ from what was shown last.
+    changes: Extents,
     pen: Pen,
     // Room for the runs of a frame.
     runs: Runs,
@@ -45,10 +46,9 @@ pub struct Painter {
 
 impl Model for Painter {
     ghost use Rattle.std.specs.Option.{option_map};
-    ghost use Rattle.std.specs.Prelude.{◌≡◌, ◌≤◌};
+    ghost use Rattle.std.specs.Prelude.{◌≡◌, ◌≤◌, length};
     ghost use Rattle.cell.specs.Pictures.{HasSize};
     ghost use Rattle.cell.specs.declared.limits.TheConstants.{LARGEST_SCREEN};
-    ghost use Rattle.paint.specs.Changes.{IsWhole};
     ghost use Rattle.paint.specs.Updates.{PainterState};
 
     ghost Value = { PainterState };
@@ -60,7 +60,7 @@ impl Model for Painter {
     } };
 
     ghost invariant = { λ p. (p.lines ≤ LARGEST_SCREEN) × (p.columns ≤ LARGEST_SCREEN) × HasSize p.lines p.columns p.picture
-        × IsWhole p.lines p.columns p.whole × (p.pen.columns ≡ p.columns) };
+        × (length p.changes ≡ p.lines) × (p.pen.columns ≡ p.columns) };
 }
 
 impl Painter {
@@ -75,7 +75,7 @@ impl Painter {
             return Err(Refusal::BadSize);
         }
         let picture = Grid::new(alloc, lines, columns)?;
-        let whole = Extents::whole(alloc, lines, columns)?;
+        let changes = Extents::none(alloc, lines)?;
         let cells = usize::from(lines) * usize::from(columns);
         let pen = Pen::new(alloc, columns, cells * BYTES_OF_CELL)?;
         let runs = Runs::new(alloc, usize::from(lines) * RUNS_OF_LINE)?;
@@ -84,7 +84,7 @@ impl Painter {
             columns,
             picture,
             cursor: None,
-            whole,
+            changes,
             pen,
             runs,
         })
@@ -112,6 +112,7 @@ impl Painter {
         let cursor = screen.wanted_cursor();
         let known = known_cursor(self.cursor, screen.clear_wanted());
         self.cursor = None;
+        self.changes.fill(self.columns);
         let sent = show(
             &mut self.pen,
             &mut self.runs,
@@ -121,7 +122,7 @@ impl Painter {
             &mut self.picture,
             picture,
             cursor,
-            &self.whole,
+            &self.changes,
         )?;
         self.picture.copy_from(picture);
         self.cursor = Some(cursor);
@@ -148,6 +149,13 @@ impl Painter {
         let cursor = screen.wanted_cursor();
         let known = self.cursor;
         self.cursor = None;
+        find_differences(
+            &mut self.changes,
+            changes,
+            self.columns,
+            &self.picture,
+            picture,
+        );
         let sent = show(
             &mut self.pen,
             &mut self.runs,
@@ -157,9 +165,9 @@ impl Painter {
             &mut self.picture,
             picture,
             cursor,
-            changes,
+            &self.changes,
         )?;
-        copy_changes(&mut self.picture, picture, self.columns, changes);
+        copy_changes(&mut self.picture, picture, self.columns, &self.changes);
         self.cursor = Some(cursor);
         Ok(sent)
     }

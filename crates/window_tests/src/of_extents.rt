@@ -78,7 +78,9 @@ fn looked_for(alloc: Global) -> Result<([u16; 3], [(usize, usize); 2]), Fail> {
 fn lines_with_columns_are_found(rt: HostRuntime) -> Result<(), Fail> {
     let found = looked_for(rt.alloc())?;
     assert_eq!(rt; found, ([1, 1, 3], [(4, 6), (0, 0)]));
-    let whole = Extents::whole(rt.alloc(), 3, 80)?;
+    let mut whole = Extents::none(rt.alloc(), 3)?;
+    whole.widen(1, 4, 90);
+    whole.fill(80);
     assert_eq!(rt; seen(&whole), ([columns(0, 79); 3], 3));
     Ok(())
 }
