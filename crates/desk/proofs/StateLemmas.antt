@@ -5,7 +5,6 @@ use Rattle.std.proofs.lemmas.List.Sums.{sum_by-le-sum_by}
 use Rattle.std.specs.List.{count_by}
 use Rattle.std.specs.Prelude.{MatchOption, Option, None, Some, ⊤}
 use Rattle.cell.specs.Pictures.{Picture}
-use Rattle.world.specs.declared.settings.Columns.{Columns}
 use Rattle.cell.specs.declared.refusal.Refusal.{Refusal}
 use Rattle.paint.specs.Updates.{PainterState, ShownPicture}
 use Rattle.world.specs.Sound.{IsSound}
@@ -95,9 +94,8 @@ Run-within calls outcomes h run = absurd run
 pub of-screen : {W : Type 0} {s t : ScreenOver W} → s ≡ t → IsScreen s.desk s.painter → HasOneSize t.desk t.painter × IsSound (world t.desk)
 of-screen is h = grind arith
 
-pub sound-taken : (t : DeskTable) (changes : List (Option Columns)) → IsSound (world t)
-    → IsSound (world (record t { virtual = record t.virtual { clear = false }; changes = changes }))
-sound-taken t changes h = grind arith
+pub sound-taken : (w : World) → IsSound w → IsSound (record w { virtual = record w.virtual { clear = false } })
+sound-taken w h = grind arith
 
 -- a call adds what it changes to the changes
 still-differ : (old new : DeskTable) (call : Call) (r : Result Reply Refusal) (shown : Picture) → Called old call r new → DifferOnly old.changes shown old.virtual.picture

@@ -3,6 +3,7 @@ use Rattle.std.proofs.Common.{rules, Ok, Err}
 use Rattle.world.specs.declared.call.Call.TheVariants.{Refresh}
 use Rattle.world.specs.declared.call.Refresh.TheVariants.{Doupdate}
 use Rattle.world.specs.declared.call.Reply.TheVariants.{Sent}
+use Rattle.compose.specs.Desks.{world}
 use Rattle.desk.specs.declared.screen.Fault.TheVariants.{Write}
 use Rattle.desk.proofs.ShowingLemmas.{call-made}
 use Rattle.desk.proofs.StateLemmas.{sound-taken}
@@ -10,7 +11,7 @@ use Rattle.desk.proofs.screen.Screen.doupdate.Goals as goal
 
 pub invariant_of-self : goal.invariant_of-self
 invariant_of-self g c = record {
-  sound = rw c.mark_taken.ensures (sound-taken c.self.inside.desk _ c.self.invariant.sound);
+  sound = rw c.mark_taken.ensures (sound-taken (world c.self.inside.desk) c.self.invariant.sound);
   size = search rules;
   changed = search rules;
 }
@@ -19,7 +20,7 @@ pub returns-in-Ok : goal.returns-in-Ok
 returns-in-Ok g c =
     rw (← c.self.view_is)
     (call-made g.W.Sink.seen g.W.Sink.name _ _ (Refresh Doupdate) (Ok (Sent c.in-Ok.sent)) c.self.invariant.size (search rules) (search rules) (search rules)
-    (rw c.mark_taken.ensures (sound-taken c.self.inside.desk _ c.self.invariant.sound)))
+    (rw c.mark_taken.ensures (sound-taken (world c.self.inside.desk) c.self.invariant.sound)))
 
 pub returns-in-Err : goal.returns-in-Err
 returns-in-Err g c =
