@@ -3,13 +3,14 @@
 ghost use Rattle.std.specs.Prelude.{◌≡◌, ◌≤◌, ◌<◌, ◌+◌, ◌∷◌, ℕ, [], length, slice_index, take, drop, position, IfSome, true, false};
 ghost use Rattle.script.specs.Characters.{is_newline};
 ghost use Rattle.script.specs.Lines.{ReadingEnds, ReadsLine, ReadsWhole, end_failed, goes_on, has_newline, line_ended, line_failed, met_end};
-ghost use Rattle.script.specs.steps.Bytes.{ReadsByte, byte_ended, byte_failed, is_byte};
+ghost use Rattle.std.specs.List.{position_or_len};
+ghost use Rattle.script.specs.steps.Bytes.{MovesBytes, ReadsByte, byte_ended, byte_failed, is_byte};
 
 use crate::limits::LONGEST_LINE;
 use arrayvec::ArrayVec;
 use std::marker::Model;
 use std::simd::prelude::*;
-use streams::Source;
+use streams::{Source, append};
 
 /// How many bytes are read at once, at most. No line among them is too long.
 const LONGEST_PIECE: usize = 512;
@@ -74,6 +75,17 @@ fn first_newline(text: &[u8]) -> Option<usize>
     match newline_of_few(&text[from..]) {
         Some(at) => Some(from + at),
         None => None,
+    }
+}
+
+/// How many bytes come before the first newline: all, where there is none.
+fn before_first_newline(text: &[u8]) -> usize
+    ensures value { result ≡ position_or_len is_newline text.now }
+    ensures within { result ≤ length text.now }
+{
+    match first_newline(text) {
+        Some(at) => at,
+        None => text.len(),
     }
 }
 
@@ -161,6 +173,17 @@ impl Bytes {
         }
     }
 
+    /// Moves the bytes before the first newline to the end of a line, as many as it has room for.
+    fn move_into(&mut self, line: &mut ArrayVec<u8, LONGEST_LINE>)
+        ensures { MovesBytes self.old self.new line.old.items line.new.items }
+    {
+        let unused = &self.piece[self.from..self.to];
+        let room = LONGEST_LINE - line.len();
+        let count = before_first_newline(unused).min(room);
+        append(line, &unused[..count]);
+        self.from += count;
+    }
+
     /// The bytes up to the next newline, in place of what was in `line`, and what follows them. Of a line that is
     /// too long it takes as many as a line may have, and one more, and answers none. Where the end is met, nothing is
     /// read after it.
@@ -174,6 +197,7 @@ impl Bytes {
     {
         line.clear();
         loop {
+            self.move_into(line);
             match self.next(source) {
                 Next::Byte(byte) => {
                     if byte == b'\n' {
