@@ -121,6 +121,7 @@ impl Bytes {
     }
 
     /// Where the first newline is.
+    #[inline(always)]
     fn first_newline(&self) -> Option<usize>
         ensures newline { result ≡ position is_newline self.now }
         ensures short { IfSome result (λ at. at < LONGEST_PIECE) }
@@ -187,6 +188,7 @@ impl Bytes {
     /// The bytes up to the next newline, in place of what was in `line`, and what follows them. Of a line that is
     /// too long it takes as many as a line may have, and one more, and answers none. Where the end is met, nothing is
     /// read after it.
+    #[inline(never)]
     fn gather_line<R: Source>(
         &mut self,
         source: &mut R,
@@ -265,6 +267,7 @@ impl Lines {
 
     /// Reads the bytes up to the next newline, and answers what follows them. Of a line that is too long it takes as
     /// many as a line may have, and one more, and answers none. Where the end is met, nothing is read after it.
+    #[inline(always)]
     pub fn next_line<R: Source>(&mut self, source: &mut R) -> Option<LineEnd>
         ensures line { ReadsLine (R.seen source.old) (R.seen source.new) self.old.unused self.new.unused self.new.line result }
         ensures ends { ReadingEnds (R.seen source.old) (R.seen source.new) self.old.unused self.new.unused

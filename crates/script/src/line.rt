@@ -152,6 +152,7 @@ fn take_all(forms: &[Form], text: Option<&[u8]>, taken: &mut Arguments) -> bool
 
 /// What a line says: the word of a call, whose arguments are put in place of what was taken before, or nothing, or its
 /// first fault.
+#[inline(always)]
 pub fn read_line(line: &[u8], taken: &mut Arguments) -> Result<Option<Word>, TextFault>
     requires { length line.now ≤ LONGEST_LINE }
     ensures { Reads result taken.new (parse_line line.now) }
