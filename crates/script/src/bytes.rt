@@ -182,7 +182,7 @@ impl Bytes {
         let room = LONGEST_LINE - line.len();
         let count = before_first_newline(unused).min(room);
         append(line, &unused[..count]);
-        self.from += count;
+        self.leave_out(count);
     }
 
     /// The bytes up to the next newline, in place of what was in `line`, and what follows them. Of a line that is

@@ -219,6 +219,7 @@ impl Word {
     }
 
     /// How the word is written.
+    #[inline(always)]
     fn name(self) -> &'static [u8]
         ensures { result.now ≡ (entry_of self).word }
     {
