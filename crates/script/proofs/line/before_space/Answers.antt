@@ -1,6 +1,6 @@
 -- A bit of the mask says of each byte whether it is a space.
-use Rattle.std.proofs.Common.{ℕ, ◌≡◌, ◌+◌, ◌<◌, sym, ◌∙◌, arith, eqb, w8}
-use Rattle.std.proofs.lemmas.Simd.{bitmask_splat, length-chunk, none_from_empty_mask, run_in_chunk_fails, run_in_chunk_le, run_in_chunk_stops}
+use Rattle.std.proofs.Common.{sym, ◌∙◌, arith, eqb, w8}
+use Rattle.std.proofs.lemmas.Simd.{bitmask_splat, length-chunk, none_from_empty_mask, run_in_chunk_fails, run_in_chunk_le}
 use Rattle.script.specs.Characters.{is_space, space}
 use Rattle.script.specs.declared.line.TheConstants.{WORD_LANES}
 use Rattle.script.proofs.LineLemmas.{from_start}
