@@ -157,9 +157,8 @@ fn take_first<'a>(form: Form, text: &'a [u8], taken: &mut Arguments) -> Option<O
     }
 }
 
-/// Takes what the arguments say, and answers whether they are as many as the forms and each has its own. It is not
-/// inlined, so that its loop has registers enough.
-#[inline(never)]
+/// Takes what the arguments say, and answers whether they are as many as the forms and each has its own.
+#[inline(always)]
 #[tactic(auto, using(crate::proofs::ArgumentLemmas::too_few, crate::proofs::ArgumentLemmas::too_many, crate::proofs::ArgumentLemmas::as_many))]
 fn take_all(forms: &[Form], text: Option<&[u8]>, taken: &mut Arguments) -> bool
     requires forms { length forms.now ≤ MOST_ARGUMENTS }
