@@ -21,6 +21,7 @@ use world::{Call, Reply};
 
 impl<W: Sink> Screen<W> {
     /// Makes a call, and answers what the log says of it.
+    #[inline(always)]
     fn answer(&mut self, call: &Call<'_>) -> Result<Result<Reply, Refusal>, WriteFault>
         ensures { CallMade W.seen W.name self.old call.now (call_end result) self.new }
     {
@@ -32,6 +33,7 @@ impl<W: Sink> Screen<W> {
     }
 
     /// Makes the call of a line and logs it.
+    #[inline(always)]
     fn run_line<L: Sink>(
         &mut self,
         number: u64,

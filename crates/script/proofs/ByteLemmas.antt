@@ -4,6 +4,8 @@ use Rattle.std.specs.Prelude.{◌↔◌, IsOk, OnOk, Result, is_err}
 use Rattle.std.proofs.lemmas.Bool.{eqb-true}
 use Rattle.std.proofs.lemmas.List.{drop-drop, drop-take, take-append-drop}
 use Rattle.std.proofs.lemmas.List.Quantifiers.{position-Some}
+use Rattle.std.proofs.lemmas.List.Sums.{fails_before_first}
+use Rattle.std.specs.List.{position_or_len}
 use Rattle.std.proofs.Common.{◌≡◌, ℕ, ◌≤◌, ◌<◌, Bool, true, false, ◌==◌, List, [], ◌∷◌, ◌++◌, length, refl, sym, ap, ◌∙◌, arith, append_assoc, append-nil, length-append}
 use Rattle.std.specs.Io.KnownBytes.{Consumes}
 use Rattle.std.proofs.KnownBytes.{Consumes-nil, Consumes-trans}
@@ -14,7 +16,7 @@ use Rattle.script.specs.declared.bytes.TheConstants.{LONGEST_PIECE}
 use Rattle.script.specs.declared.limits.TheConstants.{LONGEST_LINE}
 use Rattle.streams.specs.Sources.{SourceSeen}
 use Rattle.script.specs.Lines.{HasNoNewline, ReadingEnds, ReadsLine, ReadsWhole, work_left}
-use Rattle.script.specs.steps.Bytes.{ReadsByte}
+use Rattle.script.specs.steps.Bytes.{MovesBytes, ReadsByte}
 use Rattle.script.specs.declared.bytes.LineEnd.{LineEnd}
 use Rattle.script.specs.declared.bytes.LineEnd.TheVariants.{Newline, ScriptEnd, ReadFailed}
 use Rattle.script.specs.declared.bytes.Next.TheVariants.{Byte, End, Failed}
@@ -50,6 +52,24 @@ pub record Gathered (old new : SourceSeen) (unused left line : List ℕ) : Type 
 
 pub gathered_none : (old : SourceSeen) (unused line : List ℕ) → line ≡ [] → Gathered old old unused unused line
 gathered_none old unused line e = record { bytes = []; read = Consumes-nil old.left; all = grind (arith, append-nil); no_newline = rw e refl }
+
+-- bytes that were moved into the line
+pub gathered_moved : (old mid : SourceSeen) (unused left rest line after : List ℕ) → Gathered old mid unused left line → MovesBytes left rest line after
+    → Gathered old mid unused rest after
+gathered_moved old mid unused left rest line after g m = record {
+  bytes = g.bytes;
+  read = g.read;
+  all = grind (arith, append_assoc);
+  no_newline = grind (arith, list_any-append);
+}
+
+pub reads_moved : (old mid : SourceSeen) (unused left rest line after : List ℕ) → ReadsOn old mid unused left → MovesBytes left rest line after → ReadsOn old mid unused rest
+reads_moved old mid unused left rest line after so_far m = record {
+  ended = so_far.ended;
+  past = so_far.past;
+  failures = so_far.failures;
+  progress = grind (arith, length-append);
+}
 
 pub gathered_more : (old mid new : SourceSeen) (unused left rest line after : List ℕ) (b : ℕ) → Gathered old mid unused left line → ReadsByte mid new left rest (Byte b)
     → is_newline b ≡ false → after ≡ line ++ b ∷ [] → Gathered old new unused rest after
@@ -88,6 +108,17 @@ no_newline_before : (xs : List ℕ) (i : ℕ) → ((k : ℕ) → k < i → is_ne
 no_newline_before xs zero h = refl
 no_newline_before [] (suc i) h = refl
 no_newline_before (x ∷ xs) (suc i) h = let first = h 0 (omega arith) in rw first (no_newline_before xs i (λ k below. h (suc k) (omega arith)))
+
+-- the first bytes of a piece that come before its first newline, moved to the end of a line
+pub moves_bytes : (unused rest line after : List ℕ) (count : ℕ) → count ≤ position_or_len is_newline unused → rest ≡ drop count unused
+    → after ≡ line ++ take count unused → length after ≤ LONGEST_LINE → MovesBytes unused rest line after
+moves_bytes unused rest line after count early left is short = record {
+  moved = take count unused;
+  from = grind (arith, take-append-drop);
+  to = is;
+  no_newline = no_newline_before unused count (λ k below. fails_before_first is_newline unused k 0 (omega arith));
+  short = short;
+}
 
 -- what a call that didn't fail says
 pub ok_parts : {T E : Type 0} (r : Result T E) (P Q : Type 0) → false ≡ is_err r → OnOk r P → IsOk r ↔ Q → P × Q

@@ -11,7 +11,6 @@ use Rattle.std.proofs.lemmas.Bool.Decides.{nat_tests}
 use Rattle.std.proofs.lemmas.List.Quantifiers.{position-Some}
 use Rattle.script.proofs.LineLemmas.{rest_of}
 use Rattle.script.specs.Characters.{is_newline}
-use Rattle.script.specs.declared.bytes.TheConstants.{LANES}
 
 -- There is no newline before a place.
 pub record NoneBefore (text : List ℕ) (place : ℕ) : Type 0 where
@@ -48,6 +47,6 @@ none_after text from before e =
     (λ k after below. counted_from text from k false after (fails_before_first is_newline (drop from text) (k - from) 0 (omega (arith, length-drop from text)))))
 
 -- how many of the bytes that are looked through at once come before the lowest mark
-pub before_marked : (text : List ℕ) (from marks : ℕ) → from + LANES ≤ length text → marks ≡ mask_l (map is_newline (chunk from LANES text)) → (marks ≡ 0 → ⊥)
-    → count_trailing_zeros 64 marks ≡ prefix_len (λ b. not (is_newline b)) (chunk from LANES text)
-before_marked text from marks room same some = grind (arith, length-chunk, count_trailing_zeros, trailing_mask_l)
+pub before_marked : (is : ℕ → Bool) (text : List ℕ) (from lanes marks : ℕ) → from + lanes ≤ length text → lanes ≤ 64 → marks ≡ mask_l (map is (chunk from lanes text)) → (marks ≡ 0 → ⊥)
+    → count_trailing_zeros 64 marks ≡ prefix_len (λ b. not (is b)) (chunk from lanes text)
+before_marked is text from lanes marks room few same some = grind (arith, length-chunk, count_trailing_zeros, trailing_mask_l)

@@ -3,13 +3,14 @@
 ghost use Rattle.std.specs.Prelude.{◌≡◌, ◌≤◌, ◌<◌, ◌+◌, ◌∷◌, ℕ, [], length, slice_index, take, drop, position, IfSome, true, false};
 ghost use Rattle.script.specs.Characters.{is_newline};
 ghost use Rattle.script.specs.Lines.{ReadingEnds, ReadsLine, ReadsWhole, end_failed, goes_on, has_newline, line_ended, line_failed, met_end};
-ghost use Rattle.script.specs.steps.Bytes.{ReadsByte, byte_ended, byte_failed, is_byte};
+ghost use Rattle.std.specs.List.{position_or_len};
+ghost use Rattle.script.specs.steps.Bytes.{MovesBytes, ReadsByte, byte_ended, byte_failed, is_byte};
 
 use crate::limits::LONGEST_LINE;
 use arrayvec::ArrayVec;
 use std::marker::Model;
 use std::simd::prelude::*;
-use streams::Source;
+use streams::{Source, append};
 
 /// How many bytes are read at once, at most. No line among them is too long.
 const LONGEST_PIECE: usize = 512;
@@ -77,6 +78,17 @@ fn first_newline(text: &[u8]) -> Option<usize>
     }
 }
 
+/// How many bytes come before the first newline: all, where there is none.
+fn before_first_newline(text: &[u8]) -> usize
+    ensures value { result ≡ position_or_len is_newline text.now }
+    ensures within { result ≤ length text.now }
+{
+    match first_newline(text) {
+        Some(at) => at,
+        None => text.len(),
+    }
+}
+
 /// Bytes that were read and are not used.
 #[derive(Drop)]
 struct Bytes {
@@ -109,6 +121,7 @@ impl Bytes {
     }
 
     /// Where the first newline is.
+    #[inline(always)]
     fn first_newline(&self) -> Option<usize>
         ensures newline { result ≡ position is_newline self.now }
         ensures short { IfSome result (λ at. at < LONGEST_PIECE) }
@@ -161,9 +174,21 @@ impl Bytes {
         }
     }
 
+    /// Moves the bytes before the first newline to the end of a line, as many as it has room for.
+    fn move_into(&mut self, line: &mut ArrayVec<u8, LONGEST_LINE>)
+        ensures { MovesBytes self.old self.new line.old.items line.new.items }
+    {
+        let unused = &self.piece[self.from..self.to];
+        let room = LONGEST_LINE - line.len();
+        let count = before_first_newline(unused).min(room);
+        append(line, &unused[..count]);
+        self.leave_out(count);
+    }
+
     /// The bytes up to the next newline, in place of what was in `line`, and what follows them. Of a line that is
     /// too long it takes as many as a line may have, and one more, and answers none. Where the end is met, nothing is
     /// read after it.
+    #[inline(never)]
     fn gather_line<R: Source>(
         &mut self,
         source: &mut R,
@@ -174,6 +199,7 @@ impl Bytes {
     {
         line.clear();
         loop {
+            self.move_into(line);
             match self.next(source) {
                 Next::Byte(byte) => {
                     if byte == b'\n' {
@@ -241,6 +267,7 @@ impl Lines {
 
     /// Reads the bytes up to the next newline, and answers what follows them. Of a line that is too long it takes as
     /// many as a line may have, and one more, and answers none. Where the end is met, nothing is read after it.
+    #[inline(always)]
     pub fn next_line<R: Source>(&mut self, source: &mut R) -> Option<LineEnd>
         ensures line { ReadsLine (R.seen source.old) (R.seen source.new) self.old.unused self.new.unused self.new.line result }
         ensures ends { ReadingEnds (R.seen source.old) (R.seen source.new) self.old.unused self.new.unused

@@ -1,6 +1,6 @@
 //! What a line of a script says.
 
-ghost use Rattle.std.specs.Prelude.{◌≡◌, ◌≤◌, ◌+◌, ◌<◌, ◌∷◌, ◌≢◌, List, length, position, IfSome, Some, None, false};
+ghost use Rattle.std.specs.Prelude.{◌≡◌, ◌≤◌, ◌+◌, ◌<◌, ◌∷◌, ◌≢◌, ℕ, List, length, position, slice_index, IfSome, Some, None, false, true};
 ghost use Rattle.std.specs.List.{list_any, slice_split};
 ghost use Rattle.std.specs.Bool.{OnTrue};
 ghost use Rattle.script.specs.declared.words.Form.{Form};
@@ -17,6 +17,7 @@ use crate::limits::{LONGEST_LINE, MOST_ARGUMENTS};
 use crate::numbers::next_number;
 use crate::words::{Form, Word};
 use cell::are_printable;
+use std::simd::prelude::*;
 
 /// Whether a piece has a byte that no line may have.
 #[tactic(auto, using(crate::proofs::BadBytes::some_bad))]
@@ -43,11 +44,44 @@ fn is_text(form: Form) -> bool
     matches!(form, Form::Character | Form::Text)
 }
 
+/// How many bytes are looked through at once for the space after a word: few words are longer.
+const WORD_LANES: usize = 8;
+
+/// How many of the first bytes come before a space: all that are looked through, where none is one.
+fn before_space(text: &[u8]) -> usize
+    requires { WORD_LANES ≤ length text.now }
+    ensures within { result ≤ WORD_LANES }
+    ensures none { (k : ℕ) → k < result → is_space (slice_index text.now k) ≡ false }
+    ensures found { result < WORD_LANES → is_space (slice_index text.now result) ≡ true }
+{
+    let spaces = u8x8::from_slice(text)
+        .simd_eq(u8x8::splat(b' '))
+        .to_bitmask();
+    if spaces == 0 {
+        WORD_LANES
+    } else {
+        spaces.trailing_zeros() as usize
+    }
+}
+
+/// Where the first space is of any bytes.
+fn space_of_any(text: &[u8]) -> Option<usize>
+    ensures { result ≡ position is_space text.now }
+{
+    text.iter().position(|b| *b == b' ')
+}
+
 /// Where the first space is.
 fn first_space(text: &[u8]) -> Option<usize>
     ensures { result ≡ position is_space text.now }
 {
-    text.iter().position(|b| *b == b' ')
+    if text.len() >= WORD_LANES {
+        let before = before_space(text);
+        if before < WORD_LANES {
+            return Some(before);
+        }
+    }
+    space_of_any(text)
 }
 
 /// What is before the first space, and what is after it if there is one.
@@ -123,9 +157,8 @@ fn take_first<'a>(form: Form, text: &'a [u8], taken: &mut Arguments) -> Option<O
     }
 }
 
-/// Takes what the arguments say, and answers whether they are as many as the forms and each has its own. It is not
-/// inlined, so that its loop has registers enough.
-#[inline(never)]
+/// Takes what the arguments say, and answers whether they are as many as the forms and each has its own.
+#[inline(always)]
 #[tactic(auto, using(crate::proofs::ArgumentLemmas::too_few, crate::proofs::ArgumentLemmas::too_many, crate::proofs::ArgumentLemmas::as_many))]
 fn take_all(forms: &[Form], text: Option<&[u8]>, taken: &mut Arguments) -> bool
     requires forms { length forms.now ≤ MOST_ARGUMENTS }
@@ -152,6 +185,7 @@ fn take_all(forms: &[Form], text: Option<&[u8]>, taken: &mut Arguments) -> bool
 
 /// What a line says: the word of a call, whose arguments are put in place of what was taken before, or nothing, or its
 /// first fault.
+#[inline(always)]
 pub fn read_line(line: &[u8], taken: &mut Arguments) -> Result<Option<Word>, TextFault>
     requires { length line.now ≤ LONGEST_LINE }
     ensures { Reads result taken.new (parse_line line.now) }

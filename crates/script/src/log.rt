@@ -1,6 +1,6 @@
 //! The lines of the log.
 
-ghost use Rattle.std.specs.Prelude.{◌≡◌, ◌≤◌, ◌+◌, ◌<◌, ◌++◌, length, take, Some, is_err, is_some, IfErr, OnOk};
+ghost use Rattle.std.specs.Prelude.{◌≡◌, ◌≤◌, ◌+◌, ◌<◌, ◌++◌, length, take, Some, is_err, is_some, true, IfErr, OnOk};
 ghost use Rattle.std.specs.Option.{option_map_or};
 ghost use Rattle.std.specs.Io.KnownBytes.{Appends};
 ghost use Rattle.std.specs.Prelude.{codes, decimal, [], ◌∷◌};
@@ -112,8 +112,24 @@ pub fn last_line(fault: ScriptFault) -> LogLine
     }
 }
 
+/// The line of a call that answers something or is refused.
+#[inline(never)]
+fn answer_line(number: u64, answer: Result<Reply, Refusal>) -> LogLine
+    requires { is_some (answer_text answer) ≡ true }
+    ensures text { result.items ≡ log_line number answer }
+{
+    let mut line = beginning(number);
+    match answer {
+        Ok(reply) => append_reply(&mut line, reply),
+        Err(refusal) => append(&mut line, refusal.text().as_bytes()),
+    }
+    append(&mut line, b"\n");
+    line
+}
+
 /// Writes the line of a call that answers something or is refused, and nothing for another. An error leaves a prefix of the
 /// line, and not all. Nothing is flushed.
+#[inline(always)]
 pub fn log_answer<L: Sink>(
     log: &mut L,
     number: u64,
@@ -128,13 +144,7 @@ pub fn log_answer<L: Sink>(
     if !has_line(&answer) {
         return Ok(());
     }
-    let mut line = beginning(number);
-    match answer {
-        Ok(reply) => append_reply(&mut line, reply),
-        Err(refusal) => append(&mut line, refusal.text().as_bytes()),
-    }
-    append(&mut line, b"\n");
-    match send(log, 0, line.as_slice()) {
+    match send(log, 0, answer_line(number, answer).as_slice()) {
         Ok(_) => Ok(()),
         Err(fault) => Err(fault),
     }

@@ -79,17 +79,46 @@ fn after_digits(text: &[u8], count: usize) -> Option<Option<&[u8]>>
     }
 }
 
-/// The number before the first space of a text, and what is after the space if there is one.
-pub fn next_number(text: &[u8]) -> Option<(u16, Option<&[u8]>)>
+/// What the digit says that a text begins with, if no other follows it.
+fn single_digit(text: &[u8]) -> Option<u32>
+    ensures { IfSome result (λ value. DigitsSoFar text.now 1 value × (1 ≤ length text.now) × (1 < length text.now → is_ascii_digit (slice_index text.now 1) ≡ false)) }
+{
+    let first = *text.first()?;
+    if !first.is_ascii_digit() || (text.len() > 1 && text[1].is_ascii_digit()) {
+        return None;
+    }
+    Some(u32::from(first - b'0'))
+}
+
+/// The number of the first digits of a text, if it is one and a space or nothing follows, and what is after the space.
+#[inline(always)]
+fn number_before(text: &[u8], value: u32, count: usize) -> Option<(u16, Option<&[u8]>)>
+    requires digits { DigitsSoFar text.now count value }
+    requires within { count ≤ length text.now }
+    requires few { count ≤ MOST_DIGITS }
+    requires stops { count < length text.now → count < MOST_DIGITS → is_ascii_digit (slice_index text.now count) ≡ false }
     ensures number { NextNumber text.now result }
     ensures short { IfSome result (λ r. IfSome r.1 (λ rest. length rest.now ≤ length text.now)) }
 {
-    let (value, count) = first_digits(text);
     let Some(after) = after_digits(text, count) else {
         return None;
     };
     let number = plain_number(GREATEST_NUMBER, text, value, count)?;
     Some((number, after))
+}
+
+/// The number before the first space of a text, and what is after the space if there is one. A single digit, as most
+/// numbers are, is looked for first.
+#[inline(always)]
+pub fn next_number(text: &[u8]) -> Option<(u16, Option<&[u8]>)>
+    ensures number { NextNumber text.now result }
+    ensures short { IfSome result (λ r. IfSome r.1 (λ rest. length rest.now ≤ length text.now)) }
+{
+    if let Some(value) = single_digit(text) {
+        return number_before(text, value, 1);
+    }
+    let (value, count) = first_digits(text);
+    number_before(text, value, count)
 }
 
 /// A number, or `none` for none.

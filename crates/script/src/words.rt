@@ -181,6 +181,7 @@ fn words_like(text: &[u8]) -> &'static [Word]
 }
 
 /// Finds the first of some words that is written so.
+#[inline(always)]
 fn find_named(words: &[Word], text: &[u8]) -> Option<Word>
     ensures { result ≡ find_named words.now text.now }
 {
@@ -194,6 +195,7 @@ fn find_named(words: &[Word], text: &[u8]) -> Option<Word>
 
 impl Word {
     /// The call of a script word.
+    #[inline(always)]
     pub fn of(text: &[u8]) -> Option<Word>
         ensures { result ≡ word_of text.now }
     {
@@ -217,6 +219,7 @@ impl Word {
     }
 
     /// How the word is written.
+    #[inline(always)]
     fn name(self) -> &'static [u8]
         ensures { result.now ≡ (entry_of self).word }
     {
@@ -224,6 +227,7 @@ impl Word {
     }
 
     /// The forms of its call's arguments.
+    #[inline(always)]
     pub fn forms(self) -> &'static [Form]
         ensures forms { result.now ≡ (entry_of self).forms }
         ensures count { length result.now ≤ MOST_ARGUMENTS }
@@ -232,6 +236,7 @@ impl Word {
     }
 
     /// The call that the arguments make.
+    #[inline(always)]
     pub fn call(self, arguments: &Arguments) -> Call<'_>
         ensures { placeless result ≡ (entry_of self).call arguments.now }
     {

@@ -9,9 +9,13 @@ ghost use Rattle.slots.specs.Inks.{printed_cell};
 
 use cell::{Cell, Grid};
 
-/// Prints characters in line `y` of a grid, from column `x` on.
+/// How many characters are printed together at most.
+const LANES: usize = 32;
+
+/// Prints characters in line `y` of a grid, from column `x` on. All lines of the grid are of one width.
 pub(crate) fn print_in(grid: &mut Grid<Cell>, y: usize, x: usize, text: &[u8], pen: Cell)
     requires line { y < length grid.old }
+    requires even { HasSize (length grid.old) (length (line_of grid.old y)) grid.old }
     requires columns { x + length text.now ≤ length (line_of grid.old y) }
     requires short { x + length text.now ≤ LARGEST_PAD }
     requires printable { EachIndex text.now (λ k. is_printable (slice_index text.now k) ≡ true) }
@@ -21,9 +25,31 @@ pub(crate) fn print_in(grid: &mut Grid<Cell>, y: usize, x: usize, text: &[u8], p
     ensures size { (lines columns : ℕ) → HasSize lines columns grid.old → HasSize lines columns grid.new }
     ensures cells { EachCell IsCell grid.old → EachCell IsCell grid.new }
 {
-    for k in 0..text.len() {
-        grid.set(y, x + k, printed_cell(pen, text[k]));
+    let mut done = 0;
+    while done < text.len() {
+        let count = LANES.min(text.len() - done);
+        print_together(grid, y, x + done, &text[done..done + count], pen);
+        done += count;
     }
+}
+
+/// Prints a few characters in line `y` of a grid, from column `x` on, at once.
+fn print_together(grid: &mut Grid<Cell>, y: usize, x: usize, text: &[u8], pen: Cell)
+    requires line { y < length grid.old }
+    requires few { length text.now ≤ LANES }
+    requires columns { x + length text.now ≤ length (line_of grid.old y) }
+    requires printable { EachIndex text.now (λ k. is_printable (slice_index text.now k) ≡ true) }
+    ensures shown { (v u : ℕ) → cell_or blank grid.new (v, u) ≡ (if (v == y) &&
+        (nat_le x u && nat_lt u (x + length text.now)) then slice_index_or (map (printed_cell pen) text.now) (u - x) blank else cell_or blank grid.old (v, u)) }
+    ensures height { length grid.new ≡ length grid.old }
+    ensures size { (lines columns : ℕ) → HasSize lines columns grid.old → HasSize lines columns grid.new }
+    ensures cells { EachCell IsCell grid.old → EachCell IsCell grid.new }
+{
+    let mut held = [Cell::BLANK; LANES];
+    for k in 0..text.len() {
+        held[k] = printed_cell(pen, text[k]);
+    }
+    grid.put_cells(y, x, &held[..text.len()]);
 }
 
 /// The cell of a printed character.

@@ -1,9 +1,11 @@
--- What reading the next byte of a script ensures.
-use Rattle.std.specs.Prelude.{◌≡◌, ℕ, Bool, true, false, List, [], ◌∷◌, ◌++◌}
+-- What reading the next byte of a script ensures, and moving some bytes into a line.
+use Rattle.std.specs.Prelude.{◌≡◌, ℕ, Bool, true, false, List, [], ◌∷◌, ◌++◌, ◌≤◌, length}
 use Rattle.std.specs.Io.KnownBytes.{Consumes, IsAtEnd}
 use Rattle.streams.specs.Sources.{SourceSeen}
+use Rattle.script.specs.Lines.{HasNoNewline}
 use Rattle.script.specs.declared.bytes.Next.{Next}
 use Rattle.script.specs.declared.bytes.Next.TheVariants.{Byte, End, Failed}
+use Rattle.script.specs.declared.limits.TheConstants.{LONGEST_LINE}
 
 abbrev pub is_byte : Next → Bool
 is_byte (Byte b) = true
@@ -22,3 +24,11 @@ abbrev pub ReadsByte : SourceSeen → SourceSeen → List ℕ → List ℕ → N
 ReadsByte old new unused left (Byte b) = (bytes : List ℕ) × Consumes old.left new.left bytes × (unused ++ bytes ≡ b ∷ left)
 ReadsByte old new unused left End = (unused ≡ []) × (left ≡ []) × Consumes old.left new.left [] × IsAtEnd new.left
 ReadsByte old new unused left Failed = (unused ≡ []) × (left ≡ []) × Consumes old.left new.left []
+
+-- The first bytes, of which none is a newline, are at the end of a line in place of where they were.
+pub record MovesBytes (old new line after : List ℕ) : Type 0 where
+  pub moved : List ℕ
+  pub from : old ≡ moved ++ new
+  pub to : after ≡ line ++ moved
+  pub no_newline : HasNoNewline moved
+  pub short : length after ≤ LONGEST_LINE

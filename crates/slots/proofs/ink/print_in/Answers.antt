@@ -1,34 +1,34 @@
--- A line is written column after column, each with the cell of its character.
-use Rattle.std.proofs.Common.{◌≡◌, ℕ, ◌+◌, ◌-◌, ◌≤◌, ◌<◌, length, map, arith, ◌∙◌}
-use Rattle.std.proofs.lemmas.Grind.{common_steps}
-use Rattle.std.proofs.lemmas.List.{length-set}
+-- The characters are printed some at a time, each time after those before.
+use Rattle.std.proofs.Common.{◌≡◌, ◌+◌, ◌-◌, ◌≤◌, length, map, take, drop, arith, length-take, length-drop, ◌∙◌}
 use Rattle.std.specs.Prelude.{slice_index_or}
-use Rattle.cell.specs.Glyphs.{Glyph, IsCell, blank}
-use Rattle.cell.specs.Pictures.{line_of, with_cell}
-use Rattle.cell.proofs.PictureLemmas.{HasSize-with_cell, EachCell-with_cell}
-use Rattle.cell.proofs.Fills.{filled-more, width-with_cell}
+use Rattle.std.proofs.lemmas.Grind.{common_steps}
+use Rattle.cell.specs.Glyphs.{blank}
+use Rattle.cell.proofs.PictureLemmas.{length-line}
 use Rattle.slots.specs.Inks.{printed_cell}
+use Rattle.slots.proofs.Prints.{filled-on, printed-part}
 use Rattle.slots.proofs.ink.print_in.Goals as goal
 
-pub loop-k-preserved : goal.loop-k-preserved
-loop-k-preserved c =
+pub print_together-requires-clause-columns : goal.print_together-requires-clause-columns
+print_together-requires-clause-columns c =
+    let width = length-line c.args.y (c.loop-done.invariant.size _ _ c.requires.even) c.requires.line in
+    grind (arith, length-take, length-drop)
+
+pub loop-done-preserved : goal.loop-done-preserved
+loop-done-preserved c =
     let a = c.args in
-    let now = c.loop-k.grid in
-    let x = a.x + c.loop-k.k in
-    let old = c.loop-k.invariant in
-    let row : ℕ → Glyph = λ u. slice_index_or (map (printed_cell a.pen) a.text.now) (u - a.x) blank in
-    let below : a.y < length now = omega (arith, old.height, c.requires.line) in
-    let left : x < length (line_of now a.y) = omega (arith, old.width a.y, c.requires.columns, c.loop-k-test.true) in
-    let start : a.x ≤ x = omega arith in
-    let from : x - a.x ≡ c.loop-k.k = omega arith in
-    let cell : c.printed_cell.result ≡ row x = grind (arith, common_steps) in
-    let next = with_cell now (a.y, x) c.printed_cell.result in
-    let is : c.set.new.self ≡ next = c.set.ensures in
-    let further : a.x + (c.loop-k.k + 1) ≡ x + 1 = omega arith in
-    rw is (record {
-      shown = rw (further, cell) (filled-more blank now a.grid.now a.y a.x x row below left start old.shown);
-      size = λ lines columns size. HasSize-with_cell (a.y, x) c.printed_cell.result (old.size lines columns size);
-      cells = λ cells. EachCell-with_cell IsCell now (a.y, x) c.printed_cell.result (old.cells cells) c.printed_cell.ensures.sound;
-      height = length-set now a.y _ ∙ old.height;
-      width = λ v. width-with_cell now a.y x v c.printed_cell.result ∙ old.width v;
-    })
+    let done = c.loop-done.done in
+    let count = c.min-count.result in
+    let old = c.loop-done.invariant in
+    let now = c.print_together.ensures in
+    let within : done + count ≤ length a.text.now = grind (arith, common_steps) in
+    let long : length (take (done + count - done) (drop done a.text.now)) ≡ count = grind (arith, length-take, length-drop) in
+    let further : a.x + (done + count) ≡ a.x + done + length (take (done + count - done) (drop done a.text.now)) = omega (arith, long) in
+    record {
+      within = within;
+      shown = rw further (filled-on blank a.grid.now c.loop-done.grid c.print_together.new.grid a.y a.x (a.x + done) _
+          (λ u. slice_index_or (map (printed_cell a.pen) a.text.now) (u - a.x) blank) _ (omega arith) (omega arith) old.shown now.shown
+          (λ u after before. printed-part a.pen a.text.now a.x done count u within after (omega (arith, long))));
+      size = λ lines columns size. now.size lines columns (old.size lines columns size);
+      cells = λ cells. now.cells (old.cells cells);
+      height = now.height ∙ old.height;
+    }

@@ -1,7 +1,7 @@
 -- The bytes before the newline are the line, up to the greatest length.
 use Rattle.std.proofs.Common.{arith}
 use Rattle.std.proofs.lemmas.Bool.Decides.{nat_tests}
-use Rattle.script.proofs.ByteLemmas.{gathered_failed, gathered_last, gathered_line, gathered_more, gathered_none, gathered_too_long, more_read, none_read}
+use Rattle.script.proofs.ByteLemmas.{gathered_failed, gathered_last, gathered_line, gathered_more, gathered_moved, gathered_none, gathered_too_long, more_read, none_read, reads_moved}
 use Rattle.script.proofs.bytes.Bytes.gather_line.Goals as goal
 
 pub loop-byte-init : goal.loop-byte-init
@@ -9,21 +9,21 @@ loop-byte-init g c = grind (arith, gathered_none, none_read)
 
 pub returns-then-byte-eq10-clause-line : goal.returns-then-byte-eq10-clause-line
 returns-then-byte-eq10-clause-line g c =
-    gathered_line _ _ _ _ _ _ _ _ c.loop-byte.invariant.gathered c.in-Byte.ensures.byte c.if-byte-eq10.true c.loop-byte.invariant.short
+    gathered_line _ _ _ _ _ _ _ _ (gathered_moved _ _ _ _ _ _ _ c.loop-byte.invariant.gathered c.move_into.ensures) c.in-Byte.ensures.byte c.if-byte-eq10.true c.move_into.ensures.short
 
 pub returns-then-is_full-clause-line : goal.returns-then-is_full-clause-line
 returns-then-is_full-clause-line g c =
-    gathered_too_long _ _ _ _ _ _ _ _ c.loop-byte.invariant.gathered c.in-Byte.ensures.byte (grind (arith, nat_tests)) (grind (arith, nat_tests))
+    gathered_too_long _ _ _ _ _ _ _ _ (gathered_moved _ _ _ _ _ _ _ c.loop-byte.invariant.gathered c.move_into.ensures) c.in-Byte.ensures.byte (grind (arith, nat_tests)) (grind (arith, nat_tests))
 
 pub loop-byte-preserved : goal.loop-byte-preserved
 loop-byte-preserved g c = record {
-  gathered = gathered_more _ _ _ _ _ _ _ _ _ c.loop-byte.invariant.gathered c.in-Byte.ensures.byte (grind (arith, nat_tests)) c.push.ensures.items;
+  gathered = gathered_more _ _ _ _ _ _ _ _ _ (gathered_moved _ _ _ _ _ _ _ c.loop-byte.invariant.gathered c.move_into.ensures) c.in-Byte.ensures.byte (grind (arith, nat_tests)) c.push.ensures.items;
   short = grind (arith, nat_tests);
-  reads_on = grind (arith, more_read);
+  reads_on = more_read _ _ _ _ _ _ (reads_moved _ _ _ _ _ _ _ c.loop-byte.invariant.reads_on c.move_into.ensures) (grind arith);
 }
 
 pub returns-in-End-clause-line : goal.returns-in-End-clause-line
-returns-in-End-clause-line g c = gathered_last _ _ _ _ _ _ _ c.loop-byte.invariant.gathered c.in-End.ensures.byte c.loop-byte.invariant.short
+returns-in-End-clause-line g c = gathered_last _ _ _ _ _ _ _ (gathered_moved _ _ _ _ _ _ _ c.loop-byte.invariant.gathered c.move_into.ensures) c.in-End.ensures.byte c.move_into.ensures.short
 
 pub returns-in-Failed-clause-line : goal.returns-in-Failed-clause-line
-returns-in-Failed-clause-line g c = gathered_failed _ _ _ _ _ _ _ c.loop-byte.invariant.gathered c.in-Failed.ensures.byte c.loop-byte.invariant.short
+returns-in-Failed-clause-line g c = gathered_failed _ _ _ _ _ _ _ (gathered_moved _ _ _ _ _ _ _ c.loop-byte.invariant.gathered c.move_into.ensures) c.in-Failed.ensures.byte c.move_into.ensures.short
