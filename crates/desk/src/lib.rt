@@ -1,5 +1,5 @@
-//! The `Screen`: a desk, for which the crate is named, with a painter over a writer; and runs of calls and of script lines, with what they
-//! send and log.
+//! The `Screen`: a desk, for which the crate is named, with a painter over a writer; and runs of calls and of script
+//! lines, with what they send and log.
 //!
 //! - `changing`: in which columns a call may change the virtual screen
 //! - `history`: a list of calls that are all made, whatever becomes of the writes
