@@ -3,7 +3,7 @@
 ghost use Rattle.std.specs.Prelude.{◌≡◌, IsSomeAnd};
 ghost use Rattle.world.specs.Replies.{its_panel, no_answer, two_numbers};
 ghost use Rattle.world.specs.declared.call.Reply.{Reply};
-ghost use Rattle.calls.specs.Kinds.{IsOfKind, Kind, cell, composed, flag, neighbour, new_panel, nothing, number, pair};
+ghost use Rattle.calls.specs.Kinds.{IsOfKind, Kind, cell, composed, flag, neighbour, new_panel, nothing, number, numbers};
 
 use cell::{Cell, WinId};
 use world::{Composed, PanelId, Reply};
@@ -48,13 +48,13 @@ impl Answer for WinId {
 }
 
 impl Answer for (u16, u16) {
-    ghost kind = { pair };
+    ghost kind = { numbers };
 
     ghost reply_of = { two_numbers };
 
     fn of(reply: Reply) -> Option<(u16, u16)> {
         match reply {
-            Reply::Pair(first, second) => Some((first, second)),
+            Reply::TwoNumbers(first, second) => Some((first, second)),
             _ => None,
         }
     }

@@ -1,5 +1,5 @@
-//! The trait `Calls`: a method for each call that sends nothing, and the types of their answers. It is a library of its own, since it needs no
-//! windows: it is proved beside them.
+//! The trait `Calls`: a method for each call that sends nothing, and the types of their answers. It is a library of its
+//! own, since it needs no windows: it is proved beside them.
 //!
 //! - `answer`: what a call answers, as a type
 //! - `laws`: what holds of the definitions alone

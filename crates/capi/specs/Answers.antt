@@ -1,5 +1,5 @@
 -- What C gets for an answer to a call.
-use Rattle.std.specs.Prelude.{if◌then◌else◌, ◌==◌, ◌+◌, ◌*◌, ℕ, ℤ, pos, negsuc, true, false, Option, Some, None, Result, Ok, Err}
+use Rattle.std.specs.Prelude.{if◌then◌else◌, ◌==◌, ◌+◌, ◌*◌, ℕ, ℤ, pos, negsuc, true, false, Some, None, Result, Ok, Err}
 use Rattle.cell.specs.declared.refusal.Refusal.{Refusal}
 use Rattle.cell.specs.declared.refusal.Refusal.TheVariants as refusals
 use Rattle.cell.specs.declared.attr.Attr.{Attr}
@@ -44,7 +44,7 @@ ok first second = record { status = 0; first = first; second = second }
 abbrev pub of_reply : Reply → Answer
 of_reply replies.Nothing = ok 0 0
 of_reply (replies.Number win) = ok win.0 0
-of_reply (replies.Pair y x) = ok y x
+of_reply (replies.TwoNumbers y x) = ok y x
 of_reply (replies.Cell cell) = ok (65536 * cell.pair + 256 * cell.attributes + cell.character) 0
 of_reply (replies.Flag true) = ok 1 0
 of_reply (replies.Flag false) = ok 0 0

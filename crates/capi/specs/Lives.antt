@@ -27,8 +27,8 @@ pub record NotOpened (lines columns : ℕ) (old : Option Surface) (answer : Answ
 abbrev pub Opened : ℕ → ℕ → Option Surface → Answer → Option Surface → Type 0
 Opened lines columns old answer new = OpenedBlank lines columns answer new ⊎ NotOpened lines columns old answer new
 
--- Where there is room the bytes go out, and the rest of the buffer stays; and else they stay pending. The windows and what is known of the
--- terminal stay.
+-- Where there is room the bytes go out, and the rest of the buffer stays; and else they stay pending. The windows and
+-- what is known of the terminal stay.
 pub record TakenFrom (old : Surface) (out : List ℕ) (count : ℕ) (out' : List ℕ) (new : Surface) : Type 0 where
   pub desk : new.screen.desk ≡ old.screen.desk
   pub painter : new.screen.painter ≡ old.screen.painter

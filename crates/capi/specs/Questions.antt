@@ -14,7 +14,7 @@ use Rattle.world.specs.Windows.{WindowMap}
 use Rattle.world.specs.World.{World}
 use Rattle.world.specs.calls.Rule.{missing_window}
 use Rattle.world.specs.declared.call.Reply.{Reply}
-use Rattle.world.specs.declared.call.Reply.TheVariants.{Number, Pair, Cell, Flag, Panel}
+use Rattle.world.specs.declared.call.Reply.TheVariants.{Number, TwoNumbers, Cell, Flag, Panel}
 use Rattle.world.specs.declared.panel.PanelId.{PanelId}
 use Rattle.world.specs.declared.settings.Settings.{Settings}
 use Rattle.calls.specs.Methods.{as_reply}
@@ -35,9 +35,9 @@ abbrev pub settings_of : WindowMap → ℕ → Result Settings Refusal
 settings_of window w = ok_or (option_map (λ a. a.settings) (window w)) NoSuchWindow
 
 abbrev pub setting_reply : Setting → Settings → Reply
-setting_reply Attributes settings = Pair (bits_of settings.attrs) settings.pair
+setting_reply Attributes settings = TwoNumbers (bits_of settings.attrs) settings.pair
 setting_reply Background settings = Cell settings.background
-setting_reply Region settings = Pair settings.region.0 settings.region.1
+setting_reply Region settings = TwoNumbers settings.region.0 settings.region.1
 setting_reply Scrolls settings = Flag settings.scrolling
 setting_reply Clears settings = Flag settings.clear
 
@@ -61,7 +61,7 @@ is_panel world p = is_some (world.panels.window p)
 
 -- ---- how it is answered
 
--- A question was refused, or answered so. The standard screen, whose number is 0, comes after no window: as an answer it is none.
+-- A question was refused, or answered so. The standard screen, number 0, comes after no window: as answer it is none.
 abbrev pub IsAnswered : World → Question → Result Reply Refusal → Type 0
 IsAnswered world (questions.Setting setting win) end = end ≡ as_reply (setting_reply setting) (settings_of world.windows.window win.0)
 IsAnswered world (questions.IsPad win) end = end ≡ as_reply Flag (pad_answer world.windows.window win.0)

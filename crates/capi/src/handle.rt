@@ -179,7 +179,7 @@ impl Handle {
         }
     }
 
-    /// Puts the cells of a line of a window into a buffer, as many as it has room for, and answers how many the line has.
+    /// Puts the cells of a line of a window into a buffer, as many as fit, and answers how many the line has.
     pub fn tell_row(&mut self, alloc: Global, win: WinId, y: u16, cells: &mut [u32]) -> Answer
         ensures told { LineTold self.old.value (window_line win.0 y) cells.old result cells.new }
         ensures same { self.new.value ≡ self.old.value }
@@ -194,7 +194,7 @@ impl Handle {
         }
     }
 
-    /// Puts the cells of a line of the virtual screen into a buffer, as many as it has room for, and answers how many the line has.
+    /// Puts the cells of a line of the virtual screen into a buffer, as many as fit, and answers how many the line has.
     pub fn tell_shown_row(&mut self, alloc: Global, y: u16, cells: &mut [u32]) -> Answer
         ensures told { LineTold self.old.value (screen_line y) cells.old result cells.new }
         ensures same { self.new.value ≡ self.old.value }
@@ -217,7 +217,7 @@ impl Handle {
         self.call(alloc, call).end()
     }
 
-    /// Moves the bytes that were sent into a buffer, and says how many they are. Where the buffer is too short, they stay.
+    /// Moves the bytes that were sent into a buffer, and says how many they are. If it is too short, they stay.
     pub fn take(&mut self, alloc: Global, out: &mut [u8]) -> usize
         ensures { Taken self.old.value out.old result out.new self.new.value }
     {

@@ -29,7 +29,7 @@ impl Numbered for Cell {
     }
 }
 
-/// A shown cell: the background in the highest eight bits, and below it the foreground, the attributes and the character.
+/// A shown cell: background, foreground, attributes and character, eight bits each, the background in the highest.
 impl Numbered for Shown {
     ghost number_of = { shown_number };
 

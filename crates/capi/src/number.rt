@@ -1,5 +1,5 @@
-//! Numbers of 32 bits, as C passes them, for calls that take fewer bits: what is greater than any of these becomes the greatest, which each
-//! call refuses.
+//! Numbers of 32 bits, as C passes them, for calls that take fewer bits: what is greater than any of these becomes the
+//! greatest, which each call refuses.
 
 ghost use Rattle.std.specs.Prelude.{◌≡◌};
 ghost use Rattle.capi.specs.Numbers.{panel_of, panel_or_none_of, saturated, saturated_character, saturated_signed, window_of};

@@ -61,12 +61,12 @@ impl Setting {
     {
         let settings = settings?;
         Ok(match self {
-            Setting::Attributes => Reply::Pair(
+            Setting::Attributes => Reply::TwoNumbers(
                 u16::from(settings.attrs.bits()),
                 u16::from(settings.pair.number()),
             ),
             Setting::Background => Reply::Cell(settings.background),
-            Setting::Region => Reply::Pair(settings.region.0, settings.region.1),
+            Setting::Region => Reply::TwoNumbers(settings.region.0, settings.region.1),
             Setting::Scrolls => Reply::Flag(settings.scrolling),
             Setting::Clears => Reply::Flag(settings.clear),
         })

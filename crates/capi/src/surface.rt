@@ -80,7 +80,7 @@ impl Surface {
         }
     }
 
-    /// Puts the cells of a line of a window into a buffer, as many as it has room for, and answers how many the line has.
+    /// Puts the cells of a line of a window into a buffer, as many as fit, and answers how many the line has.
     pub fn tell_row(&self, win: WinId, y: u16, cells: &mut [u32]) -> Answer
         ensures { LineTold (Some self.now) (window_line win.0 y) cells.old result cells.new }
     {
@@ -90,7 +90,7 @@ impl Surface {
         }
     }
 
-    /// Puts the cells of a line of the virtual screen into a buffer, as many as it has room for, and answers how many the line has.
+    /// Puts the cells of a line of the virtual screen into a buffer, as many as fit, and answers how many the line has.
     pub fn tell_shown_row(&self, y: u16, cells: &mut [u32]) -> Answer
         ensures { LineTold (Some self.now) (screen_line y) cells.old result cells.new }
     {
@@ -100,7 +100,7 @@ impl Surface {
         }
     }
 
-    /// Moves the bytes that were sent into a buffer, and says how many they are. Where the buffer is too short, they stay.
+    /// Moves the bytes that were sent into a buffer, and says how many they are. If it is too short, they stay.
     pub fn take(&mut self, alloc: Global, out: &mut [u8]) -> usize
         ensures desk { self.new.screen.desk ≡ self.old.screen.desk }
         ensures painter { self.new.screen.painter ≡ self.old.screen.painter }

@@ -1,5 +1,6 @@
 -- Cells as numbers, one in each lane, and a mask of the lanes in which two differ.
-use Rattle.std.proofs.Common.{◌≡◌, ℕ, ◌+◌, ◌-◌, ◌*◌, ◌^◌, ◌/◌, ◌%◌, ◌<◌, true, false, List, [], ◌∷◌, length, get_or, set, take, drop, map, refl, sym, ap, subst, ◌∙◌, arith, eq-eqb, ne_eqb, eqb, cond, inl, inr, w32}
+use Rattle.std.proofs.Common.{◌≡◌, ℕ, ◌+◌, ◌-◌, ◌*◌, ◌^◌, ◌/◌, ◌%◌, ◌<◌, true, false, List, [], ◌∷◌, length, get_or, set}
+use Rattle.std.proofs.Common.{take, drop, map, refl, sym, ap, subst, ◌∙◌, arith, eq-eqb, ne_eqb, eqb, cond, inl, inr, w32}
 use Rattle.std.specs.Prelude.{not, replicate, ◌==◌, ◌&&◌, ◌≤◌, Bool, slice_index_or, nat_lt}
 use Rattle.std.specs.List.{common_prefix_len, list_all, prefix_len}
 use lib.Count.{count_trailing_zeros}

@@ -1,5 +1,5 @@
--- Where two lines of shown cells differ, by comparing them column by column, and in how many places two pictures of one size do; measures
--- of our own.
+-- Where two lines of shown cells differ, by comparing them column by column, and in how many places two pictures of one
+-- size do; measures of our own.
 use Rattle.std.specs.Prelude.{◌≡◌, ℕ, ◌+◌, ◌<◌, ◌==◌, ◌&&◌, if◌then◌else◌, Bool, List, [], ◌∷◌, length, take, drop, Option, Some, None, slice_index_or}
 use Rattle.std.specs.Option.{option_eq}
 use Rattle.cell.specs.Pictures.{Picture}

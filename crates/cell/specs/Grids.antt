@@ -1,4 +1,4 @@
--- The lines of a grid whose cells are one after another. How it keeps them is its own choice; what it shows are lines of cells.
+-- The lines of a grid whose cells are one after another. How it keeps them is its own choice; it shows lines of cells.
 use Rattle.std.specs.Prelude.{◌≡◌, ℕ, ◌*◌, ◌≤◌, List, length, map, take, drop}
 use Rattle.std.specs.List.{AllByRecursion, range_with_len}
 use Rattle.cell.specs.declared.limits.TheConstants.{LARGEST_PAD}

@@ -1,4 +1,4 @@
--- Why a call is refused, as the log names it. X/Open Curses Issue 7 answers ERR alone; numbers and names are Curspan's own.
+-- Why a call is refused, as the log names it. X/Open Curses answers ERR alone; numbers and names are Curspan's own.
 use Rattle.std.specs.Prelude.{◌≡◌, ℕ, List, [], ◌∷◌, Bool, codes, Option, Some, None, if◌then◌else◌, Result, MatchResult, ◌⊎◌}
 use Rattle.cell.specs.declared.refusal.Refusal.{Refusal}
 use Rattle.cell.specs.declared.refusal.Refusal.TheVariants.{NoSuchWindow, NoSuchPanel, OffScreen, OutsideParent, OutsideWindow, HasDerived, InPanel, IsPad, NotPad, NotDerived, BadSize, BadRegion}

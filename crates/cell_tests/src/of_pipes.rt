@@ -76,7 +76,7 @@ fn interrupted_writes_are_made_again(rt: HostRuntime) {
     );
 }
 
-/// Logs a line, writes an answer to an output and flushes it, and logs another line. Gives the log, and what the second line is answered.
+/// Logs a line, writes an answer and flushes it, and logs another line. Gives the log, and the second line's answer.
 fn answer_and_log<W: Write>(alloc: Global, writer: W) -> (Vec<u8>, Result<usize, ErrorKind>)
 where
     W: Drop,

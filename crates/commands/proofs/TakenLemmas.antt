@@ -21,7 +21,8 @@ use Rattle.clap.specs.declared.error.Error.{Error}
 use Rattle.clap.specs.declared.error.kind.ErrorKind.{ErrorKind}
 use Rattle.clap.specs.declared.error.kind.ErrorKind.TheVariants.{OutOfMemory}
 use Rattle.clap.proofs.ValueTestLemmas.{accepts-Accepts}
-use Rattle.commands.specs.CommandLine.{Asks, AsksFor, AsksJob, GivesSize, HasNoScreen, IsNumber, IsRefused, IsSize, IsTaken, ReadsNumber, Sizes, SizesOf, check_mode, check_text, curspan, kind_text, mode}
+use Rattle.commands.specs.CommandLine.{Asks, AsksFor, AsksJob, GivesSize, HasNoScreen, IsNumber, IsRefused, IsSize}
+use Rattle.commands.specs.CommandLine.{IsTaken, ReadsNumber, Sizes, SizesOf, check_mode, check_text, curspan, kind_text, mode}
 use Rattle.commands.specs.declared.requests.Invocation.{Invocation}
 use Rattle.commands.specs.declared.requests.Job.{Job}
 use Rattle.commands.specs.declared.requests.Kind.{Kind}

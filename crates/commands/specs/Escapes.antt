@@ -1,5 +1,5 @@
--- A text that may hold any byte, with the bytes escaped that a terminal might obey. The form is Curspan's own, and that of a script's
--- escapes.
+-- A text that may hold any byte, with the bytes escaped that a terminal might obey. The form is Curspan's own, and that
+-- of a script's escapes.
 use Rattle.std.specs.Prelude.{◌||◌, ℕ, List, [], ◌∷◌, if◌then◌else◌}
 use Rattle.std.specs.List.{flat_map}
 use Rattle.cell.specs.Attributes.{hex_digits}

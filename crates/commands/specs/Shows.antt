@@ -20,7 +20,7 @@ abbrev pub IsWholeAt : Bool → SourceSeen → Type 0
 IsWholeAt true seen = (seen.met_end ≡ true) × IsAtEnd seen.left
 IsWholeAt false seen = ⊤
 
--- The source gave this stream, up to its end, after which nothing was read; or it isn't whole, since a read failed after it.
+-- The source gave this stream up to its end, after which nothing was read; or it isn't whole, since a read failed.
 pub record ReadsStream (old new : SourceSeen) (is_whole : Bool) (stream : List ℕ) : Type 0 where
   pub read : Consumes old.left new.left stream
   pub whole : IsWholeAt is_whole new
@@ -36,16 +36,16 @@ terminal_text t = printed_picture t.picture t.cursor t.rendition
 abbrev pub offset_line : ℕ → List ℕ
 offset_line at = codes "offset " ++ decimal at ++ codes ": not in the profile" ++ newline ∷ []
 
--- The stream is in the profile, from the first terminal to the last. Or it fails, and the log says at which offset; where that can't be
--- written, the status says so.
+-- The stream is in the profile, from the first terminal to the last. Or it fails, and the log says at which offset;
+-- where that can't be written, the status says so.
 abbrev pub Judges : List ℕ → Terminal → Terminal → Seen → Seen → ℕ → Type 0
 Judges stream first last log log_after status =
     (IsInProfile stream first last × (status ≡ 0) × (log_after ≡ log))
     ⊎ ((at : ℕ) × HasFailed stream first last at
     × (((status ≡ 1) × IsWritten log log_after (offset_line at)) ⊎ ((status ≡ 3) × IsNotWritten log log_after (offset_line at))))
 
--- Of a stream that isn't whole nothing is printed, and the log gets a line. Else the picture of the last terminal is printed; or writing it
--- failed, and the log gets a line.
+-- Of a stream that isn't whole nothing is printed, and the log gets a line. Else the picture of the last terminal is
+-- printed; or writing it failed, and the log gets a line.
 abbrev pub ShowsStream : Bool → List ℕ → Terminal → Terminal → Outputs → Outputs → ℕ → Type 0
 ShowsStream false stream first last old new status = (status ≡ 3) × (new.output ≡ old.output) × TriesToLog old.log new.log (last_line Reading)
 ShowsStream true stream first last old new status =

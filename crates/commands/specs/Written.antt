@@ -18,7 +18,7 @@ pub record IsWritten (old new : Seen) (text : List ℕ) : Type 0 where
   pub flushes : new.flushes ≡ next_count old.flushes
   pub flushed : new.flushed ≡ true
 
--- The sink took a prefix of the text, and a write failed; or all of it, and the one flush after it failed. One failure was counted.
+-- The sink took a prefix of the text, and a write failed; or all, and the one flush failed. One failure was counted.
 pub record IsNotWritten (old new : Seen) (text : List ℕ) : Type 0 where
   pub sent : ℕ
   pub within : sent ≤ length text

@@ -168,7 +168,7 @@ fn invocation<'a>(
     })
 }
 
-/// What the words ask for, where the variables give the sizes that no option does. The first word is the program's name.
+/// What the words ask for; variables give the sizes that no option does. The first word is the program's name.
 /// An error is lack of memory, or has one of the kinds that clap's definition gives for the words, a usage fault or a
 /// request for help; where it gives none, it is lack of memory, or says that a size is given neither by an option nor
 /// by its variable (`MissingRequiredArgument`), or by a variable that is no such number (`ValueValidation`).

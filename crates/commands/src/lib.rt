@@ -1,4 +1,5 @@
-//! What the commands of `curspan` do without a screen of windows: they read the command line, show a stream, check a script and print a picture.
+//! What the commands of `curspan` do without a screen of windows: they read the command line, show a stream, check a
+//! script and print a picture.
 //! This is a library of its own, so that it is proved beside those that a screen wants.
 //!
 //! - `check`: `check`

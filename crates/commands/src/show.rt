@@ -82,7 +82,7 @@ fn judge<L: Sink>(log: &mut L, fault: Option<NotInProfile>) -> u8
     }
 }
 
-/// Reads a stream to its end, prints the picture that it leaves on a terminal of the job's size, and answers the status.
+/// Reads a stream to its end, prints the picture that it leaves on a terminal of the job's size, and gives the status.
 pub fn show_stream<R: Source, O: Sink, L: Sink>(
     alloc: Global,
     job: Job,

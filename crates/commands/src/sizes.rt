@@ -1,7 +1,7 @@
 //! The size of a screen: by an option, or else by a variable of the environment.
 
 ghost use Rattle.std.specs.Prelude.{ℕ, MatchOption, MatchResult};
-ghost use Rattle.clap.specs.Words.{found_of, kind_of, rows_of};
+ghost use Rattle.clap.specs.Words.{found_of, rows_of};
 ghost use Rattle.commands.specs.CommandLine.{GivesSize, ReadsNone, ReadsNumber, SaysSize, text_of};
 ghost use Rattle.commands.specs.steps.Sizing.{HasNoSize};
 

@@ -11,7 +11,7 @@ use cell::LARGEST_SCREEN;
 use clap::{Arg, ArgAction, Command};
 use std::alloc::{AllocError, Global};
 
-/// The version of the program. What follows `commit` is as long as the name of a commit, and `./install` writes that over it.
+/// The version of the program. What follows `commit` is as long as a commit's name, which `./install` writes over it.
 const VERSION: &str = "0.1.0, commit not written in by ./install or ./package";
 
 /// What follows the help of the program.

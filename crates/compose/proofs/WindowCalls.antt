@@ -64,5 +64,13 @@ query-counts old query reply asks = refl
 -- it leaves the desk as it was
 pub query-made : (old : DeskTable) (query : Call) (r : Result Reply Refusal) → is_query query ≡ true → IsSound (world old) → Answered (refusal (world old) query) (reply_of (world old) query) r
     → Called old query r old
-query-made old query (Ok reply) asks sound h = (sym h.refused, query-tells (world old) (is_damaged_line old) query reply asks h.reply, query-leaves old query asks, query-damages old query asks, sound, query-counts old query reply asks, changes-none old.changes old.virtual.picture)
+query-made old query (Ok reply) asks sound h = (
+  sym h.refused,
+  query-tells (world old) (is_damaged_line old) query reply asks h.reply,
+  query-leaves old query asks,
+  query-damages old query asks,
+  sound,
+  query-counts old query reply asks,
+  changes-none old.changes old.virtual.picture,
+)
 query-made old query (Err e) asks sound h = (inl (sym h.refused), refl)

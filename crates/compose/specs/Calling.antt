@@ -15,13 +15,13 @@ use Rattle.world.specs.declared.call.Refresh.TheVariants.{UpdatePanels}
 use Rattle.world.specs.declared.call.Reply.{Reply}
 use Rattle.world.specs.declared.call.Reply.TheVariants.{Composed}
 
--- An update_panels may read so many cells, where these lines are damaged: at least as many as there are places of the virtual screen that
--- it changes, and at most all of these lines.
+-- An update_panels may read so many cells, where these lines are damaged: at least as many as there are places of the
+-- virtual screen that it changes, and at most all of these lines.
 pub record MayRead (world : World) (damaged : ℕ → Bool) (cells : ℕ) : Type 0 where
   pub at_least : difference world.virtual.picture (world_after world (calls.Refresh UpdatePanels)).virtual.picture ≤ cells
   pub at_most : cells ≤ most_cells world damaged (calls.Refresh UpdatePanels)
 
--- What an accepted call may answer that sends nothing: update_panels how many cells it read, another what the tables say.
+-- What an accepted call may answer that sends nothing: update_panels how many cells it read, others what tables say.
 abbrev pub MayTell : World → (ℕ → Bool) → Call → Reply → Type 0
 MayTell world damaged (calls.Refresh UpdatePanels) reply = (cells : ℕ) × MayRead world damaged cells × (reply ≡ Composed (record { cells = cells }))
 MayTell world damaged call reply = reply ≡ reply_of world call
@@ -44,7 +44,8 @@ abbrev pub cells_of_reply : Reply → ℕ
 cells_of_reply (Composed composed) = composed.cells
 cells_of_reply _ = 0
 
--- An update_panels answers what the count of the cells of windows that it reads grew by, modulo 2^64. No other call changes the count.
+-- An update_panels answers what the count of the cells of windows that it reads grew by, modulo 2^64. No other call
+-- changes the count.
 abbrev pub CountsReads : DeskTable → Call → Reply → DeskTable → Type 0
 CountsReads old (calls.Refresh UpdatePanels) reply new = new.cells_read ≡ (old.cells_read + cells_of_reply reply) % 2 ^ 64
 CountsReads old call reply new = new.cells_read ≡ old.cells_read

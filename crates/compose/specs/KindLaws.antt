@@ -20,10 +20,10 @@ use Rattle.world.specs.declared.call.Query.{Query}
 use Rattle.world.specs.declared.call.Query.TheVariants.{Getbegyx, Getparyx, Inch}
 use Rattle.world.specs.declared.call.Refresh.TheVariants.{UpdatePanels, Doupdate}
 use Rattle.world.specs.declared.call.Reply.{Reply}
-use Rattle.world.specs.declared.call.Reply.TheVariants.{Nothing, Number, Pair, Cell, Flag, Panel, Composed, Sent}
+use Rattle.world.specs.declared.call.Reply.TheVariants.{Nothing, Number, TwoNumbers, Cell, Flag, Panel, Composed, Sent}
 use Rattle.compose.specs.Calling.{Called, MayRefuse, MayTell}
 use Rattle.compose.specs.Desks.{DeskTable, is_damaged_line, world}
-use Rattle.calls.specs.Kinds.{IsAnswerTo, IsOfKind, kind_of, kind_of_change, kind_of_effect, kind_of_order, kind_of_query, kind_of_reply, pair, cell}
+use Rattle.calls.specs.Kinds.{IsAnswerTo, IsOfKind, kind_of, kind_of_change, kind_of_effect, kind_of_order, kind_of_query, kind_of_reply, numbers, cell}
 
 -- ---- what a call asks for is there where it isn't refused
 
@@ -55,7 +55,7 @@ derived (Some a) h = has_offset a.backing h
 
 -- ---- the kinds of answers
 
-two_numbers : (o : Option Place) → is_none o ≡ false → IsOfKind pair (option_map_or (λ p. Pair p.0 p.1) o Nothing)
+two_numbers : (o : Option Place) → is_none o ≡ false → IsOfKind numbers (option_map_or (λ p. TwoNumbers p.0 p.1) o Nothing)
 two_numbers None some = cc
 two_numbers (Some p) some = (p.0, p.1, refl)
 
@@ -74,7 +74,7 @@ of_query ws q h = two_numbers _ (mapped _ _ (there _ h))
 of_reply : (reply : Reply) → IsOfKind (kind_of_reply reply) reply
 of_reply Nothing = refl
 of_reply (Number win) = (win, refl)
-of_reply (Pair first second) = (first, second, refl)
+of_reply (TwoNumbers first second) = (first, second, refl)
 of_reply (Cell glyph) = (glyph, refl)
 of_reply (Flag is) = (is, refl)
 of_reply (Panel panel) = (panel, refl)

@@ -20,8 +20,8 @@ use grids::Grids;
 use picture::{Owners, TableRows, show_damaged, wanted_cursor};
 use stack::Stack;
 
-/// A table of windows, and how many of their cells were read, modulo 2^64. Only what is here has the table: all else reads cells by
-/// `show_damaged`, which counts them.
+/// A table of windows, and how many of their cells were read, modulo 2^64. Only what is here has the table: all else
+/// reads cells by `show_damaged`, which counts them.
 #[derive(Drop)]
 pub(crate) struct CountedWindows<'a> {
     table: &'a mut Grids,
@@ -45,8 +45,8 @@ impl<'a> CountedWindows<'a> {
         self.cells
     }
 
-    /// Puts what a search from the top finds at each damaged place into a virtual picture, and clears the damage. It answers how many
-    /// cells it read, and counts them.
+    /// Puts what a search from the top finds at each damaged place into a virtual picture, and clears the damage. It
+    /// answers how many cells it read, and counts them.
     pub(crate) fn show_damaged(
         &mut self,
         stack: &Stack,
@@ -83,7 +83,7 @@ impl<'a> CountedWindows<'a> {
         cells
     }
 
-    /// Where the cursor of the top visible panel's window is on the screen, or the standard screen's if no panel is visible.
+    /// Where the cursor of the top visible panel's window is on the screen, or of the standard screen if there is none.
     pub(crate) fn wanted_cursor(&self, stack: &Stack) -> (u16, u16)
         ensures { result ≡ cursor_of_topmost (windows_of self.now.table.now).window (panels stack.now) }
     {

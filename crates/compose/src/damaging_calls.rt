@@ -98,10 +98,10 @@ pub(crate) fn arrange_damaging(
 {
     prove!(table.has_window(WinId::STANDARD));
     let ordered = ordered_panel(stacking);
-    let top = window_on_top(stack, ordered);
+    let top = top_window(stack, ordered);
     let before = part_of(table, stack, named_panel(stacking));
     let reply = arrange(table, stack, stacking)?;
-    if is_same_window(top, window_on_top(stack, ordered)) {
+    if is_same_window(top, top_window(stack, ordered)) {
         return Ok(reply);
     }
     let after = part_of(table, stack, changed_panel(stacking, &reply));
@@ -111,7 +111,7 @@ pub(crate) fn arrange_damaging(
 }
 
 /// The window of a panel, if that is the topmost.
-fn window_on_top(stack: &Stack, panel: Option<PanelId>) -> Option<WinId>
+fn top_window(stack: &Stack, panel: Option<PanelId>) -> Option<WinId>
     ensures { option_map (λ w. w.0) result ≡ top_window (panels stack.now) (panel_number panel) }
 {
     let panel = panel?;

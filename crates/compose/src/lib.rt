@@ -1,5 +1,5 @@
-//! The `Desk`: windows, panels, colour pairs and the virtual screen together, with each call and what it damages of the screen. The crate is
-//! named for its chief work, which is to compose the picture.
+//! The `Desk`: windows, panels, colour pairs and the virtual screen together, with each call and what it damages of the
+//! screen. The crate is named for its chief work, which is to compose the picture.
 //!
 //! - `counted`: the windows as what composes has them, which counts the cells that are read
 //! - `damaging_calls`: a call with what it damages

@@ -40,10 +40,10 @@ pub(crate) fn of_window(windows: &Windows, query: Query) -> Result<Reply, Refusa
     ensures { Answered (query_refusal (windows_of windows.now.table) query) (query_reply (windows_of windows.now.table) query) result }
 {
     match query {
-        Query::Getyx { win } => pair(windows.table.getyx(win)?),
-        Query::Getbegyx { win } => pair(windows.table.getbegyx(win)?),
-        Query::Getmaxyx { win } => pair(windows.table.getmaxyx(win)?),
-        Query::Getparyx { win } => pair(windows.table.getparyx(win)?),
+        Query::Getyx { win } => numbers(windows.table.getyx(win)?),
+        Query::Getbegyx { win } => numbers(windows.table.getbegyx(win)?),
+        Query::Getmaxyx { win } => numbers(windows.table.getmaxyx(win)?),
+        Query::Getparyx { win } => numbers(windows.table.getparyx(win)?),
         Query::Inch { win } => Ok(Reply::Cell(windows.winch(win)?)),
     }
 }
@@ -75,10 +75,10 @@ pub(crate) fn of_panels(stack: &Stack, query: Stacking) -> Result<Reply, Refusal
 }
 
 /// Two numbers.
-fn pair(pair: (u16, u16)) -> Result<Reply, Refusal>
-    ensures { result ≡ Ok (Reply.Pair pair.0 pair.1) }
+fn numbers(numbers: (u16, u16)) -> Result<Reply, Refusal>
+    ensures { result ≡ Ok (Reply.TwoNumbers numbers.0 numbers.1) }
 {
-    Ok(Reply::Pair(pair.0, pair.1))
+    Ok(Reply::TwoNumbers(numbers.0, numbers.1))
 }
 
 /// Whether something is so.

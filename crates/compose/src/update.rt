@@ -16,8 +16,9 @@ use picture::Owners;
 use stack::Stack;
 use world::Composed;
 
-/// Takes the picture of windows and panels, and the topmost's cursor, into a virtual screen: its picture, its cursor, and whether the
-/// terminal is to be cleared. It reads windows where the screen is damaged, answers how many cells that were, and leaves no damage.
+/// Takes the picture of windows and panels, and the topmost's cursor, into a virtual screen: its picture, its cursor,
+/// and whether the terminal is to be cleared. It reads windows where the screen is damaged, answers how many cells that
+/// were, and leaves no damage.
 /// It has no cell of a window but those that `CountedWindows` puts into the picture and counts.
 pub(crate) fn update_panels(
     windows: &mut CountedWindows<'_>,

@@ -45,8 +45,8 @@ Refuses sizes words old new status = (kind : ErrorKind) × ((kind ≡ OutOfMemor
 abbrev pub nothing_seen : Seen
 nothing_seen = record { taken = None; failures = 0; flushes = 0; flushed = false }
 
--- The script that was read ran on a screen, and ended so. A failure was counted exactly where its end has such a fault. After the lines of
--- the calls the log gets a line about the fault, if there is one, and nothing else.
+-- The script that was read ran on a screen, and ended so. A failure was counted exactly where its end has such a fault.
+-- After the lines of the calls the log gets a line about the fault, if there is one, and nothing else.
 pub record RunsAndLogs {W : Type 0} (seen : W → Seen) (first last : ScreenOver W) (input rest : SourceSeen) (log log_after : Seen)
     (end : ScriptEnd) : Type 0 where
   pub logged : Seen
@@ -55,8 +55,8 @@ pub record RunsAndLogs {W : Type 0} (seen : W → Seen) (first last : ScreenOver
   pub writes : (seen last.writer).failures ≡ count_after (is_some (write_fault end.fault)) (seen first.writer).failures
   pub logs : MatchOption end.fault (log_after ≡ logged) (λ fault. TriesToLog logged log_after (last_line fault))
 
--- The same, but what the calls answer was thrown away: the log gets a line about the fault, if there is one, and nothing
--- else.
+-- The same, but what the calls answer was thrown away: the log gets a line about the fault, if there is one, and
+-- nothing else.
 pub record RunsQuietly {W : Type 0} (seen : W → Seen) (first last : ScreenOver W) (input rest : SourceSeen) (log log_after : Seen)
     (end : ScriptEnd) : Type 0 where
   pub discarded : Seen
@@ -96,8 +96,8 @@ module _ {W : Type 0} (seen : W → Seen) where
 abbrev pub picture_text : World → List ℕ
 picture_text world = printed_picture (picture_of world.windows.lines world.windows.columns (picture world)) (Some (topmost_cursor world)) no_rendition
 
--- A script that ends with a fault prints nothing. After another the picture is printed; or writing it failed, and the log gets a line after
--- those of the script.
+-- A script that ends with a fault prints nothing. After another the picture is printed; or writing it failed, and the
+-- log gets a line after those of the script.
 abbrev pub Prints : ScriptEnd → World → Seen → Outputs → Outputs → ℕ → Type 0
 Prints end world log_after old new status = MatchOption end.fault
     (((status ≡ status_of end) × IsWritten old.output new.output (picture_text world) × (new.log ≡ log_after))
@@ -153,16 +153,16 @@ IsCreated creates None log created = created ≡ log
 IsCreated creates (Some name) log created = creates name created
 
 module _ {W V : Type 0} (seen : W → Seen) (discarded : V → Seen) (opens : Text → SourceSeen → Type 0) where
-  -- The script that is named can't be opened, and nothing was read or sent; or it was opened, or none is named, and what
-  -- is asked for was done with what is read.
+  -- The script that is named can't be opened, and nothing was read or sent; or it was opened, or none is named, and
+  -- what is asked for was done with what is read.
   abbrev pub ServesScript : Invocation → SourceSeen → SourceSeen → Outputs → Outputs → ℕ → Type 0
   ServesScript invocation input rest old new status =
       (IsUnopened (text_of invocation.script) old.log new.log status × (new.output ≡ old.output) × (rest ≡ input))
       ⊎ ((opened : SourceSeen) × IsOpened opens (text_of invocation.script) input opened
       × Does seen discarded invocation.is_quiet invocation.request opened rest old new status × KeepsLog old.log new.log status)
 
-  -- The log that is named can't be made, and nothing was read or sent; or it was made, or none is named, and what is asked
-  -- for was done with the script and this log.
+  -- The log that is named can't be made, and nothing was read or sent; or it was made, or none is named, and what is
+  -- asked for was done with the script and this log.
   abbrev pub ServesInvocation : (Text → Seen → Type 0) → Invocation → SourceSeen → SourceSeen → Outputs → Outputs → ℕ → Type 0
   ServesInvocation creates invocation input rest old new status =
       (IsUnopened (text_of invocation.log) old.log new.log status × (new.output ≡ old.output) × (rest ≡ input))

@@ -13,8 +13,8 @@ use std::io::{BufReader, ErrorKind, Read, Write};
 /// How many bytes are read at once.
 const READ_AT_ONCE: usize = 4096;
 
-/// A file that was named. Beside it folders are open: where a standard stream is closed, one of them has its number, and not the file, so
-/// that reads and writes of that stream still fail.
+/// A file that was named. Beside it folders are open: where a standard stream is closed, one of them has its number,
+/// and not the file, so that reads and writes of that stream still fail.
 #[derive(Drop)]
 struct Named {
     file: File,

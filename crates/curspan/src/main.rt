@@ -54,8 +54,8 @@ fn words(rt: &HostRuntime) -> io::Result<Vec<String>> {
     Ok(env::args(rt)?.collect(rt.alloc())?)
 }
 
-/// Does what the command line asks for, on the standard streams or files, and answers the status. It notes once nobody reads
-/// standard output.
+/// Does what the command line asks for, on the standard streams or files, and answers the status. It notes once nobody
+/// reads standard output.
 fn run<L: FileSink>(rt: &HostRuntime, is_closed: &Cell<bool>, log: &mut L) -> Result<u8, Obstacle> {
     let alloc = rt.alloc();
     let words = words(rt).map_err(|error| match error.kind() {

@@ -308,8 +308,9 @@ fn perform_invocation<'a, R: FileSource, O: Sink, L: FileSink>(
 /// Does what the words ask for, and answers the status. Where they are refused, nothing is read, and help is on the
 /// output, with status 0, or a usage fault on the log, with status 2. Else the log and the script that are named are
 /// opened, in that order; where one can't be, the log says so, nothing is read or drawn, and the status is 3, or 4 for
-/// want of memory. Else the status is that of how the script ended, 3 where its picture can't be written, or 4 where there
-/// is no memory. The first word is the program's name. A status below 2 means that no write or flush of the log failed.
+/// want of memory. Else the status is that of how the script ended, 3 where its picture can't be written, or 4 where
+/// there is no memory. The first word is the program's name. A status below 2 means that no write or flush of the log
+/// failed.
 pub fn serve<'a, S: AsStr, R: FileSource, O: Sink, L: FileSink>(
     alloc: Global,
     words: &[S],

@@ -11,7 +11,7 @@ use Rattle.desk.specs.steps.Answers.{call_end}
 use Rattle.desk.proofs.AnswerLemmas.{is_answered}
 use Rattle.script.specs.Readings.{parse_line}
 use Rattle.script.specs.Log.{log_line}
-use Rattle.desk.specs.ScriptEnds.{LineEnds, LineStops, Logs, log_failed}
+use Rattle.desk.specs.ScriptEnds.{LineEnds, LineSays, Logs, StopsAt, log_failed}
 use Rattle.world.specs.declared.call.Call.{Call}
 use Rattle.world.specs.declared.call.Call.TheVariants.{Refresh}
 use Rattle.world.specs.declared.call.Refresh.TheVariants.{Doupdate}
@@ -32,13 +32,14 @@ refused_is answer r e = grind arith
 
 module _ {W : Type 0} (seen : W → Seen) where
   -- No call was made.
-  pub line_without_call : {old new : ScreenOver W} {n : ℕ} {line : List ℕ} {log : Seen} (fault : Option ScriptFault) → LineStops seen n (parse_line line) None old fault new
+  pub line_without_call : {old new : ScreenOver W} {n : ℕ} {line : List ℕ} {log : Seen} (fault : Option ScriptFault) → LineSays n (parse_line line) None fault → StopsAt seen old fault new
       → Logs log log [] fault → log.failures ≡ count_after (log_failed fault) log.failures → LineEnds seen old new n line log log (record { refused = false; fault = fault })
-  line_without_call {old} fault stop logs failures = record {
+  line_without_call {old} fault says stop logs failures = record {
     call = None;
     outcomes = [];
     at_stop = old;
     makes = Makes-nothing seen old;
+    says = says;
     stop = stop;
     logs = logs;
     failures = failures;
@@ -48,14 +49,15 @@ module _ {W : Type 0} (seen : W → Seen) where
 
   -- A call was made, and not cut short.
   pub line_of_call : {old new : ScreenOver W} {n : ℕ} {line : List ℕ} {log written : Seen} {r : Bool} (call : Call) (answer : Result Reply Refusal) (fault : Option ScriptFault)
-      → LineStops seen n (parse_line line) (Some call) new fault new → CallEnds seen old call (call_end (Ok answer)) new → r ≡ is_err answer
+      → LineSays n (parse_line line) (Some call) fault → StopsAt seen new fault new → CallEnds seen old call (call_end (Ok answer)) new → r ≡ is_err answer
       → Logs log written (log_line n answer ∷ []) fault → written.failures ≡ count_after (log_failed fault) log.failures → written.flushes ≡ log.flushes
       → LineEnds seen old new n line log written (record { refused = r; fault = fault })
-  line_of_call {old} {new} {r} call answer fault stop h e logs failures flushes = let a = is_answered seen old call answer new h in record {
+  line_of_call {old} {new} {r} call answer fault says stop h e logs failures flushes = let a = is_answered seen old call answer new h in record {
     call = Some call;
     outcomes = record { answer = answer; sent = a.1.0 } ∷ [];
     at_stop = new;
     makes = Makes-one seen old new call answer a.1.0 a.1.1 a.0 a.1.2 a.2;
+    says = says;
     stop = stop;
     logs = logs;
     failures = failures;

@@ -9,7 +9,7 @@ use Rattle.cell.specs.declared.refusal.Refusal.{Refusal}
 use Rattle.world.specs.World.{World}
 use Rattle.world.specs.calls.Affected.{most_cells}
 use Rattle.world.specs.calls.Dispatch.{is_update_panels, reply_of}
-use Rattle.world.specs.calls.Queries.{pair, cell_at_cursor}
+use Rattle.world.specs.calls.Queries.{both_numbers, cell_at_cursor}
 use Rattle.compose.specs.Calling.{CountsReads, cells_of_reply}
 use Rattle.compose.specs.Desks.{DeskTable}
 use Rattle.desk.specs.States.{State}
@@ -27,8 +27,8 @@ use Rattle.world.specs.declared.call.Stacking.TheVariants.{DelPanel}
 
 -- ---- only update_panels answers a number of cells
 
-pair-no_cells : (place : Option Place) → cells_of_reply (pair place) ≡ 0
-pair-no_cells place = grind arith
+both_numbers-no_cells : (place : Option Place) → cells_of_reply (both_numbers place) ≡ 0
+both_numbers-no_cells place = grind arith
 
 cell-no_cells : (cell : Option Glyph) → cells_of_reply (option_map_or (λ c. Cell c) cell Nothing) ≡ 0
 cell-no_cells cell = grind arith
@@ -38,7 +38,7 @@ reply_of-no_cells : (w : World) (call : Call) → cells_of_reply (reply_of w cal
 reply_of-no_cells w (calls.Making (Delwin win)) = refl
 reply_of-no_cells w (calls.Copying (Syncup win)) = refl
 reply_of-no_cells w (calls.Query (Inch win)) = cell-no_cells (cell_at_cursor w.windows.window win.0)
-reply_of-no_cells w (calls.Query query) = pair-no_cells _
+reply_of-no_cells w (calls.Query query) = both_numbers-no_cells _
 reply_of-no_cells w (calls.Stacking (DelPanel panel)) = refl
 reply_of-no_cells w (calls.Refresh Doupdate) = refl
 reply_of-no_cells w call = refl

@@ -1,5 +1,6 @@
 -- A run goes on by one call.
-use Rattle.std.proofs.Common.{◌≡◌, ℕ, ◌+◌, ◌≤◌, ◌++◌, List, [], ◌∷◌, length, take, drop, get_or, None, Some, ◌<◌, Ok, Err, refl, sym, ap, ◌∙◌, subst, count_by, sum_by, cond, add-zero, ◌%◌, ◌^◌, Option}
+use Rattle.std.proofs.Common.{◌≡◌, ℕ, ◌+◌, ◌≤◌, ◌++◌, List, [], ◌∷◌, length, take, drop, get_or, None, Some}
+use Rattle.std.proofs.Common.{◌<◌, Ok, Err, refl, sym, ap, ◌∙◌, subst, count_by, sum_by, cond, add-zero, ◌%◌, ◌^◌, Option}
 use Rattle.std.proofs.Common.{append-nil, take-append-drop, take_all}
 use Rattle.std.proofs.lemmas.List.{drop_more, take_more}
 use Rattle.std.proofs.lemmas.List.Sums.{sum_by_push}

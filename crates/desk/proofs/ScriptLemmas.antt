@@ -28,7 +28,7 @@ use Rattle.desk.proofs.ShowingLemmas.{cut-keeps_size, makes-keep_size, shows-bro
 use Rattle.script.specs.Readings.{Reading, before_others, ends_with, next_number, reading, reading_of, parse_line}
 use Rattle.script.specs.Characters.{is_newline}
 use Rattle.script.specs.Lines.{HasNoNewline, ReadsLine}
-use Rattle.desk.specs.ScriptEnds.{FlushFails, FlushSucceeds, LineEnds, LineStops, LogCloses, Logs, MayFollow, RunsLines, ScriptEnds, ScriptStops, calls_of, log_failed, log_lines, log_text}
+use Rattle.desk.specs.ScriptEnds.{FlushFails, FlushSucceeds, LineEnds, LineSays, LogCloses, Logs, MayFollow, RunsLines, ScriptEnds, ScriptSays, StopsAt, calls_of, log_failed, log_lines, log_text}
 use Rattle.desk.specs.ScriptEnds.{numbered_call, write_fault}
 use Rattle.world.specs.declared.call.Call.{Call}
 use Rattle.script.specs.declared.fault.TextFault.{TextFault}
@@ -164,53 +164,49 @@ module _ {W : Type 0} (seen : W → Seen) where
       → SoFar old mid input r1 log l1 unused n b → ReadsLine r1 r2 unused left line (Some Newline) → r2.met_end ≡ r1.met_end → ReadsOnce r1 r2
       → LineEnds seen mid now n line l1 l2 end → end.fault ≡ None → SoFar old now input r2 log l2 left (next_number n) (b || end.refused)
   so_far_next old mid now input r1 r2 log l1 l2 unused left line n b end s r met once e none =
-      let stop : (parse_line line ≡ Ok e.call) × (now ≡ e.at_stop) = subst (λ f. LineStops seen n (parse_line line) e.call e.at_stop f now) none e.stop in
+      let said : parse_line line ≡ Ok e.call = subst (LineSays n (parse_line line) e.call) none e.says in
+      let stop : now ≡ e.at_stop = subst (λ f. StopsAt seen e.at_stop f now) none e.stop in
       let logs : Appends l1.taken l2.taken (log_text (log_lines (numbered_call n e.call) e.outcomes)) = subst (Logs l1 l2 (log_lines (numbered_call n e.call) e.outcomes)) none e.logs in
       record {
         text = s.text ++ r.bytes;
         made = s.made ++ numbered_call n e.call;
         outcomes = s.outcomes ++ e.outcomes;
         read = Consumes-trans _ _ _ _ _ s.read r.read;
-        makes = makes_more s.made (numbered_call n e.call) s.makes (subst (Makes seen mid _ e.outcomes) (sym stop.1) e.makes);
+        makes = makes_more s.made (numbered_call n e.call) s.makes (subst (Makes seen mid _ e.outcomes) (sym stop) e.makes);
         logs = subst (Appends _ _) (sym (log_text-append (state_of old) s.made (numbered_call n e.call) s.outcomes e.outcomes s.makes.run)) (Appends-trans _ _ _ _ _ s.logs logs);
         failures = e.failures ∙ ap (λ f. count_after (log_failed f) l1.failures) none ∙ s.failures;
         flushes = e.flushes ∙ s.flushes;
         met = met ∙ s.met;
         read_once = still_once input r1 r2 s.met s.read_once once;
         is_refused = ap (λ x. x || end.refused) s.is_refused ∙ ap (λ x. list_any is_refused s.outcomes || x) e.refused ∙ sym (list_any-append is_refused s.outcomes e.outcomes);
-        says = λ failed more. line_says s r failed more ∙ says_call s.made n (parse_line line) e.call _ stop.0;
+        says = λ failed more. line_says s r failed more ∙ says_call s.made n (parse_line line) e.call _ said;
       }
 
-  -- How the script ends at a line, where z is what the script says after the line.
-  stops : (made : List (ℕ × Call)) (n : ℕ) (said : Result (Option Call) TextFault) (call : Option Call) (at_stop now : ScreenOver W) (ended : Bool) (text : List ℕ) (z : List ℕ → Reading)
-      (fault : Option ScriptFault) → LineStops seen n said call at_stop fault now
+  -- What the script says that ends at a line, where z is what it says after the line.
+  says_at_end : (made : List (ℕ × Call)) (n : ℕ) (said : Result (Option Call) TextFault) (call : Option Call) (ended : Bool) (text : List ℕ) (z : List ℕ → Reading)
+      (fault : Option ScriptFault) → LineSays n said call fault
       → ((more : List ℕ) → MayFollow ended more → reading false (text ++ more) ≡ prepend made (before_others n said (z more)))
       → (fault ≡ None → (ended ≡ true) × (z [] ≡ ends_with None))
-      → ScriptStops seen ended text (made ++ numbered_call n call) at_stop fault now
-  stops made n said call at_stop now ended text z None ls says last = (
+      → ScriptSays ended text (made ++ numbered_call n call) fault
+  says_at_end made n said call ended text z None ls says last = (
     (last refl).0,
-    ap (reading false) (sym (append-nil text)) ∙ says [] (λ e. refl) ∙ says_call made n said call (z []) ls.0 ∙ ap (prepend (made ++ numbered_call n call)) (last refl).1
+    ap (reading false) (sym (append-nil text)) ∙ says [] (λ e. refl) ∙ says_call made n said call (z []) ls ∙ ap (prepend (made ++ numbered_call n call)) (last refl).1
         ∙ ap (λ (calls : List (ℕ × Call)). let x : Reading = record { calls = calls; fault = None } in x) (append-nil (made ++ numbered_call n call)),
-    ls.1,
   )
-  stops made n said call at_stop now ended text z (Some (Text line fault)) ls says last = (
-    λ more h. says more h ∙ ap (λ t. prepend made (before_others n t (z more))) ls.1
-        ∙ ap (λ m. let x : Reading = record { calls = made ++ []; fault = Some (Text m fault) } in x) (sym ls.0)
-        ∙ ap (λ c. let x : Reading = record { calls = made ++ numbered_call n c; fault = Some (Text line fault) } in x) (sym ls.2),
-    ls.3,
-  )
-  stops made n said call at_stop now ended text z (Some Reading_fault) ls says last = absurd ls
-  stops made n said call at_stop now ended text z (Some (Write line fault)) ls says last = (
-    λ more h. (
-      (z more).calls,
-      ap (λ (r : Reading). r.calls) (says more h ∙ says_call made n said (Some (Refresh Doupdate)) (z more) ls.1)
-          ∙ ap (λ m. (made ++ (m, Refresh Doupdate) ∷ []) ++ (z more).calls) (sym ls.0)
-          ∙ ap (λ l. (l ++ (line, Refresh Doupdate) ∷ []) ++ (z more).calls) (sym (append-nil made) ∙ ap (λ c. made ++ numbered_call n c) (sym ls.2)),
-    ),
-    ls.3,
-  )
-  stops made n said call at_stop now ended text z (Some Log) ls says last =
-      (λ more h. ((z more).calls, ap (λ (r : Reading). r.calls) (says more h ∙ says_call made n said call (z more) ls.0)), ls.1)
+  says_at_end made n said call ended text z (Some (Text line fault)) ls says last =
+      λ more h. says more h ∙ ap (λ t. prepend made (before_others n t (z more))) ls.1
+      ∙ ap (λ m. let x : Reading = record { calls = made ++ []; fault = Some (Text m fault) } in x) (sym ls.0)
+      ∙ ap (λ c. let x : Reading = record { calls = made ++ numbered_call n c; fault = Some (Text line fault) } in x) (sym ls.2)
+  says_at_end made n said call ended text z (Some Reading_fault) ls says last = absurd ls
+  says_at_end made n said call ended text z (Some (Write line fault)) ls says last =
+      λ more h. (
+        (z more).calls,
+        ap (λ (r : Reading). r.calls) (says more h ∙ says_call made n said (Some (Refresh Doupdate)) (z more) ls.1)
+            ∙ ap (λ m. (made ++ (m, Refresh Doupdate) ∷ []) ++ (z more).calls) (sym ls.0)
+            ∙ ap (λ l. (l ++ (line, Refresh Doupdate) ∷ []) ++ (z more).calls) (sym (append-nil made) ∙ ap (λ c. made ++ numbered_call n c) (sym ls.2)),
+      )
+  says_at_end made n said call ended text z (Some Log) ls says last =
+      λ more h. ((z more).calls, ap (λ (r : Reading). r.calls) (says more h ∙ says_call made n said call (z more) ls))
 
   all_logged : (old : State) (a b : List (ℕ × Call)) (xs ys : List Outcome) (log l1 l2 : Seen) → Run old (calls_of a) xs → Appends log.taken l1.taken (log_text (log_lines a xs))
       → Appends l1.taken l2.taken (log_text (log_lines b ys)) → Appends log.taken l2.taken (log_text (log_lines (a ++ b) (xs ++ ys)))
@@ -245,7 +241,8 @@ module _ {W : Type 0} (seen : W → Seen) where
     at_stop = e.at_stop;
     read = Consumes-trans _ _ _ _ _ s.read read;
     makes = makes_more s.made (numbered_call n e.call) s.makes e.makes;
-    stop = stops s.made n (parse_line line) e.call e.at_stop now r2.met_end (s.text ++ bytes) z end.fault e.stop says last;
+    says = says_at_end s.made n (parse_line line) e.call r2.met_end (s.text ++ bytes) z end.fault e.says says last;
+    stop = e.stop;
     logs = logs_after (state_of old) s.made (numbered_call n e.call) s.outcomes e.outcomes log l1 l2 end.fault s.makes.run s.logs e.logs;
     failures = e.failures ∙ ap (count_after (log_failed end.fault)) s.failures;
     flushes = e.flushes ∙ s.flushes;
@@ -278,15 +275,16 @@ module _ {W : Type 0} (seen : W → Seen) where
   -- The script ends after the lines that were run.
   ends_after_lines : {old mid : ScreenOver W} {input r1 r2 : SourceSeen} {log l1 : Seen} {unused : List ℕ} {n : ℕ} {b : Bool} (bytes : List ℕ) (fault : ScriptFault)
       (s : SoFar old mid input r1 log l1 unused n b) → Consumes r1.left r2.left bytes → ReadsOnce r1 r2 → Logs log l1 (log_lines s.made s.outcomes) (Some fault)
-      → l1.failures ≡ count_after (log_failed (Some fault)) log.failures → ScriptStops seen r2.met_end (s.text ++ bytes) s.made mid (Some fault) mid
+      → l1.failures ≡ count_after (log_failed (Some fault)) log.failures → ScriptSays r2.met_end (s.text ++ bytes) s.made (Some fault) → StopsAt seen mid (Some fault) mid
       → RunsLines seen old mid input r2 log l1 (record { refused = b; fault = Some fault })
-  ends_after_lines {mid} {input} {r1} {r2} bytes fault s read once logs failures stop = record {
+  ends_after_lines {mid} {input} {r1} {r2} bytes fault s read once logs failures says stop = record {
     text = s.text ++ bytes;
     made = s.made;
     outcomes = s.outcomes;
     at_stop = mid;
     read = Consumes-trans _ _ _ _ _ s.read read;
     makes = s.makes;
+    says = says;
     stop = stop;
     logs = logs;
     failures = failures;
@@ -300,14 +298,13 @@ module _ {W : Type 0} (seen : W → Seen) where
   pub ends_in_failed_read : (old mid : ScreenOver W) (input r1 r2 : SourceSeen) (log l1 : Seen) (unused left line : List ℕ) (n : ℕ) (b : Bool)
       → SoFar old mid input r1 log l1 unused n b → ReadsLine r1 r2 unused left line (Some ReadFailed) → ReadsOnce r1 r2
       → RunsLines seen old mid input r2 log l1 (record { refused = b; fault = Some Reading_fault })
-  ends_in_failed_read old mid input r1 r2 log l1 unused left line n b s r once = ends_after_lines r.bytes Reading_fault s r.read once s.logs s.failures (
-    ap (reading true) (ap (λ l. s.text ++ l) (sym (append-nil r.bytes))) ∙ s.says true (r.bytes ++ [])
-        ∙ ap (λ l. prepend s.made (reading_of true n (slice_split is_newline l))) (ap (λ l. unused ++ l) (append-nil r.bytes) ∙ r.is_line.0.0)
-        ∙ ap (λ ps. prepend s.made (reading_of true n ps)) (slice_split_none is_newline line (no_newlines line r.no_newline))
-        ∙ ap (λ (t : Bool). let x : Reading = record { calls = s.made ++ []; fault = Some (if t then Text n LineTooLong else Reading_fault) } in x) (short_line line r.is_line.1)
-        ∙ ap (λ (calls : List (ℕ × Call)). let x : Reading = record { calls = calls; fault = Some Reading_fault } in x) (append-nil s.made),
-    refl,
-  )
+  ends_in_failed_read old mid input r1 r2 log l1 unused left line n b s r once = ends_after_lines r.bytes Reading_fault s r.read once s.logs s.failures
+      (ap (reading true) (ap (λ l. s.text ++ l) (sym (append-nil r.bytes))) ∙ s.says true (r.bytes ++ [])
+      ∙ ap (λ l. prepend s.made (reading_of true n (slice_split is_newline l))) (ap (λ l. unused ++ l) (append-nil r.bytes) ∙ r.is_line.0.0)
+      ∙ ap (λ ps. prepend s.made (reading_of true n ps)) (slice_split_none is_newline line (no_newlines line r.no_newline))
+      ∙ ap (λ (t : Bool). let x : Reading = record { calls = s.made ++ []; fault = Some (if t then Text n LineTooLong else Reading_fault) } in x) (short_line line r.is_line.1)
+      ∙ ap (λ (calls : List (ℕ × Call)). let x : Reading = record { calls = calls; fault = Some Reading_fault } in x) (append-nil s.made))
+      refl
 
   -- A line is too long.
   pub ends_too_long : (old mid : ScreenOver W) (input r1 r2 : SourceSeen) (log l1 : Seen) (unused left line : List ℕ) (n : ℕ) (b : Bool)
@@ -315,15 +312,14 @@ module _ {W : Type 0} (seen : W → Seen) where
       → RunsLines seen old mid input r2 log l1 (record { refused = b; fault = Some (Text n LineTooLong) })
   ends_too_long old mid input r1 r2 log l1 unused left line n b s r once =
       let byte = r.is_line.0 in
-      ends_after_lines r.bytes (Text n LineTooLong) s r.read once s.logs s.failures (
-        λ more h.
-            ap (reading false) (append_assoc s.text r.bytes more) ∙ s.says false (r.bytes ++ more)
-            ∙ ap (λ l. prepend s.made (reading_of false n (slice_split is_newline l))) (sym (append_assoc unused r.bytes more) ∙ ap (λ l. l ++ more) r.is_line.1
-            ∙ append_assoc line (byte ∷ left) more)
-            ∙ ap (prepend s.made) (too_long_says n line (left ++ more) byte r.no_newline r.is_line.2 r.is_line.3)
-            ∙ ap (λ (calls : List (ℕ × Call)). let x : Reading = record { calls = calls; fault = Some (Text n LineTooLong) } in x) (append-nil s.made),
-        refl,
-      )
+      ends_after_lines r.bytes (Text n LineTooLong) s r.read once s.logs s.failures
+      (λ more h.
+      ap (reading false) (append_assoc s.text r.bytes more) ∙ s.says false (r.bytes ++ more)
+      ∙ ap (λ l. prepend s.made (reading_of false n (slice_split is_newline l))) (sym (append_assoc unused r.bytes more) ∙ ap (λ l. l ++ more) r.is_line.1
+      ∙ append_assoc line (byte ∷ left) more)
+      ∙ ap (prepend s.made) (too_long_says n line (left ++ more) byte r.no_newline r.is_line.2 r.is_line.3)
+      ∙ ap (λ (calls : List (ℕ × Call)). let x : Reading = record { calls = calls; fault = Some (Text n LineTooLong) } in x) (append-nil s.made))
+      refl
 
 pub some_fault : (fault : Option ScriptFault) → true ≡ is_some fault → fault ≡ None → ⊥
 some_fault fault h e = grind arith
@@ -332,16 +328,16 @@ pub no_fault : (fault : Option ScriptFault) → false ≡ is_some fault → faul
 no_fault fault h = grind arith
 
 module _ {W : Type 0} (seen : W → Seen) where
-  lines_show : (old at_stop new : ScreenOver W) (calls : List Call) (outcomes : List Outcome) (made : List (ℕ × Call)) (met_end : Bool) (text : List ℕ) (fault : Option ScriptFault)
-      → Makes seen old calls outcomes at_stop → HasOneSize old.desk old.painter → ScriptStops seen met_end text made at_stop fault new → RunShows seen old new calls (write_fault fault)
-  lines_show old at_stop new calls outcomes made met_end text fault makes one_size stop = grind (arith, shows-unbroken, shows-broken)
+  lines_show : (old at_stop new : ScreenOver W) (calls : List Call) (outcomes : List Outcome) (fault : Option ScriptFault)
+      → Makes seen old calls outcomes at_stop → HasOneSize old.desk old.painter → StopsAt seen at_stop fault new → RunShows seen old new calls (write_fault fault)
+  lines_show old at_stop new calls outcomes fault makes one_size stop = grind (arith, shows-unbroken, shows-broken)
 
   same_size : (at_stop new : ScreenOver W) → new ≡ at_stop → KeepsSize at_stop.desk new.desk
   same_size at_stop new e = grind arith
 
-  stops_keep_size : (at_stop new : ScreenOver W) (made : List (ℕ × Call)) (met_end : Bool) (text : List ℕ) (fault : Option ScriptFault) → ScriptStops seen met_end text made at_stop fault new
+  stops_keep_size : (at_stop new : ScreenOver W) (fault : Option ScriptFault) → StopsAt seen at_stop fault new
       → KeepsSize at_stop.desk new.desk
-  stops_keep_size at_stop new made met_end text fault stop = grind (arith, same_size, cut-keeps_size)
+  stops_keep_size at_stop new fault stop = grind (arith, same_size, cut-keeps_size)
 
   pub lines_keep_size : {old now : ScreenOver W} {input rest : SourceSeen} {log logged : Seen} {end : ScriptEnd} → HasOneSize old.desk old.painter → RunsLines seen old now input rest log logged end
       → KeepsSize old.desk now.desk
@@ -356,7 +352,7 @@ module _ {W : Type 0} (seen : W → Seen) where
     lines = s;
     closes = closes;
     refused = refused;
-    shown = subst (RunShows seen old now (calls_of s.made)) (sym same) (lines_show old s.at_stop now (calls_of s.made) s.outcomes s.made rest.met_end s.text ended.fault s.makes one_size s.stop);
+    shown = subst (RunShows seen old now (calls_of s.made)) (sym same) (lines_show old s.at_stop now (calls_of s.made) s.outcomes ended.fault s.makes one_size s.stop);
   }
 
 -- ---- the flush of the log

@@ -38,8 +38,8 @@ module _ {W : Type 0} (seen : W → Seen) where
     pub flushes : (seen new.writer).flushes ≡ flushes_after (seen old.writer).flushes calls
     pub flushed : (seen new.writer).flushed ≡ (list_any is_doupdate calls || (seen old.writer).flushed)
 
-  -- A doupdate sent a prefix of its text, and where that is all of it, tried a flush. What was shown last is unknown now, and nothing else
-  -- changed.
+  -- A doupdate sent a prefix of its text, and where that is all of it, tried a flush. What was shown last is unknown
+  -- now, and nothing else changed.
   pub record IsCut (old new : ScreenOver W) (fault : WriteFault) : Type 0 where
     pub state : state_of new ≡ record (state_of old) { painter = record old.painter { last = None } }
     pub text : List ℕ
@@ -63,7 +63,8 @@ module _ {W : Type 0} (seen : W → Seen) where
   CallEnds old call (Err (Refused e)) new = MayRefuse (world old.desk) call e × (new ≡ old)
   CallEnds old call (Err (Write fault)) new = (is_doupdate call ≡ true) × IsCut old new fault
 
-  -- These calls were made one after another, and had these outcomes. Each doupdate sent few bytes, and the update_panels read few cells.
+  -- These calls were made one after another, and had these outcomes. Each doupdate sent few bytes, and the
+  -- update_panels read few cells.
   pub record Makes (old : ScreenOver W) (calls : List Call) (outcomes : List Outcome) (new : ScreenOver W) : Type 0 where
     pub run : Run (state_of old) calls outcomes
     pub short : AreShort (state_of old) calls outcomes

@@ -74,8 +74,8 @@ module _ {W : Type 0} (seen : W → Seen) where
   -- The writer took these bytes in a history of these calls, in which any number of writes failed. All that was sent
   -- before, if it agreed with the painter, agrees with it again when the bytes follow. Where the calls end in doupdate,
   -- and this one had no fault, all of it shows the virtual screen, and where they end in update_panels and doupdate,
-  -- the world after the history; and if the painter knew nothing when it began, as that of a screen just made, then these
-  -- bytes alone show it on any terminal. Where writes failed, sequences may be unfinished.
+  -- the world after the history; and if the painter knew nothing when it began, as that of a screen just made, then
+  -- these bytes alone show it on any terminal. Where writes failed, sequences may be unfinished.
   pub record HistoryShows (old new : ScreenOver W) (calls : List Call) (fault : Option WriteFault) : Type 0 where
     pub bytes : List ℕ
     pub taken : Appends (seen old.writer).taken (seen new.writer).taken bytes

@@ -1,5 +1,5 @@
--- How many cells the update_panels of a run read: by how much the desk's count of them grew, and its bounds. The run's calls are listed with
--- whether each was accepted.
+-- How many cells the update_panels of a run read: by how much the desk's count of them grew, and its bounds. The run's
+-- calls are listed with whether each was accepted.
 -- X/Open Curses Issue 7 and NetBSD panel(3) say nothing of it: these bounds are Curspan's own.
 use Rattle.std.specs.Prelude.{◌≡◌, ℕ, ◌+◌, ◌%◌, ◌^◌, ◌≤◌, if◌then◌else◌, List, [], ◌∷◌, Bool}
 use Rattle.cell.specs.Differences.{difference}
@@ -29,7 +29,8 @@ places_redrawn_in_run world [] = 0
 places_redrawn_in_run world (call ∷ calls) =
     if call.1 then places_redrawn world call.0 + places_redrawn_in_run (world_after world call.0) calls else places_redrawn_in_run world calls
 
--- The update_panels of a run read at least as many cells as they changed places, and at most as many as `bound_on_reads` says.
+-- The update_panels of a run read at least as many cells as they changed places, and at most as many as
+-- `bound_on_reads` says.
 pub record ReadsFew (s : State) (calls : List (Call × Bool)) (cells : ℕ) : Type 0 where
   pub at_least : places_redrawn_in_run s.world calls ≤ cells
   pub at_most : cells ≤ bound_on_reads s.world s.damaged calls

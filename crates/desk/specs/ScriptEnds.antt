@@ -82,8 +82,8 @@ pub record FlushFails (old new : Seen) : Type 0 where
   pub failure : new.failures ≡ next_count old.failures
   pub flushes : new.flushes ≡ next_count old.flushes
 
--- How a script ends whose lines ended with this fault, or none: the log is flushed once, unless a write of it failed. A flush that fails is
--- a fault where there was none.
+-- How a script ends whose lines ended with this fault, or none: the log is flushed once, unless a write of it failed. A
+-- flush that fails is a fault where there was none.
 abbrev pub LogCloses : Option ScriptFault → Seen → Seen → Option ScriptFault → Type 0
 LogCloses None logged written fault = (FlushSucceeds logged written × (fault ≡ None)) ⊎ (FlushFails logged written × (fault ≡ Some Log))
 LogCloses (Some Log) logged written fault = (written ≡ logged) × (fault ≡ Some Log)
@@ -99,15 +99,32 @@ numbered_call number (Some call) = (number, call) ∷ []
 abbrev pub calls_of : List (ℕ × Call) → List Call
 calls_of = map (λ call. call.1)
 
+-- What the line of this number said: the call that was made, if it says one. Where the script ended there by a fault of
+-- the line, or by a doupdate whose text was cut short, no call of it was made.
+abbrev pub LineSays : ℕ → Result (Option Call) TextFault → Option Call → Option ScriptFault → Type 0
+LineSays number said call (Some (Text line fault)) = (line ≡ number) × (said ≡ Err fault) × (call ≡ None)
+LineSays number said call (Some Reading_fault) = ⊥
+LineSays number said call (Some (Write line fault)) = (line ≡ number) × (said ≡ Ok (Some (Refresh Doupdate))) × (call ≡ None)
+LineSays number said call _ = said ≡ Ok call
+
+-- What the bytes that were read of a script say: the calls that were made, and after them why it ended.
+abbrev pub ScriptSays : Bool → List ℕ → List (ℕ × Call) → Option ScriptFault → Type 0
+-- The bytes are all of it, and each call was made.
+ScriptSays met_end text made None = (met_end ≡ true) × (reading false text ≡ record { calls = made; fault = None })
+-- It has this fault.
+ScriptSays met_end text made (Some (Text line fault)) = SaysHowever met_end text (λ r. r ≡ record { calls = made; fault = Some (Text line fault) })
+-- A read failed after the bytes.
+ScriptSays met_end text made (Some Reading_fault) = reading true text ≡ record { calls = made; fault = Some Reading_fault }
+-- The next call is a doupdate.
+ScriptSays met_end text made (Some (Write line fault)) = SaysHowever met_end text (BeginsWith (made ++ (line, Refresh Doupdate) ∷ []))
+-- More calls may follow.
+ScriptSays met_end text made (Some Log) = SaysHowever met_end text (BeginsWith made)
+
 module _ {W : Type 0} (seen : W → Seen) where
-  -- A line said its call, if it says one, and it was made, or there was a fault.
-  abbrev pub LineStops : ℕ → Result (Option Call) TextFault → Option Call → ScreenOver W → Option ScriptFault → ScreenOver W → Type 0
-  LineStops number said call at_stop None new = (said ≡ Ok call) × (new ≡ at_stop)
-  LineStops number said call at_stop (Some (Text line fault)) new = (line ≡ number) × (said ≡ Err fault) × (call ≡ None) × (new ≡ at_stop)
-  LineStops number said call at_stop (Some Reading_fault) new = ⊥
-  LineStops number said call at_stop (Some (Write line fault)) new =
-      (line ≡ number) × (said ≡ Ok (Some (Refresh Doupdate))) × (call ≡ None) × IsCut seen at_stop new fault
-  LineStops number said call at_stop (Some Log) new = (said ≡ Ok call) × (new ≡ at_stop)
+  -- The screen is as the calls left it that were made; or a doupdate's text was cut short after them.
+  abbrev pub StopsAt : ScreenOver W → Option ScriptFault → ScreenOver W → Type 0
+  StopsAt at_stop (Some (Write line fault)) new = IsCut seen at_stop new fault
+  StopsAt at_stop _ new = new ≡ at_stop
 
   -- A line was run and logged.
   pub record LineEnds (old new : ScreenOver W) (number : ℕ) (line : List ℕ) (log written : Seen) (end : ScriptEnd) : Type 0 where
@@ -115,30 +132,15 @@ module _ {W : Type 0} (seen : W → Seen) where
     pub outcomes : List Outcome
     pub at_stop : ScreenOver W
     pub makes : Makes seen old (calls_of (numbered_call number call)) outcomes at_stop
-    pub stop : LineStops number (parse_line line) call at_stop end.fault new
+    pub says : LineSays number (parse_line line) call end.fault
+    pub stop : StopsAt at_stop end.fault new
     pub logs : Logs log written (log_lines (numbered_call number call) outcomes) end.fault
     pub failures : written.failures ≡ count_after (log_failed end.fault) log.failures
     pub flushes : written.flushes ≡ log.flushes
     pub refused : end.refused ≡ list_any is_refused outcomes
 
-  -- A script ended so, after the calls that were made.
-  abbrev pub ScriptStops : Bool → List ℕ → List (ℕ × Call) → ScreenOver W → Option ScriptFault → ScreenOver W → Type 0
-  -- The bytes are all of it, and each call was made.
-  ScriptStops met_end text made at_stop None new = (met_end ≡ true) × (reading false text ≡ record { calls = made; fault = None }) × (new ≡ at_stop)
-  -- It says these calls and then has this fault.
-  ScriptStops met_end text made at_stop (Some (Text line fault)) new =
-      SaysHowever met_end text (λ r. r ≡ record { calls = made; fault = Some (Text line fault) }) × (new ≡ at_stop)
-  -- A read failed after the bytes.
-  ScriptStops met_end text made at_stop (Some Reading_fault) new =
-      (reading true text ≡ record { calls = made; fault = Some Reading_fault }) × (new ≡ at_stop)
-  -- The next call is a doupdate, whose text was cut short.
-  ScriptStops met_end text made at_stop (Some (Write line fault)) new =
-      SaysHowever met_end text (BeginsWith (made ++ (line, Refresh Doupdate) ∷ [])) × IsCut seen at_stop new fault
-  -- The calls that were made are its first.
-  ScriptStops met_end text made at_stop (Some Log) new = SaysHowever met_end text (BeginsWith made) × (new ≡ at_stop)
-
-  -- The lines of a script, read from a source, were run on a screen and logged. The log was not flushed yet. Where the end of the source
-  -- was met, no read came after it.
+  -- The lines of a script, read from a source, were run on a screen and logged. The log was not flushed yet. Where the
+  -- end of the source was met, no read came after it.
   pub record RunsLines (old new : ScreenOver W) (input rest : SourceSeen) (log written : Seen) (end : ScriptEnd) : Type 0 where
     pub text : List ℕ
     pub made : List (ℕ × Call)
@@ -146,7 +148,8 @@ module _ {W : Type 0} (seen : W → Seen) where
     pub at_stop : ScreenOver W
     pub read : Consumes input.left rest.left text
     pub makes : Makes seen old (calls_of made) outcomes at_stop
-    pub stop : ScriptStops rest.met_end text made at_stop end.fault new
+    pub says : ScriptSays rest.met_end text made end.fault
+    pub stop : StopsAt at_stop end.fault new
     pub logs : Logs log written (log_lines made outcomes) end.fault
     pub failures : written.failures ≡ count_after (log_failed end.fault) log.failures
     pub flushes : written.flushes ≡ log.flushes
@@ -155,7 +158,7 @@ module _ {W : Type 0} (seen : W → Seen) where
     pub at_end : end.fault ≡ None → IsAtEnd rest.left
     pub read_once : input.met_end ≡ false → rest.read_past_end ≡ input.read_past_end
 
-  -- A script ended so: its lines ended, and then the log was flushed. What the writer took shows the world that its calls left.
+  -- A script ended so: its lines ended, then the log was flushed. What the writer took shows the world after its calls.
   pub record ScriptEnds (old new : ScreenOver W) (input rest : SourceSeen) (log written : Seen) (end : ScriptEnd) : Type 0 where
     pub ended : ScriptEnd
     pub logged : Seen

@@ -27,8 +27,8 @@ showing_virtual world = showing world.virtual.picture world.virtual.cursor
 abbrev pub EndsInUpdate : List Call → Type 0
 EndsInUpdate calls = (others : List Call) × (calls ≡ others ++ Refresh UpdatePanels ∷ Refresh Doupdate ∷ [])
 
--- The terminal shows in every cell what a search from the top visible panel down to the standard screen finds, and the topmost's cursor;
--- it prints with the empty rendition.
+-- The terminal shows in every cell what a search from the top visible panel down to the standard screen finds, and the
+-- topmost's cursor; it prints with the empty rendition.
 pub record ShowsWorld (world : World) (t : Terminal) : Type 0 where
   pub size : HasSize world.windows.lines world.windows.columns t.picture
   pub cells : (y x : ℕ) → y < world.windows.lines → x < world.windows.columns → shown_at t.picture (y, x) ≡ picture world y x
@@ -45,10 +45,10 @@ abbrev pub OnAny : {W : Type 0} → ScreenOver W → (Terminal → Type 0) → T
 OnAny screen P = screen.painter.last ≡ None → (t : Terminal) → HasSize screen.desk.windows.lines screen.desk.windows.columns t.picture → P t
 
 module _ {W : Type 0} (seen : W → Seen) where
-  -- The writer took these bytes in a run of calls. All that was sent before, if it agreed with the painter, agrees with it again when the
-  -- bytes follow, also where a write failed. Where the calls end in doupdate, and no write failed, all of it shows the virtual screen, and
-  -- where they end in update_panels and doupdate, the world after the run; and if the painter knew nothing, then these bytes alone show it
-  -- on any terminal.
+  -- The writer took these bytes in a run of calls. All that was sent before, if it agreed with the painter, agrees with
+  -- it again when the bytes follow, also where a write failed. Where the calls end in doupdate, and no write failed,
+  -- all of it shows the virtual screen, and where they end in update_panels and doupdate, the world after the run; and
+  -- if the painter knew nothing, then these bytes alone show it on any terminal.
   pub record RunShows (old new : ScreenOver W) (calls : List Call) (fault : Option WriteFault) : Type 0 where
     pub bytes : List ℕ
     pub taken : Appends (seen old.writer).taken (seen new.writer).taken bytes

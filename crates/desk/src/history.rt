@@ -31,7 +31,8 @@ impl<W: Sink> Screen<W> {
     ghost use Rattle.desk.specs.Histories.{HistoryEnds, HistoryShows, RunsAll};
 
     /// Makes all calls in order. It goes on after a refusal, and where a write or a flush fails: the next `doupdate`
-    /// clears the terminal then. So each `doupdate` that succeeds shows the whole virtual screen, whatever failed before.
+    /// clears the terminal then. So each `doupdate` that succeeds shows the whole virtual screen, whatever failed
+    /// before.
     pub fn run_all(&mut self, calls: &[Call<'_>]) -> RunAllEnd
         ensures history { HistoryEnds W.seen W.name self.old calls.now result self.new }
         ensures shown { HistoryShows W.seen self.old self.new calls.now result.fault }
@@ -39,6 +40,7 @@ impl<W: Sink> Screen<W> {
         ensures sound { IsSound (world self.new.desk) }
         ensures size { KeepsSize self.old.desk self.new.desk }
     {
+        // What a screen keeps is known where its desk is read: here before the calls, and below after them.
         let _ = &self.desk;
         let end = self.make_all(calls);
         let _ = &self.desk;

@@ -1,5 +1,5 @@
-//! The `Screen`: a desk, for which the crate is named, with a painter over a writer; and runs of calls and of script lines, with what they
-//! send and log.
+//! The `Screen`: a desk, for which the crate is named, with a painter over a writer; and runs of calls and of script
+//! lines, with what they send and log.
 //!
 //! - `history`: a list of calls that are all made, whatever becomes of the writes
 //! - `run_script`: the calls of a script, with their log

@@ -117,6 +117,7 @@ impl<W: Sink> Screen<W> {
         ensures sound { IsSound (world self.new.desk) }
         ensures size { KeepsSize self.old.desk self.new.desk }
     {
+        // What a screen keeps is known where its desk is read: here before the calls, and below after them.
         let _ = &self.desk;
         let end = self.run_lines(input, log);
         let _ = &self.desk;

@@ -1,8 +1,9 @@
 -- The items of a stream of bytes: printed characters and control sequences.
--- ECMA-48, 5th edition: 5.4 (control sequences: introducer, parameters, final byte), 8.3.16 (CSI, in a 7-bit code ESC and 05/11),
--- and the final bytes of 8.3.21 CUP, 8.3.39 ED, 8.3.41 EL and 8.3.117 SGR.
--- The profile leaves out every other control function, the 8-bit form of CSI, intermediate bytes, private parameters (which begin
--- with 03/12 to 03/15), the colon within a parameter, characters beyond 07/14, more than 16 parameters, and those of more than 3 digits.
+-- ECMA-48, 5th edition: 5.4 (control sequences: introducer, parameters, final byte), 8.3.16 (CSI, in a 7-bit code ESC
+-- and 05/11), and the final bytes of 8.3.21 CUP, 8.3.39 ED, 8.3.41 EL and 8.3.117 SGR.
+-- The profile leaves out every other control function, the 8-bit form of CSI, intermediate bytes, private parameters
+-- (which begin with 03/12 to 03/15), the colon within a parameter, characters beyond 07/14, more than 16 parameters,
+-- and those of more than 3 digits.
 use Rattle.std.specs.Prelude.{◌≡◌, ℕ, ◌<◌, ◌≤◌, List, [], ◌∷◌, ◌++◌, length, codes, IsTrue, ⊤}
 use Rattle.std.specs.List.{join_with_byte, AllByRecursion}
 use Rattle.cell.specs.Glyphs.{is_printable}
@@ -25,7 +26,7 @@ final_byte ED = 74
 final_byte EL = 75
 final_byte SGR = 109
 
--- an item: a byte that is printed, a control sequence with the digits of each parameter, or the bytes of one that was never finished
+-- an item: a byte that is printed, a control sequence with each parameter's digits, or one that was never finished
 pub data Item : Type 0 where
   Printable : ℕ → Item
   Control : Function → List (List ℕ) → Item

@@ -4,7 +4,7 @@ use Rattle.cell.specs.Pictures.{Picture, Place, HasSize, shown_at}
 use Rattle.cell.specs.Shown.{shown_blank}
 use Rattle.cell.specs.declared.limits.TheConstants.{LARGEST_SCREEN}
 
--- The picture has that size, at most the largest of a screen and one column at least, and the cursor is a place of it, if it is known.
+-- The picture has that size, from one column to the largest screen, and the cursor is a place of it, if it is known.
 pub record IsOnPage (lines columns : ℕ) (picture : Picture) (cursor : Option Place) : Type 0 where
   pub few_lines : lines ≤ LARGEST_SCREEN
   pub few_columns : columns ≤ LARGEST_SCREEN

@@ -9,9 +9,9 @@ use Rattle.ecma.specs.Streams.{FailsAt, IsInProfile, LeadsWithBreaks, showing}
 use Rattle.ecma.specs.declared.reader.State.{State}
 use Rattle.ecma.specs.declared.reader.State.TheVariants.{Text, Escape, Parameters, Failed}
 
--- A terminal, and what is kept of the stream: whether it ends in text, after an escape, within parameters, or has failed; of the
--- parameters those that a separator ended, and the one that goes on; the number of bytes, and the offset of the unfinished item or
--- of the failure.
+-- A terminal, and what is kept of the stream: whether it ends in text, after an escape, within parameters, or has
+-- failed; of the parameters those that a separator ended, and the one that goes on; the number of bytes, and the offset
+-- of the unfinished item or of the failure.
 pub record Reader : Type 0 where
   pub terminal : Terminal
   pub state : State

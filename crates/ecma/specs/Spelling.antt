@@ -51,7 +51,7 @@ spelling (Sgr rendition) = control_sequence SGR (48 ∷ selection (codes_of rend
 spelling (El how) = control_sequence EL (erasure_spelling how)
 spelling (Ed how) = control_sequence ED (erasure_spelling how)
 
--- the most bytes of a position: the introducer, a line and a column of three digits, their separator, and the final byte
+-- the most bytes of a position: introducer, line and column of three digits each, their separator, and final byte
 abbrev pub position_bytes : ℕ
 position_bytes = 2 + 3 + 1 + 3 + 1
 
@@ -83,8 +83,8 @@ token_effect (Sgr rendition) t = Some (record t { rendition = rendition })
 token_effect (El how) t = erase_line how t
 token_effect (Ed how) t = erase_page how t
 
--- what has a spelling: a byte that a cell can hold, a line and a column of the largest screen, attributes of the six with colours of
--- the eight, any erasure
+-- what has a spelling: a byte that a cell can hold, a line and a column of the largest screen, attributes of the six
+-- with colours of the eight, any erasure
 abbrev pub IsToken : Token → Type 0
 IsToken (Print byte) = IsTrue (is_printable byte)
 IsToken (Cup line column) = (line < LARGEST_SCREEN) × (column < LARGEST_SCREEN)

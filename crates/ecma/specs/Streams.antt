@@ -21,7 +21,8 @@ pub record Reaches (stream : List ℕ) (first : Terminal) (offset : ℕ) (last :
   pub at : offset + length rest ≡ length stream
   pub have_effect : effects items first ≡ Some last
 
--- The stream takes the first terminal to the last before offset, and nothing beyond is reached: no item that has an effect begins there.
+-- The stream takes the first terminal to the last before offset, and nothing beyond is reached: no item that has an
+-- effect begins there.
 pub record FailsAt (stream : List ℕ) (first : Terminal) (offset : ℕ) (last : Terminal) : Type 0 where
   pub reaches : Reaches stream first offset last
   pub short : offset < length stream

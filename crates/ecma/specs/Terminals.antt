@@ -1,7 +1,8 @@
 -- What a terminal shows, and what each item of a stream does to it.
--- ECMA-48, 5th edition: 8.3.21 CUP, 8.3.39 ED, 8.3.41 EL, 8.3.117 SGR. An item that has no effect here is outside the profile:
--- the profile leaves out wrapping and scrolling (what is printed after the last column), the parameter 0 of CUP, places off the screen,
--- erasing while an attribute or a colour is on, and every SGR code but those of the six attributes and of the eight colours.
+-- ECMA-48, 5th edition: 8.3.21 CUP, 8.3.39 ED, 8.3.41 EL, 8.3.117 SGR. An item that has no effect here is outside the
+-- profile: that leaves out wrapping and scrolling (what is printed after the last column), the parameter 0 of CUP,
+-- places off the screen, erasing while an attribute or a colour is on, and every SGR code but those of the six
+-- attributes and of the eight colours.
 use Rattle.std.specs.Prelude.{◌==◌, ◌&&◌, nat_lt, nat_le, Bool, if◌then◌else◌, ℕ, ◌+◌, ◌-◌, List, [], ◌∷◌, ◌++◌, length, map, take, drop, Option, Some, None}
 use Rattle.std.specs.Option.{option_map, option_and_then}
 use Rattle.std.specs.List.{slice_set}

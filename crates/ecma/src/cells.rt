@@ -9,8 +9,8 @@ use cell::{Grid, LARGEST_SCREEN, Shown};
 use std::alloc::{AllocError, Global};
 use std::marker::Model;
 
-/// The cells of a page. It keeps for each line a column from which on that is known to be blank, so that what was erased
-/// isn't written again until something is printed in its line.
+/// The cells of a page. It keeps for each line a column from which on that is known to be blank, so that what was
+/// erased isn't written again until something is printed in its line.
 #[derive(Drop)]
 pub struct Cells {
     picture: Grid<Shown>,
@@ -74,7 +74,8 @@ impl Cells {
         requires line { y < length self.old }
         requires ordered { start ≤ end }
         requires columns { end ≤ length (line_of self.old y) }
-        ensures shown { (v u : ℕ) → shown_at self.new (v, u) ≡ (if (v == y) && (nat_le start u && nat_lt u end) then shown_blank else shown_at self.old (v, u)) }
+        ensures shown { (v u : ℕ) → shown_at self.new (v, u)
+            ≡ (if (v == y) && (nat_le start u && nat_lt u end) then shown_blank else shown_at self.old (v, u)) }
         ensures size { (lines columns : ℕ) → HasSize lines columns self.old → HasSize lines columns self.new }
     {
         let line = usize::from(y);

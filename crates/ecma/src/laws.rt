@@ -1,4 +1,4 @@
-//! What holds of streams and terminals by their definitions alone. Each function does nothing, and its contract is the law.
+//! What holds of streams and terminals by definition. Each function does nothing, and its contract is the law.
 
 ghost use Rattle.std.specs.Prelude.{◌≡◌, ◌↔◌, ℕ, ◌<◌, ◌≤◌, List, [], ◌++◌, length, take};
 ghost use Rattle.cell.specs.Pictures.{HasSize, Picture};
@@ -10,8 +10,8 @@ ghost use Rattle.ecma.specs.Spelling.{spelling, IsToken, IsItemOf};
 ghost use Rattle.ecma.specs.declared.token.Token.{Token};
 ghost use Rattle.ecma.specs.Streams.{FailsAt, Leads, LeadsWithBreaks, IsInProfile, Reaches};
 
-/// A stream is one sequence of items at most. Of two sequences of items at its start, the one that leaves no more bytes begins with the
-/// other, also where items were never finished.
+/// A stream is one sequence of items at most. Of two sequences of items at its start, the one that leaves no more bytes
+/// begins with the other, also where items were never finished.
 pub fn one_row_of_items()
     ensures whole { (stream : List ℕ) (items others : List Item) → Splits stream items [] → Splits stream others [] → items ≡ others }
     ensures prefix { (stream : List ℕ) (items others : List Item) (rest left : List ℕ) → Splits stream items rest → Splits stream others left
@@ -32,7 +32,7 @@ pub fn one_failure()
     ensures outside { (stream : List ℕ) (offset : ℕ) (t u v : Terminal) → FailsAt stream t offset u → IsInProfile stream t v → ⊥ }
 {}
 
-/// What a reader shows is that of the stream that it read, however it was cut: two readers of one stream show one terminal.
+/// What a reader shows is that of the stream, however it was cut: two readers of one stream show one terminal.
 pub fn one_terminal_shown()
     ensures { (stream : List ℕ) (first : Terminal) (one other : Reader) → HasRead stream first one → HasRead stream first other
         → one.terminal ≡ other.terminal }

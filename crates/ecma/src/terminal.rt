@@ -29,8 +29,8 @@ impl Model for Terminal {
 }
 
 impl Terminal {
-    /// A blank terminal with the cursor at its first place and the empty rendition. It has 1 to `LARGEST_SCREEN` lines and
-    /// columns; another size is refused as `BadSize`, and the only other refusal is `NoMemory`.
+    /// A blank terminal with the cursor at its first place and the empty rendition. It has 1 to `LARGEST_SCREEN` lines
+    /// and columns; another size is refused as `BadSize`, and the only other refusal is `NoMemory`.
     pub fn new(alloc: Global, lines: u16, columns: u16) -> Result<Terminal, Refusal>
         ensures read { IfOk result (HasRead [] (blank_terminal lines columns)) }
         ensures blank { IfOk result (λ terminal. terminal.terminal ≡ blank_terminal lines columns) }
@@ -46,7 +46,7 @@ impl Terminal {
         }
     }
 
-    /// Reads the next piece of the stream, of any length, and answers whether all that was read so far is in the profile.
+    /// Reads the next piece of the stream, of any length, and answers whether all that was read is in the profile.
     pub fn feed(&mut self, piece: &[u8]) -> Result<(), NotInProfile>
         ensures follows { Follows piece.now self.old self.new }
         ensures profile { (stream : List ℕ) (first : Terminals.Terminal) → HasRead stream first self.new

@@ -1,14 +1,11 @@
 -- The calls that every screen refuses: whatever its size, window 0 is there, and is neither a pad nor derived.
-use Rattle.std.proofs.Common.{◌≡◌, ◌<◌, ◌≤◌, ◌&&◌, ◌||◌, ◌==◌, ℕ, Bool, true, false, not, Option, None, Some, refl, sym, ap, subst, arith, cond, unwrap_or, ◌∙◌}
-use Rattle.std.proofs.lemmas.Bool.{both_ways, eq-eqb}
+use Rattle.std.proofs.Common.{◌≡◌, ◌≤◌, ◌&&◌, ◌==◌, ℕ, Bool, true, false, not, Option, None, Some, refl, sym, ap, arith, unwrap_or}
 use Rattle.std.proofs.lemmas.Bool.Decides.{Decides-eqb, nat_tests}
 use Rattle.std.specs.Prelude.{IfSome, IsSomeAnd}
-use Rattle.cell.specs.Refusals.{first_of}
-use Rattle.cell.specs.declared.limits.TheConstants.{LARGEST_SCREEN, MOST_PANELS}
 use Rattle.cell.specs.declared.refusal.Refusal.{Refusal}
 use Rattle.world.specs.Panels.{standard_screen}
 use Rattle.world.specs.Sound.{IsSound, IsStandardScreen}
-use Rattle.world.specs.Windows.{Window, Windows}
+use Rattle.world.specs.Windows.{Window}
 use Rattle.world.specs.World.{World}
 use Rattle.world.specs.calls.Dispatch.{refusal}
 use Rattle.world.specs.calls.Making.{is_inside}
@@ -19,7 +16,7 @@ use Rattle.world.specs.declared.call.Writing.{Writing}
 use Rattle.world.specs.declared.call.Query.{Query}
 use Rattle.world.specs.declared.call.Stacking.{Stacking}
 use Rattle.world.specs.declared.call.Refresh.{Refresh}
-use Rattle.explain.specs.Everywhere.{IsRefusedEverywhere, is_past, is_too_great, making_everywhere, no_panel, on_standard, only_if, refusal_everywhere, stacking_everywhere, writing_everywhere}
+use Rattle.explain.specs.Everywhere.{IsRefusedEverywhere, is_too_great, making_everywhere, no_panel, on_standard, only_if, refusal_everywhere, stacking_everywhere, writing_everywhere}
 
 only_if_so : (test : Bool) (why given : Refusal) → only_if test why ≡ Some given → (test ≡ true) × (why ≡ given)
 only_if_so true why given e = (refl, ap (λ o. unwrap_or o why) e)

@@ -118,7 +118,7 @@ or_else (Some said) other = Some said
 abbrev pub see_nearest : List ℕ → Option (List ℕ)
 see_nearest word = option_map (λ name. codes "see " ++ name) (nearest word)
 
--- what the table has; else, of a word with the prefix `mvw`, `mv` or `w`, what is said of the rest; else the nearest call
+-- what the table has; else, of a word with the prefix `mvw`, `mv` or `w`, what is said of the rest; else the nearest
 abbrev pub said_of : List ℕ → Option (List ℕ)
 said_of word =
     or_else (advice_on word)

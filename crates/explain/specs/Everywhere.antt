@@ -30,8 +30,9 @@ use Rattle.world.specs.declared.call.Refresh.TheVariants.{Pnoutrefresh, InitPair
 abbrev pub IsRefusedEverywhere : Call → Refusal → Type 0
 IsRefusedEverywhere call why = (world : World) → IsSound world → refusal world call ≡ Some why
 
--- ---- the refusal of a call by its arguments alone: of windows it is only known what window 0 is, and that it is never greater than the
--- greatest screen
+-- ---- the refusal of a call by its arguments alone
+
+-- Of windows it is only known what window 0 is, and that it is never greater than the greatest screen.
 
 abbrev pub only_if : Bool → Refusal → Option Refusal
 only_if test why = if test then Some why else None

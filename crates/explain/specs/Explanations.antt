@@ -27,7 +27,8 @@ count_text n = decimal n ++ (if n == 1 then codes " argument" else codes " argum
 abbrev pub ill_formed_text : List ℕ → IllFormed → List ℕ
 ill_formed_text word ill = word ++ codes " wants " ++ requirement_of word ill.form ++ codes ", not " ++ quotation ill.argument ++ reason ill.form ill.argument
 
--- what is said of a bad byte, of a word that is no call (of no word, since the line begins with a space), and of a wrong number of arguments
+-- what is said of a bad byte, of a word that is no call (of no word, since the line begins with a space), and of a
+-- wrong number of arguments
 abbrev pub bad_byte_text : ℕ → List ℕ
 bad_byte_text byte = codes "bad byte " ++ hex_digits byte ++ codes ": " ++ byte_advice byte
 

@@ -1,4 +1,4 @@
--- The call that a word was meant to be: the first whose letters are the word's, but for one at most, or two that changed places.
+-- The call that a word was meant to be: the first whose letters are the word's but for one, or two that changed places.
 use Rattle.std.specs.Prelude.{◌==◌, ◌&&◌, ◌||◌, ℕ, Bool, false, List, [], ◌∷◌, find, length, map, nat_le, Option, if◌then◌else◌}
 use Rattle.std.specs.Char.{is_ascii_alphabetic, to_ascii_lowercase}
 use Rattle.std.specs.List.{flat_map}
@@ -14,8 +14,8 @@ abbrev pub are_swapped : List ℕ → List ℕ → Bool
 are_swapped (a ∷ b ∷ letters) (c ∷ d ∷ others) = a == d && b == c && bytes_eq letters others
 are_swapped letters others = false
 
--- Letters become others where at most one is dropped, added or changed, or it changes places with the next: where the first two differ, it is
--- one of them.
+-- Letters become others where at most one is dropped, added or changed, or it changes places with the next: where the
+-- first two differ, it is one of them.
 abbrev pub is_near : List ℕ → List ℕ → Bool
 is_near [] others = nat_le (length others) 1
 is_near (a ∷ letters) [] = length letters == 0

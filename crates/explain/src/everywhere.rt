@@ -1,6 +1,6 @@
 //! The calls that every screen refuses, whatever its size, and whatever was called on it before.
 
-ghost use Rattle.std.specs.Prelude.{◌≡◌, ◌==◌, ◌&&◌, ◌||◌, IfSome, not, nat_lt};
+ghost use Rattle.std.specs.Prelude.{◌≡◌, ◌==◌, ◌&&◌, ◌||◌, IfSome};
 ghost use Rattle.std.specs.List.{list_any};
 ghost use Rattle.cell.specs.Refusals.{first_of};
 ghost use Rattle.cell.specs.declared.limits.TheConstants.{MOST_PANELS};

@@ -1,4 +1,5 @@
-//! The call that a word was meant to be, where one letter of it is wrong, or two changed places, or its case, or what else is no letter.
+//! The call that a word was meant to be, where one letter of it is wrong, or two changed places, or its case, or what
+//! else is no letter.
 
 ghost use Rattle.std.specs.Prelude.{◌≡◌, ◌≤◌, ◌<◌, ◌∷◌, [], IfSome, MatchOption, find, length, option_map};
 ghost use Rattle.std.specs.Str.{bytes_eq};
@@ -68,8 +69,8 @@ fn are_swapped(text: &[u8], other: &[u8]) -> bool
     first == other_second && second == other_first && has_letters_of(rest, others)
 }
 
-/// Whether the letters of two texts are the same, but for one at most that is dropped, added or changed, or changes places with the
-/// next.
+/// Whether the letters of two texts are the same, but for one at most that is dropped, added or changed, or changes
+/// places with the next.
 fn is_near(text: &[u8], other: &[u8]) -> bool
     ensures { result ≡ is_near (letters_of text.now) (letters_of other.now) }
 {

@@ -26,8 +26,9 @@ impl Read for Pieces<'_> {
     }
 }
 
-/// A writer that takes at most `step` bytes a call. Once, where it has taken `stop` bytes, its next write fails or takes none, or its
-/// next flush fails; and once more `again` bytes after that. One that is stuck can't be flushed. It counts its writes.
+/// A writer that takes at most `step` bytes a call. Once, where it has taken `stop` bytes, its next write fails or
+/// takes none, or its next flush fails; and once more `again` bytes after that. One that is stuck can't be flushed. It
+/// counts its writes.
 #[derive(Drop)]
 pub struct Halting {
     pub taken: Vec<u8>,

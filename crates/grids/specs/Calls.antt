@@ -1,11 +1,11 @@
 -- A call made on a table of windows.
-use Rattle.std.specs.Prelude.{◌≡◌, IfOk, OnErr, OnOk, Option, Result, Some}
+use Rattle.std.specs.Prelude.{◌≡◌, ℕ, Bool, false, IfOk, OnErr, OnOk, Option, Result, Some}
 use Rattle.std.specs.Result.{result_err}
 use Rattle.cell.specs.declared.refusal.Refusal.{Refusal}
 use Rattle.world.specs.Effects.{Change, after_change, change_reply, change_takes_memory}
 use Rattle.world.specs.Sound.{AreSoundWindows}
 use Rattle.world.specs.calls.Copying.{copying_change, copying_refusal}
-use Rattle.world.specs.calls.Making.{in_no_panel, making_change, making_refusal}
+use Rattle.world.specs.calls.Making.{making_change, making_refusal}
 use Rattle.world.specs.calls.Queries.{query_refusal}
 use Rattle.world.specs.calls.Refused.{Refused}
 use Rattle.world.specs.declared.call.Copying.{Copying}
@@ -23,7 +23,11 @@ pub record Changed {T : Type 0} (reply_of : T → Reply) (old : WindowTable) (re
   pub unchanged : OnErr r (new ≡ old)
   pub sound : AreSoundWindows (windows new)
 
--- of making and placing, as if no window were in a panel
+-- as if no window were in a panel
+abbrev in_no_panel : ℕ → Bool
+in_no_panel w = false
+
+-- of making and placing; which windows are in panels a table of windows doesn't know
 abbrev pub Made : {T : Type 0} → (T → Reply) → WindowTable → Making → Result T Refusal → WindowTable → Type 0
 Made reply_of old making r new = Changed reply_of old (making_refusal (windows old) in_no_panel making) (making_change (windows old) making) r new
 

@@ -5,7 +5,7 @@ use Rattle.std.specs.Option.{option_map, option_map_or}
 use Rattle.cell.specs.declared.refusal.Refusal.{Refusal}
 use Rattle.cell.specs.declared.refusal.Refusal.TheVariants.{NoSuchWindow, NotDerived}
 use Rattle.cell.specs.declared.window.WinId.{WinId}
-use Rattle.world.specs.Windows.{Window, WindowMap, parent_number}
+use Rattle.world.specs.Windows.{WindowMap, parent_number}
 
 -- the window from which window w derives
 abbrev pub parent_answer : WindowMap → ℕ → Result WinId Refusal

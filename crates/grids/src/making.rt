@@ -1,4 +1,5 @@
-//! Making, moving and deleting windows and pads. The table knows no panels: it moves and deletes as if no window were in one.
+//! Making, moving and deleting windows and pads. The table knows no panels: it moves and deletes as if no window were
+//! in one.
 
 ghost use Rattle.std.specs.Prelude.{◌≡◌, ◌<◌, ◌+◌, ◌^◌, Some, None, IsSome, MatchOption, ⊤, nat_le, if◌then◌else◌};
 ghost use Rattle.cell.specs.Refusals.{first_of};
@@ -18,7 +19,8 @@ use slots::parents::settle;
 use slots::{Part, Slot};
 
 impl Grids {
-    /// Makes a window at a place of the screen, with a blank grid of its own. A size of 0 reaches to the edge of the screen.
+    /// Makes a window at a place of the screen, with a blank grid of its own. A size of 0 reaches to the edge of the
+    /// screen.
     ///
     /// # Errors
     /// `OffScreen`, `TooMany`, `NoMemory`.
@@ -57,7 +59,8 @@ impl Grids {
         Ok(WinId(number))
     }
 
-    /// Makes a window that shows the part of a window from a line and a column of it on. A size of 0 reaches to its edge.
+    /// Makes a window that shows the part of a window from a line and a column of it on. A size of 0 reaches to its
+    /// edge.
     ///
     /// # Errors
     /// `NoSuchWindow`, `IsPad`, `OutsideParent`, `TooMany`, `NoMemory`.
@@ -77,7 +80,8 @@ impl Grids {
         self.derive(win, nlines, ncols, begin_y, begin_x)
     }
 
-    /// Makes a window that shows the part of a window from a place of the screen on. A size of 0 reaches to the window's edge.
+    /// Makes a window that shows the part of a window from a place of the screen on. A size of 0 reaches to the
+    /// window's edge.
     ///
     /// # Errors
     /// `NoSuchWindow`, `IsPad`, `OutsideParent`, `TooMany`, `NoMemory`.
@@ -169,8 +173,8 @@ impl Grids {
         Ok(())
     }
 
-    /// Lets a derived window or pad show the part of its parent from another line and column on. It stays where it is on
-    /// the screen, and what derives from it follows.
+    /// Lets a derived window or pad show the part of its parent from another line and column on. It stays where it is
+    /// on the screen, and what derives from it follows.
     ///
     /// # Errors
     /// `NoSuchWindow`, `NotDerived`, `OutsideParent`.

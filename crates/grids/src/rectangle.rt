@@ -12,9 +12,9 @@ use slots::Place;
 use slots::list::origin_of;
 
 impl Grids {
-    /// Sets the cells of `lines` lines and `columns` columns of `dst`, from line `dy` and column `dx` on, to those that `src` has from
-    /// line `sy` and column `sx` on, as if all were read before any is written; with `overlay`, all but the spaces. It answers the
-    /// smallest rectangle of `dst` that holds what it wrote. The places must exist.
+    /// Sets the cells of `lines` lines and `columns` columns of `dst`, from line `dy` and column `dx` on, to those that
+    /// `src` has from line `sy` and column `sx` on, as if all were read before any is written; with `overlay`, all but
+    /// the spaces. It answers the smallest rectangle of `dst` that holds what it wrote. The places must exist.
     pub fn copy_rectangle(
         &mut self,
         src: WinId,

@@ -49,8 +49,8 @@ impl Grids {
         self.row(win, y)[usize::from(x)]
     }
 
-    /// Sets the cells of line `y` of a window in the columns from `left` to `right`, both inclusive, to one cell. The places must exist,
-    /// and `left` must not be after `right`.
+    /// Sets the cells of line `y` of a window in the columns from `left` to `right`, both inclusive, to one cell. The
+    /// places must exist, and `left` must not be after `right`.
     pub fn fill(&mut self, win: WinId, y: u16, left: u16, right: u16, cell: Cell)
         requires ordered { left ≤ right }
         requires there { HasPlace (windows self.old).window win.0 y right }
@@ -89,8 +89,8 @@ impl Grids {
         touch_row(&mut self.slots, win.0, y, x, x);
     }
 
-    /// Prints characters from 32 to 126 in line `y` of a window, from column `left` on, each with the attributes and the pair of a
-    /// pen; a space becomes the pen itself. The places must exist.
+    /// Prints characters from 32 to 126 in line `y` of a window, from column `left` on, each with the attributes and
+    /// the pair of a pen; a space becomes the pen itself. The places must exist.
     #[inline(always)]
     pub fn print(&mut self, win: WinId, y: u16, left: u16, text: &[u8], pen: Cell)
         requires some { 0 < length text.now }
@@ -112,8 +112,8 @@ impl Grids {
         touch_row(&mut self.slots, win.0, y, left, end - 1);
     }
 
-    /// Sets `n` cells of line `dy` of `dst` from column `dx` on to those that line `sy` of `src` has from column `sx` on, as if all
-    /// were read before any is written; with `overlay`, all but the spaces. The places must exist.
+    /// Sets `n` cells of line `dy` of `dst` from column `dx` on to those that line `sy` of `src` has from column `sx`
+    /// on, as if all were read before any is written; with `overlay`, all but the spaces. The places must exist.
     pub fn copy_row(
         &mut self,
         src: WinId,
@@ -138,8 +138,8 @@ impl Grids {
         prove!(self.has_window(WinId::STANDARD));
     }
 
-    /// Copies some cells of a line, and answers the smallest rectangle of the destination that holds what it wrote. It goes piece by
-    /// piece, an overlay cell by cell, from the end at which no cell is written before it is read.
+    /// Copies some cells of a line, and answers the smallest rectangle of the destination that holds what it wrote. It
+    /// goes piece by piece, an overlay cell by cell, from the end at which no cell is written before it is read.
     pub(crate) fn copy_line(
         &mut self,
         from: Place,

@@ -72,8 +72,8 @@ impl Grids {
         }
     }
 
-    /// Touches a window where it shows a touched place of another one, `source`. Both are parts of one window, or one
-    /// is a part of the other: `at` and `source_at` are the places of it at which the two begin.
+    /// Touches a window where it shows a touched place of another one, `source`. One derives from the other: `at` and
+    /// `source_at` are the places of the older one at which the two begin, (0, 0) for itself.
     fn touch_shown(&mut self, win: u16, at: (u16, u16), source: u16, source_at: (u16, u16))
         requires other { win ≢ source }
         requires window { EndsWithin (windows self.old).window win at }
@@ -157,8 +157,8 @@ impl Grids {
     }
 }
 
-/// The columns of a line that show touched columns of another line. Both are parts of one longer line: the other begins
-/// at its column `from`, and the line at its column `to`. The line has `columns` columns.
+/// The columns of a line that show touched columns of another, of which it is a part, or which is a part of it. In the
+/// longer one the other begins at column `from`, and the line, of `columns` columns, at column `to`.
 pub fn clip(touched: Option<Columns>, from: u16, to: u16, columns: u16) -> Option<Columns>
     requires some { 0 < columns }
     requires source { MatchOption touched ⊤ (λ r. (r.first ≤ r.last) × (from + r.last < LARGEST_PAD)) }

@@ -13,7 +13,7 @@ ghost use Rattle.slots.specs.Slots.{slot_at};
 
 use cell::{LARGEST_SCREEN, Refusal, WinId, is_no_size};
 use slots::Slot;
-use slots::list::{set_cursor, set_slot};
+use slots::list::{set_slot, set_slot_cursor};
 use std::alloc::Global;
 use std::marker::Model;
 use world::Settings;
@@ -89,8 +89,8 @@ impl Grids {
         }
     }
 
-    /// Gives a window other settings. The window must exist and hold the cursor and the region, whose first line isn't after its last. Bits
-    /// beyond the six attributes are dropped.
+    /// Gives a window other settings. The window must exist and hold the cursor and the region, whose first line isn't
+    /// after its last. Bits beyond the six attributes are dropped.
     pub fn set_settings(&mut self, win: WinId, settings: Settings)
         requires cursor { HasPlace (windows self.old).window win.0 settings.cursor.0 settings.cursor.1 }
         requires region_order { settings.region.0 ≤ settings.region.1 }
@@ -106,6 +106,6 @@ impl Grids {
         ensures set { windows self.new ≡ set (windows self.old) win.0 (with_cursor (y, x)) }
         ensures sound { AreSoundWindows (windows self.new) }
     {
-        set_cursor(&mut self.slots, win.0, y, x);
+        set_slot_cursor(&mut self.slots, win.0, y, x);
     }
 }

@@ -38,8 +38,8 @@ first_painter lines columns = record { lines = lines; columns = columns; last = 
 abbrev pub blank_shown : ℕ → ℕ → ShownPicture
 blank_shown lines columns = record { picture = blank_picture lines columns; cursor = origin }
 
--- What is known of the terminals when a doupdate begins. It clears where that is nothing: where the painter knows nothing, or a clear screen
--- is asked for.
+-- What is known of the terminals when a doupdate begins. It clears where that is nothing: where the painter knows
+-- nothing, or a clear screen is asked for.
 abbrev pub known_picture : PainterState → Bool → Option ShownPicture
 known_picture painter clear = if clear then None else painter.last
 
@@ -48,7 +48,7 @@ abbrev pub start_from : PainterState → Option ShownPicture → ShownPicture
 start_from painter None = blank_shown painter.lines painter.columns
 start_from painter (Some shown) = shown
 
--- What the terminal shows where the text, or its part after the opening, begins. A doupdate that clears begins at a blank picture.
+-- What the terminal shows where the text begins after its opening. A doupdate that clears begins at a blank picture.
 abbrev pub start_of_update : PainterState → Bool → ShownPicture
 start_of_update painter clear = start_from painter (known_picture painter clear)
 
@@ -83,14 +83,16 @@ place_bytes = position_bytes + selection_bytes + 1
 abbrev pub end_bytes : ℕ
 end_bytes = none_bytes + position_bytes
 
--- the most bytes of a text: those of each changed place, 6 more where the wanted picture has a colour there, the end's, and the opening's
+-- the most bytes of a text: those of each changed place, 6 more where the wanted picture has a colour there, the end's,
+-- and the opening's
 abbrev pub most_bytes : PainterState → Bool → ShownPicture → ℕ
 most_bytes painter clear wanted =
     let start = (start_of_update painter clear).picture in
     place_bytes * difference start wanted.picture + colour_bytes * colour_difference start wanted.picture + end_bytes + length (opening_from (known_picture painter clear))
 
--- The text of a doupdate, whether a clear screen is asked for or not. It begins with the opening where the doupdate clears, and shows the
--- picture and the cursor, read from any terminal that may read it. It is short, and where nothing changed it only moves the cursor.
+-- The text of a doupdate, whether a clear screen is asked for or not. It begins with the opening where the doupdate
+-- clears, and shows the picture and the cursor, read from any terminal that may read it. It is short, and where nothing
+-- changed it only moves the cursor.
 pub record IsUpdateText (painter : PainterState) (clear : Bool) (wanted : ShownPicture) (text : List ℕ) : Type 0 where
   pub rest : List ℕ
   pub parts : text ≡ opening_from (known_picture painter clear) ++ rest
@@ -100,7 +102,7 @@ pub record IsUpdateText (painter : PainterState) (clear : Bool) (wanted : ShownP
 
 -- ---- what a doupdate did
 
--- The sink took one text, all of it, and the one flush that was tried succeeded after its last byte. No failure was counted.
+-- The sink took all of one text, and the one flush that was tried, after it, succeeded. No failure was counted.
 pub record Updates (painter : PainterState) (clear : Bool) (old new : Seen) (wanted : ShownPicture) (bytes : ℕ) : Type 0 where
   pub text : List ℕ
   pub is_text : IsUpdateText painter clear wanted text
@@ -131,8 +133,8 @@ pub record CanShow (painter : PainterState) (virtual : VirtualScreen) : Type 0 w
   pub column : virtual.cursor.1 < painter.columns
 
 module _ {W : Type 0} (seen : W → Seen) (name : W → ℕ) where
-  -- A doupdate was made, and ended so: all that is known of it. Where it succeeded, the painter knows what it showed, and else nothing. The sink
-  -- is the same.
+  -- A doupdate was made, and ended so: all that is known of it. Where it succeeded, the painter knows what it showed,
+  -- and else nothing. The sink is the same.
   pub record UpdateMade (old : PainterState) (before : W) (virtual : VirtualScreen) (end : Result Sent WriteFault)
       (new : PainterState) (after : W) : Type 0 where
     pub text : UpdateEnds old virtual.clear (seen before) (seen after) (wanted_of virtual) end
@@ -141,8 +143,9 @@ module _ {W : Type 0} (seen : W → Seen) (name : W → ℕ) where
 
 -- ---- streams that agree with a painter
 
--- All that was sent to a terminal so far agrees with the painter, read from t: it is in the profile, and where the painter knows what it
--- showed last, it leads from t to that. Sequences that were never finished may be in it, each before an escape.
+-- All that was sent to a terminal so far agrees with the painter, read from t: it is in the profile, and where the
+-- painter knows what it showed last, it leads from t to that. Sequences that were never finished may be in it, each
+-- before an escape.
 pub record Agrees (painter : PainterState) (stream : List ℕ) (t : Terminal) : Type 0 where
   pub in_profile : (u : Terminal) × IsInProfile stream t u
   pub leads : MatchOption painter.last ⊤ (λ shown. LeadsWithBreaks stream t (showing shown.picture shown.cursor))

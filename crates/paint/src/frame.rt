@@ -2,7 +2,7 @@
 
 ghost use Rattle.std.specs.Prelude.{◌≤◌, length};
 ghost use Rattle.paint.specs.declared.passes.TheConstants.{MOST};
-ghost use Rattle.paint.specs.steps.Holding.{CanDraw, HoldsFrame};
+ghost use Rattle.paint.specs.steps.Holding.{CanDraw, HoldsFrameUpdate};
 ghost use Rattle.paint.specs.steps.Listing.{AreRuns};
 ghost use Rattle.paint.specs.steps.Strokes.{SameTerminals};
 
@@ -27,7 +27,7 @@ pub fn draw_frame<W: Sink>(
     to: (u16, u16),
 )
     requires { CanDraw pen.old frame.now.lines frame.now.columns to }
-    ensures holds { HoldsFrame frame.now from to (W.seen sink.old) (W.seen sink.new) pen.new.outbox }
+    ensures holds { HoldsFrameUpdate frame.now from to (W.seen sink.old) (W.seen sink.new) pen.new.outbox }
     ensures same { SameTerminals (W.name sink.old) (W.name sink.new) pen.old pen.new }
 {
     let order = order_of(frame);
@@ -59,7 +59,7 @@ fn draw_walk<W: Sink>(
     to: (u16, u16),
 )
     requires { CanDraw pen.old frame.now.lines frame.now.columns to }
-    ensures holds { HoldsFrame frame.now from to (W.seen sink.old) (W.seen sink.new) pen.new.outbox }
+    ensures holds { HoldsFrameUpdate frame.now from to (W.seen sink.old) (W.seen sink.new) pen.new.outbox }
     ensures same { SameTerminals (W.name sink.old) (W.name sink.new) pen.old pen.new }
 {
     pen.begin(from);
@@ -80,7 +80,7 @@ fn draw_passes<W: Sink>(
     requires can { CanDraw pen.old frame.now.lines frame.now.columns to }
     requires few { length order.now ≤ MOST }
     requires runs { AreRuns order.now frame.now.shown.now frame.now.wanted.now runs.now (frame.now.lines, 0) }
-    ensures holds { HoldsFrame frame.now from to (W.seen sink.old) (W.seen sink.new) pen.new.outbox }
+    ensures holds { HoldsFrameUpdate frame.now from to (W.seen sink.old) (W.seen sink.new) pen.new.outbox }
     ensures same { SameTerminals (W.name sink.old) (W.name sink.new) pen.old pen.new }
 {
     pen.begin(from);

@@ -18,7 +18,8 @@ pub owner-of-end : (o : ℕ → Option ℕ) (spans : Spans) → AreSpans o spans
     → o x ≡ numbered (slice_index spans.panels e)
 owner-of-end o spans h x e from is first = h.same x e (record { from = from; is = is; first = first })
 
-pub joined-none : (ends : List ℕ) (u x e : ℕ) → ((n : ℕ) → u ≤ n → n < x → contains ends n ≡ false) → ((n : ℕ) → x ≤ n → n < e → contains ends n ≡ false) → (n : ℕ) → u ≤ n → n < e → contains ends n ≡ false
+pub joined-none : (ends : List ℕ) (u x e : ℕ) → ((n : ℕ) → u ≤ n → n < x → contains ends n ≡ false) → ((n : ℕ) → x ≤ n → n < e → contains ends n ≡ false)
+    → (n : ℕ) → u ≤ n → n < e → contains ends n ≡ false
 joined-none ends u x e before after n from below = grind (arith, cases_lt)
 
 -- the span from a column on, up to the edge
@@ -68,7 +69,8 @@ module _ (o laid : ℕ → Option ℕ) (left right p : ℕ) (old new : Spans) (h
   -- its own end
   is-held : (x : ℕ) → IsEndFrom new.ends x right → left ≤ x
   is-held x is = elim (cases_lt x left) [
-    | inl below ↦ absurd (let never : true ≡ false = sym (h.at_left (left - 1) (omega (arith, below))) ∙ is.first (left - 1) (omega (arith, below)) (let w = h.ordered in omega (arith, below, w)) in cc)
+    | inl below ↦ absurd (let never : true ≡ false = sym (h.at_left (left - 1) (omega (arith, below))) ∙ is.first (left - 1) (omega (arith, below))
+        (let w = h.ordered in omega (arith, below, w)) in cc)
     | inr upto ↦ upto
   ]
 
@@ -128,7 +130,8 @@ module _ (o laid : ℕ → Option ℕ) (left right p : ℕ) (old new : Spans) (h
   laid-another : (e : ℕ) → contains new.ends e ≡ true → laid (e + 1) ≢ numbered (slice_index new.panels e)
   laid-another e is same = elim (place-of e is) [
     | far_before far ↦ spans.another e (sym (h.before e far) ∙ is) (sym (before (e + 1) far) ∙ same ∙ ap numbered (h.panels_before e far))
-    | edge is_edge ↦ none e (h.owner e e is_edge (omega arith) (λ n from below. absurd (omega (arith, from, below))) ∙ sym same ∙ held (e + 1) (omega (arith, is_edge)) (let w = h.ordered in omega (arith, is_edge, w)))
+    | edge is_edge ↦ none e (h.owner e e is_edge (omega arith) (λ n from below. absurd (omega (arith, from, below))) ∙ sym same ∙ held (e + 1) (omega (arith, is_edge))
+        (let w = h.ordered in omega (arith, is_edge, w)))
     | last is_last ↦ none (e + 1) (sym (after (e + 1) (omega (arith, is_last))) ∙ same ∙ ap numbered (ap (slice_index new.panels) is_last ∙ h.panel) ∙ its-number)
     | far_after far ↦ spans.another e (sym (h.after e far) ∙ is) (sym (after (e + 1) (omega (arith, far))) ∙ same ∙ ap numbered (h.panels_after e far))
   ]

@@ -1,4 +1,5 @@
--- The spans of a line: columns side by side at which the search from the top finds the same panel, or the standard screen.
+-- The spans of a line: columns side by side at which the search from the top finds the same panel, or the standard
+-- screen.
 use Rattle.std.specs.Prelude.{◌≡◌, ◌≢◌, ℕ, ◌+◌, ◌<◌, ◌≤◌, true, All, MatchOption, ⊤}
 use Rattle.world.specs.Panels.{Panels, owner}
 use Rattle.world.specs.Windows.{WindowMap}
@@ -10,8 +11,8 @@ use Rattle.picture.specs.declared.span.Span.{Span}
 abbrev pub HasPanelWindows : WindowMap → Panels → Type 0
 HasPanelWindows window panels = All (λ p. MatchOption (panels.window p) ⊤ (λ w. is_no_pad window w ≡ true)) panels.visible
 
--- The search finds the span's panel at each column of line y from x on, up to the span's end, and another one, or none, in the column
--- after that, where that isn't past the edge.
+-- The search finds the span's panel at each column of line y from x on, up to the span's end, and another one, or none,
+-- in the column after that, where that isn't past the edge.
 pub record IsSpan (window : WindowMap) (panels : Panels) (y x edge : ℕ) (span : Span) : Type 0 where
   pub from : x ≤ span.end
   pub within : span.end ≤ edge

@@ -15,9 +15,10 @@ use crate::search::window_of;
 use cell::{Grid, Pairs, Shown, show_cells};
 use stack::Stack;
 
-/// Sets the columns of line `y` of a picture of the screen, from `left` to `right`, both inclusive, to what a search from the top visible
-/// panel down to the standard screen finds, and leaves all others. It reads as many cells of windows as there are such columns. The
-/// standard screen must hold them, and so must the picture's line; and the window of each visible panel must exist.
+/// Sets the columns of line `y` of a picture of the screen, from `left` to `right`, both inclusive, to what a search
+/// from the top visible panel down to the standard screen finds, and leaves all others. It reads as many cells of
+/// windows as there are such columns. The standard screen must hold them, and so must the picture's line; and the
+/// window of each visible panel must exist.
 pub fn compose_row<'a, R: Rows<'a>>(
     rows: &mut R,
     stack: &Stack,

@@ -1,5 +1,5 @@
-//! The search from the top, along the lines of the screen. What it finds in one line holds in those below it up to where a panel begins or
-//! ends, and is kept for them.
+//! The search from the top, along the lines of the screen. What it finds in one line holds in those below it up to
+//! where a panel begins or ends, and is kept for them.
 
 ghost use Rattle.std.specs.Prelude.{◌≡◌, ◌≢◌, ◌<◌, ◌≤◌, ℕ, Some, Option, if◌then◌else◌};
 ghost use Rattle.cell.specs.declared.limits.TheConstants.{LARGEST_SCREEN};
@@ -46,8 +46,8 @@ impl Owners {
         self.spans.clear();
     }
 
-    /// The span of line `y` from column `x` on, up to `edge` at most. The panels are searched only where the line isn't one of those whose
-    /// spans are known.
+    /// The span of line `y` from column `x` on, up to `edge` at most. The panels are searched only where the line isn't
+    /// one of those whose spans are known.
     pub fn span<'a, R: Rows<'a>>(
         &mut self,
         rows: &R,
@@ -81,8 +81,8 @@ impl Owners {
         self.find(rows, stack, y);
     }
 
-    /// Finds the spans of line `y`, and up to which line they are the same. It looks at each visible panel once, from the bottom to the top,
-    /// and lays it over those below it.
+    /// Finds the spans of line `y`, and up to which line they are the same. It looks at each visible panel once, from
+    /// the bottom to the top, and lays it over those below it.
     fn find<'a, R: Rows<'a>>(&mut self, rows: &R, stack: &Stack, y: u16)
         requires panels { HasPanelWindows (R.windows rows.now).window (panels stack.now) }
         ensures top { self.new.top ≤ y }

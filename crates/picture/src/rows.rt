@@ -3,7 +3,6 @@
 ghost use Rattle.std.specs.Prelude.{◌≡◌, ◌<◌, ◌≤◌, ◌+◌, ◌-◌, ℕ, true};
 ghost use Rattle.cell.specs.declared.limits.TheConstants.{LARGEST_SCREEN};
 ghost use Rattle.world.specs.Panels.{holds, place_of};
-ghost use Rattle.world.specs.Sound.{AreSoundWindows};
 ghost use Rattle.world.specs.Windows.{HasPlace, Windows};
 ghost use Rattle.world.specs.calls.Making.{is_no_pad};
 ghost use Rattle.grids.specs.Tables.{windows as windows_of};
@@ -15,8 +14,8 @@ use crate::piece::piece;
 use cell::{Cell, Rect, WinId};
 use grids::Grids;
 
-/// Gives pieces of the lines of windows to read, and counts their cells. The pieces don't borrow the counter: they may still be read while
-/// it gives more.
+/// Gives pieces of the lines of windows to read, and counts their cells. The pieces don't borrow the counter: they may
+/// still be read while it gives more.
 pub trait Rows<'a> {
     // The windows that are read, and how many of their cells were given to read.
     ghost windows: { Self → Windows };
@@ -31,8 +30,8 @@ pub trait Rows<'a> {
         ensures within { result.right < LARGEST_SCREEN }
         ensures holds { (y x : ℕ) → frame_holds result y x ≡ holds (windows self.now).window win.0 y x };
 
-    /// A piece of line `y` of a window, from its column `left` to its column `right`, both inclusive, which must exist. The count goes up
-    /// by the number of its cells, modulo 2^64.
+    /// A piece of line `y` of a window, from its column `left` to its column `right`, both inclusive, which must exist.
+    /// The count goes up by the number of its cells, modulo 2^64.
     fn read(&mut self, win: WinId, y: u16, left: u16, right: u16) -> &'a [Cell]
         requires ordered { left ≤ right }
         requires place { HasPlace (windows self.old).window win.0 y right }

@@ -1,7 +1,7 @@
 //! The search from the top visible panel down to the standard screen, and the topmost's cursor.
 
-ghost use Rattle.std.specs.Prelude.{◌≡◌, ◌<◌, true};
-ghost use Rattle.world.specs.Panels.{cursor_of_topmost, cursor_on_screen, found_from_top, holds, owner, place_of, topmost, window_or_standard};
+ghost use Rattle.std.specs.Prelude.{◌≡◌, ◌<◌};
+ghost use Rattle.world.specs.Panels.{cursor_of_topmost, cursor_on_screen, found_from_top, place_of, topmost, window_or_standard};
 ghost use Rattle.world.specs.Sound.{AreSoundPanels, AreSoundWindows};
 ghost use Rattle.world.specs.calls.Stacking.{panel_number};
 ghost use Rattle.grids.specs.Tables.{windows as windows_of};
@@ -14,8 +14,8 @@ use grids::Grids;
 use stack::Stack;
 use world::PanelId;
 
-/// The cell that a search from the top visible panel down to the standard screen finds at line `y` and column `x` of the screen,
-/// which has so many columns.
+/// The cell that a search from the top visible panel down to the standard screen finds at line `y` and column `x` of
+/// the screen, which has so many columns.
 pub fn cell_found(table: &Grids, stack: &Stack, y: u16, x: u16, columns: u16) -> Cell
     requires windows { AreSoundWindows (windows_of table.now) }
     requires panels { AreSoundPanels (windows_of table.now).window (panels stack.now) }
@@ -30,7 +30,7 @@ pub fn cell_found(table: &Grids, stack: &Stack, y: u16, x: u16, columns: u16) ->
     table.cell(win, y - top, x - left)
 }
 
-/// Where the cursor of the top visible panel's window is on the screen, or the standard screen's if no panel is visible.
+/// Where the cursor of the top visible panel's window is on the screen, or of the standard screen if there is none.
 pub fn wanted_cursor(table: &Grids, stack: &Stack) -> (u16, u16)
     ensures { result ≡ cursor_of_topmost (windows_of table.now).window (panels stack.now) }
 {

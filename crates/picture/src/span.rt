@@ -9,8 +9,8 @@ use crate::rows::Rows;
 use stack::Stack;
 use world::PanelId;
 
-/// The panel that the search from the top finds from a column on, none for the standard screen, and the last column up to which it finds
-/// the same at every column.
+/// The panel that the search from the top finds from a column on, none for the standard screen, and the last column up
+/// to which it finds the same at every column.
 #[derive(Clone, Copy)]
 pub struct Span {
     pub panel: Option<PanelId>,

@@ -15,8 +15,8 @@ use world::PanelId;
 /// How many columns a line of the screen has at most.
 const COLUMNS: usize = 999;
 
-/// The spans of a line, each by its last column, with the number of the panel that owns it, 0 for none. No panel owns a column after the
-/// last of them.
+/// The spans of a line, each by its last column, with the number of the panel that owns it, 0 for none. No panel owns a
+/// column after the last of them.
 #[derive(Drop)]
 pub struct Spans {
     ends: SmallSet,

@@ -82,7 +82,7 @@ fn put(table: &mut Grids, win: WinId, x: u16, character: u8) -> Result<(), Fail>
     Ok(())
 }
 
-/// A screen of 1 line and 4 columns that shows `abcd`. One window is at column 1 of it and shows `XY`, one shows `----`.
+/// A screen of 1 line and 4 columns that shows `abcd`. One window, at its column 1, shows `XY`, and one `----`.
 fn windows(alloc: Global) -> Result<Grids, Fail> {
     let mut table = Grids::new(alloc, 1, 4)?;
     table.newwin(1, 2, 0, 1)?;
@@ -123,7 +123,7 @@ fn dashes(alloc: Global, table: &Grids) -> Result<Grid<Shown>, Fail>
     Ok(picture)
 }
 
-/// Composes the columns from `left` to `right` over dashes: the characters that the picture has then, and what was read.
+/// Composes the columns from `left` to `right` over dashes: the characters of the picture, and what was read.
 fn composed<'a>(
     alloc: Global,
     table: &'a Grids,

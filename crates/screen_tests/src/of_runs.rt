@@ -66,8 +66,8 @@ fn a_run_goes_on_after_one_that_a_failed_write_ended(rt: HostRuntime) -> Result<
     Ok(())
 }
 
-/// Whether a run ends at a write that fails after so many bytes of its last text, once the writer has taken `stop`, and the next
-/// `doupdate` sends a text that shows all.
+/// Whether a run ends at a write that fails after so many bytes of its last text, once the writer has taken `stop`, and
+/// the next `doupdate` sends a text that shows all.
 fn is_repaired(
     alloc: Global,
     stop: usize,

@@ -97,8 +97,8 @@ fn a_script_ends_where_something_fails_and_another_goes_on(rt: HostRuntime) {
     }
 }
 
-/// How a script of two lines ends where a read fails after so many letters that a third one writes, if the first two calls were made,
-/// and no other.
+/// How a script of two lines ends where a read fails after so many letters that a third one writes, if the first two
+/// calls were made, and no other.
 fn cut_after(alloc: Global, letters: usize) -> Result<Option<ScriptFault>, Refusal> {
     let mut text = [b'x'; 600];
     text[..31].copy_from_slice(b"addstr 0 h\naddstr 0 i\naddstr 0 ");

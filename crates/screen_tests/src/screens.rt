@@ -1,5 +1,6 @@
-//! Screens for tests. What is known of a call would be carried along through the proof of each test: so helpers without a contract make
-//! them, and whoever owns a screen does little else, since each way out of a function that owns one adds to its proof.
+//! Screens for tests. What is known of a call would be carried along through the proof of each test: so helpers without
+//! a contract make them, and whoever owns a screen does little else, since each way out of a function that owns one
+//! adds to its proof.
 
 use cell::Rendition;
 use desk::{

@@ -10,12 +10,13 @@ use Rattle.streams.specs.Sources.{SourceSeen}
 use Rattle.script.specs.declared.bytes.LineEnd.{LineEnd}
 use Rattle.script.specs.declared.bytes.LineEnd.TheVariants.{Newline, ScriptEnd, ReadFailed}
 
--- What is left to be read, at most. A byte that is taken makes it less, and so does a read, which gives no more than a piece.
+-- What is left to be read, at most. A byte that is taken makes it less, and so does a read, which gives no more than a
+-- piece.
 abbrev pub work_left : SourceSeen → List ℕ → ℕ
 work_left seen unused = (LONGEST_PIECE + 1) * seen.reads_left + length unused
 
--- How a reading ends: that it met the end is remembered, where the end was not met before nothing was read after it, that the reading
--- failed is counted, and where it continues less is left.
+-- How a reading ends: that it met the end is remembered, where the end was not met before nothing was read after it,
+-- that the reading failed is counted, and where it continues less is left.
 pub record ReadingEnds (old new : SourceSeen) (unused left : List ℕ) (meets_end fails continues : Bool) : Type 0 where
   pub ended : new.met_end ≡ (meets_end || old.met_end)
   pub past : old.met_end ≡ false → new.read_past_end ≡ old.read_past_end

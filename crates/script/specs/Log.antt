@@ -11,19 +11,19 @@ use Rattle.script.specs.declared.fault.TextFault.{TextFault}
 use Rattle.script.specs.declared.fault.TextFault.TheVariants.{LineTooLong, BadByte, UnknownCall, WrongNumberOfArguments, BadArgument}
 use Rattle.world.specs.declared.panel.PanelId.{PanelId}
 use Rattle.world.specs.declared.call.Reply.{Reply}
-use Rattle.world.specs.declared.call.Reply.TheVariants.{Nothing, Number, Pair, Cell, Flag, Panel, Composed, Sent}
+use Rattle.world.specs.declared.call.Reply.TheVariants.{Nothing, Number, TwoNumbers, Cell, Flag, Panel, Composed, Sent}
 
 -- the number of a panel, or that there is none
 abbrev pub panel_text : Option PanelId → List ℕ
 panel_text None = codes "none"
 panel_text (Some panel) = decimal panel.0
 
--- what the log says of a reply, if it says something: a number, two numbers, whether it is so, a panel or that there is none, or of a cell the code of its
--- character, its attributes in two hexadecimal digits, and its colour pair
+-- what the log says of a reply, if it says something: a number, two numbers, whether it is so, a panel or that there is
+-- none, or of a cell the code of its character, its attributes in two hexadecimal digits, and its colour pair
 abbrev pub reply_text : Reply → Option (List ℕ)
 reply_text Nothing = None
 reply_text (Number win) = Some (decimal win.0)
-reply_text (Pair y x) = Some (decimal y ++ space ∷ decimal x)
+reply_text (TwoNumbers y x) = Some (decimal y ++ space ∷ decimal x)
 reply_text (Cell cell) = Some (decimal cell.character ++ space ∷ hex_digits cell.attributes ++ space ∷ decimal cell.pair)
 reply_text (Flag flag) = Some (if flag then codes "true" else codes "false")
 reply_text (Panel panel) = Some (panel_text panel)

@@ -1,5 +1,5 @@
--- What a script says: its calls with the numbers of their lines, up to the first fault. The form of scripts is Curspan's own;
--- docs/curspan.1 describes it under SCRIPT and Arguments, and the faults in their order under LOG.
+-- What a script says: its calls with the numbers of their lines, up to the first fault. The form of scripts is
+-- Curspan's own; docs/curspan.1 describes it under SCRIPT and Arguments, and the faults in their order under LOG.
 use Rattle.std.specs.Prelude.{◌+◌, ◌-◌, ◌^◌, ◌==◌, ◌&&◌, ℕ, Bool, true, false, not, List, [], ◌∷◌, length, min, Option, Some, None, Result, Ok, Err, nat_lt, if◌then◌else◌}
 use Rattle.std.specs.List.{join_with_byte, list_any, slice_split}
 use Rattle.std.specs.Option.{option_map_or}
@@ -32,8 +32,8 @@ arguments (form ∷ forms) [] = []
 arguments (form ∷ forms) (piece ∷ pieces) =
     if is_text form then join_with_byte space (piece ∷ pieces) ∷ [] else piece ∷ arguments forms pieces
 
--- The call that an entry's arguments make, if they are as many as its forms and each has its own. Else their fault: a wrong number of them,
--- or else a bad form.
+-- The call that an entry's arguments make, if they are as many as its forms and each has its own. Else their fault: a
+-- wrong number of them, or else a bad form.
 abbrev pub parse_entry : Entry → List (List ℕ) → Result Call TextFault
 parse_entry entry pieces =
     if length (arguments entry.forms pieces) == length entry.forms

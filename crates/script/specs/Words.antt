@@ -1,6 +1,7 @@
--- The calls by their script words, with the forms of their arguments: one line for each call. The words are the names of the calls in X/Open
--- Curses Issue 7, and of those on panels in NetBSD's panel(3), without the `w` that some begin with; their arguments come in the order that
--- they have there. That a window is given by its number, and a character with attributes by both, is Curspan's own (docs/curspan.1).
+-- The calls by their script words, with the forms of their arguments: one line for each call. The words are the names
+-- of the calls in X/Open Curses Issue 7, and of those on panels in NetBSD's panel(3), without the `w` that some begin
+-- with; their arguments come in the order that they have there. That a window is given by its number, and a character
+-- with attributes by both, is Curspan's own (docs/curspan.1).
 use Rattle.std.specs.Prelude.{ℕ, ℤ, pos, Bool, false, List, [], ◌∷◌, codes, slice_index, Option, None, option_map, find}
 use Rattle.std.specs.List.{flat_map}
 use Rattle.std.specs.Str.{bytes_eq}

@@ -217,7 +217,7 @@ impl Bytes {
     }
 }
 
-/// The lines of a script, one after another. A line that is whole in one piece, its newline too, is read there, and not copied.
+/// The lines of a script, one after another. One that is whole in a piece, its newline too, is read there, not copied.
 #[derive(Drop)]
 pub struct Lines {
     bytes: Bytes,

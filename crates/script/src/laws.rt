@@ -10,8 +10,9 @@ pub fn each_word_is_read()
     ensures { (word : Word) → word_of (entry_of word).word ≡ Some word }
 {}
 
-/// The limits of a script's text in numerals: the bytes of a line, the arguments of a call, the digits and the greatest of numbers, with a
-/// sign and without, and the greatest set of attributes. Here a reader checks the values; all else uses the names.
+/// The limits of a script's text in numerals: the bytes of a line, the arguments of a call, the digits and the greatest
+/// of numbers, with a sign and without, and the greatest set of attributes. Here a reader checks the values; all else
+/// uses the names.
 pub fn limits_in_numerals()
     ensures line { LONGEST_LINE ≡ 512 }
     ensures arguments { MOST_ARGUMENTS ≡ 9 }

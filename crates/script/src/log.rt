@@ -44,7 +44,7 @@ fn append_reply(line: &mut LogLine, reply: Reply)
     match reply {
         Reply::Nothing | Reply::Composed(_) | Reply::Sent(_) => {}
         Reply::Number(win) => append_decimal(line, u64::from(win.0)),
-        Reply::Pair(y, x) => {
+        Reply::TwoNumbers(y, x) => {
             append_decimal(line, u64::from(y));
             append(line, b" ");
             append_decimal(line, u64::from(x));
@@ -127,8 +127,8 @@ fn answer_line(number: u64, answer: Result<Reply, Refusal>) -> LogLine
     line
 }
 
-/// Writes the line of a call that answers something or is refused, and nothing for another. An error leaves a prefix of the
-/// line, and not all. Nothing is flushed.
+/// Writes the line of a call that answers something or is refused, and nothing for another. An error leaves a prefix of
+/// the line, and not all. Nothing is flushed.
 #[inline(always)]
 pub fn log_answer<L: Sink>(
     log: &mut L,

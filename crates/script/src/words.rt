@@ -97,7 +97,8 @@ pub enum RefreshWord {
 
 // Written by tools/calls from calls.table: lists
 
-/// Each word, in the list of its first letter: `a` has the list 1, as the last five bits of its code say, and `z` the list 26.
+/// Each word, in the list of its first letter: `a` has the list 1, as the last five bits of its code say, and `z` the
+/// list 26.
 #[rattlefmt::skip]
 const WORDS: [&[Word]; 32] = [
     &[],
@@ -202,8 +203,8 @@ impl Word {
         find_named(words_like(text), text)
     }
 
-    /// The word's row, with the call that the arguments make. It is inlined, so that who asks for the word or its forms alone
-    /// makes no call for it.
+    /// The word's row, with the call that the arguments make. It is inlined, so that who asks for the word or its forms
+    /// alone makes no call for it.
     #[inline(always)]
     fn row(self, arguments: &Arguments) -> Row<'_>
         ensures { IsRow result (entry_of self) arguments.now }

@@ -223,7 +223,7 @@ const ANSWERS: [(u64, Result<Reply, Refusal>, &str); 9] = [
     (1, Ok(Reply::Number(WinId(2))), "line 1: 2\n"),
     (5, Ok(Reply::Panel(Some(PanelId(2)))), "line 5: 2\n"),
     (6, Ok(Reply::Panel(None)), "line 6: none\n"),
-    (12, Ok(Reply::Pair(3, 0)), "line 12: 3 0\n"),
+    (12, Ok(Reply::TwoNumbers(3, 0)), "line 12: 3 0\n"),
     (9, Err(Refusal::NoSuchWindow), "line 9: E1 NoSuchWindow\n"),
     (u64::MAX, Err(Refusal::BadCharacter), "line 18446744073709551615: E13 BadCharacter\n"),
     (2, Ok(Reply::Nothing), ""),

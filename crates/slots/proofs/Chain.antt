@@ -61,7 +61,7 @@ pub no_parent : (at : Place) (o : Option Part) → None ≡ option_map (in_paren
 no_parent at o h = grind arith
 
 -- the chain of win comes to this place of grid
-pub record Leads (slots : List (Option Kept)) (win grid line column : ℕ) : Type 0 where
+pub record ComesTo (slots : List (Option Kept)) (win grid line column : ℕ) : Type 0 where
   pub taken : IsSome (slot_at slots grid)
   pub same : (n : ℕ) → own_within (suc (depth_at slots win + n)) (window_map slots) win 0 0 ≡ own_within (suc (depth_at slots grid + n)) (window_map slots) grid line column
   pub lines : line + lines_at slots win ≤ lines_at slots grid
@@ -78,9 +78,9 @@ depth_at_below : (slots : List (Option Kept)) → IsChained slots → (w : ℕ) 
 depth_at_below slots s w taken = grind (arith, some_of, depth_below)
 
 -- one parent on
-pub Leads-step : (slots : List (Option Kept)) → IsChained slots → (win grid line column : ℕ) (k : Kept) (part : Part) → slot_at slots grid ≡ Some k → part_in k.cells ≡ Some part →
-    Leads slots win grid line column → Leads slots win part.parent (line + part.line) (column + part.column)
-Leads-step slots s win grid line column k part e in_part h =
+pub ComesTo-step : (slots : List (Option Kept)) → IsChained slots → (win grid line column : ℕ) (k : Kept) (part : Part) → slot_at slots grid ≡ Some k → part_in k.cells ≡ Some part →
+    ComesTo slots win grid line column → ComesTo slots win part.parent (line + part.line) (column + part.column)
+ComesTo-step slots s win grid line column k part e in_part h =
     let p = parent_at slots s grid k part e (shared_of k.cells part in_part) in
     record {
       taken = grind arith;
@@ -92,10 +92,10 @@ Leads-step slots s win grid line column k part e in_part h =
     }
 
 -- the end of the chain
-pub Leads-end : (slots : List (Option Kept)) → IsChained slots → length slots ≤ MOST_WINDOWS + 1 → (win grid line column : ℕ) (k : Kept) → IsSome (slot_at slots win) → slot_at slots grid ≡ Some k
+pub ComesTo-end : (slots : List (Option Kept)) → IsChained slots → length slots ≤ MOST_WINDOWS + 1 → (win grid line column : ℕ) (k : Kept) → IsSome (slot_at slots win) → slot_at slots grid ≡ Some k
     → part_in k.cells ≡ None →
-    Leads slots win grid line column → own_within window_limit (window_map slots) win 0 0 ≡ Some (record { grid = grid; line = line; column = column })
-Leads-end slots s few win grid line column k taken e is h =
+    ComesTo slots win grid line column → own_within window_limit (window_map slots) win 0 0 ≡ Some (record { grid = grid; line = line; column = column })
+ComesTo-end slots s few win grid line column k taken e is h =
     let n = window_limit - suc (depth_at slots win) in
     let whole : window_limit ≡ suc (depth_at slots win + n) = omega (arith, limit-is, depth_at_below slots s win taken) in
     let same = h.same n in rw whole (grind arith)
@@ -113,13 +113,13 @@ own_or_shared cells = grind arith
 
 -- the first place of a window leads to a place of a grid, in which the window lies
 module _ (slots : List (Option Kept)) (s : IsChained slots) (few : length slots ≤ MOST_WINDOWS + 1) (win : ℕ) (taken : IsSome (slot_at slots win)) where
-  root-from : (n at line column : ℕ) (k : Kept) → slot_at slots at ≡ Some k → k.depth ≡ n → Leads slots win at line column → IsSomeAnd (own (window_map slots) win 0 0) (IsRoot slots win)
-  root-from zero at line column k e is h = let end = Leads-end slots s few win at line column k taken e in grind (arith, own_or_shared, parent_at, each_at)
+  root-from : (n at line column : ℕ) (k : Kept) → slot_at slots at ≡ Some k → k.depth ≡ n → ComesTo slots win at line column → IsSomeAnd (own (window_map slots) win 0 0) (IsRoot slots win)
+  root-from zero at line column k e is h = let end = ComesTo-end slots s few win at line column k taken e in grind (arith, own_or_shared, parent_at, each_at)
   root-from (suc n) at line column k e is h = elim (own_or_shared k.cells) [
-    | inl alone ↦ let end = Leads-end slots s few win at line column k taken e alone h in grind (arith, each_at)
+    | inl alone ↦ let end = ComesTo-end slots s few win at line column k taken e alone h in grind (arith, each_at)
     | inr more ↦
         let p = parent_at slots s at k more.0 e more.1 in
-        root-from n more.0.parent _ _ p.0 p.1 (omega (arith, p.2.depth)) (Leads-step slots s win at line column k more.0 e (grind arith) h)
+        root-from n more.0.parent _ _ p.0 p.1 (omega (arith, p.2.depth)) (ComesTo-step slots s win at line column k more.0 e (grind arith) h)
   ]
 
   pub some-root : IsSomeAnd (own (window_map slots) win 0 0) (IsRoot slots win)

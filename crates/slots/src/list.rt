@@ -1,6 +1,6 @@
 //! The slots of the windows, by number, and changes of one of them.
 
-ghost use Rattle.std.specs.Prelude.{◌≡◌, ◌≢◌, ℕ, ◌<◌, ◌≤◌, ◌+◌, ◌-◌, Some, None, IsSome, IsSomeAnd, MatchOption, ⊤, length, slice_index, slice_set};
+ghost use Rattle.std.specs.Prelude.{◌≡◌, ◌<◌, ◌≤◌, ◌+◌, ◌-◌, Some, None, IsSome, IsSomeAnd, MatchOption, ⊤, length, slice_index};
 ghost use Rattle.std.specs.Prelude.{EachIndex, OnOk, OnErr, map, true};
 ghost use Rattle.std.specs.List.{AllByRecursion, list_any, range_with_len};
 ghost use Rattle.cell.specs.Glyphs.{IsCell, is_printable};
@@ -213,7 +213,7 @@ pub fn set_slot(slots: &mut Vec<Option<Slot>>, at: u16, settings: Settings)
 
 /// Moves the cursor of a slot's window.
 #[inline(always)]
-pub fn set_cursor(slots: &mut Vec<Option<Slot>>, at: u16, y: u16, x: u16)
+pub fn set_slot_cursor(slots: &mut Vec<Option<Slot>>, at: u16, y: u16, x: u16)
     requires taken { IsSome (slot_at slots.old.items at) }
     requires line { y < lines_at slots.old.items at }
     requires column { x < columns_at slots.old.items at }

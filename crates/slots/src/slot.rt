@@ -1,17 +1,16 @@
 //! What the table keeps of one window.
 
-ghost use Rattle.std.specs.Prelude.{◌≡◌, ℕ, ◌<◌, ◌≤◌, ◌+◌, ◌^◌, ◌&&◌, nat_le, nat_lt, if◌then◌else◌, EachIndex, IfOk, IsSome, is_some, Some, None, length};
-ghost use Rattle.std.specs.Prelude.{map, replicate, slice_index, slice_index_or, true};
-ghost use Rattle.std.specs.List.{AllByRecursion, list_any, range_with_len};
+ghost use Rattle.std.specs.Prelude.{◌≡◌, ◌<◌, ◌≤◌, ◌+◌, ◌^◌, ◌&&◌, EachIndex, IfOk, IsSome, is_some, Some, None, length};
+ghost use Rattle.std.specs.Prelude.{map, slice_index, true};
+ghost use Rattle.std.specs.List.{AllByRecursion, range_with_len};
 ghost use Rattle.cell.specs.Glyphs.{IsCell, is_printable};
-ghost use Rattle.cell.specs.Pictures.{HasSize, AreCells};
 ghost use Rattle.world.specs.calls.Copying.{lines_marked};
 ghost use Rattle.world.specs.Effects.{without_marks, with_place, with_part};
 ghost use Rattle.world.specs.Rows.{filled_cells, listed_cells};
 ghost use Rattle.world.specs.Settings.{set_in, with_cursor, with_settings};
 ghost use Rattle.world.specs.World.{new_window, first_settings, blank_grid};
-ghost use Rattle.world.specs.Windows.{any_below, laid_over, cell_of, part_of};
-ghost use Rattle.slots.specs.Kept.{window_of, backing_of, IsGridOf, IsKept, Kept, HasShape};
+ghost use Rattle.world.specs.Windows.{any_below, cell_of, part_of};
+ghost use Rattle.slots.specs.Kept.{window_of, IsKept, Kept, HasShape};
 ghost use Rattle.slots.specs.Inks.{printed_cell};
 ghost use Rattle.slots.specs.Slots.{part_in, names_parent};
 ghost use Rattle.slots.specs.Changes.{with_touched, with_drawing, SameShape, with_new_offset, StaysInPlace};
@@ -32,7 +31,8 @@ pub struct Part {
     pub column: u16,
 }
 
-/// Where the first place of a window is in a grid: the number of the window that has the grid, and the line and column there.
+/// Where the first place of a window is in a grid: the number of the window that has the grid, and the line and column
+/// there.
 #[derive(Clone, Copy, Debug, PartialEq, Eq)]
 pub struct Origin {
     pub grid: u16,

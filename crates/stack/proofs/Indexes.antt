@@ -1,6 +1,7 @@
 -- How the numbers that are taken and the panels of windows follow the nodes.
 use Rattle.std.proofs.Common.{◌≡◌, ℕ, zero, suc, ◌+◌, ◌-◌, ◌<◌, ◌≤◌, ◌==◌, if◌then◌else◌, Option, None, rules, []}
-use Rattle.std.proofs.Common.{Some, is_some, MatchOption, List, ◌∷◌, ◌++◌, length, set, take, replicate, slice_index_or, length-set, get_or-set_same, get_or-set_other, refl, sym, subst, ◌∙◌, inl, inr, arith}
+use Rattle.std.proofs.Common.{Some, is_some, MatchOption, List, ◌∷◌, ◌++◌, length, set, take, replicate}
+use Rattle.std.proofs.Common.{slice_index_or, length-set, get_or-set_same, get_or-set_other, refl, sym, subst, ◌∙◌, inl, inr, arith}
 use Rattle.std.proofs.lemmas.Bool.{cases_eq, eq-eqb, ne_eqb}
 use Rattle.std.proofs.lemmas.List.{length_push, take_all}
 use Rattle.cell.specs.declared.limits.TheConstants.{MOST_PANELS}
@@ -86,7 +87,8 @@ module _ (old new : List Node) (numbers numbers' holders middle holders' : List 
       ]
     ]
 
-    module _ (released : (w : ℕ) → w < window_limit → holder_at middle w ≡ held_by (window_at old p) 0 (holder_at holders) w) (held : (w : ℕ) → w < window_limit → holder_at holders' w ≡ held_by o p (holder_at middle) w) where
+    module _ (released : (w : ℕ) → w < window_limit → holder_at middle w ≡ held_by (window_at old p) 0 (holder_at holders) w)
+        (held : (w : ℕ) → w < window_limit → holder_at holders' w ≡ held_by o p (holder_at middle) w) where
       panel-windowed : (q w : ℕ) → w < window_limit → window_at new q ≡ Some w → holder_at holders' w ≡ q
       panel-windowed q w few is = search (rules, cases_eq, held-same, given-same, given-other, held-other)
 

@@ -12,7 +12,8 @@ use Rattle.world.specs.declared.call.Reply.{Reply}
 use Rattle.world.specs.declared.call.Stacking.{Stacking}
 use Rattle.stack.specs.Tables.{PanelTable, panels}
 
--- it was refused by its tests of panels, and then nothing changed; else the answer and the panels are those of its effect
+-- it was refused by its tests of panels, and then nothing changed; else the answer and the panels are those of its
+-- effect
 pub record Arranged {T : Type 0} (reply_of : T → Reply) (tests : List (Bool × Refusal)) (old : PanelTable) (stacking : Stacking) (r : Result T Refusal)
     (new : PanelTable) : Type 0 where
   pub refused : Refused (order_takes_memory (stacking_order (panels old) stacking)) (first_of tests) r

@@ -1,5 +1,5 @@
--- The indexes by which the least free number and the panel of a window are found: the set of the numbers that are taken, and a panel for
--- each number that a window of a screen can have.
+-- The indexes by which the least free number and the panel of a window are found: the set of the numbers that are
+-- taken, and a panel for each number that a window of a screen can have.
 use Rattle.std.specs.Prelude.{◌≡◌, ℕ, ◌+◌, ◌<◌, ◌≤◌, ◌==◌, ◌||◌, Bool, if◌then◌else◌, Option, None, Some, is_some, List, length, slice_index_or}
 use Rattle.cell.specs.declared.limits.TheConstants.{MOST_PANELS, MOST_WINDOWS}
 use Rattle.stack.specs.Nodes.{window_at}

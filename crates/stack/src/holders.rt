@@ -8,8 +8,9 @@ use cell::{MOST_WINDOWS, WinId};
 use std::alloc::{AllocError, Global};
 use std::marker::Model;
 
-/// The panel of each number that a window of a screen can have, 0 where it is in none. It takes no memory as long as no panel
-/// was made, and with the first the memory for all, since a panel can be given another window later, which takes none.
+/// The panel of each number that a window of a screen can have, 0 where it is in none. It takes no memory as long as no
+/// panel was made, and with the first the memory for all, since a panel can be given another window later, which takes
+/// none.
 #[derive(Drop)]
 pub struct Holders {
     panels: Vec<u16>,

@@ -1,5 +1,5 @@
-//! The order of panels: which are visible, one above another, which are hidden, and the window of each. It knows windows by
-//! their numbers alone.
+//! The order of panels: which are visible, one above another, which are hidden, and the window of each. It knows
+//! windows by their numbers alone.
 //!
 //! - `calls`: each call on panels
 //! - `entries`: which numbers are panels', and their windows

@@ -6,7 +6,8 @@ use Rattle.streams.specs.declared.sending.WriteFault.{WriteFault}
 use Rattle.streams.specs.Counts.{next_count}
 use Rattle.streams.specs.Sinks.{Seen}
 
--- At Ok, with the number of all bytes, the sink took the text; at Err it took a prefix of it, not all, and counted one failure.
+-- At Ok, with the number of all bytes, the sink took the text; at Err it took a prefix of it, not all, and counted one
+-- failure.
 abbrev pub SendingEnds : Seen → Seen → ℕ → List ℕ → Result ℕ WriteFault → Type 0
 SendingEnds old new sent text (Ok total) = (total ≡ sent + length text) × Appends old.taken new.taken text × (new.failures ≡ old.failures)
 SendingEnds old new sent text (Err fault) =

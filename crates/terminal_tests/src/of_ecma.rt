@@ -1,5 +1,5 @@
-//! The bytes of each kind of token, written by hand from the table of control functions, and streams that were worked by hand, on a
-//! terminal of 4 lines and 10 columns.
+//! The bytes of each kind of token, written by hand from the table of control functions, and streams that were worked
+//! by hand, on a terminal of 4 lines and 10 columns.
 
 ghost use Rattle.ecma.specs.Spelling.{IsToken};
 
@@ -51,7 +51,7 @@ const SPELLINGS: [(Token, &[u8]); 13] = [
     (Token::Sgr(Rendition::NONE), b"\x1b[0m"),
 ];
 
-/// Attributes, a foreground and a background, with the bytes that select them: colours after attributes, and no bit beyond the six.
+/// Attributes and two colours, with the bytes that select them: colours after attributes, and no bit beyond the six.
 const SELECTIONS: [(u8, Option<Colour>, Option<Colour>, &[u8]); 9] = [
     (0x05, None, None, b"\x1b[0;1;4m"),
     (0x10, None, None, b"\x1b[0;7m"),
@@ -110,7 +110,7 @@ fn read(alloc: Global, stream: &[u8]) -> Result<Terminal, Fail> {
     Ok(terminal)
 }
 
-/// The fault and the cursor of a terminal, a cell, and whether all of its 4 lines are there, with no rendition selected.
+/// The fault and the cursor of a terminal, a cell, and whether its 4 lines are there and no rendition is selected.
 type Seen = (
     Option<NotInProfile>,
     Option<(u16, u16)>,

@@ -65,7 +65,7 @@ fn colour(screen: &mut Plain) -> Result<(), Fail>
     Ok(())
 }
 
-/// How many bytes are sent by a first update, one that draws two cells, one that moves the cursor, and one that shows all again.
+/// How many bytes a first update sends, one that draws two cells, one that moves the cursor, and one that shows all.
 fn update_four_times<W: Sink>(
     painter: &mut Painter,
     screen: &mut Plain,

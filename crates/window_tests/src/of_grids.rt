@@ -52,8 +52,8 @@ fn nest_windows(grids: &mut Grids) -> Result<(WinId, WinId), Fail> {
     Ok((first, grids.derwin(second, 1, 3, 1, 2)?))
 }
 
-/// What is touched of the outermost of three windows once the innermost is written on, of the innermost once the outermost is, and
-/// after it is unmarked; and the cell that the outermost has then of the innermost.
+/// What is touched of the outermost of three windows once the innermost is written on, of the innermost once the
+/// outermost is, and after it is unmarked; and the cell that the outermost has then of the innermost.
 fn sync_marks(grids: &mut Grids) -> Result<([Option<(u16, u16)>; 3], Cell), Fail> {
     let (first, third) = nest_windows(grids)?;
     put(grids, third, 0, 1, b't')?;
@@ -107,7 +107,7 @@ fn derives(grids: &Grids, low: WinId, high: WinId) -> bool {
     grids.has_window(low) && grids.has_window(high) && grids.derives(low, high)
 }
 
-/// Which places of one part of a window are places of another, whether the other derives from the window, and whether from the one.
+/// Which places of a part of a window another part has, and whether that derives from the window, and from the part.
 fn shared_places(grids: &mut Grids) -> Result<(Option<Rect>, [bool; 2]), Fail> {
     let [low, high, window] = two_parts(grids)?;
     let derived = [derives(grids, window, high), derives(grids, low, high)];

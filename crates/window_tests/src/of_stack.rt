@@ -22,8 +22,8 @@ fn fill(stack: &mut Stack) -> Result<(), Refusal> {
     Ok(())
 }
 
-/// What panels of windows 1001 and 1000 answer, and that of window 1001 where one of the others was deleted; and the panel of this
-/// window.
+/// What panels of windows 1001 and 1000 answer, and that of window 1001 where one of the others was deleted; and the
+/// panel of this window.
 type Answers = ([Result<PanelId, Refusal>; 3], Option<PanelId>);
 
 fn answers(stack: &mut Stack) -> Result<Answers, Refusal> {

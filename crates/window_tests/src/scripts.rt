@@ -1,5 +1,5 @@
-//! Scripts of calls on a desk. What is known of a call would be carried along through the proof of each test: so helpers without a
-//! contract make them.
+//! Scripts of calls on a desk. What is known of a call would be carried along through the proof of each test: so
+//! helpers without a contract make them.
 
 use calls::Calls;
 use cell::{Refusal, WinId};

@@ -30,7 +30,8 @@ module _ (windows : Windows) (w : ℕ) (s : WindowState) (h : IsStateOf windows 
   scrolled now new place on last drawn moved = grind (arith, nat_tests)
 
   pub scrolled_frame : (r : Rect) → s.settings.scrolling ≡ true → s.settings.cursor.0 ≡ s.settings.region.1
-      → r ≡ record { top = s.settings.region.0; left = 0; bottom = s.settings.region.1; right = s.columns - 1 } → Some r ≡ frame_of (window_in_state s) (next_line_drawing windows.window w (window_in_state s))
+      → r ≡ record { top = s.settings.region.0; left = 0; bottom = s.settings.region.1; right = s.columns - 1 }
+      → Some r ≡ frame_of (window_in_state s) (next_line_drawing windows.window w (window_in_state s))
   scrolled_frame r on last e = grind (arith, frame-lines_up, nat_tests)
 
   pub not_scrolled_frame : (s.settings.scrolling && s.settings.cursor.0 == s.settings.region.1) ≡ false → None ≡ frame_of (window_in_state s) (next_line_drawing windows.window w (window_in_state s))
@@ -55,7 +56,8 @@ module _ (windows : Windows) (w : ℕ) (s : WindowState) (h : IsStateOf windows 
     pub printed_at_end_frame : (now : Windows) (r : Rect) (below o : Option Rect) → s.columns ≤ s.settings.cursor.1 + 1
         → now ≡ put windows w (at_place s.settings.cursor (written_glyph s.settings character))
         → r ≡ record { top = s.settings.cursor.0; left = s.settings.cursor.1; bottom = s.settings.cursor.0; right = s.settings.cursor.1 }
-        → below ≡ frame_of (window_in_state s) (next_line_drawing now.window w (window_in_state s)) → o ≡ frame_of_two (Some r) below → o ≡ frame_of (window_in_state s) (character_drawing windows w character (window_in_state s))
+        → below ≡ frame_of (window_in_state s) (next_line_drawing now.window w (window_in_state s)) → o ≡ frame_of_two (Some r) below
+        → o ≡ frame_of (window_in_state s) (character_drawing windows w character (window_in_state s))
     printed_at_end_frame now r below o past drawn e next is = grind (arith, frame-at_place, frame-over, nat_tests)
 
   -- ---- a newline
@@ -66,7 +68,8 @@ module _ (windows : Windows) (w : ℕ) (s : WindowState) (h : IsStateOf windows 
 
   pub ended_frame : (now : Windows) (r : Rect) (below o : Option Rect) → now ≡ put windows w (to_end_of_line s.settings.cursor s.settings.background)
       → r ≡ record { top = s.settings.cursor.0; left = s.settings.cursor.1; bottom = s.settings.cursor.0; right = s.columns - 1 }
-      → below ≡ frame_of (window_in_state s) (next_line_drawing now.window w (window_in_state s)) → o ≡ frame_of_two (Some r) below → o ≡ frame_of (window_in_state s) (line_ended_drawing windows w (window_in_state s))
+      → below ≡ frame_of (window_in_state s) (next_line_drawing now.window w (window_in_state s)) → o ≡ frame_of_two (Some r) below
+      → o ≡ frame_of (window_in_state s) (line_ended_drawing windows w (window_in_state s))
   ended_frame now r below o drawn e next is = grind (arith, frame-to_end_of_line, frame-over)
 
   -- ---- any character

@@ -34,12 +34,12 @@ impl Windows {
         copy_common(&mut self.table, src, dst, false)
     }
 
-    /// Copies the cells of `src` from line `sminrow` and column `smincol` on to the lines from `dminrow` to `dmaxrow` and the
-    /// columns from `dmincol` to `dmaxcol` of `dst`, all inclusive; with `overlay`, all but the spaces.
+    /// Copies the cells of `src` from line `sminrow` and column `smincol` on to the lines from `dminrow` to `dmaxrow`
+    /// and the columns from `dmincol` to `dmaxcol` of `dst`, all inclusive; with `overlay`, all but the spaces.
     ///
     /// # Errors
-    /// `NoSuchWindow` for either window; `BadRectangle` if a last line or column comes before its first; `OutsideWindow` if
-    /// the rectangle isn't in `dst`, or that of the same size not in `src`.
+    /// `NoSuchWindow` for either window; `BadRectangle` if a last line or column comes before its first;
+    /// `OutsideWindow` if the rectangle isn't in `dst`, or that of the same size not in `src`.
     pub fn copywin(
         &mut self,
         src: WinId,
@@ -121,7 +121,7 @@ fn copy_common(
     ))
 }
 
-/// The lines or the columns of the screen that two windows share: the first of them as each window counts, and how many.
+/// The lines or columns of the screen that two windows share: how many, and the first as each window counts.
 #[derive(Clone, Copy)]
 struct Common {
     source: u16,

@@ -69,8 +69,8 @@ pub fn clear_all(table: &mut Grids, win: WinId, state: &WindowState)
     }
 }
 
-/// Moves the lines from `top` to `bottom`, both inclusive, up by `n` lines; those that come from below `bottom` are set to the
-/// background.
+/// Moves the lines from `top` to `bottom`, both inclusive, up by `n` lines; those that come from below `bottom` are set
+/// to the background.
 pub fn move_up(table: &mut Grids, win: WinId, state: &WindowState, top: u16, bottom: u16, n: u16)
     requires { HasStateAndLines (windows table.old) win.0 state.now top bottom }
     ensures { DrewInState (windows table.old) win.0 state.now
@@ -81,8 +81,8 @@ pub fn move_up(table: &mut Grids, win: WinId, state: &WindowState, top: u16, bot
     }
 }
 
-/// Moves the lines from `top` to `bottom`, both inclusive, down by `n` lines; those that come from above `top` are set to the
-/// background.
+/// Moves the lines from `top` to `bottom`, both inclusive, down by `n` lines; those that come from above `top` are set
+/// to the background.
 pub fn move_down(table: &mut Grids, win: WinId, state: &WindowState, top: u16, bottom: u16, n: u16)
     requires { HasStateAndLines (windows table.old) win.0 state.now top bottom }
     ensures { DrewInState (windows table.old) win.0 state.now

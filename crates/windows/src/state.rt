@@ -37,7 +37,7 @@ pub fn state_of(table: &Grids, win: WinId) -> Result<WindowState, Refusal>
 }
 
 /// Moves the cursor. The window must exist, have the given state, and hold the place.
-pub fn set_cursor(table: &mut Grids, win: WinId, state: &WindowState, y: u16, x: u16)
+pub fn move_cursor(table: &mut Grids, win: WinId, state: &WindowState, y: u16, x: u16)
     requires { HasStateAndPlace (windows table.old) win.0 state.now y x }
     ensures set { windows table.new ≡ set (windows table.old) win.0 (with_cursor (y, x)) }
     ensures sound { AreSoundWindows (windows table.new) }

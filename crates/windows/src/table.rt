@@ -14,7 +14,7 @@ use std::alloc::Global;
 /// A screen's windows and pads, with the calls that write in them.
 #[derive(Drop)]
 pub struct Windows {
-    /// Which windows there are. The calls that make, place and delete them, and most that ask about them, are the table's.
+    /// Which windows there are. Calls that make, place and delete them, and most that ask about them, are the table's.
     pub table: Grids,
 }
 

@@ -210,7 +210,8 @@ edit-written : (windows : Windows) (edit : Edit) (o : Option Window) → windows
 edit-written windows edit None is = grind (arith, frame-edit)
 edit-written windows edit (Some a) is =
     rw (frame-edit windows edit, is)
-    (frame-same (Covers (edit_drawing windows edit) a.columns a.lines) _ _ (λ y x covers. covers-written windows edit a is y x covers _ refl) (λ y x written. written-covers windows edit a is y x written)
+    (frame-same (Covers (edit_drawing windows edit) a.columns a.lines) _ _ (λ y x covers. covers-written windows edit a is y x covers _ refl)
+    (λ y x written. written-covers windows edit a is y x written)
     (frame_of-is a (edit_drawing windows edit)))
 
 nothing-written : (windows : Windows) (effect : Effect) → ((edit : Edit) → effect ≡ arranges (changes (edits edit)) → ⊥) → IsFrameOf (Writes windows effect) None

@@ -6,7 +6,7 @@ use mathlib.Core.Path.{fun_ext}
 use Rattle.std.proofs.lemmas.Bool.{eqb-true}
 use Rattle.std.proofs.lemmas.Bool.Decides.{nat_tests}
 use Rattle.cell.specs.Glyphs.{Glyph}
-use Rattle.world.specs.Windows.{Backing, own_grid, part_of, Window, WindowMap, GridPlace, Drawing, leads, own_within, own, cell_at, within, grid_drawing, laid_over}
+use Rattle.world.specs.Windows.{Backing, own_grid, part_of, Window, WindowMap, GridPlace, Drawing, through_backing, own_within, own, cell_at, within, grid_drawing, laid_over}
 use Rattle.world.specs.Windows.{joined_columns, touched_below, touched_by, after_drawing, put_from, put_windows, HasPlace, window_limit, onward, over}
 use Rattle.world.specs.declared.settings.Columns.{Columns}
 
@@ -91,12 +91,12 @@ abbrev pub Ends : WindowMap → GridPlace → Type 0
 Ends window s = (g : Window) × (cells : ℕ → ℕ → Glyph) × (window s.grid ≡ Some g) × (g.backing ≡ own_grid cells)
 
 ends-leads : (window : WindowMap) (further : ℕ → ℕ → ℕ → Option GridPlace) → ((w y x : ℕ) (s : GridPlace) → further w y x ≡ Some s → Ends window s) → (w y x : ℕ) (a : Window) (src : Backing)
-    → window w ≡ Some a → a.backing ≡ src → (s : GridPlace) → leads further w y x src ≡ Some s → Ends window s
+    → window w ≡ Some a → a.backing ≡ src → (s : GridPlace) → through_backing further w y x src ≡ Some s → Ends window s
 ends-leads window further h w y x a (own_grid cells) e is s found = let same : w ≡ s.grid = cc in (a, cells, ap window (sym same) ∙ e, is)
 ends-leads window further h w y x a (part_of parent line column) e is s found = grind arith
 
 ends-at : (window : WindowMap) (further : ℕ → ℕ → ℕ → Option GridPlace) → ((w y x : ℕ) (s : GridPlace) → further w y x ≡ Some s → Ends window s) → (w y x : ℕ) (o : Option Window) → window w ≡ o
-    → (s : GridPlace) → option_and_then (λ c. leads further w y x c.backing) o ≡ Some s → Ends window s
+    → (s : GridPlace) → option_and_then (λ c. through_backing further w y x c.backing) o ≡ Some s → Ends window s
 ends-at window further h w y x None e s found = cc
 ends-at window further h w y x (Some a) e s found = ends-leads window further h w y x a a.backing e refl s found
 

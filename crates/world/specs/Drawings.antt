@@ -1,6 +1,6 @@
 -- What the writing calls draw in a window. Places past the window's edges are ignored.
--- X/Open Curses Issue 7: addch ("Rendition of characters placed into a window"), clrtoeol, clrtobot, erase, insch, delch, insertln,
--- deleteln, scrl.
+-- X/Open Curses Issue 7: addch ("Rendition of characters placed into a window"), clrtoeol, clrtobot, erase, insch,
+-- delch, insertln, deleteln, scrl.
 use Rattle.std.specs.Prelude.{ℕ, ◌+◌, ◌-◌, if◌then◌else◌, ◌==◌, ◌&&◌, ◌||◌, nat_lt, nat_le, Some, None}
 use Rattle.std.specs.Int.RustNames.{bit_or}
 use Rattle.cell.specs.Attributes.{bits_of}
@@ -11,8 +11,8 @@ use Rattle.world.specs.declared.settings.Settings.{Settings}
 
 -- ---- characters
 
--- A written space becomes the background's character; every character has the attributes of the window and of the background, and the
--- window's pair, or the background's where the window's is 0.
+-- A written space becomes the background's character; every character has the attributes of the window and of the
+-- background, and the window's pair, or the background's where the window's is 0.
 abbrev pub written_glyph : Settings → ℕ → Glyph
 written_glyph settings character = record {
   character = (if character == 32 then settings.background.character else character);
@@ -49,7 +49,8 @@ everywhere glyph y x = Some glyph
 
 -- ---- lines
 
--- The lines from top to bottom, both inclusive: each takes the line n below it, or one cell everywhere if that isn't one of them.
+-- The lines from top to bottom, both inclusive: each takes the line n below it, or one cell everywhere if that isn't
+-- one of them.
 abbrev pub lines_up : WindowMap → ℕ → ℕ → ℕ → ℕ → Glyph → Drawing
 lines_up window w top bottom n glyph y x =
     if nat_le top y && nat_le y bottom then Some (if nat_le (y + n) bottom then cell_at window w (y + n) x else glyph) else None

@@ -1,5 +1,6 @@
 -- What calls do, said once for each effect: a call is its tests and one of these effects.
--- X/Open Curses Issue 7 and NetBSD panel(3) say what each call does; that these few effects cover them all is Curspan's own finding.
+-- X/Open Curses Issue 7 and NetBSD panel(3) say what each call does; that these few effects cover them all is Curspan's
+-- own finding.
 use Rattle.std.specs.Prelude.{◌≡◌, ℕ, Bool, true, false, if◌then◌else◌, ◌==◌, ◌||◌, Option, Some, None, List, [], ◌∷◌, ◌++◌, slice_set}
 use Rattle.std.specs.List.{list_any}
 use Rattle.std.specs.Option.{option_and_then, option_map, option_map_or}
@@ -63,9 +64,9 @@ pub record DifferInSettings (new old : WindowMap) : Type 0 where
 
 -- ---- on windows
 
--- asks: nothing changes, and there is an answer. edits: as above. marks: what is touched of the windows that pass a test. makes: a window or
--- pad under a number. deletes: a window. moves: a window to a place of the screen. shifts: a derived window to another part of its parent, from
--- an offset on.
+-- asks: nothing changes, and there is an answer. edits: as above. marks: what is touched of the windows that pass a
+-- test. makes: a window or pad under a number. deletes: a window. moves: a window to a place of the screen. shifts: a
+-- derived window to another part of its parent, from an offset on.
 pub data Change : Type 0 where
   asks : Reply → Change
   edits : Edit → Change
@@ -113,36 +114,22 @@ after_change windows (moves w place) = moved_to windows w place
 after_change windows (shifts w place) = shifted_to windows w place
 
 abbrev pub change_frame : Windows → Change → Option Rect
-change_frame windows (asks reply) = None
 change_frame windows (edits edit) = edit_frame windows edit
-change_frame windows (marks test change) = None
-change_frame windows (makes n a) = None
-change_frame windows (deletes w) = None
-change_frame windows (moves w place) = None
-change_frame windows (shifts w place) = None
+change_frame windows _ = None
 
 abbrev pub change_reply : Change → Reply
 change_reply (asks reply) = reply
-change_reply (edits edit) = Nothing
-change_reply (marks test change) = Nothing
 change_reply (makes n a) = Number (record { 0 = n })
-change_reply (deletes w) = Nothing
-change_reply (moves w place) = Nothing
-change_reply (shifts w place) = Nothing
+change_reply _ = Nothing
 
 abbrev pub change_takes_memory : Change → Bool
-change_takes_memory (asks reply) = false
-change_takes_memory (edits edit) = false
-change_takes_memory (marks test change) = false
 change_takes_memory (makes n a) = true
-change_takes_memory (deletes w) = false
-change_takes_memory (moves w place) = false
-change_takes_memory (shifts w place) = false
+change_takes_memory _ = false
 
 -- ---- on panels
 
--- changes: as above, and no panel changes. adds: a panel of a window, on top. orders: one panel is put elsewhere in the order, hidden, taken
--- out or given a window. carries: the window of a panel, to a place of the screen.
+-- changes: as above, and no panel changes. adds: a panel of a window, on top. orders: one panel is put elsewhere in the
+-- order, hidden, taken out or given a window. carries: the window of a panel, to a place of the screen.
 pub data Order : Type 0 where
   changes : Change → Order
   adds : ℕ → ℕ → Order
@@ -151,9 +138,8 @@ pub data Order : Type 0 where
 
 abbrev pub windows_after : Windows → Panels → Order → Windows
 windows_after windows panels (changes change) = after_change windows change
-windows_after windows panels (adds p w) = windows
-windows_after windows panels (orders p order) = windows
 windows_after windows panels (carries p place) = moved_to windows (window_or_standard panels (Some p)) place
+windows_after windows panels _ = windows
 
 -- another window, or none, for the panel p
 abbrev pub with_entry : (ℕ → Option ℕ) → ℕ → Option ℕ → ℕ → Option ℕ
@@ -163,33 +149,29 @@ abbrev pub with_panel : Panels → ℕ → ℕ → Panels
 with_panel panels p w = record { visible = panels.visible ++ p ∷ []; window = with_entry panels.window p (Some w) }
 
 abbrev pub panels_after : Panels → Order → Panels
-panels_after panels (changes change) = panels
 panels_after panels (adds p w) = with_panel panels p w
 panels_after panels (orders p order) = order
-panels_after panels (carries p place) = panels
+panels_after panels _ = panels
 
 abbrev pub order_frame : Windows → Order → Option Rect
 order_frame windows (changes change) = change_frame windows change
-order_frame windows (adds p w) = None
-order_frame windows (orders p order) = None
-order_frame windows (carries p place) = None
+order_frame windows _ = None
 
 abbrev pub order_reply : Order → Reply
 order_reply (changes change) = change_reply change
 order_reply (adds p w) = Panel (Some (record { 0 = p }))
-order_reply (orders p order) = Nothing
-order_reply (carries p place) = Nothing
+order_reply _ = Nothing
 
 abbrev pub order_takes_memory : Order → Bool
 order_takes_memory (changes change) = change_takes_memory change
 order_takes_memory (adds p w) = true
-order_takes_memory (orders p order) = false
-order_takes_memory (carries p place) = false
+order_takes_memory _ = false
 
 -- ---- on the world
 
--- arranges: a change of the panels or windows, as above; the virtual screen stays. refreshes: a drawing is laid over the virtual screen,
--- which takes a cursor, and the lines of a window that pass a test are untouched. composes: the virtual screen is the picture of the world.
+-- arranges: a change of the panels or windows, as above; the virtual screen stays. refreshes: a drawing is laid over
+-- the virtual screen, which takes a cursor, and the lines of a window that pass a test are untouched. composes: the
+-- virtual screen is the picture of the world.
 -- shows: it was sent, and the terminal needn't be cleared any more. colours: those of a pair.
 pub data Effect : Type 0 where
   arranges : Order → Effect
@@ -217,7 +199,8 @@ asks_for_clear window w = option_map_or (λ a. a.settings.clear) (window w) fals
 abbrev pub shown_over : Pairs → Picture → Drawing → ℕ → ℕ → Shown
 shown_over pairs picture f y x = option_map_or (shown pairs) (f y x) (shown_at picture (y, x))
 
--- the virtual screen with a drawing of window w laid over it, and this cursor; it is to be cleared too if the window asks for that
+-- the virtual screen with a drawing of window w laid over it, and this cursor; it is to be cleared too if the window
+-- asks for that
 abbrev pub virtual_with : World → ℕ → Drawing → Place → VirtualScreen
 virtual_with world w f cursor = record {
   picture = picture_of world.windows.lines world.windows.columns (shown_over world.pairs world.virtual.picture f);
@@ -259,22 +242,13 @@ after world (colours pair foreground background) = record world { pairs = with_c
 
 abbrev pub effect_frame : Windows → Effect → Option Rect
 effect_frame windows (arranges order) = order_frame windows order
-effect_frame windows (refreshes w test drawing cursor) = None
-effect_frame windows composes = None
-effect_frame windows shows = None
-effect_frame windows (colours pair foreground background) = None
+effect_frame windows _ = None
 
 -- what an effect answers but those that compose and show
 abbrev pub effect_reply : Effect → Reply
 effect_reply (arranges order) = order_reply order
-effect_reply (refreshes w test drawing cursor) = Nothing
-effect_reply composes = Nothing
-effect_reply shows = Nothing
-effect_reply (colours pair foreground background) = Nothing
+effect_reply _ = Nothing
 
 abbrev pub effect_takes_memory : Effect → Bool
 effect_takes_memory (arranges order) = order_takes_memory order
-effect_takes_memory (refreshes w test drawing cursor) = false
-effect_takes_memory composes = false
-effect_takes_memory shows = false
-effect_takes_memory (colours pair foreground background) = false
+effect_takes_memory _ = false

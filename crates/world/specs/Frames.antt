@@ -1,4 +1,5 @@
--- The rectangle that a drawing covers in a window: the smallest that holds each place of the window for which the drawing has a cell.
+-- The rectangle that a drawing covers in a window: the smallest that holds each place of the window for which the
+-- drawing has a cell.
 -- The functions of `windows` that write answer it; X/Open Curses has no such answer.
 use Rattle.std.specs.Prelude.{◌≡◌, ℕ, zero, suc, ◌<◌, ◌≤◌, min, max, true, if◌then◌else◌, Option, Some, None, is_some, IsSomeAnd}
 use Rattle.world.specs.Windows.{Drawing, Window}

@@ -71,8 +71,8 @@ place_of window w = option_map_or screen_place (window w) origin
 abbrev pub cell_on_screen : WindowMap → ℕ → ℕ → ℕ → Glyph
 cell_on_screen window w y x = cell_at window w (y - (place_of window w).0) (x - (place_of window w).1)
 
--- What a search from the top visible panel down to the standard screen finds at (y, x): the cell of the owner's window, or of the
--- standard screen where no panel owns the place.
+-- What a search from the top visible panel down to the standard screen finds at (y, x): the cell of the owner's window,
+-- or of the standard screen where no panel owns the place.
 abbrev pub found_from_top : WindowMap → Panels → ℕ → ℕ → Glyph
 found_from_top window panels y x = cell_on_screen window (window_or_standard panels (owner window panels y x)) y x
 

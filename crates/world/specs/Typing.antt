@@ -1,6 +1,6 @@
 -- Typing characters in a window: what each draws, and where the cursor goes.
--- X/Open Curses Issue 7: addch, addstr. Where the cursor goes at the ends of lines and of the window, and what scrolls then, is Curspan's
--- own choice.
+-- X/Open Curses Issue 7: addch, addstr. Where the cursor goes at the ends of lines and of the window, and what scrolls
+-- then, is Curspan's own choice.
 use Rattle.std.specs.Prelude.{ℕ, ◌+◌, ◌-◌, Bool, if◌then◌else◌, ◌==◌, ◌&&◌, ◌||◌, nat_lt, List, [], ◌∷◌, fold}
 use Rattle.cell.specs.Pictures.{Place}
 use Rattle.world.specs.Windows.{Drawing, Window, WindowMap, Windows, drawing_if_there, if_there, no_cells, over, put}
@@ -38,8 +38,8 @@ scrolls a = a.settings.scrolling && a.settings.cursor.0 == a.settings.region.1
 abbrev pub region_up : WindowMap → ℕ → Window → Drawing
 region_up window w a = lines_up window w a.settings.region.0 a.settings.region.1 1 a.settings.background
 
--- The cursor goes to the next line; on the region's last line it may scroll the region and go to column 0; at the end of a last line
--- it goes no further than a place.
+-- The cursor goes to the next line; on the region's last line it may scroll the region and go to column 0; at the end
+-- of a last line it goes no further than a place.
 abbrev pub to_next_line : Windows → ℕ → Window → Place → Windows
 to_next_line windows w a place =
     if scrolls a then drawn_to windows w (region_up windows.window w a) (a.settings.cursor.0, 0)

@@ -16,7 +16,8 @@ pub data Backing : Type 0 where
   own_grid : (ℕ → ℕ → Glyph) → Backing
   part_of : ℕ → ℕ → ℕ → Backing
 
--- A window, or a pad, which has no place on the screen. Of each line the columns from the first to the last touched one are kept.
+-- A window, or a pad, which has no place on the screen. Of each line the columns from the first to the last touched one
+-- are kept.
 pub record Window : Type 0 where
   pub lines : ℕ
   pub columns : ℕ
@@ -48,14 +49,14 @@ unfoldable pub window_limit : ℕ
 window_limit = MOST_WINDOWS + 1
 
 -- where the place (y, x) of window w leads: to its own grid, or further on
-abbrev pub leads : (ℕ → ℕ → ℕ → Option GridPlace) → ℕ → ℕ → ℕ → Backing → Option GridPlace
-leads further w y x (own_grid cells) = Some (record { grid = w; line = y; column = x })
-leads further w y x (part_of parent line column) = further parent (y + line) (x + column)
+abbrev pub through_backing : (ℕ → ℕ → ℕ → Option GridPlace) → ℕ → ℕ → ℕ → Backing → Option GridPlace
+through_backing further w y x (own_grid cells) = Some (record { grid = w; line = y; column = x })
+through_backing further w y x (part_of parent line column) = further parent (y + line) (x + column)
 
 -- where it leads through less than n parents
 abbrev pub own_within : ℕ → WindowMap → ℕ → ℕ → ℕ → Option GridPlace
 own_within zero window w y x = None
-own_within (suc n) window w y x = option_and_then (λ a. leads (own_within n window) w y x a.backing) (window w)
+own_within (suc n) window w y x = option_and_then (λ a. through_backing (own_within n window) w y x a.backing) (window w)
 
 -- where the place (y, x) of window w leads, through the chain of its parents
 abbrev pub own : WindowMap → ℕ → ℕ → ℕ → Option GridPlace
@@ -116,7 +117,8 @@ no_cells y x = None
 abbrev pub within : Window → Drawing → Drawing
 within a f y x = if nat_lt y a.lines && nat_lt x a.columns then f y x else None
 
--- the drawing as a grid has it, where the drawing's (0, 0) leads to this place
+-- The drawing as a grid has it, where the window's (0, 0) leads to this place of the grid: (y, x) leads as many lines
+-- and columns on. So `own` of each place has the place's cell.
 abbrev pub grid_drawing : GridPlace → Drawing → Drawing
 grid_drawing p f y x = if nat_le p.line y && nat_le p.column x then f (y - p.line) (x - p.column) else None
 
@@ -139,7 +141,7 @@ touched_below (suc n) test r = if test n then joined_columns (touched_below n te
 abbrev pub touched_by : Drawing → Window → ℕ → Option Columns
 touched_by f a y = touched_below a.columns (λ x. is_some (within a f y x)) (a.touched y)
 
--- window u, which is b, after the drawing f was written through window w, which is a and begins at this place
+-- window u, which is b, after the drawing f was written through window w, which is a and whose (0, 0) leads to p
 abbrev pub after_drawing : ℕ → Window → GridPlace → Drawing → ℕ → Window → Window
 after_drawing w a p f u b = record b {
   backing = (if u == p.grid then laid_over (grid_drawing p (within a f)) b.backing else b.backing);
@@ -148,11 +150,10 @@ after_drawing w a p f u b = record b {
 
 abbrev pub put_from : WindowMap → ℕ → Option Window → Option GridPlace → Drawing → WindowMap
 put_from window w (Some a) (Some p) f u = option_map (after_drawing w a p f u) (window u)
-put_from window w (Some a) None f u = window u
-put_from window w None p f u = window u
+put_from window w _ _ f u = window u
 
--- The drawing f was written through window w: each place of f took its cell in the grid that it leads to, so every window
--- that shows that place shows the cell, and the places of f were touched in w, and in no other window.
+-- The drawing f was written through window w: each place of f took its cell in the grid that it leads to, so every
+-- window that shows that place shows the cell, and the places of f were touched in w, and in no other window.
 abbrev pub put_windows : WindowMap → ℕ → Drawing → WindowMap
 put_windows window w f = put_from window w (window w) (own window w 0 0) f
 

@@ -1,4 +1,5 @@
--- The world that calls change: the windows, the panels, the colour pairs, and the virtual screen, which is what the next doupdate shows.
+-- The world that calls change: the windows, the panels, the colour pairs, and the virtual screen, which is what the
+-- next doupdate shows.
 -- X/Open Curses Issue 7: wnoutrefresh and doupdate ("virtual screen"), init_pair; NetBSD panel(3): update_panels.
 use Rattle.std.specs.Prelude.{ℕ, ◌-◌, false, Option, Some, None}
 use Rattle.cell.specs.Glyphs.{blank}

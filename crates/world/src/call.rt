@@ -132,8 +132,8 @@ pub enum Copying {
         src: WinId,
         dst: WinId,
     },
-    /// Copies the cells from a line and a column of the source on to a rectangle, both ends inclusive; with the flag, all but
-    /// the spaces.
+    /// Copies the cells from a line and a column of the source on to a rectangle, both ends inclusive; with the flag,
+    /// all but the spaces.
     Copywin {
         src: WinId,
         dst: WinId,
@@ -236,7 +236,8 @@ pub enum Refresh {
     Noutrefresh {
         win: WinId,
     },
-    /// Takes the cells from a line and a column of a pad on into a rectangle of the virtual screen, both ends inclusive.
+    /// Takes the cells from a line and a column of a pad on into a rectangle of the virtual screen, both ends
+    /// inclusive.
     Pnoutrefresh {
         pad: WinId,
         pminrow: u16,
@@ -271,7 +272,7 @@ pub enum Reply {
     /// The number of a new window or pad, or of a panel's window.
     Number(WinId),
     /// A line and a column, or a number of lines and one of columns.
-    Pair(u16, u16),
+    TwoNumbers(u16, u16),
     Cell(Cell),
     /// Yes or no.
     Flag(bool),

@@ -1,6 +1,6 @@
 //! What holds of the definitions alone. Each function does nothing, and its contract is the law.
 
-ghost use Rattle.std.specs.Prelude.{◌≡◌, ◌<◌, ◌≤◌, ℕ, true, false, List, Option, Some, None, IsSome, option_map, ◌⊎◌};
+ghost use Rattle.std.specs.Prelude.{◌≡◌, ◌<◌, ◌≤◌, ℕ, false, List, Option, Some, None, IsSome, option_map, ◌⊎◌};
 ghost use Rattle.cell.specs.declared.window.Rect.{Rect};
 ghost use Rattle.world.specs.Frames.{AreRectangle, Covers, IsFrameOf, frame_of, frame_of_two};
 ghost use Rattle.world.specs.Panels.{Panels, cursor_of_topmost, found_from_top, is_in_panel};
@@ -55,16 +55,16 @@ pub fn kept_cell()
         → cell_at (put_windows window w f) u v z ≡ cell_at window u v z }
 {}
 
-/// What an edit leaves is one write of its drawing, but for settings: a text too, whose drawing has those of its characters, each over
-/// those before it.
+/// What an edit leaves is one write of its drawing, but for settings: a text too, whose drawing has those of its
+/// characters, each over those before it.
 pub fn edits_are_writes()
     ensures { (windows : Windows) (edit : Edit)
         → DifferInSettings (after_edit windows edit).window (put_windows windows.window (edit_window edit) (edit_drawing windows edit)) }
 {}
 
-/// Of each call that isn't refused. Each place of a window that leads where the call wrote shows what it wrote there. Each other place shows
-/// what was there, in the grid to which it leads. And where it leads changes in those windows alone that the call made or deleted, or
-/// moved in their parent, and in those that derive from these.
+/// Of each call that isn't refused. Each place of a window that leads where the call wrote shows what it wrote there.
+/// Each other place shows what was there, in the grid to which it leads. And where it leads changes in those windows
+/// alone that the call made or deleted, or moved in their parent, and in those that derive from these.
 pub fn cells_after_calls()
     ensures written { (world : World) (call : Call) (w y x : ℕ) (glyph : Glyph) (u v z : ℕ) → IsSound world
         → WritesAt world.windows (effect_of world call) w y x glyph
@@ -79,13 +79,15 @@ pub fn cells_after_calls()
         → own (windows_after_call world call) u v z ≡ own world.windows.window u v z }
 {}
 
-/// The frame of a call is the smallest rectangle that holds each place that it writes; there is none where it writes nothing.
+/// The frame of a call is the smallest rectangle that holds each place that it writes; there is none where it writes
+/// nothing.
 pub fn frames_of_calls()
     ensures { (world : World) (call : Call) → IsFrameOf (Writes world.windows (effect_of world call)) (call_frame world call) }
 {}
 
-/// A write through a window leaves the picture as it is at each place of the screen where its frame isn't shown; so does
-/// mvderwin at each place that it doesn't affect; and every call that isn't refused on each line that it doesn't affect.
+/// A write through a window leaves the picture as it is at each place of the screen where its frame isn't shown; so
+/// does mvderwin at each place that it doesn't affect; and every call that isn't refused on each line that it doesn't
+/// affect.
 pub fn kept_picture()
     ensures written { (windows : Windows) (panels : Panels) (w : ℕ) (a : Window) (f : Drawing) (y x : ℕ) → AreSoundWindows windows
         → windows.window w ≡ Some a → y < windows.lines → x < windows.columns → frame_shows_at windows.window panels w (frame_of a f) y x ≡ false
@@ -116,7 +118,8 @@ pub fn kept_by_edits()
         → found_from_top (after_edit windows edit).window panels y x ≡ found_from_top windows.window panels y x }
 {}
 
-/// A call that makes, deletes or moves a window changes the picture at most where a visible panel's window shows other cells then.
+/// A call that makes, deletes or moves a window changes the picture at most where a visible panel's window shows other
+/// cells then.
 pub fn kept_by_making()
     ensures { (windows : Windows) (panels : Panels) (making : Making) (y x : ℕ) → AreSoundWindows windows → AreSoundPanels windows.window panels
         → y < windows.lines → x < windows.columns
@@ -146,8 +149,8 @@ pub fn frames_are_inside()
         → (r.top ≤ r.bottom) × (r.left ≤ r.right) × HasPlace windows.window (edit_window edit) r.bottom r.right }
 {}
 
-/// An edit leaves windows where they are, with the cells that they share: a frame is shown after it where it was before. A shift leaves
-/// which windows derive from which: it affects the same after it as before.
+/// An edit leaves windows where they are, with the cells that they share: a frame is shown after it where it was
+/// before. A shift leaves which windows derive from which: it affects the same after it as before.
 pub fn shapes_are_kept()
     ensures edited { (windows : Windows) (panels : Panels) (edit : Edit) (w : ℕ) (frame : Option Rect) (y x : ℕ)
         → frame_shows_at (after_edit windows edit).window panels w frame y x ≡ frame_shows_at windows.window panels w frame y x }
@@ -157,14 +160,15 @@ pub fn shapes_are_kept()
         → move_shows_at (shifted_to windows w (v, z)).window panels w y x ≡ move_shows_at windows.window panels w y x }
 {}
 
-/// Where a derived window is moved in its parent, each window that neither is it nor derives from it shows the cells that it showed.
+/// Where a derived window is moved in its parent, each window that neither is it nor derives from it shows the cells
+/// that it showed.
 pub fn kept_by_mvderwin()
     ensures { (windows : Windows) (w y x u v z : ℕ) → (u ≡ w → ⊥) → derives windows.window w u ≡ false
         → cell_at (shifted_to windows w (y, x)).window u v z ≡ cell_at windows.window u v z }
 {}
 
-/// The rectangle of a drawing holds each place of the window that the drawing covers, and each of its sides has such a place; there is
-/// none where it covers no place.
+/// The rectangle of a drawing holds each place of the window that the drawing covers, and each of its sides has such a
+/// place; there is none where it covers no place.
 pub fn frame_is_smallest()
     ensures { (a : Window) (f : Drawing) → IsFrameOf (Covers f a.columns a.lines) (frame_of a f) }
 {}
@@ -175,7 +179,8 @@ pub fn joined_frames()
         → IsFrameOf (λ y x. Covers f a.columns a.lines y x ⊎ Covers g a.columns a.lines y x) (frame_of_two (frame_of a f) (frame_of a g)) }
 {}
 
-/// Untouching windows and clearing their clear flags changes neither what a search from the top finds nor the topmost's cursor.
+/// Untouching windows and clearing their clear flags changes neither what a search from the top finds nor the topmost's
+/// cursor.
 pub fn unmarked_picture()
     ensures found { (window : WindowMap) (ws : List ℕ) (panels : Panels) (y x : ℕ)
         → found_from_top (with_unmarked window ws) panels y x ≡ found_from_top window panels y x }

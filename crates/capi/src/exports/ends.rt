@@ -1,5 +1,5 @@
-//! The two calls that C programs make most, with X/Open's answer in place of a status: 0 where it is done, and else -1. They take the screen
-//! last, so that the arguments of X/Open's calls stay in their registers.
+//! The two calls that C programs make most, with X/Open's answer in place of a status: 0 where it is done, and else -1.
+//! They take the screen last, so that the arguments of X/Open's calls stay in their registers.
 
 ghost use Rattle.world.specs.declared.call.Writing.{Writing};
 ghost use Rattle.capi.specs.Called.{Ended};

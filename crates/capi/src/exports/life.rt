@@ -30,7 +30,7 @@ pub extern "C" fn curspan_close(alloc: Global, screen: &mut Handle)
     screen.close(alloc);
 }
 
-/// Moves the bytes that were sent into a buffer, and answers how many they are. Where the buffer is too short, they stay.
+/// Moves the bytes that were sent into a buffer, and answers how many they are. If it is too short, they stay.
 #[unsafe(no_mangle)]
 pub extern "C" fn curspan_take(alloc: Global, screen: &mut Handle, out: &mut [u8]) -> usize
     ensures { Taken screen.old.value out.old result out.new screen.new.value }

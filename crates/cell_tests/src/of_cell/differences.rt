@@ -31,8 +31,8 @@ fn set(line: &mut [Shown; LONGEST], x: usize, cell: Shown) {
     }
 }
 
-/// Whether what is found in a line that has a cell at two columns, and a blank line, is what is searched. A column past its end is no
-/// difference.
+/// Whether what is found in a line that has a cell at two columns, and a blank line, is what is searched. A column past
+/// its end is no difference.
 fn agrees(length: usize, columns: [usize; 2], cell: Shown) -> bool {
     let blank = [Shown::BLANK; LONGEST];
     let mut line = blank;

@@ -3,8 +3,8 @@ use Rattle.std.specs.Prelude.{ℕ, ◌≤◌, Bool, false, Option, Some, None, �
 use Rattle.std.specs.Option.{option_map}
 use Rattle.world.specs.Panels.{Panels}
 use Rattle.world.specs.Windows.{Windows, HasPlace, WindowMap}
-use Rattle.world.specs.Effects.{Change, asks, edits, marks, makes, deletes, moves, shifts, edit_frame, edit_window, Order, changes, adds, orders, carries}
-use Rattle.world.specs.calls.Affected.{frame_shows_at, move_shows_at, follows_at, shows_at, window_on_top}
+use Rattle.world.specs.Effects.{Change, edits, shifts, edit_frame, edit_window, Order, changes, adds, orders, carries}
+use Rattle.world.specs.calls.Affected.{frame_shows_at, move_shows_at, follows_at, shows_at, window_if_topmost}
 use Rattle.world.specs.declared.call.Stacking.{Stacking}
 use Rattle.world.specs.declared.call.Stacking.TheVariants.{DelPanel, ShowPanel, HidePanel, TopPanel, BottomPanel, MovePanel, ReplacePanel}
 use Rattle.compose.specs.declared.damaging.Affected.{Affected}
@@ -22,13 +22,9 @@ affected_shows_at window (Moved win) y x u = follows_at window win.0 y x u
 
 -- what a change affects: an edit its frame, and a shift its window
 abbrev pub affected_by : Windows → Change → Option Affected
-affected_by windows (asks reply) = None
 affected_by windows (edits edit) = option_map (λ r. Written (record { 0 = edit_window edit }) r) (edit_frame windows edit)
-affected_by windows (marks test change) = None
-affected_by windows (makes n a) = None
-affected_by windows (deletes w) = None
-affected_by windows (moves w place) = None
 affected_by windows (shifts w place) = Some (Moved (record { 0 = w }))
+affected_by windows _ = None
 
 -- some window of the picture shows something of it at the place
 abbrev pub any_shows_at : WindowMap → Panels → Option Affected → ℕ → ℕ → Bool
@@ -64,4 +60,4 @@ ordered_panel _ = None
 -- its window, if it is the topmost
 abbrev pub top_window : Panels → Option ℕ → Option ℕ
 top_window panels None = None
-top_window panels (Some p) = window_on_top panels p
+top_window panels (Some p) = window_if_topmost panels p

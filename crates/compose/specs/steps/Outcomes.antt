@@ -19,7 +19,8 @@ use Rattle.picture.specs.Damages.{Damages}
 use Rattle.compose.specs.declared.dispatch.Outcome.{Outcome}
 use Rattle.compose.specs.steps.Changes.{affected_by}
 
--- A call was made, and what it affects is what its change does. Only the proofs of a kind of call, and of what is damaged, look into it.
+-- A call was made, and what it affects is what its change does. Only the proofs of a kind of call, and of what is
+-- damaged, look into it.
 unfoldable pub Affects : WindowTable → Option Refusal → Change → Result Outcome Refusal → WindowTable → Type 0
 Affects old refusal change r new =
     Changed (λ (outcome : Outcome). outcome.reply) old refusal change r new × IfOk r (λ outcome. outcome.affected ≡ affected_by (windows old) change)
@@ -31,8 +32,8 @@ pub record ChangedDamaging (old : WindowTable) (panels : Panels) (refusal : Opti
   pub damaged : OnOk r (Damages old.columns (change_shows_at (windows old) panels change) damage new_damage)
   pub undamaged : OnErr r (new_damage ≡ damage)
 
--- a call on panels was made: it was refused by its tests, and then nothing changed; else the answer, the windows and the panels are those of its
--- order
+-- a call on panels was made: it was refused by its tests, and then nothing changed; else the answer, the windows and
+-- the panels are those of its order
 pub record Ordered {T : Type 0} (reply_of : T → Reply) (old : WindowTable) (old_panels : PanelTable) (stacking : Stacking) (r : Result T Refusal)
     (new : WindowTable) (new_panels : PanelTable) : Type 0 where
   pub refused : Refused (order_takes_memory (stacking_order (panels old_panels) stacking)) (stacking_refusal (windows old) (panels old_panels) stacking) r

@@ -6,7 +6,7 @@ use super::Screen;
 use std::mem::replace;
 
 impl<W> Screen<W> {
-    /// Puts another writer in the place of this one, and gives this one back. What is known of the terminal stays known.
+    /// Puts another writer in the place of this one, and gives this one back. What the terminal shows stays known.
     pub fn replace_writer(&mut self, writer: W) -> W
         ensures writer { result ≡ self.old.writer }
         ensures rest { self.new ≡ record self.old { writer = writer } }
@@ -14,7 +14,7 @@ impl<W> Screen<W> {
         replace(&mut self.writer, writer)
     }
 
-    /// Forgets what the terminal shows, as after bytes that were taken and didn't reach it. The next `doupdate` clears it.
+    /// Forgets what the terminal shows, as after bytes that didn't reach it. The next `doupdate` clears it.
     pub fn invalidate(&mut self)
         ensures { self.new ≡ record self.old { painter = record self.old.painter { last = None } } }
     {

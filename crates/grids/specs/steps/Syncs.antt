@@ -15,7 +15,8 @@ has_column o x = option_map_or (λ r. nat_le r.first x && nat_le x r.last) o fal
 abbrev pub is_touched_at : Window → ℕ → ℕ → Bool
 is_touched_at a v z = nat_lt v a.lines && has_column (a.touched v) z
 
--- Window a begins at the place p of a third, of which another that begins at q is a part too: that shows at (y, x) a touched cell of a.
+-- Of two windows one derives from the other. Window a begins at the place p of the older one, (0, 0) if it is that, and
+-- the other at q: at (y, x) it shows a touched cell of a.
 abbrev pub shows_touched : Window → Place → Place → ℕ → ℕ → Bool
 shows_touched a p q y x = (nat_le p.0 (q.0 + y) && nat_le p.1 (q.1 + x)) && is_touched_at a (q.0 + y - p.0) (q.1 + x - p.1)
 

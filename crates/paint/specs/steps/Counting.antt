@@ -44,7 +44,8 @@ abbrev pub with_passes : ℕ → Picture → ℕ → Count → List Run → Coun
 with_passes columns wanted zero count runs = count
 with_passes columns wanted (suc passes) count runs = with_pass columns wanted passes (with_passes columns wanted passes count runs) runs
 
--- Those, from a place on, and then to go to another with the empty rendition. The sum stays at the greatest number of 64 bits.
+-- Those, from a place on, and then to go to another with the empty rendition. The sum stays at the greatest number of
+-- 64 bits.
 abbrev pub passes_bytes : ℕ → Picture → ℕ → List Run → Place → Place → ℕ
 passes_bytes columns wanted passes runs from to =
     let count = with_passes columns wanted passes (count_from from) runs in

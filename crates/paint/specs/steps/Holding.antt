@@ -24,9 +24,11 @@ pub record CanDraw (pen : Pen) (lines columns : ℕ) (end : Place) : Type 0 wher
   pub line : end.0 < lines
   pub column : end.1 < columns
 
--- The text that draws a frame and leaves the cursor at a place, for whatever painter of its size that knows what it shows, and where the cursor is.
-abbrev pub HoldsFrame : Frame → Place → Place → Seen → Seen → Outbox → Type 0
-HoldsFrame frame from to start now outbox =
+-- The outbox holds a text that draws a frame, with the cursor at the first place before it and at the second after it. Of
+-- a painter no more matters than its size and what it knows: the text updates each that has the frame's, and knows that
+-- terminals show what the frame has as shown, with the cursor at the first place.
+abbrev pub HoldsFrameUpdate : Frame → Place → Place → Seen → Seen → Outbox → Type 0
+HoldsFrameUpdate frame from to start now outbox =
     (painter : PainterState) (clear : Bool) → painter.lines ≡ frame.lines → painter.columns ≡ frame.columns
     → last_shown frame.shown.now (Some from) ≡ known_picture painter clear
     → HoldsUpdate painter clear (record { picture = frame.wanted.now; cursor = to }) start now outbox

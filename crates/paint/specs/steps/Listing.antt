@@ -26,7 +26,8 @@ abbrev pub end_of : List Run → ℕ → Place
 end_of runs zero = origin
 end_of runs (suc k) = let run = slice_index_or runs k no_run in (run.line, run.end)
 
--- A run of changed cells: nothing differs between a place and it, nor in its gap, and it is drawn in the pass of its rendition.
+-- A run of changed cells: nothing differs between a place and it, nor in its gap, and it is drawn in the pass of its
+-- rendition.
 pub record IsListed (order : List Rendition) (shown wanted : Picture) (from : Place) (run : Run) : Type 0 where
   pub line : run.line < length wanted
   pub before : AreSameBetween shown wanted from (run.line, run.start)

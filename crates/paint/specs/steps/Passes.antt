@@ -41,7 +41,8 @@ abbrev pub selections : Rendition → List Rendition → ℕ
 selections last [] = if same_rendition last no_rendition then 0 else 1
 selections last (rendition ∷ coming) = (if same_rendition rendition last then 0 else 1) + selections rendition coming
 
--- The empty rendition has the first pass, and the others follow as each comes first. Where one walk selects no more often there is no order.
+-- The empty rendition has the first pass, and the others follow as each comes first. Where one walk selects no more
+-- often there is no order.
 abbrev pub order_for : List Rendition → List Rendition
 order_for coming = let order = order_after (no_rendition ∷ []) coming in if nat_lt (length order) (selections no_rendition coming) then order else []
 
@@ -49,8 +50,8 @@ order_for coming = let order = order_after (no_rendition ∷ []) coming in if na
 abbrev pub saturating_usize : ℕ → ℕ
 saturating_usize n = min n (2 ^ 64 - 1)
 
--- These came, and were taken note of: whatever comes after them, the order and the selections are those after them. The last one needs no more
--- note.
+-- These came, and were taken note of: whatever comes after them, the order and the selections are those after them. The
+-- last one needs no more note.
 pub record HasNoted (renditions : Renditions) (came : List Rendition) : Type 0 where
   pub order : (coming : List Rendition) → order_after renditions.order coming ≡ order_after (no_rendition ∷ []) (came ++ coming)
   pub selected : (coming : List Rendition) → saturating_usize (renditions.switches + selections renditions.last coming)

@@ -83,7 +83,8 @@ pub record Strokes (most : ℕ) (before after : Seen) (old new : Pen) (picture d
   pub short : length piece ≤ most
 
 module _ {W : Type 0} (seen : W → Seen) (name : W → ℕ) where
-  -- An erasure was put after what was gathered, and changes every picture so. Nothing else of the pen changed, and the sink is the same.
+  -- An erasure was put after what was gathered, and changes every picture so. Nothing else of the pen changed, and the
+  -- sink is the same.
   pub record Erases (erasure : Token) (erased : Picture → Picture) (old : Pen) (before : W) (new : Pen) (after : W) : Type 0 where
     pub draws : (picture : Picture) → Draws (spelling erasure) (seen before) (seen after) old new picture (erased picture)
     pub rest : new ≡ record old { outbox = new.outbox }
@@ -100,13 +101,15 @@ abbrev pub again_bytes : Rendition → List Shown → Rendition → ℕ
 again_bytes rendition [] wanted = length (change rendition wanted)
 again_bytes rendition (cell ∷ gap) wanted = length (change rendition cell.rendition) + 1 + again_bytes cell.rendition gap wanted
 
--- To come to the place after a gap, which begins at a place, with a rendition. Where the cursor is there, the gap may be printed again.
+-- To come to the place after a gap, which begins at a place, with a rendition. Where the cursor is there, the gap may
+-- be printed again.
 abbrev pub approach_bytes : Option Place → Rendition → Place → List Shown → Rendition → ℕ
 approach_bytes cursor rendition start gap wanted =
     let moved = moved_bytes cursor rendition (start.0, start.1 + length gap) wanted in
     if is_at cursor start then min (again_bytes rendition gap wanted) moved else moved
 
--- Whether the gap is printed again: where that takes fewer bytes than a move, or as many, if all its cells have the rendition in force, or all the wanted one.
+-- Whether the gap is printed again: where that takes fewer bytes than a move, or as many, if all its cells have the
+-- rendition in force, or all the wanted one.
 abbrev pub is_printed_again : Option Place → Rendition → Place → List Shown → Rendition → Bool
 is_printed_again cursor rendition start gap wanted =
     let again = again_bytes rendition gap wanted in
@@ -119,7 +122,8 @@ reach_bytes cursor rendition line cells gap column =
     let start = min gap column in
     approach_bytes cursor rendition (line, start) (take (column - start) (drop start cells)) no_rendition
 
--- Cells that are shown already were printed again, the first of them. What the others and a selection after them take is left.
+-- Cells that are shown already were printed again, the first of them. What the others and a selection after them take
+-- is left.
 pub record ArePrinted (before now : Seen) (old pen : Pen) (line column i : ℕ) (cells : List Shown) : Type 0 where
   pub spent : ℕ
   pub left : (wanted : Rendition) → spent + again_bytes pen.rendition (drop i cells) wanted ≡ again_bytes old.rendition cells wanted

@@ -1,4 +1,5 @@
--- The spans of a line, by their last columns, and the lines of which they are known to be those that the search from the top finds.
+-- The spans of a line, by their last columns, and the lines of which they are known to be those that the search from
+-- the top finds.
 use Rattle.std.specs.Prelude.{◌≡◌, ◌≢◌, ℕ, ◌+◌, ◌<◌, ◌≤◌, ◌==◌, if◌then◌else◌, true, false, Option, Some, None, List, slice_index}
 use Rattle.cell.specs.declared.limits.TheConstants.{LARGEST_SCREEN}
 use Rattle.small_set.specs.Sets.{contains}
@@ -22,7 +23,8 @@ pub record AreInside (spans : Spans) : Type 0 where
   pub few : spans.beyond ≤ LARGEST_SCREEN
   pub each : (e : ℕ) → contains spans.ends e ≡ true → e < spans.beyond
 
--- A column has the owner that stands at the first end from it on; one after all ends has none. The column after an end has another owner.
+-- A column has the owner that stands at the first end from it on; one after all ends has none. The column after an end
+-- has another owner.
 pub record AreSpans (o : ℕ → Option ℕ) (spans : Spans) : Type 0 where
   pub same : (x e : ℕ) → IsEndFrom spans.ends x e → o x ≡ numbered (slice_index spans.panels e)
   pub past : (x : ℕ) → ((n : ℕ) → x ≤ n → contains spans.ends n ≡ false) → o x ≡ None

@@ -18,7 +18,7 @@ ghost use Rattle.windows.specs.steps.Writes.{CharacterPrinted, HasStateAndPlace,
 
 use crate::drawing::{clear_rest, delete_cell, insert_cell, move_up, set_cell};
 use crate::frame::lines_from;
-use crate::state::{WindowState, set_cursor, state_of};
+use crate::state::{WindowState, move_cursor, state_of};
 use crate::table::Windows;
 use bitflags::Flags;
 use cell::{Cell, PairId, Rect, Refusal, WinId, are_printable, is_printable};
@@ -33,7 +33,7 @@ const NEWLINE: u8 = 10;
 const CARRIAGE_RETURN: u8 = 13;
 
 impl Windows {
-    /// Writes a character at the cursor, which advances; a newline (10), carriage return (13) or backspace (8) moves it.
+    /// Writes a character at the cursor, which advances; newline (10), carriage return (13) and backspace (8) move it.
     ///
     /// # Errors
     /// `NoSuchWindow`; `BadCharacter` for another character outside 32 to 126.
@@ -65,7 +65,7 @@ impl Windows {
         Ok(type_text(&mut self.table, win, text))
     }
 
-    /// Inserts a character at the cursor, which stays: the cells from there on go one column right, and the last is lost.
+    /// Inserts a character at the cursor, which stays: the cells from there on go right, and the last is lost.
     ///
     /// # Errors
     /// `NoSuchWindow`; `BadCharacter` for a character outside 32 to 126.
@@ -82,8 +82,8 @@ impl Windows {
         Ok(Some(lines_from(&state, y, y, x)))
     }
 
-    /// Deletes the character at the cursor, which stays: the cells after it go one column left, and the last is set to the
-    /// background.
+    /// Deletes the character at the cursor, which stays: the cells after it go one column left, and the last is set to
+    /// the background.
     ///
     /// # Errors
     /// `NoSuchWindow`.
@@ -141,8 +141,8 @@ fn type_text(table: &mut Grids, win: WinId, text: &[u8]) -> Option<Rect>
     frame
 }
 
-/// Writes the first characters of an accepted text in a window that is there, and answers how many: at once those that are printed
-/// in the cursor's line before its last column, or else one.
+/// Writes the first characters of an accepted text in a window that is there, and answers how many: at once those that
+/// are printed in the cursor's line before its last column, or else one.
 fn type_first(table: &mut Grids, win: WinId, text: &[u8]) -> (usize, Option<Rect>)
     requires there { IsSome ((windows table.old).window win.0) }
     requires accepted { list_any is_bad_character text.now ≡ false }
@@ -198,7 +198,7 @@ fn print_run(table: &mut Grids, win: WinId, state: &WindowState, run: &[u8]) -> 
     let (y, x) = state.settings.cursor;
     let end = x + run.len() as u16;
     table.print(win, y, x, run, written_cell(&state.settings, b' '));
-    set_cursor(table, win, state, y, end);
+    move_cursor(table, win, state, y, end);
     Rect {
         top: y,
         left: x,
@@ -226,11 +226,11 @@ fn type_character(table: &mut Grids, win: WinId, state: &WindowState, ch: u8) ->
         return end_line(table, win, state);
     }
     if ch == CARRIAGE_RETURN {
-        set_cursor(table, win, state, y, 0);
+        move_cursor(table, win, state, y, 0);
         return None;
     }
     if ch == BACKSPACE {
-        set_cursor(table, win, state, y, x.saturating_sub(1));
+        move_cursor(table, win, state, y, x.saturating_sub(1));
         return None;
     }
     print(table, win, state, ch)
@@ -246,7 +246,7 @@ fn print_inside(table: &mut Grids, win: WinId, state: &WindowState, ch: u8) -> R
 {
     let (y, x) = state.settings.cursor;
     set_cell(table, win, state, y, x, written_cell(&state.settings, ch));
-    set_cursor(table, win, state, y, x + 1);
+    move_cursor(table, win, state, y, x + 1);
     place(y, x)
 }
 
@@ -287,14 +287,14 @@ fn to_next_line(table: &mut Grids, win: WinId, state: &WindowState, y: u16, x: u
     let (top, bottom) = state.settings.region;
     if state.settings.scrolling && line == bottom {
         move_up(table, win, state, top, bottom, 1);
-        set_cursor(table, win, state, line, 0);
+        move_cursor(table, win, state, line, 0);
         return Some(lines_from(state, top, bottom, 0));
     }
     if line == bottom || line + 1 == state.lines {
-        set_cursor(table, win, state, y, x);
+        move_cursor(table, win, state, y, x);
         return None;
     }
-    set_cursor(table, win, state, line + 1, 0);
+    move_cursor(table, win, state, line + 1, 0);
     None
 }
 

@@ -5,7 +5,7 @@ ghost use Rattle.windows.specs.Calls.{Wrote, its_frame};
 
 use crate::drawing::{clear_all, clear_below, clear_rest, move_down, move_up};
 use crate::frame::lines_from;
-use crate::state::{set_cursor, set_settings, state_of};
+use crate::state::{move_cursor, set_settings, state_of};
 use crate::table::Windows;
 use cell::{Rect, Refusal, WinId};
 use world::Settings;
@@ -20,12 +20,12 @@ impl Windows {
     {
         let state = state_of(&self.table, win)?;
         clear_all(&mut self.table, win, &state);
-        set_cursor(&mut self.table, win, &state, 0, 0);
+        move_cursor(&mut self.table, win, &state, 0, 0);
         Ok(Some(lines_from(&state, 0, state.lines - 1, 0)))
     }
 
-    /// Sets all cells of a window to its background, and its cursor to line 0 and column 0, and asks for a clear screen where the
-    /// window is next taken into the virtual screen.
+    /// Sets all cells of a window to its background, and its cursor to line 0 and column 0, and asks for a clear screen
+    /// where the window is next taken into the virtual screen.
     ///
     /// # Errors
     /// `NoSuchWindow`.
@@ -74,8 +74,8 @@ impl Windows {
         }
     }
 
-    /// Moves the cursor's line and those below down by one, to the bottom of the window, and sets the cursor's line to the
-    /// background.
+    /// Moves the cursor's line and those below down by one, to the bottom of the window, and sets the cursor's line to
+    /// the background.
     ///
     /// # Errors
     /// `NoSuchWindow`.

@@ -3,7 +3,7 @@
 ghost use Rattle.world.specs.declared.call.Writing.{Writing};
 ghost use Rattle.windows.specs.Calls.{Wrote, no_frame};
 
-use crate::state::{set_cursor, set_settings, state_of};
+use crate::state::{move_cursor, set_settings, state_of};
 use crate::table::Windows;
 use bitflags::Flags;
 use cell::{Attr, Cell, PairId, Refusal, WinId};
@@ -22,7 +22,7 @@ impl Windows {
         if y >= state.lines || x >= state.columns {
             return Err(Refusal::OutsideWindow);
         }
-        set_cursor(&mut self.table, win, &state, y, x);
+        move_cursor(&mut self.table, win, &state, y, x);
         Ok(())
     }
 

@@ -18,8 +18,8 @@ use grids::Grids;
 use world::Settings;
 
 impl Windows {
-    /// Moves the lines of the scroll region up by `n`, or down by `-n` for a negative one. Lines that come from outside the
-    /// region are set to the background, and the cursor stays.
+    /// Moves the lines of the scroll region up by `n`, or down by `-n` for a negative one. Lines that come from outside
+    /// the region are set to the background, and the cursor stays.
     ///
     /// # Errors
     /// `NoSuchWindow`; `ScrollingOff` for a window that doesn't scroll.

@@ -1,5 +1,5 @@
--- The places and the lines of the screen at which a call can change the picture, or lays cells over the virtual screen, and how many cells
--- of windows an update_panels may read for them.
+-- The places and the lines of the screen at which a call can change the picture, or lays cells over the virtual screen,
+-- and how many cells of windows an update_panels may read for them.
 -- X/Open Curses Issue 7 and NetBSD panel(3) say nothing of what a refresh reads: these bounds are Curspan's own.
 use Rattle.std.specs.Prelude.{ℕ, ◌+◌, ◌-◌, ◌*◌, Bool, true, false, not, if◌then◌else◌, ◌==◌, ◌&&◌, ◌||◌, Option, None, is_none, is_some, List, [], ◌∷◌}
 use Rattle.std.specs.List.{count_by, list_any, range_with_len}
@@ -8,8 +8,8 @@ use Rattle.world.specs.Windows.{WindowMap, Windows, any_below, derives}
 use Rattle.world.specs.Panels.{Panels, holds, panel_holds, place_of, topmost, windows_from_top, windows_of_picture}
 use Rattle.world.specs.World.{World}
 use Rattle.world.specs.Sharing.{shows_part_of}
-use Rattle.world.specs.Effects.{Edit, edit_frame, edit_window, Change, asks, edits, marks, makes, deletes, moves, shifts, Order, changes, adds, orders, carries, Effect, arranges, refreshes}
-use Rattle.world.specs.Effects.{composes, shows, colours, panels_after, windows_after}
+use Rattle.world.specs.Effects.{Edit, edit_frame, edit_window, Change, edits, shifts, Order, changes, adds, orders, carries, Effect, arranges, refreshes}
+use Rattle.world.specs.Effects.{colours, panels_after, windows_after}
 use Rattle.world.specs.calls.Dispatch.{effect_of, is_update_panels, refusal, world_after}
 use Rattle.cell.specs.declared.window.Rect.{Rect}
 use Rattle.world.specs.declared.call.Call.{Call}
@@ -47,12 +47,12 @@ ordered_shows_at windows panels order p y x =
     panel_shows_at windows.window panels p y x || panel_shows_at (windows_after windows panels order).window (panels_after panels order) p y x
 
 -- the window of the panel p, if it is the topmost
-abbrev pub window_on_top : Panels → ℕ → Option ℕ
-window_on_top panels p = if option_map_or (λ q. q == p) (topmost panels) false then panels.window p else None
+abbrev pub window_if_topmost : Panels → ℕ → Option ℕ
+window_if_topmost panels p = if option_map_or (λ q. q == p) (topmost panels) false then panels.window p else None
 
 -- The panel p is the topmost before a change of order and after it, with the same window: so no panel is elsewhere.
 abbrev pub stays_on_top : Panels → Panels → ℕ → Bool
-stays_on_top panels order p = option_map_or (λ w. option_map_or (λ u. u == w) (window_on_top order p) false) (window_on_top panels p) false
+stays_on_top panels order p = option_map_or (λ w. option_map_or (λ u. u == w) (window_if_topmost order p) false) (window_if_topmost panels p) false
 
 -- ---- effects
 
@@ -61,13 +61,9 @@ abbrev pub edit_shows_at : Windows → Panels → Edit → ℕ → ℕ → Bool
 edit_shows_at windows panels edit y x = frame_shows_at windows.window panels (edit_window edit) (edit_frame windows edit) y x
 
 abbrev pub change_shows_at : Windows → Panels → Change → ℕ → ℕ → Bool
-change_shows_at windows panels (asks reply) y x = false
 change_shows_at windows panels (edits edit) y x = edit_shows_at windows panels edit y x
-change_shows_at windows panels (marks test change) y x = false
-change_shows_at windows panels (makes n a) y x = false
-change_shows_at windows panels (deletes w) y x = false
-change_shows_at windows panels (moves w place) y x = false
 change_shows_at windows panels (shifts w place) y x = move_shows_at windows.window panels w y x
+change_shows_at windows panels _ y x = false
 
 abbrev pub order_shows_at : Windows → Panels → Order → ℕ → ℕ → Bool
 order_shows_at windows panels (changes change) y x = change_shows_at windows panels change y x
@@ -79,9 +75,8 @@ order_shows_at windows panels (carries p place) y x = ordered_shows_at windows p
 abbrev pub effect_shows_at : World → Effect → ℕ → ℕ → Bool
 effect_shows_at world (arranges order) y x = order_shows_at world.windows world.panels order y x
 effect_shows_at world (refreshes w test drawing cursor) y x = is_some (drawing y x)
-effect_shows_at world composes y x = false
-effect_shows_at world shows y x = false
 effect_shows_at world (colours pair foreground background) y x = true
+effect_shows_at world _ y x = false
 
 -- of an accepted call
 abbrev pub affects_place : World → Call → ℕ → ℕ → Bool
@@ -107,8 +102,8 @@ affected_after world affected call line = if is_update_panels call then false el
 abbrev pub most_cells : World → (ℕ → Bool) → Call → ℕ
 most_cells world affected call = if is_update_panels call then count_by affected (range_with_len 0 world.windows.lines) * world.windows.columns else 0
 
--- The bound on reads: what all update_panels of a run may read, from a world with lines affected before it. A run's calls are listed with
--- whether each was accepted.
+-- The bound on reads: what all update_panels of a run may read, from a world with lines affected before it. A run's
+-- calls are listed with whether each was accepted.
 abbrev pub bound_on_reads : World → (ℕ → Bool) → List (Call × Bool) → ℕ
 bound_on_reads world affected [] = 0
 bound_on_reads world affected (call ∷ calls) =

@@ -1,7 +1,10 @@
--- The calls that copy cells from window to window, and those on what is touched of a window: each with its tests and its effect.
--- X/Open Curses Issue 7: overlay, overwrite, copywin, touchwin, untouchwin, touchline, wtouchln, wsyncup, wsyncdown, is_linetouched,
--- is_wintouched. The order of the tests is Curspan's own choice, and that 0 lines still want their line to be there.
--- A copy is one write, whose drawing has the cells of the source as they are before it: also where source and destination share cells.
+-- The calls that copy cells from window to window, and those on what is touched of a window: each with its tests and
+-- its effect.
+-- X/Open Curses Issue 7: overlay, overwrite, copywin, touchwin, untouchwin, touchline, wtouchln, wsyncup, wsyncdown,
+-- is_linetouched, is_wintouched. The order of the tests is Curspan's own choice, and that 0 lines still want their line
+-- to be there.
+-- A copy is one write, whose drawing has the cells of the source as they are before it: also where source and
+-- destination share cells.
 use Rattle.std.specs.Prelude.{ℕ, ◌+◌, ◌-◌, Bool, true, false, not, if◌then◌else◌, ◌==◌, nat_lt, nat_le, ◌&&◌, ◌||◌, Option, Some, None, is_some, List, [], ◌∷◌}
 use Rattle.std.specs.List.{list_any}
 use Rattle.std.specs.Option.{option_map_or}
@@ -88,7 +91,8 @@ overlay_tests windows src dst =
     ∷ (is_pad windows.window src || is_pad windows.window dst, IsPad)
     ∷ []
 
--- the rectangle of the destination has its last line or column before its first; or it isn't in its window, or the source's isn't
+-- the rectangle of the destination has its last line or column before its first; or it isn't in its window, or the
+-- source's isn't
 abbrev pub copywin_tests : Windows → ℕ → ℕ → ℕ → ℕ → ℕ → ℕ → ℕ → ℕ → List (Bool × Refusal)
 copywin_tests windows src dst sy sx top left bottom right =
     (is_missing windows.window src || is_missing windows.window dst, NoSuchWindow)

@@ -1,6 +1,6 @@
 -- The calls that make, move and delete windows and pads: each with its tests and its effect.
--- X/Open Curses Issue 7: newwin, derwin, subwin, newpad, subpad, delwin, mvwin, mvderwin. That a size of 0 reaches to the edge of the
--- parent too, the limits of size and of number, and the order of the tests are Curspan's own choice.
+-- X/Open Curses Issue 7: newwin, derwin, subwin, newpad, subpad, delwin, mvwin, mvderwin. That a size of 0 reaches to
+-- the edge of the parent too, the limits of size and of number, and the order of the tests are Curspan's own choice.
 use Rattle.std.specs.Prelude.{ℕ, zero, suc, ◌+◌, ◌-◌, Bool, true, false, not, if◌then◌else◌, ◌==◌, nat_lt, nat_le, ◌&&◌, ◌||◌, Option, Some, None, is_none, is_some, unwrap_or, List, [], ◌∷◌}
 use Rattle.std.specs.Option.{option_and_then, option_map, option_map_or}
 use Rattle.cell.specs.Pictures.{Place}
@@ -11,7 +11,7 @@ use Rattle.world.specs.Windows.{Backing, own_grid, part_of, Window, WindowMap, W
 use Rattle.world.specs.Panels.{standard_screen, place_of}
 use Rattle.world.specs.World.{new_window, blank_grid}
 use Rattle.world.specs.Effects.{Change, makes, deletes, moves, shifts, after_change}
-use Rattle.world.specs.calls.Rule.{Rule, missing_window}
+use Rattle.world.specs.calls.Rule.{missing_window}
 use Rattle.cell.specs.declared.refusal.Refusal.{Refusal}
 use Rattle.cell.specs.declared.refusal.Refusal.TheVariants.{OffScreen, OutsideParent, HasDerived, InPanel, IsPad, NotPad, NotDerived, BadSize, StandardScreen, TooMany}
 use Rattle.world.specs.declared.call.Making.{Making}
@@ -132,23 +132,23 @@ reaches_past y x a parent = not (nat_le (y + a.lines) parent.lines && nat_le (x 
 abbrev pub leaves_parent : WindowMap → ℕ → ℕ → ℕ → Bool
 leaves_parent window w y x = option_map_or (λ a. option_map_or (reaches_past y x a) (parent_in window a.backing) false) (window w) false
 
--- as if no window were in a panel
-abbrev pub in_no_panel : ℕ → Bool
-in_no_panel w = false
-
 -- ---- calls
 
--- in_panel says of each window whether it is in a panel: then only its panel moves it, and it isn't deleted
-abbrev pub making_rule : Windows → (ℕ → Bool) → Making → Rule Change
-making_rule windows in_panel (Newwin nlines ncols y x) = record {
-  tests =
+-- The tests may ask of each window whether it is in a panel: then only its panel moves it, and it isn't deleted.
+pub record MakingRule : Type 0 where
+  pub tests : (ℕ → Bool) → List (Bool × Refusal)
+  pub effect : Change
+
+abbrev pub making_rule : Windows → Making → MakingRule
+making_rule windows (Newwin nlines ncols y x) = record {
+  tests = λ in_panel.
       (not (is_inside nlines windows.lines y && is_inside ncols windows.columns x), OffScreen)
       ∷ (is_full windows.window, TooMany)
       ∷ [];
   effect = makes (next_window windows) (Some (window_on_screen windows nlines ncols y x));
 }
-making_rule windows in_panel (Subwin win nlines ncols y x) = record {
-  tests =
+making_rule windows (Subwin win nlines ncols y x) = record {
+  tests = λ in_panel.
       missing_window windows win.0
       ∷ (is_pad windows.window win.0, IsPad)
       ∷ (is_before windows.window win.0 y x, OutsideParent)
@@ -156,29 +156,29 @@ making_rule windows in_panel (Subwin win nlines ncols y x) = record {
   effect = makes (next_window windows) (derived_from windows win.0 nlines ncols (lines_from windows.window win.0 y)
       (columns_from windows.window win.0 x));
 }
-making_rule windows in_panel (Derwin win nlines ncols y x) = record {
-  tests =
+making_rule windows (Derwin win nlines ncols y x) = record {
+  tests = λ in_panel.
       missing_window windows win.0
       ∷ (is_pad windows.window win.0, IsPad)
       ∷ part_tests windows win.0 nlines ncols y x;
   effect = makes (next_window windows) (derived_from windows win.0 nlines ncols y x);
 }
-making_rule windows in_panel (Newpad nlines ncols) = record {
-  tests =
+making_rule windows (Newpad nlines ncols) = record {
+  tests = λ in_panel.
       (is_no_size LARGEST_PAD nlines || is_no_size LARGEST_PAD ncols, BadSize)
       ∷ (is_full windows.window, TooMany)
       ∷ [];
   effect = makes (next_window windows) (Some (new_window nlines ncols None blank_grid));
 }
-making_rule windows in_panel (Subpad pad nlines ncols y x) = record {
-  tests =
+making_rule windows (Subpad pad nlines ncols y x) = record {
+  tests = λ in_panel.
       missing_window windows pad.0
       ∷ (is_no_pad windows.window pad.0, NotPad)
       ∷ part_tests windows pad.0 nlines ncols y x;
   effect = makes (next_window windows) (derived_from windows pad.0 nlines ncols y x);
 }
-making_rule windows in_panel (Delwin win) = record {
-  tests =
+making_rule windows (Delwin win) = record {
+  tests = λ in_panel.
       missing_window windows win.0
       ∷ (win.0 == standard_screen, StandardScreen)
       ∷ (in_panel win.0, InPanel)
@@ -186,8 +186,8 @@ making_rule windows in_panel (Delwin win) = record {
       ∷ [];
   effect = deletes win.0;
 }
-making_rule windows in_panel (Mvwin win y x) = record {
-  tests =
+making_rule windows (Mvwin win y x) = record {
+  tests = λ in_panel.
       missing_window windows win.0
       ∷ (win.0 == standard_screen, StandardScreen)
       ∷ (is_pad windows.window win.0, IsPad)
@@ -196,8 +196,8 @@ making_rule windows in_panel (Mvwin win y x) = record {
       ∷ [];
   effect = moves win.0 (y, x);
 }
-making_rule windows in_panel (Mvderwin win y x) = record {
-  tests =
+making_rule windows (Mvderwin win y x) = record {
+  tests = λ in_panel.
       missing_window windows win.0
       ∷ (has_no_parent windows.window win.0, NotDerived)
       ∷ (leaves_parent windows.window win.0 y x, OutsideParent)
@@ -206,11 +206,10 @@ making_rule windows in_panel (Mvderwin win y x) = record {
 }
 
 abbrev pub making_tests : Windows → (ℕ → Bool) → Making → List (Bool × Refusal)
-making_tests windows in_panel making = (making_rule windows in_panel making).tests
+making_tests windows in_panel making = (making_rule windows making).tests in_panel
 
--- it is the same whatever windows are in panels
 abbrev pub making_change : Windows → Making → Change
-making_change windows making = (making_rule windows in_no_panel making).effect
+making_change windows making = (making_rule windows making).effect
 
 abbrev pub making_refusal : Windows → (ℕ → Bool) → Making → Option Refusal
 making_refusal windows in_panel making = first_of (making_tests windows in_panel making)

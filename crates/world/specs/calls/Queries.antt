@@ -13,7 +13,7 @@ use Rattle.cell.specs.declared.refusal.Refusal.TheVariants.{IsPad, NotDerived}
 use Rattle.world.specs.declared.call.Query.{Query}
 use Rattle.world.specs.declared.call.Query.TheVariants.{Getyx, Getbegyx, Getmaxyx, Getparyx, Inch}
 use Rattle.world.specs.declared.call.Reply.{Reply}
-use Rattle.world.specs.declared.call.Reply.TheVariants.{Nothing, Pair, Cell}
+use Rattle.world.specs.declared.call.Reply.TheVariants.{Nothing, TwoNumbers, Cell}
 use Rattle.world.specs.declared.settings.Columns.{Columns}
 
 abbrev pub cursor_of : WindowMap → ℕ → Option Place
@@ -38,21 +38,21 @@ cell_at_cursor window w = option_map (λ a. cell_at window w a.settings.cursor.0
 abbrev pub touched_columns : WindowMap → ℕ → ℕ → Option Columns
 touched_columns window w y = option_and_then (λ a. a.touched y) (window w)
 
-abbrev pub pair : Option Place → Reply
-pair place = option_map_or (λ p. Pair p.0 p.1) place Nothing
+abbrev pub both_numbers : Option Place → Reply
+both_numbers place = option_map_or (λ p. TwoNumbers p.0 p.1) place Nothing
 
 -- ---- calls
 
 abbrev pub query_rule : Windows → Query → Rule Reply
-query_rule windows (Getyx win) = record { tests = missing_window windows win.0 ∷ []; effect = pair (cursor_of windows.window win.0) }
+query_rule windows (Getyx win) = record { tests = missing_window windows win.0 ∷ []; effect = both_numbers (cursor_of windows.window win.0) }
 query_rule windows (Getbegyx win) = record {
   tests = missing_window windows win.0 ∷ (is_pad windows.window win.0, IsPad) ∷ [];
-  effect = pair (place_on_screen windows.window win.0);
+  effect = both_numbers (place_on_screen windows.window win.0);
 }
-query_rule windows (Getmaxyx win) = record { tests = missing_window windows win.0 ∷ []; effect = pair (window_size windows.window win.0) }
+query_rule windows (Getmaxyx win) = record { tests = missing_window windows win.0 ∷ []; effect = both_numbers (window_size windows.window win.0) }
 query_rule windows (Getparyx win) = record {
   tests = missing_window windows win.0 ∷ (has_no_parent windows.window win.0, NotDerived) ∷ [];
-  effect = pair (offset_in_parent windows.window win.0);
+  effect = both_numbers (offset_in_parent windows.window win.0);
 }
 query_rule windows (Inch win) = record {
   tests = missing_window windows win.0 ∷ [];

@@ -1,7 +1,7 @@
--- The calls that make the virtual screen and show it, and the one that sets how cells of a pair are shown: each with its tests and its
--- effect.
--- X/Open Curses Issue 7: wnoutrefresh, pnoutrefresh, doupdate, init_pair. NetBSD panel(3): update_panels. The order of the tests is
--- Curspan's own choice.
+-- The calls that make the virtual screen and show it, and the one that sets how cells of a pair are shown: each with
+-- its tests and its effect.
+-- X/Open Curses Issue 7: wnoutrefresh, pnoutrefresh, doupdate, init_pair. NetBSD panel(3): update_panels. The order of
+-- the tests is Curspan's own choice.
 use Rattle.std.specs.Prelude.{ℕ, ◌+◌, ◌-◌, Bool, true, false, if◌then◌else◌, ◌==◌, ◌&&◌, ◌||◌, not, nat_lt, nat_le, Option, Some, None, List, [], ◌∷◌}
 use Rattle.std.specs.Option.{option_map_or}
 use Rattle.cell.specs.Refusals.{first_of}
@@ -66,7 +66,8 @@ noutrefresh_tests windows w = missing_window windows w ∷ (is_pad windows.windo
 abbrev pub among_lines : ℕ → ℕ → ℕ → Bool
 among_lines first n y = nat_le first y && nat_lt y (first + n)
 
--- pnoutrefresh: a rectangle of the pad, touched or not, for one of the screen, both ends inclusive; the wanted cursor stays
+-- pnoutrefresh: a rectangle of the pad, touched or not, for one of the screen, both ends inclusive; the wanted cursor
+-- stays
 abbrev pub refresh_rule : World → Refresh → Rule Effect
 refresh_rule world (Noutrefresh win) = record {
   tests = noutrefresh_tests world.windows win.0;

@@ -1,8 +1,8 @@
 -- The calls on panels: each with its tests and its effect.
--- NetBSD panel(3): new_panel, del_panel, show_panel, hide_panel, top_panel, bottom_panel, move_panel, replace_panel, panel_above,
--- panel_below, panel_window, panel_hidden.
--- That show_panel puts a visible panel on top too, which window a panel may have, the limit of numbers and the order of the tests are
--- Curspan's own choice.
+-- NetBSD panel(3): new_panel, del_panel, show_panel, hide_panel, top_panel, bottom_panel, move_panel, replace_panel,
+-- panel_above, panel_below, panel_window, panel_hidden.
+-- That show_panel puts a visible panel on top too, which window a panel may have, the limit of numbers and the order of
+-- the tests are Curspan's own choice.
 use Rattle.std.specs.Prelude.{◌≡◌, ◌≢◌, ℕ, ◌-◌, ◌≤◌, Bool, not, if◌then◌else◌, ◌==◌, Option, Some, None, is_none, unwrap_or, IsSome, MatchOption, List, [], ◌∷◌, ◌++◌, reverse, All, AllPairs, find, ⊤}
 use Rattle.std.specs.Option.{option_map}
 use Rattle.std.specs.List.{filter, list_any, range_with_len}

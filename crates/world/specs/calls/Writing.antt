@@ -1,6 +1,7 @@
 -- The calls that write in a window, or set how it is written in: each with its tests and its effect.
--- X/Open Curses Issue 7: move, addch to scrl, setscrreg, scrollok, clearok, attrset, attron, attroff, color_set, bkgdset. `bkgdpair` is Curspan's own, and so is
--- the order of the tests. Each call that clears does so to the background.
+-- X/Open Curses Issue 7: move, addch to scrl, setscrreg, scrollok, clearok, attrset, attron, attroff, color_set,
+-- bkgdset. `bkgdpair` is Curspan's own, and so is the order of the tests. Each call that clears does so to the
+-- background.
 use Rattle.std.specs.Prelude.{ℕ, zero, suc, ℤ, pos, negsuc, ◌-◌, Bool, true, false, not, ◌==◌, ◌&&◌, ◌||◌, nat_lt, nat_le, Option, Some, None, List, [], ◌∷◌}
 use Rattle.std.specs.List.{list_any}
 use Rattle.std.specs.Option.{option_map_or}

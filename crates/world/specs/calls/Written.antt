@@ -1,6 +1,6 @@
 -- What a call writes, through which window; and the windows whose places lead elsewhere after it.
--- X/Open Curses Issue 7: subwin and derwin (a derived window shares the cells of its parent). That a call writes through one window at most
--- is Curspan's own finding.
+-- X/Open Curses Issue 7: subwin and derwin (a derived window shares the cells of its parent). That a call writes
+-- through one window at most is Curspan's own finding.
 use Rattle.std.specs.Prelude.{◌≡◌, ℕ, Bool, false, ◌==◌, ◌||◌, Some}
 use Rattle.cell.specs.Glyphs.{Glyph}
 use Rattle.world.specs.Windows.{HasPlace, WindowMap, Windows, derives}

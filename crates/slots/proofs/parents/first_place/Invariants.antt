@@ -1,12 +1,12 @@
 use Rattle.world.specs.Windows.{HasPlace}
 use Rattle.slots.specs.Slots.{window_map, depth_at}
-use Rattle.slots.proofs.Chain.{Leads}
+use Rattle.slots.proofs.Chain.{ComesTo}
 use Rattle.slots.proofs.parents.first_place.Given as goal
 
 abbrev pub invariant-loop-next : goal.invariant-loop-next
 invariant-loop-next l = record {
   there : HasPlace (window_map l.slots) l.at.win.0 l.at.line l.at.column;
-  leads : Leads l.slots l.win l.at.win.0 l.at.line l.at.column;
+  leads : ComesTo l.slots l.win l.at.win.0 l.at.line l.at.column;
 }
 
 abbrev pub decreases-loop-next : goal.decreases-loop-next

@@ -16,14 +16,14 @@ use Rattle.desk.proofs.screen.Screen.run_line.Goals as goal
 
 pub returns-in-Ok-None-clause-line : goal.returns-in-Ok-None-clause-line
 returns-in-Ok-None-clause-line g c =
-    rw c.script_end.ensures (line_without_call g.W.Sink.seen None (rw c.in-Ok-None.field-0-is at c.in-Ok-None.ensures, refl) (Appends-nil _) refl)
+    rw c.script_end.ensures (line_without_call g.W.Sink.seen None (rw c.in-Ok-None.field-0-is at c.in-Ok-None.ensures) refl (Appends-nil _) refl)
 
 pub returns-in-Err-clause-line : goal.returns-in-Err-clause-line
-returns-in-Err-clause-line g c = rw c.script_end-in-Err.ensures (line_without_call g.W.Sink.seen (Some (Text _ _)) (refl, c.in-Err.ensures, refl, refl) (Appends-nil _) refl)
+returns-in-Err-clause-line g c = rw c.script_end-in-Err.ensures (line_without_call g.W.Sink.seen (Some (Text _ _)) (refl, c.in-Err.ensures, refl) refl (Appends-nil _) refl)
 
 pub returns-in-Ok-log_answer-clause-line : goal.returns-in-Ok-log_answer-clause-line
 returns-in-Ok-log_answer-clause-line g c =
-    rw c.script_end-in-Ok-log_answer.ensures (line_of_call g.W.Sink.seen _ c.in-Ok.answer None (rw c.in-Ok-Some.field-0-is at c.in-Ok-Some.ensures, refl)
+    rw c.script_end-in-Ok-log_answer.ensures (line_of_call g.W.Sink.seen _ c.in-Ok.answer None (rw c.in-Ok-Some.field-0-is at c.in-Ok-Some.ensures) refl
     (rw c.call.ensures at (placeless_ends g.W.Sink.seen c.args.self.now c.call.result (call_end (Ok c.in-Ok.answer)) c.answer.new.self c.in-Ok.ensures.ends))
     c.is_err-refused.ensures.value (subst (Appends _ _) (sym (append-nil (log_line c.args.number c.in-Ok.answer))) c.in-Ok-log_answer.ensures.ok)
     c.in-Ok-log_answer.ensures.failures c.in-Ok-log_answer.ensures.flushes)
@@ -31,7 +31,7 @@ returns-in-Ok-log_answer-clause-line g c =
 pub returns-in-Err-log_answer-clause-line : goal.returns-in-Err-log_answer-clause-line
 returns-in-Err-log_answer-clause-line g c =
     let failed = c.in-Err-log_answer.ensures in
-    rw c.script_end-in-Err-log_answer.ensures (line_of_call g.W.Sink.seen _ c.in-Ok.answer (Some Log) (rw c.in-Ok-Some.field-0-is at c.in-Ok-Some.ensures, refl)
+    rw c.script_end-in-Err-log_answer.ensures (line_of_call g.W.Sink.seen _ c.in-Ok.answer (Some Log) (rw c.in-Ok-Some.field-0-is at c.in-Ok-Some.ensures) refl
     (rw c.call.ensures at (placeless_ends g.W.Sink.seen c.args.self.now c.call.result (call_end (Ok c.in-Ok.answer)) c.answer.new.self c.in-Ok.ensures.ends))
     c.is_err-refused.ensures.value
     (record { whole = []; last = log_line c.args.number c.in-Ok.answer; parts = refl; sent = c.in-Err-log_answer.field-0.sent; within = failed.err.0; taken = failed.err.1 })

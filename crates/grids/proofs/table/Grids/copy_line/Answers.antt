@@ -1,7 +1,6 @@
 -- Each round lays a piece more over the line, in the direction in which none is read after it was written.
-use Rattle.std.proofs.Common.{◌≡◌, ◌+◌, ◌-◌, ◌<◌, ◌≤◌, refl, arith, rules, inl, inr}
+use Rattle.std.proofs.Common.{◌+◌, ◌-◌, refl, arith, rules, inl, inr}
 use Rattle.std.proofs.lemmas.Grind.{common_steps}
-use Rattle.grids.specs.Copies.{piece_of}
 use Rattle.grids.specs.Tables.{windows}
 use Rattle.grids.proofs.Showing.{leads_shown}
 use Rattle.grids.proofs.Copies.{copied-none, copied-out, more-after, more-before, some-piece}
@@ -30,7 +29,8 @@ forward-preserved c =
     record {
       within = grind (arith, common_steps);
       copied = row-copied w (record a.from { column = a.from.column + k }) (record a.to { column = a.to.column + k }) _ _
-          (leads_shown a.from.win.0 c.self.view_is c.deref.ensures.value c.origin_of-source.ensures.leads) (leads_shown a.to.win.0 c.self.view_is c.deref-2.ensures.value c.origin_of-target.ensures.leads)
+          (leads_shown a.from.win.0 c.self.view_is c.deref.ensures.value c.origin_of-source.ensures.leads)
+          (leads_shown a.to.win.0 c.self.view_is c.deref-2.ensures.value c.origin_of-target.ensures.leads)
           len a.overlay (search rules) c.forward.invariant.copied
           (λ j first up left. copied-out w.window a.from.win.0 a.from.line a.from.column a.to.line a.to.column k a.overlay _ _ (inr (omega (arith, c.if-target-to.true))))
           (more-after w.window a.from.win.0 a.from.line a.from.column a.to.line a.to.column k len a.overlay)
@@ -60,7 +60,8 @@ backward-preserved c =
     record {
       within = grind (arith, common_steps);
       copied = row-copied w (record a.from { column = a.from.column + k }) (record a.to { column = a.to.column + k }) _ _
-          (leads_shown a.from.win.0 c.self.view_is c.deref.ensures.value c.origin_of-source.ensures.leads) (leads_shown a.to.win.0 c.self.view_is c.deref-2.ensures.value c.origin_of-target.ensures.leads)
+          (leads_shown a.from.win.0 c.self.view_is c.deref.ensures.value c.origin_of-source.ensures.leads)
+          (leads_shown a.to.win.0 c.self.view_is c.deref-2.ensures.value c.origin_of-target.ensures.leads)
           len a.overlay (search rules) c.backward.invariant.copied
           (λ j first up left. copied-out w.window a.from.win.0 a.from.line (a.from.column + m) a.to.line (a.to.column + m) (a.n - m) a.overlay _ _
           (inl (grind (arith, common_steps, c.if-target-to.false))))

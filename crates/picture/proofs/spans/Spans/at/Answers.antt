@@ -12,5 +12,6 @@ returns-in-Some c =
     let is : IsEndFrom c.args.self.now.ends c.args.x e = record { from = found.0; is = found.1; first = found.2 } in
     let from = found.0 in
     let least = c.min.ensures in
-    λ window panels y h. span-at window panels y c.args.self.now h c.args.x e c.args.edge (record { panel = c.panel_of.result; end = c.min.result }) is ordered (rw c.from.ensures at c.panel_of.ensures)
+    λ window panels y h. span-at window panels y c.args.self.now h c.args.x e c.args.edge
+    (record { panel = c.panel_of.result; end = c.min.result }) is ordered (rw c.from.ensures at c.panel_of.ensures)
     (omega (arith, least, from, ordered)) (omega (arith, least)) (omega (arith, least)) (λ more. omega (arith, least, more))
