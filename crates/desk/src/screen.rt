@@ -153,7 +153,7 @@ impl<W: Sink> Screen<W> {
         let screen = &self.desk;
         match self
             .painter
-            .doupdate_changes(screen, screen.changes(), &mut self.writer)
+            .doupdate_changes(screen, Some(screen.changes()), &mut self.writer)
         {
             Ok(sent) => {
                 self.desk.mark_taken();

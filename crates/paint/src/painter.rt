@@ -108,54 +108,34 @@ impl Painter {
         requires { CanShow self.old (V.shown screen.now) }
         ensures { UpdateMade W.seen W.name self.old sink.old (V.shown screen.now) result self.new sink.new }
     {
+        self.doupdate_changes(screen, None, sink)
+    }
+
+    /// The same, of a virtual screen that differs from what was shown last in some columns only, where that is known. It
+    /// looks at these columns alone, unless it clears.
+    pub fn doupdate_changes<V: VirtualScreen, W: Sink>(
+        &mut self,
+        screen: &V,
+        changes: Option<&Extents>,
+        sink: &mut W,
+    ) -> Result<Sent, WriteFault>
+        requires can { CanShow self.old (V.shown screen.now) }
+        requires height { MatchOption changes ⊤ (λ changes. length changes.now ≡ self.old.lines) }
+        requires changes { MatchOption changes ⊤ (λ changes.
+            MatchOption self.old.last ⊤ (λ shown. DifferOnly changes.now shown.picture (V.shown screen.now).picture)) }
+        ensures { UpdateMade W.seen W.name self.old sink.old (V.shown screen.now) result self.new sink.new }
+    {
         let picture = screen.virtual_screen();
         let cursor = screen.wanted_cursor();
         let known = known_cursor(self.cursor, screen.clear_wanted());
         self.cursor = None;
-        self.changes.fill(self.columns);
-        let sent = show(
-            &mut self.pen,
-            &mut self.runs,
-            sink,
-            (self.lines, self.columns),
-            known,
-            &mut self.picture,
-            picture,
-            cursor,
-            &self.changes,
-        )?;
-        self.picture.copy_from(picture);
-        self.cursor = Some(cursor);
-        Ok(sent)
-    }
-
-    /// The same, of a virtual screen that differs from what was shown last in some columns only, where that is known. It looks at these
-    /// columns alone, unless it clears.
-    pub fn doupdate_changes<V: VirtualScreen, W: Sink>(
-        &mut self,
-        screen: &V,
-        changes: &Extents,
-        sink: &mut W,
-    ) -> Result<Sent, WriteFault>
-        requires can { CanShow self.old (V.shown screen.now) }
-        requires height { length changes.now ≡ self.old.lines }
-        requires changes { MatchOption self.old.last ⊤ (λ shown. DifferOnly changes.now shown.picture (V.shown screen.now).picture) }
-        ensures { UpdateMade W.seen W.name self.old sink.old (V.shown screen.now) result self.new sink.new }
-    {
-        if screen.clear_wanted() || self.cursor.is_none() {
-            return self.doupdate(screen, sink);
+        match changes {
+            Some(changes) if known.is_some() => {
+                let columns = self.columns;
+                find_differences(&mut self.changes, changes, columns, &self.picture, picture);
+            }
+            _ => self.changes.fill(self.columns),
         }
-        let picture = screen.virtual_screen();
-        let cursor = screen.wanted_cursor();
-        let known = self.cursor;
-        self.cursor = None;
-        find_differences(
-            &mut self.changes,
-            changes,
-            self.columns,
-            &self.picture,
-            picture,
-        );
         let sent = show(
             &mut self.pen,
             &mut self.runs,
