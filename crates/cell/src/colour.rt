@@ -2,7 +2,7 @@
 
 ghost use Rattle.std.specs.Prelude.{◌≡◌, ◌==◌, ◌&&◌, is_none, ◌≤◌, nat_le, if◌then◌else◌, length, map, slice_set, true};
 ghost use Rattle.std.specs.List.{AllByRecursion, list_all};
-ghost use Rattle.cell.specs.Shown.{ArePairs, IsColour, IsShown, first_pairs, pair_at, shown, shown_in};
+ghost use Rattle.cell.specs.Shown.{ArePairs, default_pair, IsColour, IsShown, first_pairs, pair_at, shown, shown_in};
 ghost use Rattle.cell.specs.declared.lanes.TheConstants.{BLOCK, LANES};
 
 use crate::cell::Cell;
@@ -228,10 +228,15 @@ impl Pairs {
         ensures cells { AllByRecursion IsShown places.new }
     {
         let pair = cells[0].pair();
-        if have_pair(cells, pair) {
-            show_alike(self.colours_of(pair), cells, places);
-        } else {
+        if !have_pair(cells, pair) {
             self.show_rest(cells, places);
+            return;
+        }
+        let colours = self.colours_of(pair);
+        if pair == PairId::DEFAULT && colours.are_default() {
+            show_plain(cells, places);
+        } else {
+            show_alike(colours, cells, places);
         }
     }
 
@@ -299,6 +304,39 @@ fn show_alike(colours: ColourBits, cells: &[Cell], places: &mut [Shown])
         places[start..end].copy_from_slice(&show_in(colours, &cells[start..end]));
         start = end;
     }
+}
+
+/// Writes the cells of a block, which are all of pair 0, in the default colours into as many places: they are copied as
+/// they are.
+fn show_plain(cells: &[Cell], places: &mut [Shown])
+    requires cells { length cells.now ≡ BLOCK }
+    requires places { length places.old ≡ BLOCK }
+    requires plain { list_all (λ cell. cell.pair == 0) cells.now ≡ true }
+    ensures shown { places.new ≡ map (shown_in default_pair) cells.now }
+    ensures cells { AllByRecursion IsShown places.new }
+{
+    let mut start = 0;
+    while start < BLOCK {
+        let end = start + LANES;
+        places[start..end].copy_from_slice(&plain(&cells[start..end]));
+        start = end;
+    }
+}
+
+/// So many cells of pair 0 in the default colours, by a loop that the compiler vectorizes.
+fn plain(cells: &[Cell]) -> [Shown; LANES]
+    requires cells { length cells.now ≡ LANES }
+    requires plain { list_all (λ cell. cell.pair == 0) cells.now ≡ true }
+    ensures shown { result ≡ map (shown_in default_pair) cells.now }
+    ensures cells { AllByRecursion IsShown result }
+{
+    let mut shown = [Shown::BLANK; LANES];
+    for x in 0..LANES {
+        let cell = Shown::plain(cells[x]);
+        prove!(cell.ch() >= b' ');
+        shown[x] = cell;
+    }
+    shown
 }
 
 /// So many cells in colours, whatever their pairs are, by a loop that the compiler vectorizes.

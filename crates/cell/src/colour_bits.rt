@@ -1,6 +1,6 @@
 //! The colours of a pair at their place in the number of a shown cell.
 
-ghost use Rattle.std.specs.Prelude.{◌≡◌, ◌≤◌, ◌+◌, ◌%◌};
+ghost use Rattle.std.specs.Prelude.{◌≡◌, ◌≤◌, ◌+◌, ◌%◌, ◌&&◌, is_none};
 ghost use Rattle.cell.specs.Packing.{colour_code, colour_of, colours_of};
 ghost use Rattle.cell.specs.Shown.{IsColour, IsPair};
 ghost use Rattle.cell.specs.declared.limits.TheConstants.{LAST_COLOUR};
@@ -64,6 +64,13 @@ impl ColourBits {
             foreground: colour(self.bits / 65_536 % 16),
             background: colour(self.bits / 1_048_576),
         }
+    }
+
+    /// Whether both are the default.
+    pub(crate) fn are_default(self) -> bool
+        ensures { result ≡ (is_none self.foreground && is_none self.background) }
+    {
+        self.bits == 0
     }
 
     /// Their bits.

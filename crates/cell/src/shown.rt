@@ -3,7 +3,7 @@
 ghost use Rattle.std.specs.Prelude.{◌≡◌, ◌<◌, if◌then◌else◌, true};
 ghost use Rattle.cell.specs.Attributes.{bits_of, valid_attributes};
 ghost use Rattle.cell.specs.Glyphs.{is_printable};
-ghost use Rattle.cell.specs.Shown.{IsRendition, IsShown, rendition_with, shown_in};
+ghost use Rattle.cell.specs.Shown.{IsRendition, IsShown, default_pair, rendition_with, shown_in};
 ghost use Rattle.cell.specs.Differences.{same_rendition, same_shown};
 ghost use Rattle.cell.specs.Packing.{rendition_bits, rendition_of, shown_bits, shown_of};
 ghost use Rattle.std.specs.Cmp.{partial_equiv_from_equiv};
@@ -162,6 +162,14 @@ impl Shown {
         Shown {
             bits: cell.bits() % 65_536 + colours.bits(),
         }
+    }
+
+    /// A cell of pair 0 in the default colours: both are kept as one number.
+    pub(crate) fn plain(cell: Cell) -> Shown
+        requires { cell.pair ≡ 0 }
+        ensures { result ≡ shown_in default_pair cell }
+    {
+        Shown { bits: cell.bits() }
     }
 
     /// The cell as one number.

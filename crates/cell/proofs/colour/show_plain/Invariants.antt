@@ -1,0 +1,17 @@
+use Rattle.std.proofs.Common.{◌≡◌, ◌≤◌, ◌-◌, ◌%◌, length, map, take}
+use Rattle.std.specs.List.{AllByRecursion}
+use Rattle.cell.specs.Shown.{IsShown, default_pair, shown_in}
+use Rattle.cell.specs.declared.lanes.TheConstants.{BLOCK}
+use Rattle.cell.proofs.colour.show_plain.Given as goal
+
+abbrev pub invariant-loop-start : goal.invariant-loop-start
+invariant-loop-start l = record {
+  within : l.start ≤ BLOCK;
+  whole : l.start % 16 ≡ 0;
+  long : length l.places ≡ BLOCK;
+  shown : take l.start l.places ≡ map (shown_in default_pair) (take l.start l.cells);
+  each : AllByRecursion IsShown (take l.start l.places);
+}
+
+abbrev pub decreases-loop-start : goal.decreases-loop-start
+decreases-loop-start l = BLOCK - l.start
