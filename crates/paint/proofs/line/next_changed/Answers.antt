@@ -1,5 +1,5 @@
 -- What is looked at together is the same up to the first difference (`Listing`).
-use Rattle.std.proofs.Common.{◌-◌, ◌≤◌, drop, inl, inr, length, take, ap, arith}
+use Rattle.std.proofs.Common.{◌-◌, ◌≤◌, drop, inl, inr, take, ap, arith}
 use Rattle.std.proofs.lemmas.Bool.{cases_lt}
 use Rattle.std.proofs.lemmas.List.{length-take}
 use Rattle.paint.proofs.Listing.{part-same}

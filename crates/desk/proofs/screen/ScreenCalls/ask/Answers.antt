@@ -3,7 +3,6 @@
 use Rattle.std.proofs.Common.{Ok, Err, refl}
 use Rattle.std.proofs.lemmas.Result.{err_from_is_err_and}
 use Rattle.calls.proofs.AnswerKinds.{query-other}
-use Rattle.compose.proofs.DeskLemmas.{sound-called}
 use Rattle.desk.specs.declared.screen.Fault.TheVariants.{Refused}
 use Rattle.desk.proofs.ShowingLemmas.{call-made}
 use Rattle.desk.proofs.WriterLemmas.{called-ends, refused-ends}
