@@ -45,8 +45,8 @@ impl<'a> CountedWindows<'a> {
         self.cells
     }
 
-    /// Puts what a search from the top finds at each damaged place into a virtual picture, and clears the damage. It answers how many
-    /// cells it read, and counts them.
+    /// Puts what a search from the top finds at each damaged place into a virtual picture, and clears the damage. It
+    /// answers how many cells it read, and counts them.
     pub(crate) fn show_damaged(
         &mut self,
         stack: &Stack,
