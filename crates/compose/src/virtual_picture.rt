@@ -36,8 +36,8 @@ impl VirtualPicture {
         })
     }
 
-    /// Puts so many cells of a line of a window, from a place of it on, into line `y` from column `x` on, and adds these
-    /// columns to the changes.
+    /// Puts so many cells of a line of a window, from a place of it on, into line `y` from column `x` on, and adds
+    /// these columns to the changes.
     pub(crate) fn show_piece(
         &mut self,
         table: &Grids,
