@@ -50,8 +50,8 @@ abbrev pub CountsReads : DeskTable → Call → Reply → DeskTable → Type 0
 CountsReads old (calls.Refresh UpdatePanels) reply new = new.cells_read ≡ (old.cells_read + cells_of_reply reply) % 2 ^ 64
 CountsReads old call reply new = new.cells_read ≡ old.cells_read
 
--- The call, which sends nothing, was made on a desk, and leaves it sound. What it changed on the virtual screen is among the changes. A
--- refused one changed nothing.
+-- The call, which sends nothing, was made on a desk, and leaves it sound. What it changed on the virtual screen is
+-- among the changes. A refused one changed nothing.
 abbrev pub Called : DeskTable → Call → Result Reply Refusal → DeskTable → Type 0
 Called old call (Ok reply) new =
     (refusal (world old) call ≡ None)

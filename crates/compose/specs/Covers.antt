@@ -1,5 +1,5 @@
--- What always holds of a desk: its world is sound, its damage covers each place at which the virtual screen shows something else than the
--- search from the top finds, and it keeps the changes of each line.
+-- What always holds of a desk: its world is sound, its damage covers each place at which the virtual screen shows
+-- something else than the search from the top finds, and it keeps the changes of each line.
 use Rattle.std.specs.Prelude.{◌≡◌, ℕ, ◌<◌, false, length}
 use Rattle.cell.specs.Pictures.{shown_at}
 use Rattle.world.specs.Sound.{AreColumnsWithin, IsSound}

@@ -8,8 +8,9 @@ use Rattle.grids.specs.Tables.{WindowTable, windows}
 use Rattle.stack.specs.Tables.{PanelTable, panels}
 use Rattle.extents.specs.Extents.{columns_of, has_columns, is_among}
 
--- the table of windows, the panels, the colour pairs, the virtual screen, of each line of the screen the columns in which that changed since
--- it was last taken, and the columns that are damaged, and how many cells of windows update_panels has read, modulo 2^64
+-- The table of windows, the panels, the colour pairs, the virtual screen; of each line the columns in which that
+-- changed since it was last taken, and those that are damaged; and how many cells of windows update_panels has read,
+-- modulo 2^64.
 pub record DeskTable : Type 0 where
   pub windows : WindowTable
   pub panels : PanelTable

@@ -247,7 +247,7 @@ impl Desk {
         &self.picture.changes
     }
 
-    /// The virtual screen was taken: from now on nothing of it has changed, and the terminal needn't be cleared any more.
+    /// The virtual screen was taken: nothing of it has changed since, and the terminal needn't be cleared any more.
     pub fn mark_taken(&mut self)
         ensures { self.new ≡ record self.old {
           virtual = record self.old.virtual { clear = false };

@@ -100,8 +100,8 @@ impl Desk {
     }
 }
 
-/// Copies the touched cells of a window, which begins at this place of the screen, to a picture of the screen's size, and damages where
-/// they are.
+/// Copies the touched cells of a window, which begins at this place of the screen, to a picture of the screen's size,
+/// and damages where they are.
 fn show_touched(
     table: &Grids,
     pairs: &Pairs,

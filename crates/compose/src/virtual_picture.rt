@@ -14,7 +14,8 @@ use grids::{Grids, Place};
 use picture::show_piece;
 use std::alloc::{AllocError, Global};
 
-/// What a virtual screen shows, and of each line the columns in which it may show something else than when it was last taken.
+/// What a virtual screen shows, and of each line the columns in which it may show something else than when it was last
+/// taken.
 #[derive(Drop)]
 pub(crate) struct VirtualPicture {
     pub(crate) cells: Grid<Shown>,
@@ -35,7 +36,8 @@ impl VirtualPicture {
         })
     }
 
-    /// Puts so many cells of a line of a window, from a place of it on, into line `y` from column `x` on, and adds these to the changes.
+    /// Puts so many cells of a line of a window, from a place of it on, into line `y` from column `x` on, and adds
+    /// these columns to the changes.
     pub(crate) fn show_piece(
         &mut self,
         table: &Grids,

@@ -3,7 +3,7 @@ use Rattle.std.proofs.Common.{◌≡◌, ◌≤◌, ℕ, ◌||◌, if◌then◌e
 use Rattle.std.proofs.Math.Nat.{mul-le-mul_right}
 use Rattle.std.proofs.lemmas.List.Sums.{sum_by-le-sum_by}
 use Rattle.std.specs.List.{count_by}
-use Rattle.std.specs.Prelude.{MatchOption, Option, None, Some, ⊤}
+use Rattle.std.specs.Prelude.{MatchOption, None, Some, ⊤}
 use Rattle.cell.specs.Pictures.{Picture}
 use Rattle.cell.specs.declared.refusal.Refusal.{Refusal}
 use Rattle.paint.specs.Updates.{PainterState, ShownPicture}

@@ -56,7 +56,8 @@ pub record HasOneSize (desk : DeskTable) (painter : PainterState) : Type 0 where
   pub lines : painter.lines ≡ desk.windows.lines
   pub columns : painter.columns ≡ desk.windows.columns
 
--- What always holds of a screen: where its painter knows what it showed last, the virtual screen shows the same, but at its changes.
+-- What always holds of a screen: where its painter knows what it showed last, the virtual screen shows the same, but at
+-- its changes.
 pub record IsScreen (desk : DeskTable) (painter : PainterState) : Type 0 where
   pub sound : IsSound (world desk)
   pub size : HasOneSize desk painter

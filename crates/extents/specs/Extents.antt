@@ -36,8 +36,8 @@ pub record IsWithin (count : ℕ) (columns : Option Columns) (part : ℕ × ℕ)
 pub record DifferOnly (extents : List (Option Columns)) (one other : Picture) : Type 0 where
   pub others : (y x : ℕ) → is_among extents y x ≡ false → shown_at one (y, x) ≡ shown_at other (y, x)
 
--- What changed of a picture was added to the changes that there were: a place that isn't among them now wasn't before, and shows what it
--- showed before.
+-- What changed of a picture was added to the changes that there were: a place that isn't among them now wasn't before,
+-- and shows what it showed before.
 pub record AddsChanges (old : List (Option Columns)) (before : Picture) (new : List (Option Columns)) (after : Picture) : Type 0 where
   pub height : length new ≡ length old
   pub keeps : (y x : ℕ) → is_among new y x ≡ false → is_among old y x ≡ false

@@ -18,9 +18,9 @@ use extents::Extents;
 use stack::Stack;
 use world::Columns;
 
-/// Puts what a search from the top finds at each damaged place of so many lines into a picture, and clears the damage. The damaged columns
-/// are added to the picture's changes. It answers how many cells of windows it read. The owners of any lines may be passed: they only save
-/// the room.
+/// Puts what a search from the top finds at each damaged place of so many lines into a picture, and clears the damage.
+/// The damaged columns are added to the picture's changes. It answers how many cells of windows it read. The owners of
+/// any lines may be passed: they only save the room.
 pub fn show_damaged<'a, R: Rows<'a>>(
     rows: &mut R,
     stack: &Stack,

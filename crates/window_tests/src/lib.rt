@@ -1,4 +1,5 @@
-//! The tests of `extents`, `grids`, `windows`, `stack` and `compose`, by public calls alone: what a call does is tried by scripts.
+//! The tests of `extents`, `grids`, `windows`, `stack` and `compose`, by public calls alone: what a call does is tried
+//! by scripts.
 //! `docs/DECISIONS.md` says why tests have crates of their own.
 #![tactic(auto)]
 

@@ -1,4 +1,4 @@
-use Rattle.std.proofs.Common.{◌+◌, ◌<◌, ◌≤◌, subst, arith}
+use Rattle.std.proofs.Common.{◌+◌, ◌<◌, subst, arith}
 use Rattle.std.specs.Prelude.{MatchOption, length, ⊤}
 use Rattle.picture.specs.Parts.{IsFrameWithin}
 use Rattle.picture.proofs.DamageLaws.{damages-rectangle}
