@@ -19,7 +19,7 @@ fn shown(desk: &Desk, alloc: Global) -> Result<Vec<u8>, Fail> {
     Ok(shown)
 }
 
-/// A script, and of a virtual screen of 2 lines and 5 columns the characters, the cursor and whether it is cleared.
+/// A script, the characters of a virtual screen of 2 lines and 5 columns after it, its cursor, and whether it is to be cleared.
 type Case = (&'static str, &'static str, (u16, u16), bool);
 
 static PICTURES: [Case; 8] = [
@@ -98,8 +98,8 @@ fn pictures_are_taken(rt: HostRuntime) -> Result<(), Fail> {
     Ok(())
 }
 
-/// How many cells two updates read after a character was written, and whether a clear screen is wanted after each, once
-/// it is asked for, done, and no more asked for.
+/// How many cells two updates read after a character was written, and whether a clear screen is wanted after each, once it is asked
+/// for, done, and no more asked for.
 fn update_twice(desk: &mut Desk, alloc: Global) -> Result<([Composed; 2], [bool; 2]), Fail> {
     run(desk, alloc, "addch 0 a\nclearok 0 on")?;
     let first = desk.update_panels();
@@ -123,8 +123,8 @@ fn an_update_reads_what_changed(rt: HostRuntime) -> Result<(), Fail> {
     Ok(())
 }
 
-/// The character that is found at a place of the screen, the panel that has it, none for the standard screen, and the
-/// last column up to which that is found.
+/// The character that is found at a place of the screen, the panel that has it, none for the standard screen, and the last column up to
+/// which that is found.
 type Found = (u8, Option<PanelId>, u16);
 
 fn find_at(desk: &Desk, y: u16, x: u16) -> Option<Found> {
@@ -137,7 +137,7 @@ fn find_at(desk: &Desk, y: u16, x: u16) -> Option<Found> {
     }
 }
 
-/// Scripts, a place, and what is found there. One panel is in the middle of another, and two are at one place.
+/// Scripts, a place after them, and what is found there. One panel is in the middle of another, and two are at one place.
 #[rattlefmt::skip]
 static SEARCHES: [(&str, (u16, u16), Found); 8] = [
     ("newwin 1 6 0 0\naddstr 1 abcdef\nnew_panel 1\nnewwin 1 2 0 2\naddstr 2 xy\nnew_panel 2", (0, 0), (b'a', Some(PanelId(1)), 1)),
