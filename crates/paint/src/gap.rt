@@ -14,6 +14,7 @@ const LONGEST_MOVE: usize = 10;
 
 /// Brings the pen to a place, in a rendition. The cells of the gap are right before the place, and are shown already: where
 /// that takes no more bytes than a move in their place, they are printed again.
+#[inline(always)]
 pub fn approach<W: Sink>(
     pen: &mut Pen,
     sink: &mut W,
@@ -64,6 +65,7 @@ pub fn approach_length(
 
 /// Whether the cells of a gap, which begins at the pen, are printed again: where that takes fewer bytes than a move, or as many
 /// and all of them have the rendition in force, or all the wanted one. Most gaps have the one in force, and nothing is selected in them.
+#[inline(always)]
 fn is_printed_again(
     pen: &PenState,
     line: u16,

@@ -243,6 +243,7 @@ impl Pen {
     }
 
     /// Prints some cells from the cursor on, which is at this place. They have the rendition in force.
+    #[inline(always)]
     pub fn print_run<W: Sink>(&mut self, sink: &mut W, line: u16, column: u16, cells: &[Shown])
         requires cursor { self.old.cursor ≡ Some (line, column) }
         requires rendition { (k : ℕ) → k < length cells.now → (slice_index_or cells.now k shown_blank).rendition ≡ self.old.rendition }
@@ -270,6 +271,7 @@ impl Pen {
 
     /// Prints cells that the terminal shows already, each in its rendition. The cursor is at the first of them, and there is a place
     /// after the last.
+    #[inline(always)]
     pub fn print_again<W: Sink>(&mut self, sink: &mut W, line: u16, column: u16, cells: &[Shown])
         requires cursor { self.old.cursor ≡ Some (line, column) }
         requires inside { column + length cells.now < self.old.columns }
