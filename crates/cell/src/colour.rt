@@ -271,7 +271,8 @@ impl Pairs {
         ensures cells { AllByRecursion IsShown places.new }
     {
         let pair = cells[0].pair();
-        if have_pair(cells, pair) {
+        // All of them: a length that is written here lets the compiler do without a loop.
+        if have_pair(&cells[..LANES], pair) {
             places.copy_from_slice(&show_in(self.colours_of(pair), cells));
         } else {
             self.show_each(cells, places);
