@@ -24,9 +24,9 @@ pub record CanDraw (pen : Pen) (lines columns : ℕ) (end : Place) : Type 0 wher
   pub line : end.0 < lines
   pub column : end.1 < columns
 
--- The outbox holds a text that draws a frame, with the cursor at the first place before it and at the second after it. Of
--- a painter no more matters than its size and what it knows: the text updates each that has the frame's, and knows that
--- terminals show what the frame has as shown, with the cursor at the first place.
+-- The outbox holds a text that draws a frame, from the first place of the cursor to the second. Of a painter no more
+-- matters than its size and what it knows: the text updates each that has the frame's size, and knows that terminals
+-- show what the frame has as shown, with the cursor at the first place.
 abbrev pub HoldsFrameUpdate : Frame → Place → Place → Seen → Seen → Outbox → Type 0
 HoldsFrameUpdate frame from to start now outbox =
     (painter : PainterState) (clear : Bool) → painter.lines ≡ frame.lines → painter.columns ≡ frame.columns
