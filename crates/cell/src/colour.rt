@@ -202,9 +202,23 @@ impl Pairs {
         self.pairs[usize::from(pair.number())]
     }
 
-    /// Writes shown cells into as many places, many together.
+    /// Writes shown cells into as many places, many together where there are as many.
     pub(crate) fn show(&self, cells: &[Cell], places: &mut [Shown])
         requires { length places.old ≡ length cells.now }
+        ensures shown { places.new ≡ map (shown self.now) cells.now }
+        ensures cells { AllByRecursion IsShown places.new }
+    {
+        if cells.len() < LANES {
+            self.show_each(cells, places);
+        } else {
+            self.show_blocks(cells, places);
+        }
+    }
+
+    /// The same, a block after another.
+    fn show_blocks(&self, cells: &[Cell], places: &mut [Shown])
+        requires many { LANES ≤ length cells.now }
+        requires places { length places.old ≡ length cells.now }
         ensures shown { places.new ≡ map (shown self.now) cells.now }
         ensures cells { AllByRecursion IsShown places.new }
     {
@@ -215,7 +229,7 @@ impl Pairs {
             start = end;
         }
         if start < cells.len() {
-            let rest = start.min(cells.len().saturating_sub(LANES));
+            let rest = start.min(cells.len() - LANES);
             self.show_rest(&cells[rest..], &mut places[rest..]);
         }
     }
@@ -240,9 +254,11 @@ impl Pairs {
         }
     }
 
-    /// The same of fewer cells, or of a block's of several pairs. The last of them are shown twice, many together, where they aren't as many.
+    /// The same of fewer cells, or of a block's of several pairs. Where the last of them aren't as many as are shown
+    /// together, some are shown twice.
     fn show_rest(&self, cells: &[Cell], places: &mut [Shown])
-        requires { length places.old ≡ length cells.now }
+        requires many { LANES ≤ length cells.now }
+        requires places { length places.old ≡ length cells.now }
         ensures shown { places.new ≡ map (shown self.now) cells.now }
         ensures cells { AllByRecursion IsShown places.new }
     {
@@ -252,15 +268,10 @@ impl Pairs {
             self.show_many(&cells[start..end], &mut places[start..end]);
             start = end;
         }
-        if start >= cells.len() {
-            return;
+        if start < cells.len() {
+            let last = cells.len() - LANES;
+            self.show_many(&cells[last..], &mut places[last..]);
         }
-        if cells.len() < LANES {
-            self.show_each(cells, places);
-            return;
-        }
-        let last = cells.len() - LANES;
-        self.show_many(&cells[last..], &mut places[last..]);
     }
 
     /// The same of as many cells as are looked at together.
@@ -278,6 +289,7 @@ impl Pairs {
             self.show_each(cells, places);
         }
     }
+
     /// The same, one after another.
     fn show_each(&self, cells: &[Cell], places: &mut [Shown])
         requires { length places.old ≡ length cells.now }

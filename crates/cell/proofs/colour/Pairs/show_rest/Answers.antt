@@ -12,11 +12,11 @@ loop-start-preserved c = record {
   each = search (arith, common_steps, sound_more);
 }
 
-pub returns-clause-shown : goal.returns-clause-shown
-returns-clause-shown c = shown_rest _ _ _ _ (length c.args.cells.now - 16) (omega (arith, c.loop-start.invariant.long)) c.loop-start.invariant.long
-    (grind (arith, common_steps)) c.show_many-2.ensures.shown
+pub returns-then-start-cells-clause-shown : goal.returns-then-start-cells-clause-shown
+returns-then-start-cells-clause-shown c = shown_rest _ _ _ _ (length c.args.cells.now - 16) (omega (arith, c.loop-start.invariant.long)) c.loop-start.invariant.long
+    (grind (arith, common_steps)) c.show_many-then-start-cells.ensures.shown
     (shown_fewer _ _ _ _ c.loop-start.start (omega (arith, c.loop-start-test.false)) c.loop-start.invariant.shown)
 
-pub returns-clause-cells : goal.returns-clause-cells
-returns-clause-cells c = sound_rest IsShown _ _ (length c.args.cells.now - 16) c.loop-start.start (omega (arith, c.loop-start-test.false))
-    (omega (arith, c.loop-start.invariant.within, c.loop-start.invariant.long)) (grind (arith, common_steps)) c.loop-start.invariant.each c.show_many-2.ensures.cells
+pub returns-then-start-cells-clause-cells : goal.returns-then-start-cells-clause-cells
+returns-then-start-cells-clause-cells c = sound_rest IsShown _ _ (length c.args.cells.now - 16) c.loop-start.start (omega (arith, c.loop-start-test.false))
+    (omega (arith, c.loop-start.invariant.within, c.loop-start.invariant.long)) (grind (arith, common_steps)) c.loop-start.invariant.each c.show_many-then-start-cells.ensures.cells
