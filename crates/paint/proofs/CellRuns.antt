@@ -2,11 +2,13 @@
 use Rattle.std.proofs.Common.{◌≡◌, Bool, ℕ, zero, suc, ◌+◌, ◌-◌, ◌<◌, ◌≤◌, true, false, List, [], ◌∷◌, ◌++◌, length, get_or, set, take, drop}
 use Rattle.std.proofs.Common.{Some, inl, inr, refl, sym, ap, ◌∙◌, subst, arith, length-append, length-set}
 use Rattle.std.specs.Prelude.{not}
-use Rattle.std.proofs.lemmas.Bool.{cases_lt, lt-ltb}
-use Rattle.std.proofs.lemmas.List.{get_or_default, get_or_past, get_or-drop, get_or-set_same, get_or-take, length-map}
+use Rattle.std.proofs.lemmas.Bool.{and_parts, cases_lt, lt-ltb}
+use Rattle.std.proofs.Math.Seq.{take-add}
+use Rattle.std.proofs.lemmas.List.{drop-drop, get_or_default, get_or_past, get_or-drop, get_or-set_same, get_or-take, length-map, set-get_or}
 use Rattle.cell.specs.Shown.{IsRendition, IsShown, Rendition, Shown, shown_blank}
 use Rattle.cell.specs.Pictures.{Picture, line_of, with_shown}
-use Rattle.cell.specs.Differences.{same_shown}
+use Rattle.cell.specs.Differences.{same_rendition, same_shown}
+use Rattle.cell.specs.EqualityLaws.{same_rendition-equal}
 use Rattle.ecma.proofs.Joining.{Leads-append}
 use Rattle.ecma.proofs.Leading.{Leads-nothing, Leads-token}
 use Rattle.ecma.proofs.Lengths.{length-selection}
@@ -17,7 +19,7 @@ use Rattle.ecma.specs.declared.token.Token.TheVariants.{Print}
 use Rattle.streams.specs.Sinks.{Seen}
 use Rattle.paint.specs.declared.pen.Pen.{Pen}
 use Rattle.paint.specs.steps.Gathering.{Gathers}
-use Rattle.paint.specs.steps.Strokes.{Draws, Strokes, cell_bytes, characters, line_bytes, most_approach, run_bytes, with_cells, within}
+use Rattle.paint.specs.steps.Strokes.{all_have, Draws, Strokes, cell_bytes, characters, line_bytes, most_approach, run_bytes, with_cells, within}
 use Rattle.paint.specs.steps.Walks.{cells_between, with_prefix, AreOfRun, IsLinePainted, IsRun}
 use Rattle.paint.proofs.Prefixes.{length-with_prefix, take-with_prefix}
 use Rattle.paint.proofs.PenStrokes.{Draws-then, Strokes-then, spelled-print}
@@ -73,6 +75,56 @@ run-strokes cells is some few h k = record {
   draws = Draws-then h.draws k;
   short = omega (arith, h.short, few, length-append h.piece (characters cells), length-map cells (λ (cell : Shown). cell.character), length-selection (get_or cells 0 shown_blank).rendition is);
 }
+
+-- ---- a run that begins with cells that are shown already
+
+-- each of them has the rendition that all have
+pub all-at : (rendition : Rendition) (cells : List Shown) (k : ℕ) → all_have rendition cells ≡ true → k < length cells → (get_or cells k shown_blank).rendition ≡ rendition
+all-at rendition [] k all few = absurd (omega arith)
+all-at rendition (cell ∷ cells) zero all few = same_rendition-equal cell.rendition rendition (and_parts (same_rendition cell.rendition rendition) (all_have rendition cells) all).0
+all-at rendition (cell ∷ cells) (suc k) all few = all-at rendition cells k (and_parts (same_rendition cell.rendition rendition) (all_have rendition cells) all).1 (omega arith)
+
+-- the cells from a gap on, up to the end of the run after it
+pub gap-and : (gap start end : ℕ) (wanted : List Shown) → gap ≤ start → start ≤ end → end ≤ length wanted
+    → cells_between gap end wanted ≡ cells_between gap start wanted ++ cells_between start end wanted
+gap-and gap start end wanted one other inside =
+    let both : end - gap ≡ (start - gap) + (end - start) = omega (arith, one, other) in
+    let there : gap + (start - gap) ≡ start = omega (arith, one) in
+    ap (λ n. take n (drop gap wanted)) both ∙ take-add (start - gap) (end - start) (drop gap wanted)
+    ∙ ap (λ l. take (start - gap) (drop gap wanted) ++ take (end - start) l) (drop-drop (start - gap) gap wanted ∙ ap (λ n. drop n wanted) there)
+
+-- these change nothing
+cells-there : (picture : Picture) (line x : ℕ) (cells : List Shown) → x + length cells ≤ length (line_of picture line)
+    → ((k : ℕ) → k < length cells → get_or cells k shown_blank ≡ get_or (line_of picture line) (x + k) shown_blank) → with_cells picture (line, x) cells ≡ picture
+cells-there picture line x [] room are = refl
+cells-there picture line x (cell ∷ cells) room are =
+    let here : x + 0 ≡ x = omega arith in
+    let is : cell ≡ get_or (line_of picture line) x shown_blank = are 0 (omega arith) ∙ ap (λ n. get_or (line_of picture line) n shown_blank) here in
+    let same : with_shown picture (line, x) cell ≡ picture = grind (arith, set-get_or) in
+    ap (λ p. with_cells p (line, x + 1) cells) same
+    ∙ cells-there picture line (x + 1) cells (omega arith) (λ k few. let later : x + suc k ≡ x + 1 + k = omega arith in are (suc k) (omega arith) ∙ ap (λ n. get_or (line_of picture line) n shown_blank) later)
+
+with_cells-append : (picture : Picture) (line x : ℕ) (some more : List Shown)
+    → with_cells picture (line, x) (some ++ more) ≡ with_cells (with_cells picture (line, x) some) (line, x + length some) more
+with_cells-append picture line x [] more = ap (λ n. with_cells picture (line, n) more) (omega arith)
+with_cells-append picture line x (cell ∷ some) more =
+    with_cells-append (with_shown picture (line, x) cell) line (x + 1) some more
+    ∙ ap (λ n. with_cells (with_cells (with_shown picture (line, x) cell) (line, x + 1) some) (line, n) more) (omega arith)
+
+pub run-after : {a b : Seen} {x y : Pen} {picture : Picture} (line column : ℕ) (gap cells all : List Shown) → all ≡ gap ++ cells → length gap ≤ 10 → 0 < length cells
+    → column + length gap ≤ length (line_of picture line)
+    → ((k : ℕ) → k < length gap → get_or gap k shown_blank ≡ get_or (line_of picture line) (column + k) shown_blank)
+    → Draws (characters all) a b x y picture (with_cells picture (line, column) all)
+    → Strokes (run_bytes cells) a b x y picture (with_cells picture (line, column + length gap) cells)
+run-after {a} {b} {x} {y} {picture} line column gap cells all is few some room are h = record {
+  piece = characters all;
+  draws = subst (Draws (characters all) a b x y picture) shows h;
+  short = omega (arith, few, some, length-map all (λ (cell : Shown). cell.character), ap (length {A = Shown}) is, length-append gap cells);
+} where
+  shows : with_cells picture (line, column) all ≡ with_cells picture (line, column + length gap) cells
+  shows =
+      ap (with_cells picture (line, column)) is ∙ with_cells-append picture line column gap cells
+      ∙ ap (λ p. with_cells p (line, column + length gap) cells) (cells-there picture line column gap room are)
 
 -- ---- a run in a line
 

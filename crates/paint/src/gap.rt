@@ -1,8 +1,9 @@
 //! How a pen comes to the next changed cell of a line: over the gap of cells that are shown already, or by a move.
 
-ghost use Rattle.std.specs.Prelude.{◌≡◌, ◌+◌, ◌<◌, ◌≤◌, Some, drop, take, length};
+ghost use Rattle.std.specs.Prelude.{◌≡◌, ◌+◌, ◌<◌, ◌≤◌, Some, drop, take, length, true};
 ghost use Rattle.cell.specs.Pictures.{Picture, line_of};
-ghost use Rattle.paint.specs.steps.Strokes.{SameTerminals, Strokes, again_bytes, approach_bytes, change, is_printed_again, moved_bytes};
+ghost use Rattle.paint.specs.declared.gap.TheConstants.{LONGEST_MOVE};
+ghost use Rattle.paint.specs.steps.Strokes.{SameTerminals, Strokes, again_bytes, all_have, approach_bytes, change, is_printed_again, moved_bytes};
 
 use crate::pen::{Pen, PenState};
 use cell::{LARGEST_SCREEN, Rendition, Shown, have_rendition};
@@ -96,6 +97,32 @@ fn is_printed_again(
         return have_rendition(gap, rendition);
     }
     again < moved
+}
+
+/// Whether a gap, which begins at the pen, is printed again together with the cells after it: both have the rendition in
+/// force, and it is no longer than a move. Most gaps are such.
+#[inline(always)]
+pub fn is_plain_gap(
+    pen: &PenState,
+    line: u16,
+    start: u16,
+    gap: &[Shown],
+    rendition: Rendition,
+) -> bool
+    requires line { line < LARGEST_SCREEN }
+    requires inside { start + length gap.now < LARGEST_SCREEN }
+    ensures here { result ≡ true → pen.now.cursor ≡ Some (line, start) }
+    ensures rendition { result ≡ true → pen.now.rendition ≡ rendition }
+    ensures all { result ≡ true → all_have rendition gap.now ≡ true }
+    ensures few { result ≡ true → length gap.now ≤ LONGEST_MOVE }
+{
+    if gap.is_empty() || gap.len() > LONGEST_MOVE {
+        return false;
+    }
+    if rendition != pen.rendition || !pen.is_at(line, start) {
+        return false;
+    }
+    have_rendition(gap, rendition) && gap.len() <= position_length(line, start + gap.len() as u16)
 }
 
 /// How many bytes it takes to print cells again, each in its rendition, and to select one after them.

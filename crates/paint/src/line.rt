@@ -10,7 +10,7 @@ ghost use Rattle.paint.specs.Updates.{place_bytes};
 ghost use Rattle.paint.specs.steps.Strokes.{IsPlainAt, SameTerminals, Strokes, line_bytes, reach_bytes, run_bytes, with_cells};
 ghost use Rattle.paint.specs.steps.Walks.{AreOfRun, DifferWithin, IsLinePainted, IsOver, IsReadyToErase, IsRun, StrokesLine, cells_between};
 
-use crate::gap::approach;
+use crate::gap::{approach, is_plain_gap};
 use crate::pen::Pen;
 use crate::tail::{
     changed_end, changed_tail, erased_from, first_changed, is_erased, last_changed, tail_start,
@@ -252,13 +252,12 @@ pub fn paint_run<W: Sink>(
     ensures same { SameTerminals (W.name sink.old) (W.name sink.new) pen.old pen.new }
 {
     let wanted = row.wanted;
-    approach(
-        pen,
-        sink,
-        row.line,
-        gap as u16,
-        &wanted[gap..start],
-        wanted[start].rendition(),
-    );
+    let rendition = wanted[start].rendition();
+    let (line, from) = (row.line, gap as u16);
+    if is_plain_gap(&pen.state(), line, from, &wanted[gap..start], rendition) {
+        pen.print_run(sink, line, from, &wanted[gap..end]);
+        return;
+    }
+    approach(pen, sink, line, from, &wanted[gap..start], rendition);
     pen.print_run(sink, row.line, start as u16, &wanted[start..end]);
 }
