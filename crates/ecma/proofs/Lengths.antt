@@ -1,5 +1,5 @@
 -- How many bytes a token has.
-use Rattle.std.proofs.Common.{◌≡◌, ℕ, ◌+◌, ◌*◌, ◌/◌, ◌%◌, ◌<◌, ◌≤◌, true, List, [], ◌∷◌, ◌++◌, length, refl, ap, arith, length-append}
+use Rattle.std.proofs.Common.{◌≡◌, ℕ, ◌+◌, ◌*◌, ◌/◌, ◌%◌, ◌<◌, ◌≤◌, true, List, [], ◌∷◌, ◌++◌, length, refl, ap, arith, length-append, ◌∙◌, sym}
 use Rattle.std.specs.Prelude.{decimal, ◌==◌, if◌then◌else◌, Option, Some, None}
 use Rattle.std.specs.Int.RustNames.{count_ones}
 use Rattle.std.proofs.lemmas.Bool.{agree_below_at, eqb-true}
@@ -68,6 +68,12 @@ module _ (n : ℕ) where
   decimal-three many few =
       let first : n / 10 / 10 ≡ n / 100 = omega arith in
       rw (decimal_step n (omega arith) (omega arith), decimal_step (n / 10) (omega arith) (omega arith), decimal_digit (n / 10 / 10) (omega arith), first) refl
+
+  -- the same as digits are computed one after another
+  pub one-digit : n < 10 → (48 + n % 10) ∷ [] ≡ decimal n
+  one-digit few = (λ i. (48 + same i) ∷ []) ∙ sym (decimal-one few) where
+    same : n % 10 ≡ n
+    same = omega arith
 
 -- a separator and a digit for each code
 length-codes_exact : (codes : List ℕ) → AllByRecursion (λ code. code < 10) codes → length (selection codes) ≡ 2 * length codes

@@ -10,7 +10,6 @@ ghost use Rattle.ecma.specs.Spelling.{spelling, selection, codes_of_attributes, 
 use crate::token::{Erase, Token};
 use bitflags::Flags;
 use cell::{Attr, Colour, LAST_COLOUR, Rendition};
-use itoa::Buffer;
 
 /// The most bytes that the spelling of a token has.
 pub const LONGEST_SPELLING: usize = 22;
@@ -44,13 +43,23 @@ fn append(out: &mut [u8; LONGEST_SPELLING], at: usize, piece: &[u8]) -> usize
     end
 }
 
-/// Writes a number at a place, and says where it ends.
+/// Writes a number below 1,000 at a place, and says where it ends. Its digits are so few that each is computed alone.
+#[inline(always)]
 fn append_number(out: &mut [u8; LONGEST_SPELLING], at: usize, number: u16) -> usize
-    requires { at + length (decimal number) ≤ LONGEST_SPELLING }
+    requires few { number < 1000 }
+    requires room { at + length (decimal number) ≤ LONGEST_SPELLING }
     ensures end { result ≡ at + length (decimal number) }
     ensures text { take result out.new ≡ take at out.old ++ decimal number }
 {
-    append(out, at, Buffer::new().format(number).as_bytes())
+    let ones = b'0' + (number % 10) as u8;
+    if number < 10 {
+        return append(out, at, &[ones]);
+    }
+    let tens = b'0' + (number / 10 % 10) as u8;
+    if number < 100 {
+        return append(out, at, &[tens, ones]);
+    }
+    append(out, at, &[b'0' + (number / 100) as u8, tens, ones])
 }
 
 /// How many digits a number below 1,000 has.
