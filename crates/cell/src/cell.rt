@@ -13,7 +13,8 @@ use crate::limits::{FIRST_CHARACTER, LAST_CHARACTER};
 use bitflags::Flags;
 use std::marker::Model;
 
-/// A character from 32 to 126 with its attributes and the number of its colour pair. It is kept as its number of `bits`.
+/// A character from 32 to 126 with its attributes and the number of its colour pair. It is kept as its number of
+/// `bits`.
 #[derive(Clone, Copy, Debug)]
 pub struct Cell {
     bits: u32,

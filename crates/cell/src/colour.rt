@@ -202,7 +202,7 @@ impl Pairs {
         self.pairs[usize::from(pair.number())]
     }
 
-    /// Writes shown cells into as many places, many together where there are as many.
+    /// Writes shown cells into as many places, so many together where there are at least so many.
     pub(crate) fn show(&self, cells: &[Cell], places: &mut [Shown])
         requires { length places.old ≡ length cells.now }
         ensures shown { places.new ≡ map (shown self.now) cells.now }

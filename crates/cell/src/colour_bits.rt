@@ -8,7 +8,8 @@ ghost use Rattle.cell.specs.declared.limits.TheConstants.{LAST_COLOUR};
 use crate::colour::{Colour, ColourPair, is_colour};
 use std::marker::Model;
 
-/// A foreground in bits 16 to 19 and a background from bit 20 on: 0 for the default, and else one more than the colour's number.
+/// A foreground in bits 16 to 19 and a background from bit 20 on: 0 for the default, and else one more than the
+/// colour's number.
 #[derive(Clone, Copy)]
 pub(crate) struct ColourBits {
     bits: u32,

@@ -1,4 +1,4 @@
-//! Cells that are looked at together, as numbers in the lanes of a vector.
+//! Cells that are looked at together: as numbers in the lanes of a vector, or by loops that the compiler vectorizes.
 
 ghost use Rattle.std.specs.Prelude.{◌≡◌, ◌≤◌, ◌<◌, ◌==◌, ◌↔◌, length, map, take, true};
 ghost use Rattle.std.specs.List.{list_all};

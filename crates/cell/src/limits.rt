@@ -34,8 +34,8 @@ pub fn is_no_size(most: u16, n: u16) -> bool
     n == 0 || most < n
 }
 
-/// The limits in numerals: of a screen, a pad, how many windows and panels there can be, and what a cell can hold; and the number of the
-/// standard screen. Here a reader checks the values; all else uses the names.
+/// The limits in numerals: of a screen, a pad, how many windows and panels there can be, and what a cell can hold; and
+/// the number of the standard screen. Here a reader checks the values; all else uses the names.
 pub fn limits_in_numerals()
     ensures screen { LARGEST_SCREEN ≡ 999 }
     ensures pad { LARGEST_PAD ≡ 1000 }

@@ -15,8 +15,8 @@ use crate::colour_bits::ColourBits;
 use bitflags::Flags;
 use std::marker::Model;
 
-/// How characters are printed: with attributes, and in the colours of a pair. It is kept as the number of a shown cell without its
-/// character.
+/// How characters are printed: with attributes, and in the colours of a pair. It is kept as the number of a shown cell
+/// without its character.
 #[derive(Clone, Copy, Debug)]
 pub struct Rendition {
     bits: u32,
@@ -97,8 +97,8 @@ impl Rendition {
     }
 }
 
-/// A character from 32 to 126 with its rendition. It is kept as one number: the character in bits 0 to 7, the attributes in bits 8 to
-/// 15, and from bit 16 on the colours.
+/// A character from 32 to 126 with its rendition. It is kept as one number: the character in bits 0 to 7, the
+/// attributes in bits 8 to 15, and from bit 16 on the colours.
 #[derive(Clone, Copy, Debug)]
 pub struct Shown {
     bits: u32,

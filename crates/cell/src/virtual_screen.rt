@@ -6,7 +6,8 @@ ghost use Rattle.cell.specs.VirtualScreens.{VirtualScreen as Virtual};
 use crate::grid::Grid;
 use crate::shown::Shown;
 
-/// What the next `doupdate` shows: a picture, where the cursor is wanted, and whether the terminal is to be cleared first.
+/// What the next `doupdate` shows: a picture, where the cursor is wanted, and whether the terminal is to be cleared
+/// first.
 pub trait VirtualScreen {
     // The three as one.
     ghost shown: { Self → Virtual };

@@ -86,7 +86,7 @@ impl Extents {
         }
     }
 
-    /// The line from which on none has columns; the one before it has some.
+    /// The line from which on none has columns; the one before it, if there is one, has some.
     pub fn end(&self) -> u16
         ensures inside { result ≤ length self.now }
         ensures none { (y : ℕ) → result ≤ y → columns_of self.now y ≡ None }

@@ -29,11 +29,11 @@ pub mod Alike
 pub mod Finding
 -- The columns in which two pictures may differ are copied from one to the other; for `copy_changes`
 pub mod Copying
--- A picture is drawn in passes, and what each may cost; for `is_drawn_in`, `paint_part`, `paint_pass` and others
+-- A picture is drawn in passes, and what each may cost; for `paint_pass`, `paint_passes`
 pub mod Choices
 -- The order of the passes for renditions as they come; for `note_cells`, `note_part`, `order_of` and others
 pub mod PassOrders
--- The characters of cells, gathered piece by piece; for `append_characters`
+-- The characters of cells, gathered piece by piece; for `append`, `append_characters`, `write_characters`
 pub mod Narrowing
 -- The runs of changed cells of a frame, one after another, and what is drawn of them; for `add_line`, `list`, `paint_pass`
 pub mod Listing

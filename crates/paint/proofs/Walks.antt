@@ -55,6 +55,10 @@ one-drawn picture line x shown wanted cell high same inside is = grind (arith, g
 pub length-between : (start x : ℕ) (cells : List Shown) → start ≤ x → x ≤ length cells → length (cells_between start x cells) ≡ x - start
 length-between start x cells ordered inside = grind (arith, length-take-le, length-drop)
 
+-- the first of the cells from a column on
+pub first-between : (start x : ℕ) (cells : List Shown) → x ≤ length cells → take (x - start) (take (length cells - start) (drop start cells)) ≡ cells_between start x cells
+first-between start x cells inside = take-take (x - start) (length cells - start) (drop start cells) (omega (arith, inside))
+
 -- the gap before a column ends there
 pub gap-ends : (start x : ℕ) (wanted : List Shown) → start ≤ x → x ≤ length wanted → start + length (cells_between start x wanted) ≡ x
 gap-ends start x wanted ordered inside = grind (arith, length-between)

@@ -45,7 +45,8 @@ impl Count {
     }
 }
 
-/// Whether it takes fewer bytes than a walk took to draw runs in so many passes, from where the cursor is, and to go to a place.
+/// Whether it takes fewer bytes than a walk took to draw runs in so many passes, from where the cursor is, and to go to
+/// a place.
 pub fn are_passes_shorter(
     frame: &Frame<'_>,
     runs: &[Run],

@@ -12,8 +12,8 @@ use crate::tail::{first_changed, last_changed};
 use cell::{Grid, Shown};
 use extents::Extents;
 
-/// Finds, of each line, the columns from the first in which two pictures of so many columns differ to the last. They may differ in some
-/// columns only: no others are looked at.
+/// Finds, of each line, the columns from the first in which two pictures of so many columns differ to the last. They
+/// may differ in some columns only: no others are looked at.
 pub fn find_differences(
     found: &mut Extents,
     changes: &Extents,
@@ -36,7 +36,7 @@ pub fn find_differences(
     while y < lines {
         let at = usize::from(y);
         let (start, end) = changes.within(y, usize::from(columns));
-        if let Some((first, last)) = ends(shown.row(at), wanted.row(at), start, end) {
+        if let Some((first, last)) = difference_within(shown.row(at), wanted.row(at), start, end) {
             found.widen(y, first as u16, last as u16);
         }
         y = changes.next(y + 1);
@@ -44,7 +44,12 @@ pub fn find_differences(
 }
 
 /// The first column in which two lines differ, and the last. They may differ in some columns only.
-fn ends(shown: &[Shown], wanted: &[Shown], start: usize, end: usize) -> Option<(usize, usize)>
+fn difference_within(
+    shown: &[Shown],
+    wanted: &[Shown],
+    start: usize,
+    end: usize,
+) -> Option<(usize, usize)>
     requires { DifferWithin start end shown.now wanted.now }
     ensures same { result ≡ None → shown.now ≡ wanted.now }
     ensures first { MatchOption result ⊤ (λ ends. IsFirstDifference shown.now wanted.now (Some ends.0)) }

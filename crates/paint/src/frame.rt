@@ -15,9 +15,10 @@ use crate::runs::{Run, Runs};
 use cell::Rendition;
 use streams::{Discard, Sink};
 
-/// Draws the wanted picture of a frame over the one that is shown, from where the cursor is, and goes to a place. Where passes may take
-/// fewer bytes than one walk over all lines, the walk is drawn into the pen's room first, and what passes take is counted. If that is
-/// fewer, they are drawn. If not, the walk's text stays where all of it is in the room still, and else it is drawn again for the sink.
+/// Draws the wanted picture of a frame over the one that is shown, from where the cursor is, and goes to a place. Where
+/// passes may take fewer bytes than one walk over all lines, the walk is drawn into the pen's room first, and what
+/// passes take is counted. If that is fewer, they are drawn. If not, the walk's text stays where all of it is in the
+/// room still, and else it is drawn again for the sink.
 pub fn draw_frame<W: Sink>(
     pen: &mut Pen,
     runs: &mut Runs,

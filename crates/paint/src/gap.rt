@@ -1,6 +1,7 @@
 //! How a pen comes to the next changed cell of a line: over the gap of cells that are shown already, or by a move.
 
-ghost use Rattle.std.specs.Prelude.{◌≡◌, ◌+◌, ◌<◌, ◌≤◌, Some, drop, take, length, true};
+ghost use Rattle.std.specs.Prelude.{◌≡◌, ◌+◌, ◌<◌, ◌≤◌, ◌&&◌, Some, drop, take, length, true};
+ghost use Rattle.cell.specs.Differences.{same_rendition};
 ghost use Rattle.cell.specs.Pictures.{Picture, line_of};
 ghost use Rattle.paint.specs.declared.gap.TheConstants.{LONGEST_MOVE};
 ghost use Rattle.paint.specs.steps.Strokes.{SameTerminals, Strokes, again_bytes, all_have, approach_bytes, change, is_printed_again, moved_bytes};
@@ -13,8 +14,8 @@ use streams::Sink;
 /// The most bytes of a move.
 const LONGEST_MOVE: usize = 10;
 
-/// Brings the pen to a place, in a rendition. The cells of the gap are right before the place, and are shown already: where
-/// that takes no more bytes than a move in their place, they are printed again.
+/// Brings the pen to a place, in a rendition. The cells of the gap are right before the place, and are shown already:
+/// where that takes no more bytes than a move in their place, they are printed again.
 #[inline(always)]
 pub fn approach<W: Sink>(
     pen: &mut Pen,
@@ -64,8 +65,9 @@ pub fn approach_length(
     }
 }
 
-/// Whether the cells of a gap, which begins at the pen, are printed again: where that takes fewer bytes than a move, or as many
-/// and all of them have the rendition in force, or all the wanted one. Most gaps have the one in force, and nothing is selected in them.
+/// Whether the cells of a gap, which begins at the pen, are printed again: where that takes fewer bytes than a move, or
+/// as many and all of them have the rendition in force, or all the wanted one. Most gaps have the one in force, and
+/// nothing is selected in them.
 #[inline(always)]
 fn is_printed_again(
     pen: &PenState,
@@ -99,8 +101,8 @@ fn is_printed_again(
     again < moved
 }
 
-/// Whether a gap, which begins at the pen, is printed again together with the cells after it: both have the rendition in
-/// force, and it is no longer than a move. Most gaps are such.
+/// Whether a gap, which begins at the pen, is printed again together with the cells after it: both have the rendition
+/// in force, and it is no longer than a move. Most gaps are such.
 #[inline(always)]
 pub fn is_plain_gap(
     pen: &PenState,
@@ -111,12 +113,17 @@ pub fn is_plain_gap(
 ) -> bool
     requires line { line < LARGEST_SCREEN }
     requires inside { start + length gap.now < LARGEST_SCREEN }
+    ensures exact { result ≡ (same_rendition rendition pen.now.rendition && (all_have rendition gap.now
+        && is_printed_again pen.now.cursor pen.now.rendition (line, start) gap.now rendition)) }
     ensures here { result ≡ true → pen.now.cursor ≡ Some (line, start) }
     ensures rendition { result ≡ true → pen.now.rendition ≡ rendition }
     ensures all { result ≡ true → all_have rendition gap.now ≡ true }
     ensures few { result ≡ true → length gap.now ≤ LONGEST_MOVE }
 {
-    if gap.is_empty() || gap.len() > LONGEST_MOVE {
+    if gap.is_empty() {
+        return false;
+    }
+    if gap.len() > LONGEST_MOVE {
         return false;
     }
     if rendition != pen.rendition || !pen.is_at(line, start) {

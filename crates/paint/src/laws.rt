@@ -29,8 +29,8 @@ pub fn agrees_after_fault()
         → Agrees (record painter { last = None }) (stream ++ take sent text) t }
 {}
 
-/// After any stream that agrees with the painter, the text of a doupdate leaves the terminal showing the picture and the
-/// cursor.
+/// After any stream that agrees with the painter, the text of a doupdate leaves the terminal showing the picture and
+/// the cursor.
 pub fn shows_after_update()
     ensures { (painter : PainterState) (clear : Bool) (wanted : ShownPicture) (stream text : List ℕ) (t : Terminal)
         → HasSize painter.lines painter.columns t.picture

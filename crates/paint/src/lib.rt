@@ -33,6 +33,5 @@ mod room;
 mod runs;
 mod tail;
 
-pub use extents::Extents;
 pub use painter::Painter;
 pub use streams::{Counted, Sent, Sink, WriteFault};

@@ -15,7 +15,7 @@ use crate::pen::Pen;
 use crate::tail::{
     changed_end, changed_tail, erased_from, first_changed, is_erased, last_changed, tail_start,
 };
-use cell::{Rendition, Shown, first_diff};
+use cell::{LANES, Rendition, Shown, first_diff};
 use streams::Sink;
 
 /// How many cells of a run are looked at one after another.
@@ -23,9 +23,6 @@ const SHORT: usize = 8;
 
 /// How many cells of a gap are looked at one after another.
 const NEAR: usize = 4;
-
-/// How many are looked at together then.
-const LANES: usize = 16;
 
 /// A wanted line over the one that is shown, of a screen.
 #[derive(Drop)]
@@ -38,8 +35,8 @@ pub struct Row<'a> {
     pub ghost same: { length shown.now ≡ length wanted.now },
 }
 
-/// Draws a wanted line over the one that is shown, from which it may differ from column `start` on, up to `end`, only. Its blank end is
-/// erased, where that takes fewer bytes.
+/// Draws a wanted line over the one that is shown, from which it may differ from column `start` on, up to `end`, only.
+/// Its blank end is erased, where that takes fewer bytes.
 pub fn paint_line<W: Sink>(pen: &mut Pen, sink: &mut W, row: &Row<'_>, start: usize, end: usize)
     requires width { pen.old.columns ≡ length row.now.wanted.now }
     requires part { DifferWithin start end row.now.shown.now row.now.wanted.now }
@@ -68,8 +65,8 @@ pub fn paint_line<W: Sink>(pen: &mut Pen, sink: &mut W, row: &Row<'_>, start: us
     paint_cells(pen, sink, row, gap, column, last + 1);
 }
 
-/// Draws a wanted line, below which all is blank, over the one that is shown, and brings the pen to its blank end, to erase the page from
-/// there: where that end is changed, or where the pen is in it anyway. It answers the column.
+/// Draws a wanted line, below which all is blank, over the one that is shown, and brings the pen to its blank end, to
+/// erase the page from there: where that end is changed, or where the pen is in it anyway. It answers the column.
 pub fn paint_last_line<W: Sink>(pen: &mut Pen, sink: &mut W, row: &Row<'_>) -> Option<usize>
     requires width { pen.old.columns ≡ length row.now.wanted.now }
     ensures strokes { result ≡ None → StrokesLine (line_bytes row.now.shown.now row.now.wanted.now) (W.seen sink.old) (W.seen sink.new) pen.old pen.new
@@ -118,8 +115,8 @@ fn come_to<W: Sink>(pen: &mut Pen, sink: &mut W, row: &Row<'_>, gap: usize, colu
     );
 }
 
-/// Draws the changed cells of a line from a column on, up to an end, after a gap of cells that are shown already. It answers the
-/// column after the last that it drew, or that of the gap.
+/// Draws the changed cells of a line from a column on, up to an end, after a gap of cells that are shown already. It
+/// answers the column after the last that it drew, or that of the gap.
 fn paint_cells<W: Sink>(
     pen: &mut Pen,
     sink: &mut W,
@@ -153,8 +150,8 @@ fn paint_cells<W: Sink>(
     gap
 }
 
-/// The first changed cell of a line from a column on, before an end, and that end where there is none. After a few cells that are shown
-/// already many are looked at together.
+/// The first changed cell of a line from a column on, before an end, and that end where there is none. After a few
+/// cells that are shown already many are looked at together.
 pub fn next_changed(shown: &[Shown], wanted: &[Shown], from: usize, end: usize) -> usize
     requires same { length shown.now ≡ length wanted.now }
     requires ordered { from ≤ end }
@@ -176,8 +173,8 @@ pub fn next_changed(shown: &[Shown], wanted: &[Shown], from: usize, end: usize) 
     }
 }
 
-/// Where the run of changed cells of one rendition ends that begins at a column, before an end. Of a long one many cells are looked at
-/// together.
+/// Where the run of changed cells of one rendition ends that begins at a column, before an end. Of a long one many
+/// cells are looked at together.
 pub fn run_end(shown: &[Shown], wanted: &[Shown], start: usize, end: usize) -> usize
     requires same { length shown.now ≡ length wanted.now }
     requires begun { start < end }
@@ -218,7 +215,8 @@ fn run_end_from(shown: &[Shown], wanted: &[Shown], start: usize, from: usize, en
     end
 }
 
-/// Whether some cells are changed and have a rendition, all of them, by a loop with one exit, which the compiler vectorizes.
+/// Whether some cells are changed and have a rendition, all of them, by a loop with one exit, which the compiler
+/// vectorizes.
 fn are_of_run(shown: &[Shown], wanted: &[Shown], rendition: Rendition) -> bool
     requires { length shown.now ≡ length wanted.now }
     ensures { result ≡ true → AreOfRun shown.now wanted.now rendition (length wanted.now) }
@@ -231,8 +229,8 @@ fn are_of_run(shown: &[Shown], wanted: &[Shown], rendition: Rendition) -> bool
     all
 }
 
-/// Draws a run of changed cells of one rendition, from a column up to another, after a gap of cells that are shown already. It is
-/// inlined, as a picture of many renditions has many runs.
+/// Draws a run of changed cells of one rendition, from a column up to another, after a gap of cells that are shown
+/// already. It is inlined, as a picture of many renditions has many runs.
 #[inline(always)]
 pub fn paint_run<W: Sink>(
     pen: &mut Pen,
@@ -255,9 +253,9 @@ pub fn paint_run<W: Sink>(
     let rendition = wanted[start].rendition();
     let (line, from) = (row.line, gap as u16);
     if is_plain_gap(&pen.state(), line, from, &wanted[gap..start], rendition) {
-        pen.print_run(sink, line, from, &wanted[gap..end]);
+        pen.print_run(sink, line, from, &wanted[gap..], end - gap);
         return;
     }
     approach(pen, sink, line, from, &wanted[gap..start], rendition);
-    pen.print_run(sink, row.line, start as u16, &wanted[start..end]);
+    pen.print_run(sink, line, start as u16, &wanted[start..], end - start);
 }

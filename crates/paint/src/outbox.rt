@@ -1,7 +1,8 @@
 //! Gathers a text in a buffer of fixed size, from which it goes out in pieces.
 
-ghost use Rattle.std.specs.Prelude.{◌≡◌, ◌≤◌, ◌<◌, ◌++◌, ◌^◌, ℕ, IfOk, List, [], false, length, slice_index_or};
+ghost use Rattle.std.specs.Prelude.{◌≡◌, ◌≤◌, ◌<◌, ◌+◌, ◌++◌, ◌^◌, ℕ, IfOk, List, [], false, length, slice_index_or, take};
 ghost use Rattle.cell.specs.Shown.{IsShown, shown_blank};
+ghost use Rattle.ecma.specs.declared.spelling.TheConstants.{LONGEST_SPELLING};
 ghost use Rattle.streams.specs.Sending.{Sends};
 ghost use Rattle.streams.specs.Sinks.{Seen};
 ghost use Rattle.paint.specs.declared.room.TheConstants.{MOST, ROOM};
@@ -10,6 +11,7 @@ ghost use Rattle.paint.specs.steps.Strokes.{characters};
 
 use crate::room::{MOST, ROOM, Room};
 use cell::Shown;
+use ecma::LONGEST_SPELLING;
 use std::alloc::{AllocError, Global};
 use std::marker::Model;
 use streams::{Sink, WriteFault, send};
@@ -31,7 +33,8 @@ impl Model for Outbox {
 }
 
 impl Outbox {
-    /// An outbox in which nothing was gathered, and from which nothing was sent. It has room for so many bytes, within the limits of `Room`.
+    /// An outbox in which nothing was gathered, and from which nothing was sent. It has room for so many bytes, within
+    /// the limits of `Room`.
     pub fn new(alloc: Global, bytes: usize) -> Result<Outbox, AllocError>
         ensures { IfOk result (λ outbox. outbox ≡ empty_outbox) }
     {
@@ -67,33 +70,38 @@ impl Outbox {
         !self.failed && self.sent == 0
     }
 
-    /// Puts a piece after what was gathered.
-    pub fn put<W: Sink>(&mut self, sink: &mut W, piece: &[u8])
-        requires { length piece.now ≤ ROOM }
-        ensures gathers { Gathers (W.seen sink.old) (W.seen sink.new) self.old self.new piece.now }
+    /// Puts the first bytes of a text after what was gathered. Nothing is sent where there is room for them.
+    pub fn put<W: Sink>(&mut self, sink: &mut W, text: &[u8; LONGEST_SPELLING], count: usize)
+        requires { count ≤ LONGEST_SPELLING }
+        ensures gathers { Gathers (W.seen sink.old) (W.seen sink.new) self.old self.new (take count text.now) }
+        ensures quiet { length self.old.room + count ≤ ROOM → W.seen sink.new ≡ W.seen sink.old }
         ensures same { W.name sink.new ≡ W.name sink.old }
     {
-        if self.room.append(piece) {
+        if self.room.append(text, count) {
             return;
         }
         self.hand_on(sink);
-        if !self.room.append(piece) {
+        if !self.room.append(text, count) {
             unreachable!();
         }
     }
 
-    /// Puts the characters of cells after what was gathered.
-    pub fn put_characters<W: Sink>(&mut self, sink: &mut W, cells: &[Shown])
-        requires { length cells.now ≤ ROOM }
-        ensures gathers { Gathers (W.seen sink.old) (W.seen sink.new) self.old self.new (characters cells.now) }
-        ensures sound { (k : ℕ) → k < length cells.now → IsShown (slice_index_or cells.now k shown_blank) }
+    /// Puts the characters of the first cells of some after what was gathered. Nothing is sent where there is room for
+    /// them.
+    #[inline(always)]
+    pub fn put_characters<W: Sink>(&mut self, sink: &mut W, cells: &[Shown], count: usize)
+        requires cells { count ≤ length cells.now }
+        requires few { count ≤ ROOM }
+        ensures gathers { Gathers (W.seen sink.old) (W.seen sink.new) self.old self.new (characters (take count cells.now)) }
+        ensures quiet { length self.old.room + count ≤ ROOM → W.seen sink.new ≡ W.seen sink.old }
+        ensures sound { (k : ℕ) → k < count → IsShown (slice_index_or cells.now k shown_blank) }
         ensures same { W.name sink.new ≡ W.name sink.old }
     {
-        if self.room.append_characters(cells) {
+        if self.room.append_characters(cells, count) {
             return;
         }
         self.hand_on(sink);
-        if !self.room.append_characters(cells) {
+        if !self.room.append_characters(cells, count) {
             unreachable!();
         }
     }
@@ -123,8 +131,8 @@ impl Outbox {
     }
 }
 
-/// Sends the next piece of a text, of which so many bytes went out, unless a write failed before. It answers how many bytes went out
-/// then, and whether a write failed.
+/// Sends the next piece of a text, of which so many bytes went out, unless a write failed before. It answers how many
+/// bytes went out then, and whether a write failed.
 fn send_on<W: Sink>(sink: &mut W, piece: &[u8], sent: u32, failed: bool) -> (u32, bool)
     requires { length piece.now ≤ MOST }
     ensures goes_out { (start : Seen) (text : List ℕ) → GoesOut failed start (W.seen sink.old) piece.now sent text

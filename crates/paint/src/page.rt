@@ -14,8 +14,8 @@ use cell::{Grid, Shown};
 use extents::Extents;
 use streams::Sink;
 
-/// Draws the wanted picture of a frame over the one that is shown. Where the page's end is blank and more than one line of it is changed,
-/// or the pen is in it, it is erased.
+/// Draws the wanted picture of a frame over the one that is shown. Where the page's end is blank and more than one line
+/// of it is changed, or the pen is in it, it is erased.
 pub fn paint_picture<W: Sink>(pen: &mut Pen, sink: &mut W, frame: &Frame<'_>)
     requires { pen.old.columns ≡ frame.now.columns }
     ensures strokes { Strokes (picture_bytes frame.now.shown.now frame.now.wanted.now) (W.seen sink.old) (W.seen sink.new) pen.old pen.new
@@ -48,7 +48,8 @@ pub fn paint_picture<W: Sink>(pen: &mut Pen, sink: &mut W, frame: &Frame<'_>)
     }
 }
 
-/// The next line to look at, from one on: the first that may differ, or the pen's, where that comes before and all below it is blank.
+/// The next line to look at, from one on: the first that may differ, or the pen's, where that comes before and all
+/// below it is blank.
 fn next_line(pen: &Pen, changes: &Extents, blank: u16, from: u16) -> u16
     ensures from { from ≤ result }
     ensures inside { from ≤ length changes.now → result ≤ length changes.now }
@@ -61,7 +62,8 @@ fn next_line(pen: &Pen, changes: &Extents, blank: u16, from: u16) -> u16
     }
 }
 
-/// The line from which on all are blank, where the last changed one is blank. Else, and where none is changed, the number of lines.
+/// The line from which on all are blank, where the last changed one is blank. Else, and where none is changed, the
+/// number of lines.
 fn page_end(picture: &Grid<Shown>, lines: u16, changed: u16, changes: &Extents) -> u16
     requires height { length picture.now ≡ lines }
     requires changed { changed ≤ lines }

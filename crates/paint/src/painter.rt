@@ -26,7 +26,8 @@ use streams::{Sent, Sink, WriteFault};
 /// For how many runs there is room, a line of the screen. A frame of more is drawn in one walk.
 const RUNS_OF_LINE: usize = 16;
 
-/// For how many bytes of a text there is room, a cell of the screen: a text of more is sent in pieces, and may have to be drawn twice.
+/// For how many bytes of a text there is room, a cell of the screen: a text of more is sent in pieces, and may have to
+/// be drawn twice.
 const BYTES_OF_CELL: usize = 2;
 
 /// Sends pictures to terminals of one size, and knows which picture and cursor it showed there last.
@@ -97,9 +98,10 @@ impl Painter {
         self.cursor = None;
     }
 
-    /// Shows a virtual screen of the painter's size: it sends one text and flushes once. Where nothing is known of the terminals, or
-    /// they are to be cleared, the text clears the terminal first, and may be read by any one of the size. Else it is for those that
-    /// show the last picture, and draws what differs from that. After an error what was shown last is unknown.
+    /// Shows a virtual screen of the painter's size: it sends one text and flushes once. Where nothing is known of the
+    /// terminals, or they are to be cleared, the text clears the terminal first, and may be read by any one of the
+    /// size. Else it is for those that show the last picture, and draws what differs from that. After an error what was
+    /// shown last is unknown.
     pub fn doupdate<V: VirtualScreen, W: Sink>(
         &mut self,
         screen: &V,
@@ -111,8 +113,8 @@ impl Painter {
         self.doupdate_changes(screen, None, sink)
     }
 
-    /// The same, of a virtual screen that differs from what was shown last in some columns only, where that is known. It
-    /// looks at these columns alone, unless it clears.
+    /// The same, of a virtual screen that differs from what was shown last in some columns only, where that is known.
+    /// It looks at these columns alone, unless it clears.
     pub fn doupdate_changes<V: VirtualScreen, W: Sink>(
         &mut self,
         screen: &V,
@@ -153,8 +155,8 @@ impl Painter {
     }
 }
 
-/// Sends what differs from what is known to be shown, or the opening and what differs from a blank picture. It may differ in some columns
-/// only.
+/// Sends what differs from what is known to be shown, or the opening and what differs from a blank picture. It may
+/// differ in some columns only.
 fn show<W: Sink>(
     pen: &mut Pen,
     runs: &mut Runs,

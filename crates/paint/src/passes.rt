@@ -1,4 +1,5 @@
-//! Drawing in passes: of a picture first the cells of one rendition, then those of another, where that takes fewer bytes.
+//! Drawing in passes: of a picture first the cells of one rendition, then those of another, where that takes fewer
+//! bytes.
 
 ghost use Rattle.std.specs.Prelude.{◌≡◌, ◌+◌, ◌<◌, ◌≤◌, ◌++◌, ◌∷◌, [], List, if◌then◌else◌, length, nat_lt};
 ghost use Rattle.cell.specs.Shown.{Rendition as AnyRendition};
@@ -240,8 +241,8 @@ impl Renditions {
     }
 }
 
-/// The order of the passes for the renditions of changed cells, where they select these less often than one walk over all lines, and else
-/// none.
+/// The order of the passes for the renditions of changed cells, where they select these less often than one walk over
+/// all lines, and else none.
 pub fn order_of(frame: &Frame<'_>) -> Order
     ensures { result ≡ order_for (changed_renditions frame.now.shown.now frame.now.wanted.now) }
 {

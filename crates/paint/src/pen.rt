@@ -1,6 +1,6 @@
 //! A pen: it knows where a terminal's cursor is and how the terminal prints, and draws there by strokes.
 
-ghost use Rattle.std.specs.Prelude.{◌≡◌, ◌+◌, ◌<◌, ◌≤◌, ⊤, MatchOption, ◌++◌, ◌∷◌, [], ℕ, IfOk, List, length, slice_index_or, Some, ◌^◌};
+ghost use Rattle.std.specs.Prelude.{◌≡◌, ◌+◌, ◌<◌, ◌≤◌, ⊤, MatchOption, ◌++◌, ◌∷◌, [], ℕ, IfOk, List, length, slice_index_or, Some, take, ◌^◌};
 ghost use Rattle.std.specs.Option.{option_map};
 ghost use Rattle.cell.specs.Shown.{no_rendition, shown_blank};
 ghost use Rattle.cell.specs.Pictures.{Picture, line_of, origin, with_shown};
@@ -118,7 +118,7 @@ impl Pen {
     {
         let mut text = [0; LONGEST_SPELLING];
         let length = spell(&token, &mut text);
-        self.outbox.put(sink, &text[..length]);
+        self.outbox.put(sink, &text, length);
     }
 
     /// Clears the terminal, whatever it shows: no rendition, the page erased, the cursor at the origin.
@@ -226,7 +226,7 @@ impl Pen {
         ensures cursor { self.new.cursor ≡ cursor_after self.old.columns (line, column) }
         ensures same { SameTerminals (W.name sink.old) (W.name sink.new) self.old self.new }
     {
-        self.outbox.put(sink, &[cell.ch()]);
+        self.outbox.put_characters(sink, &[cell], 1);
         self.cursor = self.cursor_after(line, column);
     }
 
@@ -242,20 +242,29 @@ impl Pen {
         }
     }
 
-    /// Prints some cells from the cursor on, which is at this place. They have the rendition in force.
+    /// Prints the first cells of some from the cursor on, which is at this place. They have the rendition in force.
     #[inline(always)]
-    pub fn print_run<W: Sink>(&mut self, sink: &mut W, line: u16, column: u16, cells: &[Shown])
+    pub fn print_run<W: Sink>(
+        &mut self,
+        sink: &mut W,
+        line: u16,
+        column: u16,
+        cells: &[Shown],
+        count: usize,
+    )
         requires cursor { self.old.cursor ≡ Some (line, column) }
-        requires rendition { (k : ℕ) → k < length cells.now → (slice_index_or cells.now k shown_blank).rendition ≡ self.old.rendition }
-        requires some { 0 < length cells.now }
-        requires inside { column + length cells.now ≤ self.old.columns }
+        requires rendition { (k : ℕ) → k < count → (slice_index_or cells.now k shown_blank).rendition ≡ self.old.rendition }
+        requires some { 0 < count }
+        requires cells { count ≤ length cells.now }
+        requires inside { column + count ≤ self.old.columns }
         requires columns { self.old.columns ≤ LARGEST_SCREEN }
         ensures draws { (picture : Picture) → length (line_of picture line) ≡ self.old.columns
-            → Draws (characters cells.now) (W.seen sink.old) (W.seen sink.new) self.old self.new picture (with_cells picture (line, column) cells.now) }
+            → Draws (characters (take count cells.now)) (W.seen sink.old) (W.seen sink.new) self.old self.new picture
+            (with_cells picture (line, column) (take count cells.now)) }
         ensures same { SameTerminals (W.name sink.old) (W.name sink.new) self.old self.new }
     {
-        self.outbox.put_characters(sink, cells);
-        self.cursor = self.within(line, column + cells.len() as u16);
+        self.outbox.put_characters(sink, cells, count);
+        self.cursor = self.within(line, column + count as u16);
     }
 
     /// A place of a line, if it has the column.
@@ -269,8 +278,8 @@ impl Pen {
         }
     }
 
-    /// Prints cells that the terminal shows already, each in its rendition. The cursor is at the first of them, and there is a place
-    /// after the last.
+    /// Prints cells that the terminal shows already, each in its rendition. The cursor is at the first of them, and
+    /// there is a place after the last.
     #[inline(always)]
     pub fn print_again<W: Sink>(&mut self, sink: &mut W, line: u16, column: u16, cells: &[Shown])
         requires cursor { self.old.cursor ≡ Some (line, column) }

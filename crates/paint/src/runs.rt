@@ -92,7 +92,8 @@ impl Runs {
         true
     }
 
-    /// Lists the runs of a frame, in the passes of an order, in place of those that were there. It answers whether there was memory for all.
+    /// Lists the runs of a frame, in the passes of an order, in place of those that were there. It answers whether
+    /// there was memory for all.
     pub fn list(&mut self, frame: &Frame<'_>, order: &[Rendition]) -> bool
         requires { length order.now ≤ MOST }
         ensures { result ≡ true → AreRuns order.now frame.now.shown.now frame.now.wanted.now self.new (frame.now.lines, 0) }

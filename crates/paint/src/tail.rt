@@ -13,8 +13,8 @@ use cell::{LARGEST_SCREEN, Rendition, Shown, first_diff, last_diff};
 /// How many bytes it takes to erase the end of a line.
 const ERASURE: usize = 3;
 
-/// The column from which a line's blank end is erased: its first changed one, or, where that takes fewer bytes, the one where it
-/// begins, or where the cursor is in it.
+/// The column from which a line's blank end is erased: its first changed one, or, where that takes fewer bytes, the one
+/// where it begins, or where the cursor is in it.
 pub fn erased_from(
     pen: &Pen,
     line: u16,
@@ -57,8 +57,8 @@ fn nearer(pen: &Pen, line: u16, wanted: &[Shown], gap: usize, one: usize, other:
     }
 }
 
-/// Whether to erase from a column takes fewer bytes than to print the cells of a line's blank end from its first changed one to its
-/// last.
+/// Whether to erase from a column takes fewer bytes than to print the cells of a line's blank end from its first
+/// changed one to its last.
 pub fn is_erased(
     pen: &Pen,
     line: u16,
@@ -80,7 +80,8 @@ pub fn is_erased(
     erased + first < reach_length(pen, line, wanted, gap, first) + last + 1
 }
 
-/// How many bytes it takes to come to a column of the blank end with the empty rendition, over the gap of cells after what was drawn.
+/// How many bytes it takes to come to a column of the blank end with the empty rendition, over the gap of cells after
+/// what was drawn.
 fn reach_length(pen: &Pen, line: u16, wanted: &[Shown], gap: usize, column: usize) -> usize
     requires line { line < LARGEST_SCREEN }
     requires column { column < length wanted.now }

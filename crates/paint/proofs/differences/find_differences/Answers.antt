@@ -9,8 +9,8 @@ use Rattle.paint.proofs.differences.find_differences.Goals.{in-Some, in_default}
 pub loop-y-init : goal.loop-y-init
 loop-y-init c = rw (c.clear.ensures, c.requires.height) (found-none (length c.args.changes.now) c.requires.changes c.next-y.result (λ v few. c.next-y.ensures.none v (omega arith) few))
 
-pub ends-requires : goal.ends-requires
-ends-requires c =
+pub difference_within-requires : goal.difference_within-requires
+difference_within-requires c =
     let y = c.loop-y.y in
     rw (c.row.ensures.row, c.row-in-loop-y.ensures.row, c.from-at.ensures)
     (line-part c.requires.shown c.requires.wanted c.requires.changes y (omega (arith, c.loop-y-test.true, c.height-lines.ensures)) (rw c.from.ensures at c.within-start.ensures))
@@ -22,7 +22,7 @@ loop-y-preserved c =
     let shown : c.row.result.now ≡ line_of c.args.shown.now y = c.row.ensures.row ∙ ap (line_of c.args.shown.now) c.from-at.ensures in
     let wanted : c.row-in-loop-y.result.now ≡ line_of c.args.wanted.now y = c.row-in-loop-y.ensures.row ∙ ap (line_of c.args.wanted.now) c.from-at.ensures in
     let below : y < length c.args.changes.now = omega (arith, c.loop-y-test.true, c.height-lines.ensures) in
-    elim c.match-ends.branch [
+    elim c.match-difference_within.branch [
       | in-Some w ↦ found-more c.requires.changes y next.result next.ensures.from next.ensures.none c.loop-y.invariant below w.in-Some.first w.in-Some.last
           (rw (← shown, ← wanted) (w.in-Some.ensures.first)) (rw (← shown, ← wanted) (w.in-Some.ensures.last)) _ (w.found-is ∙ w.widen.ensures)
       | in_default w ↦ rw w.found-is (found-same c.requires.changes y next.result next.ensures.from next.ensures.none c.loop-y.invariant

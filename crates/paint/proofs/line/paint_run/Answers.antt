@@ -6,11 +6,11 @@ use Rattle.std.proofs.lemmas.List.{get_or_default}
 use Rattle.cell.specs.Shown.{IsRendition, Shown, shown_blank}
 use Rattle.cell.specs.Pictures.{line_of}
 use Rattle.cell.specs.declared.limits.TheConstants.{LARGEST_SCREEN}
-use Rattle.paint.specs.steps.Strokes.{Strokes, approach_bytes, most_approach, run_bytes, with_cells}
+use Rattle.paint.specs.steps.Strokes.{Draws, Strokes, approach_bytes, characters, most_approach, run_bytes, with_cells}
 use Rattle.paint.specs.steps.Walks.{cells_between}
 use Rattle.paint.proofs.CellRuns.{all-at, gap-and, part-of, run-after, run-strokes}
 use Rattle.paint.proofs.PenStrokes.{approach-most}
-use Rattle.paint.proofs.Walks.{gap-ends, gap-shown, length-between}
+use Rattle.paint.proofs.Walks.{first-between, gap-ends, gap-shown, length-between}
 use Rattle.paint.proofs.line.paint_run.Goals as goal
 
 pub approach-requires-clause-inside : goal.approach-requires-clause-inside
@@ -36,7 +36,8 @@ returns-clause-strokes g c = λ picture wide are.
     (c.rendition-rendition.ensures.value ∙ ap (λ (cell : Shown). cell.rendition) first)
     (approach-most c.args.pen.now.cursor c.args.pen.now.rendition (c.args.row.now.line, c.args.gap) gap c.rendition-rendition.result c.args.row.now.few_lines column) in
     run-strokes cells is some few (c.approach.ensures.strokes picture wide (gap-shown c.args.gap x wanted (line_of picture c.args.row.now.line) c.requires.gap (omega arith) are))
-    (c.print_run-2.ensures.draws picture (wide ∙ sym c.approach.ensures.same.columns))
+    (subst (λ l. Draws (characters l) (g.W.Sink.seen c.approach.new.sink) (g.W.Sink.seen c.print_run-2.new.sink) c.approach.new.pen c.print_run-2.new.self picture
+    (with_cells picture (c.args.row.now.line, x) l)) (first-between x c.args.end wanted run.within) (c.print_run-2.ensures.draws picture (wide ∙ sym c.approach.ensures.same.columns)))
 
 pub print_run-requires-clause-rendition : goal.print_run-requires-clause-rendition
 print_run-requires-clause-rendition g c = λ k few.
@@ -45,8 +46,8 @@ print_run-requires-clause-rendition g c = λ k few.
     let wanted = c.args.row.now.wanted.now in
     let run = c.requires.run in
     let rendition = c.rendition-rendition.result in
-    let inside : k < c.args.end - gap = omega (arith, few, length-between gap c.args.end wanted (omega (arith, c.requires.gap, run.some)) run.within) in
-    let there = ap (λ (cell : Shown). cell.rendition) (part-of gap c.args.end k wanted inside) in
+    let inside : k < c.args.end - gap = few in
+    let there = ap (λ (cell : Shown). cell.rendition) (part-of gap (length wanted) k wanted (omega (arith, inside, run.within))) in
     let force : c.args.pen.now.rendition ≡ rendition = sym c.state.ensures.rendition ∙ c.is_plain_gap.ensures.rendition c.if-is_plain_gap.true in
     let first : rendition ≡ (get_or wanted x shown_blank).rendition =
     c.rendition-rendition.ensures.value ∙ ap (λ (cell : Shown). cell.rendition) (c.index-wanted-start.is ∙ get_or_default wanted x c.index-wanted-start.result shown_blank (omega (arith, run.some, run.within))) in
@@ -74,4 +75,5 @@ returns-then-is_plain_gap-clause-strokes g c = λ picture wide are.
     (gap-and gap x c.args.end wanted c.requires.gap (omega (arith, run.some)) run.within)
     (c.is_plain_gap.ensures.few c.if-is_plain_gap.true) some (omega (arith, ends, wide, c.requires.width, run.some, run.within))
     (λ k few. sym (ap (λ (l : List Shown). get_or l k shown_blank) are) ∙ part-of gap x k row (omega (arith, few, ends)))
-    (c.print_run.ensures.draws picture wide))
+    (subst (λ l. Draws (characters l) (g.W.Sink.seen c.args.sink.now) (g.W.Sink.seen c.print_run.new.sink) c.args.pen.now c.print_run.new.self picture
+    (with_cells picture (c.args.row.now.line, gap) l)) (first-between gap c.args.end wanted run.within) (c.print_run.ensures.draws picture wide)))

@@ -1,12 +1,14 @@
-use Rattle.std.proofs.Common.{◌≡◌, ℕ, ◌-◌, ◌<◌, ◌≤◌, get_or, length, take}
+use Rattle.std.proofs.Common.{◌≡◌, ℕ, ◌+◌, ◌-◌, ◌<◌, ◌≤◌, get_or, length, take}
 use Rattle.cell.specs.Shown.{IsShown, shown_blank}
+use Rattle.cell.specs.declared.lanes.TheConstants.{LANES}
 use Rattle.paint.specs.steps.Strokes.{characters}
 use Rattle.paint.proofs.room.write_characters.Given as goal
 
 abbrev pub invariant-loop-start : goal.invariant-loop-start
 invariant-loop-start l = record {
   within : l.start ≤ length l.cells;
-  long : length l.places ≡ length l.cells;
+  few : l.start < l.count + LANES;
+  long : length l.places ≡ length l.fn.places;
   written : take l.start l.places ≡ characters (take l.start l.cells);
   sound : (k : ℕ) → k < l.start → IsShown (get_or l.cells k shown_blank);
 }
