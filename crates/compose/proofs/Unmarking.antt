@@ -1,5 +1,6 @@
 -- Windows are unmarked one after another.
-use Rattle.std.proofs.Common.{◌≡◌, ℕ, Bool, false, ◌||◌, ◌==◌, if◌then◌else◌, Option, None, List, [], ◌∷◌, arith}
+use Rattle.std.proofs.Common.{◌≡◌, ℕ, Bool, false, ◌||◌, ◌==◌, if◌then◌else◌, Option, None, List, [], ◌∷◌, arith, refl}
+use Rattle.std.proofs.lemmas.Bool.{cases_eq}
 use Rattle.std.specs.Prelude.{IsSomeAnd, is_none}
 use Rattle.std.specs.Option.{option_map}
 use Rattle.std.specs.List.{list_any}
@@ -12,7 +13,7 @@ use Rattle.world.specs.calls.Refresh.{among_lines}
 use Rattle.world.specs.calls.Writing.{after_writing, with_clear, writing_refusal}
 use Rattle.world.specs.declared.call.Copying.TheVariants.{Touchln}
 use Rattle.world.specs.declared.call.Writing.TheVariants.{Clearok}
-use Rattle.world.specs.Effects.{without_marks, unmarked_lines, with_unmarked}
+use Rattle.world.specs.Effects.{asks_for_clear, without_marks, unmarked_lines, with_unmarked}
 use Rattle.cell.specs.Refusals.{first_of}
 use Rattle.cell.specs.declared.refusal.Refusal.TheVariants.{NoSuchWindow}
 
@@ -29,6 +30,28 @@ unmarked-first window w ws = fun_ext (λ u. twice (w == u) (list_any (λ v. v ==
 pub still-left : (old new : Windows) (w : ℕ) (ws : List ℕ) → new ≡ record old { window = with_unmarked old.window (w ∷ []) }
     → record old { window = with_unmarked old.window (w ∷ ws) } ≡ record new { window = with_unmarked new.window ws }
 still-left old new w ws is = grind (arith, unmarked-first)
+
+-- the first one, as one window that changed
+marked : (window : WindowMap) (w u : ℕ) → with_change window w without_marks u ≡ with_unmarked window (w ∷ []) u
+marked window w u = grind (arith, cases_eq)
+
+pub one-unmarked : (window : WindowMap) (w : ℕ) → with_change window w without_marks ≡ with_unmarked window (w ∷ [])
+one-unmarked window w = fun_ext (marked window w)
+
+-- one that is unmarked asks for a clear screen no more
+asks-once : (window : WindowMap) (w v : ℕ) → (asks_for_clear window w || asks_for_clear window v) ≡ (asks_for_clear window w || asks_for_clear (with_unmarked window (w ∷ [])) v)
+asks-once window w v = grind (arith, cases_eq)
+
+either : (a b c r s : Bool) → (a || b) ≡ (a || c) → (a || r) ≡ (a || s) → (a || (b || r)) ≡ (a || (c || s))
+either a b c r s one rest = grind (arith, one, rest)
+
+-- whether one of them asks for it: the first, or one of the others once that is unmarked
+pub asked-first : (window : WindowMap) (w : ℕ) (ws : List ℕ) → list_any (asks_for_clear window) (w ∷ ws)
+    ≡ (asks_for_clear window w || list_any (asks_for_clear (with_unmarked window (w ∷ []))) ws)
+asked-first window w [] = refl
+asked-first window w (v ∷ ws) =
+    either (asks_for_clear window w) (asks_for_clear window v) (asks_for_clear (with_unmarked window (w ∷ [])) v) (list_any (asks_for_clear window) ws)
+    (list_any (asks_for_clear (with_unmarked window (w ∷ []))) ws) (asks-once window w v) (asked-first window w ws)
 
 -- ---- some lines of one window
 

@@ -12,7 +12,7 @@ ghost use Rattle.extents.specs.Extents.{AddsChanges, columns_of};
 ghost use Rattle.picture.specs.Damages.{cells_above};
 ghost use Rattle.picture.specs.Repairs.{IsRepairable};
 
-use crate::marks::{clear_asked, unmark_composed};
+use crate::marks::unmark_composed;
 use crate::virtual_picture::VirtualPicture;
 use cell::Pairs;
 use extents::Extents;
@@ -90,15 +90,10 @@ impl<'a> CountedWindows<'a> {
         wanted_cursor(self.table, stack)
     }
 
-    /// Whether the standard screen or a visible panel's window asks for a clear screen.
-    pub(crate) fn clear_asked(&self, stack: &Stack) -> bool
-        ensures { result ≡ list_any (asks_for_clear (windows_of self.now.table.now).window) (standard_screen ∷ windows_from_top (panels stack.now)) }
-    {
-        clear_asked(self.table, stack)
-    }
-
-    /// Clears the touched columns and clear flags of the standard screen and of the windows of visible panels.
-    pub(crate) fn unmark_composed(&mut self, stack: &Stack)
+    /// Clears the touched columns and clear flags of the standard screen and of the windows of visible panels. It
+    /// answers whether one of them asked for a clear screen.
+    pub(crate) fn unmark_composed(&mut self, stack: &Stack) -> bool
+        ensures asked { result ≡ list_any (asks_for_clear (windows_of self.old.table.now).window) (standard_screen ∷ windows_from_top (panels stack.now)) }
         ensures unmarked { windows_of self.new.table.now ≡ record (windows_of self.old.table.now) {
           window = with_unmarked (windows_of self.old.table.now).window
               (standard_screen ∷ windows_from_top (panels stack.now));
@@ -106,6 +101,6 @@ impl<'a> CountedWindows<'a> {
         ensures cells { self.new.cells ≡ self.old.cells }
         ensures same { self.new.table.ghost_name ≡ self.old.table.ghost_name }
     {
-        unmark_composed(self.table, stack);
+        unmark_composed(self.table, stack)
     }
 }

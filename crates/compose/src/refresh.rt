@@ -9,7 +9,7 @@ ghost use Rattle.world.specs.calls.Copying.{copywin_drawing};
 ghost use Rattle.world.specs.calls.Queries.{place_on_screen};
 ghost use Rattle.cell.specs.Refusals.{first_of};
 ghost use Rattle.world.specs.calls.Refresh.{touched_cells, among_lines, pnoutrefresh_tests};
-ghost use Rattle.world.specs.Effects.{shown_over, unmarked_lines};
+ghost use Rattle.world.specs.Effects.{asks_for_clear, shown_over, unmarked_lines};
 ghost use Rattle.world.specs.Windows.{with_change};
 ghost use Rattle.extents.specs.Extents.{AddsChanges};
 ghost use Rattle.grids.specs.Tables.{windows as windows_of};
@@ -20,7 +20,6 @@ ghost use Rattle.compose.specs.Calling.{Called};
 
 use crate::damaging::damage_part;
 use crate::desk::Desk;
-use crate::marks::asks;
 use crate::virtual_picture::VirtualPicture;
 use cell::{Pairs, Rect, Refusal, WinId};
 use extents::Extents;
@@ -49,8 +48,7 @@ impl Desk {
             &mut self.picture,
         );
         self.cursor = cursor_on_screen(&self.windows.table, win);
-        self.clear |= asks(&self.windows.table, win);
-        self.windows.table.unmark(win);
+        self.clear |= self.windows.table.unmark(win);
         Ok(Reply::Nothing)
     }
 
@@ -94,8 +92,7 @@ impl Desk {
             &mut self.picture,
         );
         damage_part(&mut self.damage, Some(frame));
-        self.clear |= asks(&self.windows.table, pad);
-        unmark_lines(&mut self.windows, pad, pminrow, smaxrow - sminrow + 1);
+        self.clear |= unmark_lines(&mut self.windows, pad, pminrow, smaxrow - sminrow + 1);
         Ok(Reply::Nothing)
     }
 }
@@ -202,12 +199,15 @@ fn require_rectangle(table: &Grids, source: Place, frame: Rect) -> Result<(), Re
     Ok(())
 }
 
-/// Untouches some lines of a window, which must exist, and clears its clear flag.
-fn unmark_lines(windows: &mut Windows, win: WinId, first: u16, n: u16)
+/// Untouches some lines of a window, which must exist, and clears its clear flag. It answers whether the window asked for
+/// a clear screen.
+fn unmark_lines(windows: &mut Windows, win: WinId, first: u16, n: u16) -> bool
     requires { IsSomeAnd ((windows_of windows.old.table).window win.0) (λ a. (first < a.lines) × (first + n ≤ a.lines)) }
-    ensures { windows_of windows.new.table ≡ record (windows_of windows.old.table)
+    ensures asked { result ≡ asks_for_clear (windows_of windows.old.table).window win.0 }
+    ensures unmarked { windows_of windows.new.table ≡ record (windows_of windows.old.table)
         { window = with_change (windows_of windows.old.table).window win.0 (unmarked_lines (among_lines first n)) } }
 {
+    let asked = windows.table.settings(win).clear;
     match windows.table.wtouchln(win, first, n, false) {
         Ok(()) => {}
         Err(_) => unreachable!(),
@@ -216,4 +216,5 @@ fn unmark_lines(windows: &mut Windows, win: WinId, first: u16, n: u16)
         Ok(()) => {}
         Err(_) => unreachable!(),
     }
+    asked
 }

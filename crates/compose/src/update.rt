@@ -39,7 +39,6 @@ pub(crate) fn update_panels(
 {
     let cells = windows.show_damaged(stack, pairs, owners, damage, picture);
     *cursor = windows.wanted_cursor(stack);
-    *clear |= windows.clear_asked(stack);
-    windows.unmark_composed(stack);
+    *clear |= windows.unmark_composed(stack);
     Composed { cells }
 }

@@ -5,7 +5,7 @@ ghost use Rattle.world.specs.Sound.{AreSoundWindows};
 ghost use Rattle.world.specs.Windows.{HasPlace, with_change};
 ghost use Rattle.world.specs.calls.Copying.{lines_marked};
 ghost use Rattle.world.specs.calls.Queries.{touched_columns};
-ghost use Rattle.world.specs.Effects.{without_marks};
+ghost use Rattle.world.specs.Effects.{asks_for_clear, without_marks};
 ghost use Rattle.world.specs.Replies.{its_flag, no_answer};
 ghost use Rattle.world.specs.declared.call.Copying.{Copying};
 ghost use Rattle.grids.specs.Calls.{Marked};
@@ -29,13 +29,14 @@ impl Grids {
         }
     }
 
-    /// Untouches all of a window, which clears its clear flag. The window must exist.
-    pub fn unmark(&mut self, win: WinId)
-        requires { IsSome ((windows self.old).window win.0) }
+    /// Untouches all of a window, if there is one, and clears its clear flag. It answers whether the window asked for a clear
+    /// screen.
+    pub fn unmark(&mut self, win: WinId) -> bool
+        ensures asked { result ≡ asks_for_clear (windows self.old).window win.0 }
         ensures unmarked { windows self.new ≡ record (windows self.old) { window = with_change (windows self.old).window win.0 without_marks } }
         ensures sound { AreSoundWindows (windows self.new) }
     {
-        unmark_slot(&mut self.slots, win.0);
+        self.has_window(win) && unmark_slot(&mut self.slots, win.0)
     }
 
     /// Touches all of a window.

@@ -224,13 +224,15 @@ pub fn set_slot_cursor(slots: &mut Vec<Option<Slot>>, at: u16, y: u16, x: u16)
     }
 }
 
-/// Untouches all of a slot's window, which asks for a clear screen no more.
-pub fn unmark_slot(slots: &mut Vec<Option<Slot>>, at: u16)
+/// Untouches all of a slot's window, which asks for a clear screen no more. It answers whether it asked for one.
+pub fn unmark_slot(slots: &mut Vec<Option<Slot>>, at: u16) -> bool
     requires { IsSome (slot_at slots.old.items at) }
-    ensures { Changed slots.old.items slots.new.items at without_marks }
+    ensures asked { IsSomeAnd (slot_at slots.old.items at) (λ k. result ≡ k.settings.clear) }
+    ensures unmarked { Changed slots.old.items slots.new.items at without_marks }
 {
-    if let Some(slot) = &mut slots[usize::from(at)] {
-        slot.unmark();
+    match &mut slots[usize::from(at)] {
+        Some(slot) => slot.unmark(),
+        None => false,
     }
 }
 

@@ -317,13 +317,16 @@ impl Slot {
         }
     }
 
-    /// Untouches all lines, and asks for a clear screen no more.
-    pub fn unmark(&mut self)
+    /// Untouches all lines, and asks for a clear screen no more. It answers whether it asked for one.
+    pub fn unmark(&mut self) -> bool
+        ensures asked { result ≡ self.old.settings.clear }
         ensures window { window_of self.new ≡ without_marks (window_of self.old) }
         ensures place { StaysInPlace self.old self.new }
     {
+        let asked = self.settings.clear;
         self.touched.clear();
         self.settings.clear = false;
+        asked
     }
 
     /// Touches lines from their first column to their last, from one on, or untouches them.

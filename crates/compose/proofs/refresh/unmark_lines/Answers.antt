@@ -15,7 +15,7 @@ unreachable-requires-in-Err-clearok c =
     ∙ still-there (windows a.windows.now.table) a.win a.first a.n (λ b. (a.first < b.lines) × (a.first + a.n ≤ b.lines)) c.requires in
     cc
 
-pub returns : goal.returns
-returns c =
+pub returns-clause-unmarked : goal.returns-clause-unmarked
+returns-clause-unmarked c =
     let a = c.args in
     c.in-Ok-clearok.ensures.written ∙ ap (λ (v : Windows). after_writing v (Clearok a.win false)) c.in-Ok.ensures.changed ∙ lines-unmarked (windows a.windows.now.table) a.win a.first a.n

@@ -25,7 +25,7 @@ abbrev new : goal.After-unmark_composed → DeskTable
 new c =
     let a = c.args in
     desk_of c.unmark_composed.new.self.table.now c.unmark_composed.new.self.cells a.stack.now a.pairs.now c.show_damaged-cells.new.damage c.show_damaged-cells.new.picture.cells c.show_damaged-cells.new.picture.changes
-    c.wanted_cursor.result (a.clear.now || c.clear_asked.result)
+    c.wanted_cursor.result (a.clear.now || c.unmark_composed.result)
 
 left : (c : goal.After-unmark_composed) → world (new c) ≡ world_after (world (old c)) (calls.Refresh UpdatePanels)
 left c =
@@ -33,7 +33,7 @@ left c =
     let ps = panels d.panels in
     let same = c.show_damaged-cells.ensures.table in
     let cursor = subst (λ (t : WindowTable). c.wanted_cursor.result ≡ cursor_of_topmost (windows t).window ps) same c.wanted_cursor.ensures in
-    let asked = subst (λ (t : WindowTable). c.clear_asked.result ≡ list_any (asks_for_clear (windows t).window) (standard_screen ∷ windows_from_top ps)) same c.clear_asked.ensures in
+    let asked = subst (λ (t : WindowTable). c.unmark_composed.result ≡ list_any (asks_for_clear (windows t).window) (standard_screen ∷ windows_from_top ps)) same c.unmark_composed.ensures.asked in
     let unmarked = subst (λ (t : WindowTable). windows c.unmark_composed.new.self.table.now
     ≡ record (windows t) { window = with_unmarked (windows t).window (standard_screen ∷ windows_from_top ps) }) same c.unmark_composed.ensures.unmarked in
     λ i. record (world d) {

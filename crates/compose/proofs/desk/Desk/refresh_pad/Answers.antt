@@ -16,18 +16,18 @@ use Rattle.compose.proofs.Padding.{pad-damages}
 use Rattle.compose.proofs.RefreshedLines.{of-pad}
 use Rattle.compose.proofs.desk.Desk.refresh_pad.Goals as goal
 
-abbrev new : goal.After-unmark_lines → DeskTable
+abbrev new : goal.After-self-1 → DeskTable
 new c = record (the_view c.self.inside) {
   windows = c.unmark_lines.new.windows.table;
-  virtual = record { picture = c.show_rectangle.new.picture.cells; cursor = c.self.inside.cursor; clear = c.self.inside.clear || c.asks.result };
+  virtual = record { picture = c.show_rectangle.new.picture.cells; cursor = c.self.inside.cursor; clear = c.self.inside.clear || c.unmark_lines.result };
   changes = c.show_rectangle.new.picture.changes;
   damage = c.damage_part.new.damage;
 }
 
-abbrev refresh : goal.After-unmark_lines → Refresh
+abbrev refresh : goal.After-self-1 → Refresh
 refresh c = Pnoutrefresh c.args.pad c.args.pminrow c.args.pmincol c.args.sminrow c.args.smincol c.args.smaxrow c.args.smaxcol
 
-made : (c : goal.After-unmark_lines) → IsDesk (new c) × Called (the_view c.self.inside) (calls.Refresh (refresh c)) (Ok Nothing) (new c)
+made : (c : goal.After-self-1) → IsDesk (new c) × Called (the_view c.self.inside) (calls.Refresh (refresh c)) (Ok Nothing) (new c)
 made c =
     let a = c.args in let h = c.self.invariant in let ws = windows c.self.inside.windows.table in
     let frame : Rect = record { top = a.sminrow; left = a.smincol; bottom = a.smaxrow; right = a.smaxcol } in

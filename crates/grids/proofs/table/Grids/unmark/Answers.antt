@@ -8,11 +8,11 @@ use Rattle.grids.proofs.table.Grids.unmark.Goals as goal
 
 pub invariant_of-self : goal.invariant_of-self
 invariant_of-self c =
-    IsWindowTable-changed (the_view c.self.inside) c.unmark_slot.new.slots.items c.args.win.0 without_marks c.self.invariant c.unmark_slot.ensures (λ a. refl)
+    IsWindowTable-changed (the_view c.self.inside) c.unmark_slot.new.slots.items c.args.win.0 without_marks c.self.invariant c.unmark_slot.ensures.unmarked (λ a. refl)
 
-pub returns-clause-unmarked : goal.returns-clause-unmarked
-returns-clause-unmarked c =
-    rw (← c.self.view_is) (windows-changed (the_view c.self.inside) c.unmark_slot.new.slots.items c.args.win.0 without_marks c.self.invariant c.unmark_slot.ensures)
+pub returns-then-has_window-clause-unmarked : goal.returns-then-has_window-clause-unmarked
+returns-then-has_window-clause-unmarked c =
+    rw (← c.self.view_is) (windows-changed (the_view c.self.inside) c.unmark_slot.new.slots.items c.args.win.0 without_marks c.self.invariant c.unmark_slot.ensures.unmarked)
 
-pub returns-clause-sound : goal.returns-clause-sound
-returns-clause-sound c = sound _ (invariant_of-self c)
+pub returns-then-has_window-clause-sound : goal.returns-then-has_window-clause-sound
+returns-then-has_window-clause-sound c = sound _ (invariant_of-self c)
