@@ -181,8 +181,8 @@ curspan_answer curspan_newwin(curspan *screen, uint32_t lines, uint32_t columns,
    edge. Answers its number. Refused: NO_SUCH_WINDOW, IS_PAD, OUTSIDE_PARENT, TOO_MANY, NO_MEMORY. */
 curspan_answer curspan_subwin(curspan *screen, uint32_t win, uint32_t lines, uint32_t columns, uint32_t y, uint32_t x);
 
-/* Makes a window that shows the part of a window from a line and a column of it on. A size of 0 reaches to its edge.
-   Answers its number. Refused: NO_SUCH_WINDOW, IS_PAD, OUTSIDE_PARENT, TOO_MANY, NO_MEMORY. */
+/* Makes a window over the part of a window from a line and a column of it on. They share their cells. A size of 0
+   reaches to its edge. Answers its number. Refused: NO_SUCH_WINDOW, IS_PAD, OUTSIDE_PARENT, TOO_MANY, NO_MEMORY. */
 curspan_answer curspan_derwin(curspan *screen, uint32_t win, uint32_t lines, uint32_t columns, uint32_t y, uint32_t x);
 
 /* Makes a pad of 1 to 1000 lines and columns, which has no place on the screen, with a blank grid of its own. Answers
@@ -211,8 +211,9 @@ curspan_answer curspan_mvderwin(curspan *screen, uint32_t win, uint32_t y, uint3
    hasn't. */
 curspan_answer curspan_wmove(curspan *screen, uint32_t win, uint32_t y, uint32_t x);
 
-/* Writes a character at the cursor, which advances; a newline (10), carriage return (13) or backspace (8) moves it.
-   Refused: NO_SUCH_WINDOW; BAD_CHARACTER for another character outside 32 to 126. */
+/* Writes a character at the cursor, which advances, from the last column to the next line. On the region's last line
+   the region scrolls, if the window does, and else the cursor stays. A newline (10), carriage return (13) or backspace
+   (8) moves it. Refused: NO_SUCH_WINDOW; BAD_CHARACTER for another character outside 32 to 126. */
 curspan_answer curspan_waddch(curspan *screen, uint32_t win, uint32_t ch);
 
 /* Writes the characters of a text in order, each as `waddch` does. No character of a refused text is written. The text

@@ -321,8 +321,8 @@ PyMethodDef curspan_window_methods[] = {
      "derwin($self, lines=0, columns=0, y=0, x=0)\n"
      "--\n"
      "\n"
-     "Makes a window that shows the part of a window from a line and a column of it on. A size of 0\n"
-     "reaches to its edge. Refused: NoSuchWindow, IsPad, OutsideParent, TooMany, NoMemory."},
+     "Makes a window over the part of a window from a line and a column of it on. They share their cells.\n"
+     "A size of 0 reaches to its edge. Refused: NoSuchWindow, IsPad, OutsideParent, TooMany, NoMemory."},
     {"delete", AS_FUNCTION(curspan_window_delete), METH_NOARGS,
      "delete($self)\n"
      "--\n"
@@ -349,8 +349,10 @@ PyMethodDef curspan_window_methods[] = {
      "window hasn't."},
     {"addch", AS_FUNCTION(curspan_window_addch), METH_FASTCALL | METH_KEYWORDS,
      "addch([y, x, ]ch, attrs=None, *, pair=None)\n"
-     "Writes a character at the cursor, which advances; a newline (10), carriage return (13) or backspace\n"
-     "(8) moves it. Refused: NoSuchWindow; BadCharacter for another character outside 32 to 126."},
+     "Writes a character at the cursor, which advances, from the last column to the next line. On the\n"
+     "region's last line the region scrolls, if the window does, and else the cursor stays. A newline\n"
+     "(10), carriage return (13) or backspace (8) moves it. Refused: NoSuchWindow; BadCharacter for\n"
+     "another character outside 32 to 126."},
     {"addstr", AS_FUNCTION(curspan_window_addstr), METH_FASTCALL | METH_KEYWORDS,
      "addstr([y, x, ]text, attrs=None, *, pair=None)\n"
      "Writes the characters of a text in order, each as addch does. No character of a refused text is\n"

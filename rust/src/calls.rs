@@ -42,8 +42,8 @@ impl<W> Screen<W> {
         self.added_window(answer.first)
     }
 
-    /// Makes a window that shows the part of a window from a line and a column of it on. A size of
-    /// 0 reaches to its edge.
+    /// Makes a window over the part of a window from a line and a column of it on. They share their
+    /// cells. A size of 0 reaches to its edge.
     ///
     /// # Errors
     ///
@@ -139,8 +139,9 @@ impl<W> Screen<W> {
         Ok(())
     }
 
-    /// Writes a character at the cursor, which advances; a newline (10), carriage return (13) or
-    /// backspace (8) moves it.
+    /// Writes a character at the cursor, which advances, from the last column to the next line. On
+    /// the region's last line the region scrolls, if the window does, and else the cursor stays. A
+    /// newline (10), carriage return (13) or backspace (8) moves it.
     ///
     /// # Errors
     ///

@@ -112,8 +112,8 @@ pub trait Calls {
         self.make(&Call::subwin(win, lines, columns, y, x))
     }
 
-    /// Makes a window that shows the part of a window from a line and a column of it on. A size of 0 reaches to its
-    /// edge.
+    /// Makes a window over the part of a window from a line and a column of it on. They share their cells. A size of 0
+    /// reaches to its edge.
     ///
     /// # Errors
     /// `NoSuchWindow`, `IsPad`, `OutsideParent`, `TooMany`, `NoMemory`.
@@ -198,8 +198,9 @@ pub trait Calls {
         self.make(&Call::wmove(win, y, x))
     }
 
-    /// Writes a character at the cursor, which advances; a newline (10), carriage return (13) or backspace (8) moves
-    /// it.
+    /// Writes a character at the cursor, which advances, from the last column to the next line. On the region's last
+    /// line the region scrolls, if the window does, and else the cursor stays. A newline (10), carriage return (13) or
+    /// backspace (8) moves it.
     ///
     /// # Errors
     /// `NoSuchWindow`; `BadCharacter` for another character outside 32 to 126.

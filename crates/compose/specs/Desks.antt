@@ -8,16 +8,16 @@ use Rattle.grids.specs.Tables.{WindowTable, windows}
 use Rattle.stack.specs.Tables.{PanelTable, panels}
 use Rattle.extents.specs.Extents.{columns_of, has_columns, is_among}
 
--- The table of windows, the panels, the colour pairs, the virtual screen; of each line the columns in which that
--- changed since it was last taken, and those that are damaged; and how many cells of windows update_panels has read,
--- modulo 2^64.
 pub record DeskTable : Type 0 where
   pub windows : WindowTable
   pub panels : PanelTable
   pub pairs : Pairs
   pub virtual : VirtualScreen
+  -- of each line the columns in which the virtual screen changed since its changes were last taken
   pub changes : List (Option Columns)
+  -- of each line the columns that the next update_panels searches again
   pub damage : List (Option Columns)
+  -- how many cells of windows update_panels has read, modulo 2^64
   pub cells_read : ℕ
 
 abbrev pub world : DeskTable → World

@@ -101,6 +101,7 @@ pub(crate) fn arrange_damaging(
     let top = top_window(stack, ordered);
     let before = part_of(table, stack, named_panel(stacking));
     let reply = arrange(table, stack, stacking)?;
+    // The panel was on top and still is, with the same window: the picture is as it was, so nothing is damaged.
     if is_same_window(top, top_window(stack, ordered)) {
         return Ok(reply);
     }
@@ -110,7 +111,7 @@ pub(crate) fn arrange_damaging(
     Ok(reply)
 }
 
-/// The window of a panel, if that is the topmost.
+/// The window of a panel, if the panel is the topmost.
 fn top_window(stack: &Stack, panel: Option<PanelId>) -> Option<WinId>
     ensures { option_map (λ w. w.0) result ≡ top_window (panels stack.now) (panel_number panel) }
 {

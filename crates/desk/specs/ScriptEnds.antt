@@ -47,7 +47,7 @@ BeginsWith calls r = (others : List (ℕ × Call)) × (r.calls ≡ calls ++ othe
 
 -- ---- the log
 
--- the lines of the log for calls with these outcomes; that of a call which has none is empty
+-- the lines of the log for calls with these outcomes, one for each; it is empty for a call that logs nothing
 abbrev pub log_lines : List (ℕ × Call) → List Outcome → List (List ℕ)
 log_lines (call ∷ calls) (outcome ∷ outcomes) = log_line call.0 outcome.answer ∷ log_lines calls outcomes
 log_lines _ _ = []

@@ -55,11 +55,11 @@ spelling (Ed how) = control_sequence ED (erasure_spelling how)
 abbrev pub position_bytes : ℕ
 position_bytes = 2 + 3 + 1 + 3 + 1
 
--- the bytes of a selection of none: the introducer, 0, and the final byte
+-- the bytes of an SGR that selects nothing: the introducer, 0, and the final byte
 abbrev pub none_bytes : ℕ
 none_bytes = 2 + 1 + 1
 
--- the most bytes of a selection without colours: six codes of a digit besides, each after a separator
+-- the most bytes of an SGR without colours: these, and six attribute codes of one digit, each after a separator
 abbrev pub selection_bytes : ℕ
 selection_bytes = none_bytes + 6 * 2
 

@@ -48,13 +48,13 @@ abbrev pub start_from : PainterState → Option ShownPicture → ShownPicture
 start_from painter None = blank_shown painter.lines painter.columns
 start_from painter (Some shown) = shown
 
--- What the terminal shows where the text begins after its opening. A doupdate that clears begins at a blank picture.
+-- What the terminal shows before the text of a doupdate, or, where that clears, after its opening: a blank picture.
 abbrev pub start_of_update : PainterState → Bool → ShownPicture
 start_of_update painter clear = start_from painter (known_picture painter clear)
 
 -- ---- texts
 
--- no rendition, the page erased, the cursor at the origin
+-- no rendition, the page erased, the cursor at the origin: 4, 4 and 6 bytes
 abbrev pub opening : List ℕ
 opening = escape ∷ codes "[0m" ++ escape ∷ codes "[2J" ++ escape ∷ codes "[1;1H"
 

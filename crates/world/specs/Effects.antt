@@ -244,7 +244,7 @@ abbrev pub effect_frame : Windows → Effect → Option Rect
 effect_frame windows (arranges order) = order_frame windows order
 effect_frame windows _ = None
 
--- what an effect answers but those that compose and show
+-- what an effect answers; what `composes` and `shows` answer says besides how much was read and sent
 abbrev pub effect_reply : Effect → Reply
 effect_reply (arranges order) = order_reply order
 effect_reply _ = Nothing

@@ -38,8 +38,9 @@ scrolls a = a.settings.scrolling && a.settings.cursor.0 == a.settings.region.1
 abbrev pub region_up : WindowMap → ℕ → Window → Drawing
 region_up window w a = lines_up window w a.settings.region.0 a.settings.region.1 1 a.settings.background
 
--- The cursor goes to the next line; on the region's last line it may scroll the region and go to column 0; at the end
--- of a last line it goes no further than a place.
+-- The cursor goes to column 0 of the next line. On the region's last line, if the window scrolls, the region goes up by
+-- one line instead, and the cursor to column 0 there. On a last line that doesn't scroll it goes to `place`: for a
+-- printed character where it was, for a newline column 0.
 abbrev pub to_next_line : Windows → ℕ → Window → Place → Windows
 to_next_line windows w a place =
     if scrolls a then drawn_to windows w (region_up windows.window w a) (a.settings.cursor.0, 0)

@@ -11,7 +11,8 @@ use Rattle.cell.specs.declared.limits.TheConstants.{MOST_WINDOWS}
 use Rattle.world.specs.declared.settings.Columns.{Columns}
 use Rattle.world.specs.declared.settings.Settings.{Settings}
 
--- where the cells of a window are: in a grid of its own, or in its parent, from an offset of lines and columns on
+-- Where the cells of a window are: in a grid of its own, or, as `part_of parent line column`, in the window of that
+-- number, from that line and column of it on.
 pub data Backing : Type 0 where
   own_grid : (ℕ → ℕ → Glyph) → Backing
   part_of : ℕ → ℕ → ℕ → Backing

@@ -65,7 +65,8 @@ pub extern "C" fn curspan_subwin(
     )
 }
 
-/// Makes a window that shows the part of a window from a line and a column of it on. A size of 0 reaches to its edge.
+/// Makes a window over the part of a window from a line and a column of it on. They share their cells. A size of 0
+/// reaches to its edge.
 #[unsafe(no_mangle)]
 pub extern "C" fn curspan_derwin(
     alloc: Global,

@@ -45,7 +45,7 @@ named_panel (MovePanel panel y x) = Some panel.0
 named_panel (ReplacePanel panel win) = Some panel.0
 named_panel _ = None
 
--- the panel that an effect changes or makes
+-- the panel that an `Order` makes or changes; none, where it changes windows alone
 abbrev pub order_panel : Order → Option ℕ
 order_panel (changes change) = None
 order_panel (adds p w) = Some p

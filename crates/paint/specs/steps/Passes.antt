@@ -16,12 +16,13 @@ pass_of (first ∷ order) rendition = if same_rendition first rendition then 0 e
 
 -- ---- their order
 
--- the renditions of the changed cells of a line, and of a picture, as they come
+-- the wanted renditions of the changed cells of a line, from left to right
 abbrev pub line_renditions : List Shown → List Shown → List Rendition
 line_renditions [] wanted = []
 line_renditions (a ∷ shown) [] = []
 line_renditions (a ∷ shown) (b ∷ wanted) = if same_shown a b then line_renditions shown wanted else b.rendition ∷ line_renditions shown wanted
 
+-- those of a picture, from the top line down
 abbrev pub changed_renditions : Picture → Picture → List Rendition
 changed_renditions [] wanted = []
 changed_renditions (line ∷ shown) [] = []
