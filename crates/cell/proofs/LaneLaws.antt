@@ -1,22 +1,22 @@
 -- Cells as numbers, one in each lane, and a mask of the lanes in which two differ.
-use Rattle.std.proofs.Common.{◌≡◌, ℕ, ◌+◌, ◌-◌, ◌*◌, ◌^◌, ◌/◌, ◌%◌, ◌<◌, true, false, List, [], ◌∷◌, length, get_or, set}
+use Rattle.std.proofs.Common.{◌≡◌, ℕ, suc, ◌+◌, ◌-◌, ◌*◌, ◌^◌, ◌/◌, ◌%◌, ◌<◌, true, false, List, [], ◌∷◌, length, get_or, set}
 use Rattle.std.proofs.Common.{take, drop, map, refl, sym, ap, subst, ◌∙◌, arith, eq-eqb, ne_eqb, eqb, cond, inl, inr, w32}
 use Rattle.std.specs.Prelude.{not, replicate, ◌==◌, ◌&&◌, ◌≤◌, Bool, slice_index_or, nat_lt}
 use Rattle.std.specs.List.{common_prefix_len, list_all, prefix_len}
 use lib.Count.{count_trailing_zeros}
-use Rattle.std.specs.Simd.Lanes.{mask_l, top, zip2}
-use Rattle.std.proofs.lemmas.Bool.{and_parts, and_from, cases_eq, eqb-true, lt-ltb, ltb-true, ltb_from_iff}
+use Rattle.std.specs.Simd.Lanes.{fold_l, mask_l, top, zip2}
+use Rattle.std.proofs.lemmas.Bool.{and_parts, and_from, cases_Bool, cases_eq, cases_lt, eqb-true, lt-ltb, ltb-true, ltb_from_iff}
 use Rattle.std.specs.Int.{bit_at}
 use Rattle.std.specs.Int.RustNames.{bit_or, bit_xor}
 use Rattle.std.proofs.lemmas.Nat.{le_or_l, le_or_r, or_lt, xor_shr}
 use Rattle.std.proofs.lemmas.Nat.Bits.{bit_at-lt, bit_at-zero, bit_at_xor, same_from_bits}
-use Rattle.std.proofs.lemmas.List.{get_or-map, length-map, take-map, take_more, take_more_set, map-append}
+use Rattle.std.proofs.lemmas.List.{get_or-map, get_or_default, length-map, take-map, take_more, take_more_set, map-append}
 use Rattle.std.proofs.lemmas.List.Folds.{list_all-append}
 use Rattle.std.proofs.lemmas.List.Sums.{common_prefix_len-le}
 use Rattle.std.proofs.lemmas.Simd.{bitmask_splat, length-zip2, mask_l-mod, tops_compared, trailing_mask_l}
 use Rattle.cell.specs.Differences.{DiffersAt, same_rendition}
 use Rattle.cell.specs.EqualityLaws.{same_rendition-equal, same_rendition-equivalence}
-use Rattle.cell.specs.Glyphs.{Glyph, IsCell}
+use Rattle.cell.specs.Glyphs.{Glyph, IsCell, blank}
 use Rattle.cell.specs.Packing.{colour_of, glyph_bits, rendition_bits, rendition_of, shown_bits, shown_of}
 use Rattle.cell.specs.PackingLaws.{same_bits}
 use Rattle.cell.specs.Shown.{IsShown, Rendition, Shown, rendition_with, shown_blank}
@@ -215,3 +215,37 @@ same_pair glyph bits pair is sound =
     let one : bits / 65536 ≡ glyph.pair = omega (arith, is, sound.to_tilde, sound.of_the_six) in
     let other : pair * 65536 / 65536 ≡ pair = omega arith in
     λ i. one i == other i
+
+-- what is known of each cell before one, and of that one
+pub more_sound : (P : Glyph → Type 0) (cells : List Glyph) (x : ℕ) (cell : Glyph) → x < length cells → cell ≡ get_or cells x cell → P cell
+    → ((k : ℕ) → k < x → P (get_or cells k blank)) → (k : ℕ) → k < x + 1 → P (get_or cells k blank)
+more_sound P cells x cell inside is one before k below = elim (cases_lt k x) [
+  | inl early ↦ before k early
+  | inr late ↦
+      let here : x ≡ k = omega arith in
+      subst P (is ∙ get_or_default cells x cell blank inside ∙ ap (λ n. get_or cells n blank) here) one
+]
+
+-- ---- cells of windows in lanes
+
+-- what some numbers have not in common with one, below 2 to a power where all are alike from there on
+pub or_alike : (k w found : ℕ) (within : (x : ℕ) → x / 2 ^ k ≡ 0 → x < 2 ^ k) (none : (x : ℕ) → x < 2 ^ k → x / 2 ^ k ≡ 0) (xs : List ℕ)
+    → nat_lt (fold_l (λ a b. bit_or a b) found (zip2 (λ a b. bit_xor a b) xs (replicate (length xs) w))) (2 ^ k) ≡ (nat_lt found (2 ^ k) && list_all (λ x. x / 2 ^ k == w / 2 ^ k) xs)
+or_alike k w found within none [] = grind (arith, cases_Bool)
+or_alike k w found within none (x ∷ xs) =
+    or_alike k w (bit_or found (bit_xor x w)) within none xs ∙ ap (λ b. b && list_all (λ x. x / 2 ^ k == w / 2 ^ k) xs) (one_more_alike k within none found x w)
+    ∙ both (nat_lt found (2 ^ k)) (x / 2 ^ k == w / 2 ^ k) (list_all (λ x. x / 2 ^ k == w / 2 ^ k) xs) where
+      both : (a b c : Bool) → ((a && b) && c) ≡ (a && (b && c))
+      both a b c = grind (arith, cases_Bool)
+
+pub pairs_of : (cells : List Glyph) (pair : ℕ) → ((k : ℕ) → k < length cells → IsCell (get_or cells k blank))
+    → list_all (λ x. x / 65536 == pair * 65536 / 65536) (map glyph_bits cells) ≡ list_all (λ (cell : Glyph). cell.pair == pair) cells
+pairs_of [] pair sound = refl
+pairs_of (cell ∷ cells) pair sound =
+    λ i. same_pair cell (glyph_bits cell) pair refl (sound 0 (omega arith)) i && pairs_of cells pair (λ k few. sound (suc k) (omega (arith, few))) i
+
+pub lanes_alike : (w : ℕ) (xs : List ℕ) → length xs ≡ 16
+    → nat_lt (fold_l (λ a b. bit_or a b) 0 (zip2 (λ a b. bit_xor a b) xs (replicate 16 w))) 65536 ≡ list_all (λ x. x / 65536 == w / 65536) xs
+lanes_alike w xs long =
+    ap (λ n. nat_lt (fold_l (λ a b. bit_or a b) 0 (zip2 (λ a b. bit_xor a b) xs (replicate n w))) 65536) (sym long)
+    ∙ or_alike 16 w 0 (λ x h. omega (arith, h)) (λ x h. omega (arith, h)) xs

@@ -7,7 +7,7 @@ ghost use Rattle.cell.specs.declared.lanes.TheConstants.{BLOCK, LANES};
 
 use crate::cell::Cell;
 use crate::colour_bits::ColourBits;
-use crate::lanes::{BLOCK, LANES, have_pair};
+use crate::lanes::{BLOCK, LANES, have_pair, lanes_have_pair};
 use crate::limits::{LAST_COLOUR, LAST_PAIR};
 use crate::shown::Shown;
 use std::marker::Model;
@@ -282,8 +282,7 @@ impl Pairs {
         ensures cells { AllByRecursion IsShown places.new }
     {
         let pair = cells[0].pair();
-        // All of them: a length that is written here lets the compiler do without a loop.
-        if have_pair(&cells[..LANES], pair) {
+        if lanes_have_pair(cells, pair) {
             places.copy_from_slice(&show_in(self.colours_of(pair), cells));
         } else {
             self.show_each(cells, places);

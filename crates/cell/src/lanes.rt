@@ -1,9 +1,10 @@
 //! Cells that are looked at together: as numbers in the lanes of a vector, or by loops that the compiler vectorizes.
 
-ghost use Rattle.std.specs.Prelude.{◌≡◌, ◌≤◌, ◌<◌, ◌==◌, ◌↔◌, length, map, take, true};
+ghost use Rattle.std.specs.Prelude.{◌≡◌, ◌≤◌, ◌<◌, ◌==◌, ◌↔◌, ℕ, length, map, slice_index_or, take, true};
 ghost use Rattle.std.specs.List.{list_all};
 ghost use Rattle.cell.specs.Differences.{DiffersAt, same_rendition};
-ghost use Rattle.cell.specs.Packing.{shown_bits, shown_of};
+ghost use Rattle.cell.specs.Glyphs.{IsCell, blank};
+ghost use Rattle.cell.specs.Packing.{glyph_bits, shown_bits, shown_of};
 ghost use Rattle.cell.specs.declared.lanes.TheConstants.{LANES};
 
 use crate::cell::Cell;
@@ -77,4 +78,26 @@ fn lanes(cells: &[Shown]) -> u32x16
         numbers[x] = cells[x].bits();
     }
     u32x16::from_array(numbers)
+}
+
+/// Whether so many cells of windows all have a pair.
+pub(crate) fn lanes_have_pair(cells: &[Cell], pair: PairId) -> bool
+    requires { length cells.now ≡ LANES }
+    ensures { result ≡ list_all (λ cell. cell.pair == pair) cells.now }
+{
+    let wanted = u32::from(pair.number()) * 65_536;
+    (cell_lanes(cells) ^ u32x16::splat(wanted)).reduce_or() < 65_536
+}
+
+/// So many cells of windows as numbers, one in each lane.
+fn cell_lanes(cells: &[Cell]) -> u32x16
+    requires { length cells.now ≡ LANES }
+    ensures bits { result ≡ map glyph_bits cells.now }
+    ensures sound { (k : ℕ) → k < length cells.now → IsCell (slice_index_or cells.now k blank) }
+{
+    let mut bits = [0; LANES];
+    for x in 0..LANES {
+        bits[x] = cells[x].bits();
+    }
+    u32x16::from_array(bits)
 }

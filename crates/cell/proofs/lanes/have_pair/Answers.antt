@@ -1,5 +1,5 @@
 use Rattle.std.proofs.Common.{ap, arith, ◌∙◌}
-use Rattle.std.specs.Prelude.{◌==◌, ◌/◌}
+use Rattle.std.specs.Prelude.{◌==◌}
 use Rattle.cell.proofs.LaneLaws.{one_more_of, same_pair}
 use Rattle.cell.proofs.lanes.have_pair.Goals as goal
 
