@@ -277,7 +277,7 @@ static void see_bytes(void) {
 static void see_screens(void) {
     static uint8_t bytes[4096];
     static uint32_t cells[CURSPAN_LARGEST_SCREEN];
-    static const uint32_t sizes[][2] = {{999, 999}, {1, 1}, {501, 2}, {2, 501}, {999, 1}, {24, 80}};
+    static const uint32_t sizes[][2] = {{999, 999}, {1, 1}, {501, 2}, {2, 501}, {999, 1}, {1, 999}, {24, 80}};
     for (size_t i = 0; i < sizeof sizes / sizeof sizes[0]; i++) {
         uint32_t lines = sizes[i][0], columns = sizes[i][1];
         ANSWERS(open(&screen, lines, columns), 0, 0);
