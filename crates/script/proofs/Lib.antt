@@ -14,5 +14,5 @@ pub mod ArgumentLemmas
 pub mod ByteLemmas
 -- the first newline, for first_newline
 pub mod NewlineLemmas
--- that some byte of a text is bad where not all are printable, for has_bad
+-- that some byte of a text is bad where not all are printable, for has_bad, and that pieces of it are looked at, for are_printable_by
 pub mod BadBytes

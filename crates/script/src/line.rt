@@ -1,8 +1,9 @@
 //! What a line of a script says.
 
 ghost use Rattle.std.specs.Prelude.{◌≡◌, ◌≤◌, ◌+◌, ◌<◌, ◌∷◌, ◌≢◌, ℕ, List, length, position, slice_index, IfSome, Some, None, false, true};
-ghost use Rattle.std.specs.List.{list_any, slice_split};
+ghost use Rattle.std.specs.List.{list_all, list_any, slice_split};
 ghost use Rattle.std.specs.Bool.{OnTrue};
+ghost use Rattle.cell.specs.Glyphs.{is_printable};
 ghost use Rattle.script.specs.declared.words.Form.{Form};
 ghost use Rattle.script.specs.Words.{no_arguments};
 ghost use Rattle.script.specs.Texts.{parse_arguments};
@@ -19,12 +20,42 @@ use crate::words::{Form, Word};
 use cell::are_printable;
 use std::simd::prelude::*;
 
+/// How many bytes of a line are looked through at once for a bad one, and how many of a short line.
+const PIECE: usize = 16;
+
+const SHORT_PIECE: usize = 8;
+
+/// Whether a cell can hold each character of a text. Pieces of one size are looked at, the last of which ends with the
+/// text, so that where the size is known no byte is looked at alone.
+#[inline(always)]
+fn are_printable_by(size: usize, text: &[u8]) -> bool
+    requires some { 0 < size }
+    requires room { size ≤ length text.now }
+    ensures { result ≡ list_all is_printable text.now }
+{
+    let last = text.len() - size;
+    let mut at = 0;
+    while at < last {
+        if !are_printable(&text[at..at + size]) {
+            return false;
+        }
+        at += size;
+    }
+    are_printable(&text[last..])
+}
+
 /// Whether a piece has a byte that no line may have.
 #[tactic(auto, using(crate::proofs::BadBytes::some_bad))]
 fn has_bad(piece: &[u8]) -> bool
     ensures { result ≡ list_any is_bad_byte piece.now }
 {
-    !are_printable(piece)
+    if piece.len() > PIECE {
+        !are_printable_by(PIECE, piece)
+    } else if piece.len() >= SHORT_PIECE {
+        !are_printable_by(SHORT_PIECE, piece)
+    } else {
+        !are_printable(piece)
+    }
 }
 
 /// Whether a line has no byte or is a comment.
@@ -44,7 +75,8 @@ fn is_text(form: Form) -> bool
     matches!(form, Form::Character | Form::Text)
 }
 
-/// How many bytes are looked through at once for the space after a word: few words are longer.
+/// How many bytes are looked through at once for the space after a word. `move`, `addch` and `addstr` have theirs among
+/// them; a longer word is looked through a byte at a time.
 const WORD_LANES: usize = 8;
 
 /// How many of the first bytes come before a space: all that are looked through, where none is one.
