@@ -163,8 +163,26 @@ fn has_count(forms: &[Form], text: Option<&[u8]>) -> bool
     }
 }
 
-/// Takes what the first argument of a text says, and answers what follows it, if it has its form. A number is read and
-/// split off in one pass.
+/// Takes what the first argument of a text says, and answers what follows it, if it has its form. It is not inlined, so
+/// that a loop over numbers keeps to registers.
+#[inline(never)]
+fn take_any_first<'a>(form: Form, text: &'a [u8], taken: &mut Arguments) -> Option<Option<&'a [u8]>>
+    requires room { length taken.old.numbers < MOST_ARGUMENTS }
+    requires short { length text.now ≤ LONGEST_LINE }
+    ensures takes { TakesFirst form text.now taken.old taken.new result }
+    ensures count { length taken.new.numbers ≤ length taken.old.numbers + 1 }
+    ensures short { IfSome result (λ after. IfSome after (λ rest. length rest.now ≤ length text.now)) }
+{
+    let (piece, after) = next_argument(form, text);
+    if taken.take(form, piece) {
+        Some(after)
+    } else {
+        None
+    }
+}
+
+/// The same. A number is read and split off in one pass.
+#[inline(always)]
 fn take_first<'a>(form: Form, text: &'a [u8], taken: &mut Arguments) -> Option<Option<&'a [u8]>>
     requires room { length taken.old.numbers < MOST_ARGUMENTS }
     requires short { length text.now ≤ LONGEST_LINE }
@@ -178,14 +196,7 @@ fn take_first<'a>(form: Form, text: &'a [u8], taken: &mut Arguments) -> Option<O
             taken.push(number);
             Some(after)
         }
-        _ => {
-            let (piece, after) = next_argument(form, text);
-            if taken.take(form, piece) {
-                Some(after)
-            } else {
-                None
-            }
-        }
+        _ => take_any_first(form, text, taken),
     }
 }
 
