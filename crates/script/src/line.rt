@@ -76,7 +76,7 @@ fn is_text(form: Form) -> bool
 }
 
 /// How many bytes are looked through at once for the space after a word. `move`, `addch` and `addstr` have theirs among
-/// them; a longer word is looked through a byte at a time.
+/// them; the rest of a longer word is looked through a byte at a time.
 const WORD_LANES: usize = 8;
 
 /// How many of the first bytes come before a space: all that are looked through, where none is one.
@@ -112,6 +112,10 @@ fn first_space(text: &[u8]) -> Option<usize>
         if before < WORD_LANES {
             return Some(before);
         }
+        return match space_of_any(&text[WORD_LANES..]) {
+            Some(at) => Some(WORD_LANES + at),
+            None => None,
+        };
     }
     space_of_any(text)
 }
