@@ -244,13 +244,13 @@ pub fn read_line(line: &[u8], taken: &mut Arguments) -> Result<Option<Word>, Tex
         return Err(TextFault::BadByte);
     }
     let (name, text) = split_at_space(line);
-    let Some(word) = Word::of(name) else {
+    let Some((word, forms)) = Word::with_forms(name) else {
         return Err(TextFault::UnknownCall);
     };
     taken.clear();
-    if take_all(word.forms(), text, taken) {
+    if take_all(forms, text, taken) {
         Ok(Some(word))
-    } else if has_count(word.forms(), text) {
+    } else if has_count(forms, text) {
         Err(TextFault::BadArgument)
     } else {
         Err(TextFault::WrongNumberOfArguments)
