@@ -299,21 +299,23 @@ impl Calls for Desk {
             ),
             Call::Copying(copying) => {
                 if is_query(call) {
-                    return of_marks(&self.windows.table, copying);
+                    of_marks(&self.windows.table, copying)
+                } else {
+                    copy_damaging(&mut self.windows, &self.stack, &mut self.damage, copying)
                 }
-                copy_damaging(&mut self.windows, &self.stack, &mut self.damage, copying)
             }
             Call::Query(asked) => of_window(&self.windows, asked),
             Call::Stacking(stacking) => {
                 if is_query(call) {
-                    return of_panels(&self.stack, stacking);
+                    of_panels(&self.stack, stacking)
+                } else {
+                    arrange_damaging(
+                        &mut self.windows.table,
+                        &mut self.stack,
+                        &mut self.damage,
+                        stacking,
+                    )
                 }
-                arrange_damaging(
-                    &mut self.windows.table,
-                    &mut self.stack,
-                    &mut self.damage,
-                    stacking,
-                )
             }
             Call::Refresh(asked) => refresh(self, asked),
         }

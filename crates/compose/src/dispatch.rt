@@ -59,37 +59,84 @@ pub(crate) fn make(table: &mut Grids, stack: &Stack, making: Making) -> Result<O
     }
 }
 
+/// The window that a call writes in, or of which it sets how it is written in.
+fn window_of(writing: Writing<'_>) -> WinId
+    ensures { (table : WindowTable) → edit_window (writing_edit (windows_of table) writing.entry) ≡ result.0 }
+{
+    match writing {
+        Writing::Move { win, .. }
+        | Writing::Addch { win, .. }
+        | Writing::Addstr { win, .. }
+        | Writing::Insch { win, .. }
+        | Writing::Delch { win }
+        | Writing::Insertln { win }
+        | Writing::Deleteln { win }
+        | Writing::Erase { win }
+        | Writing::Clear { win }
+        | Writing::Clrtoeol { win }
+        | Writing::Clrtobot { win }
+        | Writing::Scrl { win, .. }
+        | Writing::Setscrreg { win, .. }
+        | Writing::Scrollok { win, .. }
+        | Writing::Clearok { win, .. }
+        | Writing::Attrset { win, .. }
+        | Writing::Attron { win, .. }
+        | Writing::Attroff { win, .. }
+        | Writing::Bkgdset { win, .. }
+        | Writing::ColorSet { win, .. }
+        | Writing::Bkgdpair { win, .. } => win,
+    }
+}
+
+/// Makes a call that writes in a window, or sets how it is written in, and answers its frame.
+#[rattlefmt::skip]
+#[inline(always)]
+fn draw(windows: &mut Windows, writing: Writing<'_>) -> Result<Option<Rect>, Refusal>
+    ensures { Drew its_frame windows.old.table (writing_refusal (windows_of windows.old.table) writing.entry)
+        (edits (writing_edit (windows_of windows.old.table) writing.entry)) result windows.new.table }
+{
+    match writing {
+        Writing::Move { win, y, x } => without_frame(windows.wmove(win, y, x)),
+        Writing::Addch { win, ch } => windows.waddch(win, ch),
+        Writing::Addstr { win, text } => windows.waddstr(win, text),
+        Writing::Insch { win, ch } => windows.winsch(win, ch),
+        Writing::Delch { win } => windows.wdelch(win),
+        Writing::Insertln { win } => windows.winsertln(win),
+        Writing::Deleteln { win } => windows.wdeleteln(win),
+        Writing::Erase { win } => windows.werase(win),
+        Writing::Clear { win } => windows.wclear(win),
+        Writing::Clrtoeol { win } => windows.wclrtoeol(win),
+        Writing::Clrtobot { win } => windows.wclrtobot(win),
+        Writing::Scrl { win, n } => windows.wscrl(win, n),
+        Writing::Setscrreg { win, top, bottom } => without_frame(windows.wsetscrreg(win, top, bottom)),
+        Writing::Scrollok { win, flag } => without_frame(windows.scrollok(win, flag)),
+        Writing::Clearok { win, flag } => without_frame(windows.clearok(win, flag)),
+        Writing::Attrset { win, attrs } => without_frame(windows.wattrset(win, attrs)),
+        Writing::Attron { win, attrs } => without_frame(windows.wattron(win, attrs)),
+        Writing::Attroff { win, attrs } => without_frame(windows.wattroff(win, attrs)),
+        Writing::Bkgdset { win, attrs, ch } => without_frame(windows.wbkgdset(win, attrs, ch)),
+        Writing::ColorSet { win, pair } => without_frame(windows.wcolor_set(win, pair)),
+        Writing::Bkgdpair { win, pair } => without_frame(windows.wbkgdpair(win, pair)),
+    }
+}
+
+/// The frame of a call that set how a window is written in: it has none.
+#[inline(always)]
+fn without_frame(end: Result<(), Refusal>) -> Result<Option<Rect>, Refusal>
+    ensures { (old new : WindowTable) (refusal : Option Refusal) (change : Change)
+        → Drew no_frame old refusal change end new → Drew its_frame old refusal change result new }
+{
+    end?;
+    Ok(None)
+}
+
 /// Makes a call that writes in a window, or sets how it is written in.
 #[inline(always)]
 pub(crate) fn write(windows: &mut Windows, writing: Writing<'_>) -> Result<Outcome, Refusal>
     ensures { Affects windows.old.table (writing_refusal (windows_of windows.old.table) writing.entry)
         (edits (writing_edit (windows_of windows.old.table) writing.entry)) result windows.new.table }
 {
-    match writing {
-        Writing::Move { win, y, x } => Outcome::setting(windows.wmove(win, y, x)),
-        Writing::Addch { win, ch } => Outcome::drawing(win, windows.waddch(win, ch)),
-        Writing::Addstr { win, text } => Outcome::drawing(win, windows.waddstr(win, text)),
-        Writing::Insch { win, ch } => Outcome::drawing(win, windows.winsch(win, ch)),
-        Writing::Delch { win } => Outcome::drawing(win, windows.wdelch(win)),
-        Writing::Insertln { win } => Outcome::drawing(win, windows.winsertln(win)),
-        Writing::Deleteln { win } => Outcome::drawing(win, windows.wdeleteln(win)),
-        Writing::Erase { win } => Outcome::drawing(win, windows.werase(win)),
-        Writing::Clear { win } => Outcome::drawing(win, windows.wclear(win)),
-        Writing::Clrtoeol { win } => Outcome::drawing(win, windows.wclrtoeol(win)),
-        Writing::Clrtobot { win } => Outcome::drawing(win, windows.wclrtobot(win)),
-        Writing::Scrl { win, n } => Outcome::drawing(win, windows.wscrl(win, n)),
-        Writing::Setscrreg { win, top, bottom } => {
-            Outcome::setting(windows.wsetscrreg(win, top, bottom))
-        }
-        Writing::Scrollok { win, flag } => Outcome::setting(windows.scrollok(win, flag)),
-        Writing::Clearok { win, flag } => Outcome::setting(windows.clearok(win, flag)),
-        Writing::Attrset { win, attrs } => Outcome::setting(windows.wattrset(win, attrs)),
-        Writing::Attron { win, attrs } => Outcome::setting(windows.wattron(win, attrs)),
-        Writing::Attroff { win, attrs } => Outcome::setting(windows.wattroff(win, attrs)),
-        Writing::Bkgdset { win, attrs, ch } => Outcome::setting(windows.wbkgdset(win, attrs, ch)),
-        Writing::ColorSet { win, pair } => Outcome::setting(windows.wcolor_set(win, pair)),
-        Writing::Bkgdpair { win, pair } => Outcome::setting(windows.wbkgdpair(win, pair)),
-    }
+    Outcome::drawing(window_of(writing), draw(windows, writing))
 }
 
 /// Makes a call that copies cells or touches places.
@@ -130,19 +177,6 @@ impl Outcome {
         Ok(Outcome {
             reply: Reply::Nothing,
             affected,
-        })
-    }
-
-    /// Of a call that set how a window is written in.
-    #[inline(always)]
-    fn setting(end: Result<(), Refusal>) -> Result<Outcome, Refusal>
-        ensures { (old new : WindowTable) (refusal : Option Refusal) (edit : Edit)
-            → Drew no_frame old refusal (edits edit) end new → Affects old refusal (edits edit) result new }
-    {
-        end?;
-        Ok(Outcome {
-            reply: Reply::Nothing,
-            affected: None,
         })
     }
 

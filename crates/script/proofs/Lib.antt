@@ -12,7 +12,7 @@ pub mod LineLemmas
 pub mod ArgumentLemmas
 -- a line gathered a byte at a time, for gather_line
 pub mod ByteLemmas
--- the first newline, for first_newline
+-- the first byte of a kind, for first_newline and first_space
 pub mod NewlineLemmas
--- that some byte of a text is bad where not all are printable, for has_bad
+-- that some byte of a text is bad where not all are printable, for has_bad, and that pieces of it are looked at, for are_printable_by
 pub mod BadBytes

@@ -1,8 +1,9 @@
 //! What a line of a script says.
 
 ghost use Rattle.std.specs.Prelude.{◌≡◌, ◌≤◌, ◌+◌, ◌<◌, ◌∷◌, ◌≢◌, ℕ, List, length, position, slice_index, IfSome, Some, None, false, true};
-ghost use Rattle.std.specs.List.{list_any, slice_split};
+ghost use Rattle.std.specs.List.{list_all, list_any, slice_split};
 ghost use Rattle.std.specs.Bool.{OnTrue};
+ghost use Rattle.cell.specs.Glyphs.{is_printable};
 ghost use Rattle.script.specs.declared.words.Form.{Form};
 ghost use Rattle.script.specs.Words.{no_arguments};
 ghost use Rattle.script.specs.Texts.{parse_arguments};
@@ -19,12 +20,42 @@ use crate::words::{Form, Word};
 use cell::are_printable;
 use std::simd::prelude::*;
 
+/// How many bytes of a line are looked through at once for a bad one, and how many of a short line.
+const PIECE: usize = 16;
+
+const SHORT_PIECE: usize = 8;
+
+/// Whether a cell can hold each character of a text. Pieces of one size are looked at, the last of which ends with the
+/// text, so that where the size is known no byte is looked at alone.
+#[inline(always)]
+fn are_printable_by(size: usize, text: &[u8]) -> bool
+    requires some { 0 < size }
+    requires room { size ≤ length text.now }
+    ensures { result ≡ list_all is_printable text.now }
+{
+    let last = text.len() - size;
+    let mut at = 0;
+    while at < last {
+        if !are_printable(&text[at..at + size]) {
+            return false;
+        }
+        at += size;
+    }
+    are_printable(&text[last..])
+}
+
 /// Whether a piece has a byte that no line may have.
 #[tactic(auto, using(crate::proofs::BadBytes::some_bad))]
 fn has_bad(piece: &[u8]) -> bool
     ensures { result ≡ list_any is_bad_byte piece.now }
 {
-    !are_printable(piece)
+    if piece.len() > PIECE {
+        !are_printable_by(PIECE, piece)
+    } else if piece.len() >= SHORT_PIECE {
+        !are_printable_by(SHORT_PIECE, piece)
+    } else {
+        !are_printable(piece)
+    }
 }
 
 /// Whether a line has no byte or is a comment.
@@ -44,7 +75,8 @@ fn is_text(form: Form) -> bool
     matches!(form, Form::Character | Form::Text)
 }
 
-/// How many bytes are looked through at once for the space after a word: few words are longer.
+/// How many bytes are looked through at once for the space after a word. `move`, `addch` and `addstr` have theirs among
+/// them; the rest of a longer word is looked through a byte at a time.
 const WORD_LANES: usize = 8;
 
 /// How many of the first bytes come before a space: all that are looked through, where none is one.
@@ -80,6 +112,10 @@ fn first_space(text: &[u8]) -> Option<usize>
         if before < WORD_LANES {
             return Some(before);
         }
+        return match space_of_any(&text[WORD_LANES..]) {
+            Some(at) => Some(WORD_LANES + at),
+            None => None,
+        };
     }
     space_of_any(text)
 }
@@ -131,8 +167,26 @@ fn has_count(forms: &[Form], text: Option<&[u8]>) -> bool
     }
 }
 
-/// Takes what the first argument of a text says, and answers what follows it, if it has its form. A number is read and
-/// split off in one pass.
+/// Takes what the first argument of a text says, and answers what follows it, if it has its form. It is not inlined, so
+/// that a loop over numbers keeps to registers.
+#[inline(never)]
+fn take_any_first<'a>(form: Form, text: &'a [u8], taken: &mut Arguments) -> Option<Option<&'a [u8]>>
+    requires room { length taken.old.numbers < MOST_ARGUMENTS }
+    requires short { length text.now ≤ LONGEST_LINE }
+    ensures takes { TakesFirst form text.now taken.old taken.new result }
+    ensures count { length taken.new.numbers ≤ length taken.old.numbers + 1 }
+    ensures short { IfSome result (λ after. IfSome after (λ rest. length rest.now ≤ length text.now)) }
+{
+    let (piece, after) = next_argument(form, text);
+    if taken.take(form, piece) {
+        Some(after)
+    } else {
+        None
+    }
+}
+
+/// The same. A number is read and split off in one pass.
+#[inline(always)]
 fn take_first<'a>(form: Form, text: &'a [u8], taken: &mut Arguments) -> Option<Option<&'a [u8]>>
     requires room { length taken.old.numbers < MOST_ARGUMENTS }
     requires short { length text.now ≤ LONGEST_LINE }
@@ -146,14 +200,7 @@ fn take_first<'a>(form: Form, text: &'a [u8], taken: &mut Arguments) -> Option<O
             taken.push(number);
             Some(after)
         }
-        _ => {
-            let (piece, after) = next_argument(form, text);
-            if taken.take(form, piece) {
-                Some(after)
-            } else {
-                None
-            }
-        }
+        _ => take_any_first(form, text, taken),
     }
 }
 
@@ -197,13 +244,13 @@ pub fn read_line(line: &[u8], taken: &mut Arguments) -> Result<Option<Word>, Tex
         return Err(TextFault::BadByte);
     }
     let (name, text) = split_at_space(line);
-    let Some(word) = Word::of(name) else {
+    let Some((word, forms)) = Word::with_forms(name) else {
         return Err(TextFault::UnknownCall);
     };
     taken.clear();
-    if take_all(word.forms(), text, taken) {
+    if take_all(forms, text, taken) {
         Ok(Some(word))
-    } else if has_count(word.forms(), text) {
+    } else if has_count(forms, text) {
         Err(TextFault::BadArgument)
     } else {
         Err(TextFault::WrongNumberOfArguments)

@@ -113,7 +113,6 @@ pub fn last_line(fault: ScriptFault) -> LogLine
 }
 
 /// The line of a call that answers something or is refused.
-#[inline(never)]
 fn answer_line(number: u64, answer: Result<Reply, Refusal>) -> LogLine
     requires { is_some (answer_text answer) ≡ true }
     ensures text { result.items ≡ log_line number answer }
@@ -125,6 +124,27 @@ fn answer_line(number: u64, answer: Result<Reply, Refusal>) -> LogLine
     }
     append(&mut line, b"\n");
     line
+}
+
+/// Writes the line of a call that answers something or is refused. An error leaves a prefix of the line, and not all.
+/// Nothing is flushed. It is not inlined, so that a call without a line makes no room for one.
+#[inline(never)]
+fn write_line<L: Sink>(
+    log: &mut L,
+    number: u64,
+    answer: Result<Reply, Refusal>,
+) -> Result<(), WriteFault>
+    requires { is_some (answer_text answer) ≡ true }
+    ensures ok { OnOk result (Appends (L.seen log.old).taken (L.seen log.new).taken (log_line number answer)) }
+    ensures err { IfErr result (λ fault. (fault.sent < length (log_line number answer))
+        × Appends (L.seen log.old).taken (L.seen log.new).taken (take fault.sent (log_line number answer))) }
+    ensures failures { (L.seen log.new).failures ≡ count_after (is_err result) (L.seen log.old).failures }
+    ensures flushes { (L.seen log.new).flushes ≡ (L.seen log.old).flushes }
+{
+    match send(log, 0, answer_line(number, answer).as_slice()) {
+        Ok(_) => Ok(()),
+        Err(fault) => Err(fault),
+    }
 }
 
 /// Writes the line of a call that answers something or is refused, and nothing for another. An error leaves a prefix of
@@ -144,8 +164,5 @@ pub fn log_answer<L: Sink>(
     if !has_line(&answer) {
         return Ok(());
     }
-    match send(log, 0, answer_line(number, answer).as_slice()) {
-        Ok(_) => Ok(()),
-        Err(fault) => Err(fault),
-    }
+    write_line(log, number, answer)
 }

@@ -1,6 +1,6 @@
 //! The calls by their script words: lists by first letter, and a row for each call.
 
-ghost use Rattle.std.specs.Prelude.{◌≡◌, ◌≤◌, ◌<◌, [], length, map, slice_index_or};
+ghost use Rattle.std.specs.Prelude.{◌≡◌, ◌≤◌, ◌<◌, [], IfSome, length, map, option_map, slice_index_or};
 ghost use Rattle.script.specs.Words.{entry_of, placeless, word_of};
 ghost use Rattle.script.specs.steps.Rows.{IsRow, find_named, words_like};
 ghost use Rattle.script.specs.declared.words.Word.TheVariants as word;
@@ -181,14 +181,17 @@ fn words_like(text: &[u8]) -> &'static [Word]
     }
 }
 
-/// Finds the first of some words that is written so.
+/// Finds the first of some words that is written so, and the forms of its call's arguments.
 #[inline(always)]
-fn find_named(words: &[Word], text: &[u8]) -> Option<Word>
-    ensures { result ≡ find_named words.now text.now }
+fn find_named(words: &[Word], text: &[u8]) -> Option<(Word, &'static [Form])>
+    ensures word { option_map (λ found. found.0) result ≡ find_named words.now text.now }
+    ensures forms { IfSome result (λ found. found.1.now ≡ (entry_of found.0).forms) }
+    ensures count { IfSome result (λ found. length found.1.now ≤ MOST_ARGUMENTS) }
 {
     for word in words {
-        if text == word.name() {
-            return Some(*word);
+        let (name, forms) = word.name_and_forms();
+        if text == name {
+            return Some((*word, forms));
         }
     }
     None
@@ -199,6 +202,17 @@ impl Word {
     #[inline(always)]
     pub fn of(text: &[u8]) -> Option<Word>
         ensures { result ≡ word_of text.now }
+    {
+        let (word, _) = Word::with_forms(text)?;
+        Some(word)
+    }
+
+    /// The call of a script word, and the forms of its arguments.
+    #[inline(always)]
+    pub fn with_forms(text: &[u8]) -> Option<(Word, &'static [Form])>
+        ensures word { option_map (λ found. found.0) result ≡ word_of text.now }
+        ensures forms { IfSome result (λ found. found.1.now ≡ (entry_of found.0).forms) }
+        ensures count { IfSome result (λ found. length found.1.now ≤ MOST_ARGUMENTS) }
     {
         find_named(words_like(text), text)
     }
@@ -219,12 +233,16 @@ impl Word {
         }
     }
 
-    /// How the word is written.
+    /// How the word is written, and the forms of its call's arguments: one look tells both.
     #[inline(always)]
-    fn name(self) -> &'static [u8]
-        ensures { result.now ≡ (entry_of self).word }
+    fn name_and_forms(self) -> (&'static [u8], &'static [Form])
+        ensures name { result.0.now ≡ (entry_of self).word }
+        ensures forms { result.1.now ≡ (entry_of self).forms }
+        ensures count { length result.1.now ≤ MOST_ARGUMENTS }
     {
-        self.row(&Arguments::new()).word
+        let arguments = Arguments::new();
+        let row = self.row(&arguments);
+        (row.word, row.forms)
     }
 
     /// The forms of its call's arguments.

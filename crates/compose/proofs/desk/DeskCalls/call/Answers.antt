@@ -43,14 +43,14 @@ invariant_of-self-in-Writing c =
     let m = c.write_damaging in
     (change-made (the_view s.inside) m.new.windows.table m.new.damage (calls.Writing c.in-Writing.writing) _ s.invariant refl m.result m.ensures refl m.ensures.call.reply (λ left. left)).0
 
-pub invariant_of-self-in-Copying : goal.invariant_of-self-in-Copying
-invariant_of-self-in-Copying c =
+pub invariant_of-self-else-is_query : goal.invariant_of-self-else-is_query
+invariant_of-self-else-is_query c =
     let s = c.self-in-Copying in
     let m = c.copy_damaging in
     (change-made (the_view s.inside) m.new.windows.table m.new.damage (calls.Copying c.in-Copying.copying) _ s.invariant refl m.result m.ensures refl m.ensures.call.reply (λ left. left)).0
 
-pub invariant_of-self-in-Stacking : goal.invariant_of-self-in-Stacking
-invariant_of-self-in-Stacking c =
+pub invariant_of-self-else-is_query-2 : goal.invariant_of-self-else-is_query-2
+invariant_of-self-else-is_query-2 c =
     let s = c.self-in-Stacking in
     let m = c.arrange_damaging in
     (order-made (the_view s.inside) m.new.table m.new.stack m.new.damage c.in-Stacking.stacking m.result s.invariant m.ensures).0

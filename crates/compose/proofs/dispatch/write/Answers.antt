@@ -1,7 +1,0 @@
--- `write`: the number of lines that `wscrl` takes is signed, and it is passed as bits.
-use Rattle.std.proofs.Common.{rules, w16}
-use Rattle.std.proofs.lemmas.Int.{to_z-of_z}
-use Rattle.compose.proofs.dispatch.write.Goals as goal
-
-pub returns-in-Scrl : goal.returns-in-Scrl
-returns-in-Scrl c = rw (c.in-Scrl.is) (search (c.drawing-in-Scrl.ensures, rw (to_z-of_z w16 c.in-Scrl.n (search rules)) at c.wscrl.ensures))
