@@ -1,6 +1,6 @@
 //! Reads the command line.
 
-ghost use Rattle.std.specs.Prelude.{◌≡◌, ◌⊎◌, IfErr, IfOk, MatchOption, map};
+ghost use Rattle.std.specs.Prelude.{◌≡◌, ◌⊎◌, ◌++◌, IfErr, IfOk, MatchOption, codes, map};
 ghost use Rattle.clap.specs.Words.{found_of, kind_of, rows_of};
 ghost use Rattle.clap.specs.declared.error.kind.ErrorKind.TheVariants.{OutOfMemory};
 ghost use Rattle.commands.specs.declared.requests.Kind.{Kind};
@@ -30,7 +30,9 @@ fn kind_of(name: &str) -> Option<Kind>
 }
 
 /// The program and the subcommand of a kind, as they are called.
-fn name_in_usage(kind: Kind) -> &'static str {
+fn name_in_usage(kind: Kind) -> &'static str
+    ensures { result.now ≡ codes "curspan " ++ kind_text kind }
+{
     match kind {
         Kind::Run => "curspan run",
         Kind::Paint => "curspan paint",

@@ -48,7 +48,8 @@ shown-composed old new left =
 -- so the desk that it leaves is one, and the call was made
 pub update-made : (old new : DeskTable) (cells : ℕ) → IsDesk old → world new ≡ world_after (world old) (calls.Refresh UpdatePanels) → length new.damage ≡ old.windows.lines
     → ((y : ℕ) → columns_of new.damage y ≡ None) → cells ≡ cells_above old.damage old.windows.lines
-    → new.cells_read ≡ (old.cells_read + cells) % 2 ^ 64 → AddsChanges old.changes old.virtual.picture new.changes new.virtual.picture → IsDesk new × Called old (calls.Refresh UpdatePanels) (Ok (Composed (record { cells = cells }))) new
+    → new.cells_read ≡ (old.cells_read + cells) % 2 ^ 64 → AddsChanges old.changes old.virtual.picture new.changes new.virtual.picture
+    → IsDesk new × Called old (calls.Refresh UpdatePanels) (Ok (Composed (record { cells = cells }))) new
 update-made old new cells h left height none read counted adds =
     let whole = subst IsSound (sym left) (sound-call (world old) (calls.Refresh UpdatePanels) h.sound refl) in let lines = ap (λ (w : World). w.windows.lines) left in (
       record { sound = whole; covered = covered-composed new (height ∙ sym lines) none (shown-composed (world old) (world new) left); changes = adds.height ∙ h.changes ∙ sym lines },

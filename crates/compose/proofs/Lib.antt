@@ -2,7 +2,7 @@
 pub mod DeskLemmas
 -- A drawing is laid over a picture line by line; for `show_rectangle`, `show_touched`
 pub mod Laying
--- What noutrefresh and pnoutrefresh draw on each line of the screen; for `damage_touched`, `refresh_pad`, `show_rectangle` and others
+-- What noutrefresh and pnoutrefresh draw on each line of the screen; for `show_touched`, `refresh_pad`, `show_rectangle` and others
 pub mod RefreshedLines
 -- Windows are unmarked one after another; for `unmark_composed`, `unmark_lines`
 pub mod Unmarking
@@ -15,7 +15,7 @@ mod Visible
 mod AffectedDamages
 -- How many cells update_panels reads: as many as there are damaged columns; for `CellsRead`
 mod Reading
--- The touched columns of a window are damaged line by line; for `damage_touched`
+-- The touched columns of a window are damaged line by line; for `show_touched`
 mod Touching
 -- What is shown of a write in the standard screen where no panel is visible; for `damage_written`
 mod StandardWrites

@@ -1,4 +1,5 @@
--- The answer of each call is of the kind that Kinds has for it, and no update_panels is refused.
+-- The answer of each call is of the kind that Kinds has for it, and no update_panels is refused. These are proofs, but
+-- they stand here since a desk's methods cite them (`Calls for Desk`), and `desk/specs` does.
 use Rattle.std.proofs.Common.{◌≡◌, ℕ, Bool, true, false, Option, Some, None, [], ◌∷◌, Ok, Err, inl, inr, refl, subst, sym}
 use Rattle.std.specs.Prelude.{is_none, option_and_then}
 use Rattle.std.specs.Option.{option_map, option_map_or}

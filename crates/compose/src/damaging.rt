@@ -17,14 +17,16 @@ use grids::Grids;
 use picture::{following_part, shared_part};
 use stack::Stack;
 
-/// What a call affects of what windows show: a rectangle of a window, which it wrote, or a derived window, which it moved in its parent.
+/// What a call affects of what windows show: a rectangle of a window, which it wrote, or a derived window, which it
+/// moved in its parent.
 #[derive(Clone, Copy)]
 pub enum Affected {
     Written { win: WinId, frame: Rect },
     Moved { win: WinId },
 }
 
-/// Damages what the standard screen and the windows of visible panels show of what a call affected, if it affected something.
+/// Damages what the standard screen and the windows of visible panels show of what a call affected, if it affected
+/// something.
 #[inline(always)]
 pub(crate) fn damage_affected(
     damage: &mut Extents,
@@ -45,8 +47,8 @@ pub(crate) fn damage_affected(
     }
 }
 
-/// Damages what the standard screen and the windows of visible panels show of a write: its frame, where it is in the standard screen and no
-/// panel is visible.
+/// Damages what the standard screen and the windows of visible panels show of a write: its frame, where it is in the
+/// standard screen and no panel is visible.
 #[inline(always)]
 fn damage_written(damage: &mut Extents, table: &Grids, stack: &Stack, win: WinId, frame: Rect)
     requires height { length damage.old ≡ table.now.lines }
@@ -125,7 +127,7 @@ pub(crate) fn damage_part(damage: &mut Extents, part: Option<Rect>)
     requires { MatchOption part ⊤ (λ r. IsFrameWithin (length damage.old) (r.right + 1) r) }
     ensures damaged { (columns : ℕ) → MatchOption part ⊤ (λ r. r.right < columns) → Damages columns (part_holds part) damage.old damage.new }
 {
-    if let Some(frame) = part {
-        damage.rectangle(frame);
+    if let Some(rect) = part {
+        damage.rectangle(rect);
     }
 }

@@ -39,8 +39,10 @@ use std::marker::Model;
 use windows::Windows;
 use world::{Call, Columns, Composed, Reply};
 
-/// A screen's windows and pads, its panels, its colour pairs, and its virtual screen: a picture, where the cursor is wanted, and whether the terminal is
-/// to be cleared first. Of each line it keeps the damaged columns: everywhere else the virtual screen shows what the search from the top finds.
+/// A screen's windows and pads, its panels, its colour pairs, and its virtual screen: a picture, where the cursor is
+/// wanted, and whether the terminal is to be cleared first. Of each line it keeps the damaged columns: everywhere else
+/// the virtual screen shows what the search from the top finds. It also keeps the changed ones: everywhere else the
+/// virtual screen shows what it showed when it was last taken.
 #[derive(Drop)]
 pub struct Desk {
     pub(crate) windows: Windows,
@@ -118,8 +120,8 @@ impl Desk {
         &self.windows
     }
 
-    /// Takes the picture of windows and panels, and the topmost's cursor, into the virtual screen. It reads windows where the screen is
-    /// damaged, answers how many cells that were, and leaves no damage.
+    /// Takes the picture of windows and panels, and the topmost's cursor, into the virtual screen. It reads windows
+    /// where the screen is damaged, answers how many cells that were, and leaves no damage.
     pub(crate) fn compose(&mut self) -> Composed
         ensures { Called self.old (Call.Refresh Refresh.UpdatePanels) (Ok (Reply.Composed result)) self.new }
     {
@@ -138,7 +140,8 @@ impl Desk {
         composed
     }
 
-    /// The damaged columns of a line, or none: everywhere else the virtual screen shows what the search from the top finds.
+    /// The damaged columns of a line, or none: everywhere else the virtual screen shows what the search from the top
+    /// finds.
     pub fn damaged_columns(&self, y: u16) -> Option<Columns>
         requires { y < self.now.windows.lines }
         ensures columns { result ≡ damaged_columns self.now y }
@@ -203,8 +206,8 @@ impl Desk {
         self.pairs.show_cell(cell_found(&self.windows.table, &self.stack, y, x, columns))
     }
 
-    /// The panel that the search from the top finds at line `y` and column `x` of the screen, none for the standard screen, and the last
-    /// column up to which it finds the same at every column.
+    /// The panel that the search from the top finds at line `y` and column `x` of the screen, none for the standard
+    /// screen, and the last column up to which it finds the same at every column.
     pub fn owner_span(&self, y: u16, x: u16) -> Span
         requires line { y < self.now.windows.lines }
         requires column { x < self.now.windows.columns }

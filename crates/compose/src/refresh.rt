@@ -29,8 +29,8 @@ use windows::Windows;
 use world::Reply;
 
 impl Desk {
-    /// Takes what is touched of a window into the virtual screen, at the window's place, with its cursor. Then no place of it is touched;
-    /// and if it asked for a clear screen, the virtual screen asks for it instead.
+    /// Takes what is touched of a window into the virtual screen, at the window's place, with its cursor. Then no place
+    /// of it is touched; and if it asked for a clear screen, the virtual screen asks for it instead.
     ///
     /// # Errors
     /// `NoSuchWindow`, `IsPad`.
@@ -52,14 +52,14 @@ impl Desk {
         Ok(Reply::Nothing)
     }
 
-    /// Takes the cells of a pad from line `pminrow` and column `pmincol` on into the lines from `sminrow` to `smaxrow` and the columns
-    /// from `smincol` to `smaxcol` of the virtual screen, all inclusive, whether they are touched or not. The wanted cursor stays. Then
-    /// the lines of the pad that were copied from are untouched; and if it asked for a clear screen, the virtual screen asks for it
-    /// instead.
+    /// Takes the cells of a pad from line `pminrow` and column `pmincol` on into the lines from `sminrow` to `smaxrow`
+    /// and the columns from `smincol` to `smaxcol` of the virtual screen, all inclusive, whether they are touched or
+    /// not. The wanted cursor stays. Then the lines of the pad that were copied from are untouched; and if it asked for
+    /// a clear screen, the virtual screen asks for it instead.
     ///
     /// # Errors
-    /// `NoSuchWindow`, `NotPad`; `BadRectangle` if a last line or column comes before its first; `OutsideWindow` if the rectangle isn't
-    /// in the pad; `OffScreen` if it isn't on the screen.
+    /// `NoSuchWindow`, `NotPad`; `BadRectangle` if a last line or column comes before its first; `OutsideWindow` if the
+    /// rectangle isn't in the pad; `OffScreen` if it isn't on the screen.
     pub(crate) fn refresh_pad(
         &mut self,
         pad: WinId,
@@ -77,21 +77,21 @@ impl Desk {
             line: pminrow,
             column: pmincol,
         };
-        let frame = Rect {
+        let target = Rect {
             top: sminrow,
             left: smincol,
             bottom: smaxrow,
             right: smaxcol,
         };
-        require_rectangle(&self.windows.table, source, frame)?;
+        require_rectangle(&self.windows.table, source, target)?;
         show_rectangle(
             &self.windows.table,
             &self.pairs,
             source,
-            frame,
+            target,
             &mut self.picture,
         );
-        damage_part(&mut self.damage, Some(frame));
+        damage_part(&mut self.damage, Some(target));
         self.clear |= unmark_lines(&mut self.windows, pad, pminrow, smaxrow - sminrow + 1);
         Ok(Reply::Nothing)
     }
@@ -128,7 +128,7 @@ fn show_touched(
                 line: y,
                 column: columns.first,
             };
-            let frame = Rect {
+            let target = Rect {
                 top: top + y,
                 left: left + columns.first,
                 bottom: top + y,
@@ -139,10 +139,10 @@ fn show_touched(
                 pairs,
                 source,
                 columns.last - columns.first + 1,
-                frame.top,
-                frame.left,
+                target.top,
+                target.left,
             );
-            damage.rectangle(frame);
+            damage.rectangle(target);
         }
     }
 }
@@ -152,48 +152,48 @@ fn show_rectangle(
     table: &Grids,
     pairs: &Pairs,
     source: Place,
-    frame: Rect,
+    target: Rect,
     picture: &mut VirtualPicture,
 )
     requires windows { AreSoundWindows (windows_of table.now) }
-    requires accepted { first_of (pnoutrefresh_tests (windows_of table.now) source.win.0 source.line source.column frame.top frame.left frame.bottom
-        frame.right) ≡ None }
+    requires accepted { first_of (pnoutrefresh_tests (windows_of table.now) source.win.0 source.line source.column target.top target.left target.bottom
+        target.right) ≡ None }
     requires size { HasSize table.now.lines table.now.columns picture.old.cells }
     requires height { length picture.old.changes ≡ table.now.lines }
     ensures shown { picture.new.cells ≡ picture_of table.now.lines table.now.columns (shown_over pairs.now picture.old.cells
-        (copywin_drawing (windows_of table.now).window source.win.0 source.line source.column frame.top frame.left frame.bottom frame.right false)) }
+        (copywin_drawing (windows_of table.now).window source.win.0 source.line source.column target.top target.left target.bottom target.right false)) }
     ensures changes { AddsChanges picture.old.changes picture.old.cells picture.new.changes picture.new.cells }
 {
-    let columns = frame.right - frame.left + 1;
-    for y in 0..frame.bottom - frame.top + 1 {
+    let columns = target.right - target.left + 1;
+    for y in 0..target.bottom - target.top + 1 {
         let line = Place {
             line: source.line + y,
             ..source
         };
-        picture.show_piece(table, pairs, line, columns, frame.top + y, frame.left);
+        picture.show_piece(table, pairs, line, columns, target.top + y, target.left);
     }
 }
 
 /// Tests that a rectangle of a pad may be copied to these lines and columns of the screen.
-fn require_rectangle(table: &Grids, source: Place, frame: Rect) -> Result<(), Refusal>
+fn require_rectangle(table: &Grids, source: Place, target: Rect) -> Result<(), Refusal>
     requires { AreSoundWindows (windows_of table.now) }
-    ensures { result_err result ≡ first_of (pnoutrefresh_tests (windows_of table.now) source.win.0 source.line source.column frame.top frame.left
-        frame.bottom frame.right) }
+    ensures { result_err result ≡ first_of (pnoutrefresh_tests (windows_of table.now) source.win.0 source.line source.column target.top target.left
+        target.bottom target.right) }
 {
     let (lines, columns) = table.getmaxyx(source.win)?;
     if table.getbegyx(source.win).is_ok() {
         return Err(Refusal::NotPad);
     }
-    if frame.bottom < frame.top || frame.right < frame.left {
+    if target.bottom < target.top || target.right < target.left {
         return Err(Refusal::BadRectangle);
     }
-    let bottom = u32::from(source.line) + u32::from(frame.bottom - frame.top);
-    let right = u32::from(source.column) + u32::from(frame.right - frame.left);
+    let bottom = u32::from(source.line) + u32::from(target.bottom - target.top);
+    let right = u32::from(source.column) + u32::from(target.right - target.left);
     if bottom >= u32::from(lines) || right >= u32::from(columns) {
         return Err(Refusal::OutsideWindow);
     }
     let (lines, columns) = table.screen_size();
-    if frame.bottom >= lines || frame.right >= columns {
+    if target.bottom >= lines || target.right >= columns {
         return Err(Refusal::OffScreen);
     }
     Ok(())

@@ -30,11 +30,15 @@ pub(crate) fn update_panels(
     cursor: &mut (u16, u16),
     clear: &mut bool,
 ) -> Composed
-    requires { IsDesk (desk_of windows.old.table.now windows.old.cells stack.now pairs.now damage.old picture.old.cells picture.old.changes cursor.old clear.old) }
-    ensures desk { IsDesk (desk_of windows.new.table.now windows.new.cells stack.now pairs.now damage.new picture.new.cells picture.new.changes cursor.new clear.new) }
-    ensures called { Called (desk_of windows.old.table.now windows.old.cells stack.now pairs.now damage.old picture.old.cells picture.old.changes cursor.old clear.old)
+    requires { IsDesk (desk_of windows.old.table.now windows.old.cells stack.now pairs.now damage.old
+        picture.old.cells picture.old.changes cursor.old clear.old) }
+    ensures desk { IsDesk (desk_of windows.new.table.now windows.new.cells stack.now pairs.now damage.new
+        picture.new.cells picture.new.changes cursor.new clear.new) }
+    ensures called { Called (desk_of windows.old.table.now windows.old.cells stack.now pairs.now damage.old
+        picture.old.cells picture.old.changes cursor.old clear.old)
         (Call.Refresh Refresh.UpdatePanels) (Ok (Reply.Composed result))
-        (desk_of windows.new.table.now windows.new.cells stack.now pairs.now damage.new picture.new.cells picture.new.changes cursor.new clear.new) }
+        (desk_of windows.new.table.now windows.new.cells stack.now pairs.now damage.new
+        picture.new.cells picture.new.changes cursor.new clear.new) }
     ensures same { windows.new.table.ghost_name ≡ windows.old.table.ghost_name }
 {
     let cells = windows.show_damaged(stack, pairs, owners, damage, picture);

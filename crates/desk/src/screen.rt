@@ -63,8 +63,8 @@ pub struct RunEnd {
     pub done: usize,
     /// How many calls were refused.
     pub refused: usize,
-    /// How many cells the calls of `update_panels` read: at least as many as they changed, and at most the columns of the
-    /// lines that were damaged before or that calls affected since.
+    /// How many cells the calls of `update_panels` read: at least as many as they changed, and at most the columns of
+    /// the lines that were damaged before or that calls affected since.
     pub composed: u128,
     /// The fault that ended the run before all calls were made.
     pub fault: Option<WriteFault>,
@@ -163,8 +163,9 @@ impl<W: Sink> Screen<W> {
         }
     }
 
-    /// Makes the calls in order. It goes on after a refusal, and stops where a write or a flush fails. Each `update_panels`
-    /// composes only lines that were damaged before the run, or that a call affected since the one before it.
+    /// Makes the calls in order. It goes on after a refusal, and stops where a write or a flush fails. Each
+    /// `update_panels` composes only lines that were damaged before the run, or that a call affected since the one
+    /// before it.
     pub fn run(&mut self, calls: &[Call<'_>]) -> RunEnd
         ensures run { RunEnds W.seen self.old calls.now result self.new }
         ensures shown { RunShows W.seen self.old self.new calls.now result.fault }

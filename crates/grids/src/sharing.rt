@@ -21,17 +21,17 @@ impl Grids {
     /// The rectangle of window `to` at whose places it shows a cell that `from` shows in a rectangle of it, ends
     /// inclusive; none if there is no such place. Both windows must exist, and `from` must hold the rectangle.
     #[tactic(auto, using(crate::proofs::Sounds::each_sound))]
-    pub fn seen_in(&self, from: WinId, frame: Rect, to: WinId) -> Option<Rect>
-        requires ordered_lines { frame.top ≤ frame.bottom }
-        requires ordered_columns { frame.left ≤ frame.right }
-        requires inside { HasPlace (windows self.now).window from.0 frame.bottom frame.right }
+    pub fn seen_in(&self, from: WinId, rect: Rect, to: WinId) -> Option<Rect>
+        requires ordered_lines { rect.top ≤ rect.bottom }
+        requires ordered_columns { rect.left ≤ rect.right }
+        requires inside { HasPlace (windows self.now).window from.0 rect.bottom rect.right }
         requires there { IsSome ((windows self.now).window to.0) }
-        ensures seen { AreRectangle (SharesPart (windows self.now).window from.0 frame to.0) result }
+        ensures seen { AreRectangle (SharesPart (windows self.now).window from.0 rect to.0) result }
         ensures sound { AreSoundWindows (windows self.now) }
     {
         let source = origin_of(&self.slots, from.0);
         if from == to {
-            return Some(frame);
+            return Some(rect);
         }
         let target = origin_of(&self.slots, to.0);
         if source.grid != target.grid {
@@ -39,12 +39,12 @@ impl Grids {
         }
         let (lines, columns) = self.size(to.0);
         let top_to_bottom = Columns {
-            first: frame.top,
-            last: frame.bottom,
+            first: rect.top,
+            last: rect.bottom,
         };
         let left_to_right = Columns {
-            first: frame.left,
-            last: frame.right,
+            first: rect.left,
+            last: rect.right,
         };
         let down = clip(Some(top_to_bottom), source.line, target.line, lines)?;
         let along = clip(Some(left_to_right), source.column, target.column, columns)?;

@@ -73,7 +73,8 @@ impl Grids {
     }
 
     /// Touches a window where it shows a touched place of another one, `source`. One derives from the other: `at` and
-    /// `source_at` are the places of the older one at which the two begin, (0, 0) for itself.
+    /// `source_at` are the places of the older one at which the two begin, (0, 0) for itself. So what is at
+    /// (y, x) of the window is at (at.0 + y - source_at.0, at.1 + x - source_at.1) of `source` (`shifted`).
     fn touch_shown(&mut self, win: u16, at: (u16, u16), source: u16, source_at: (u16, u16))
         requires other { win ≢ source }
         requires window { EndsWithin (windows self.old).window win at }

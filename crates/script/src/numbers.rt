@@ -81,7 +81,8 @@ fn after_digits(text: &[u8], count: usize) -> Option<Option<&[u8]>>
 
 /// What the digit says that a text begins with, if no other follows it.
 fn single_digit(text: &[u8]) -> Option<u32>
-    ensures { IfSome result (λ value. DigitsSoFar text.now 1 value × (1 ≤ length text.now) × (1 < length text.now → is_ascii_digit (slice_index text.now 1) ≡ false)) }
+    ensures { IfSome result (λ value. DigitsSoFar text.now 1 value × (1 ≤ length text.now)
+        × (1 < length text.now → is_ascii_digit (slice_index text.now 1) ≡ false)) }
 {
     let first = *text.first()?;
     if !first.is_ascii_digit() || (text.len() > 1 && text[1].is_ascii_digit()) {

@@ -6,8 +6,8 @@ ghost use Rattle.world.specs.Windows.{joined_columns};
 use std::marker::Model;
 use world::Columns;
 
-/// The touched columns of a line, in a form for which a loop that clears many lines is vectorized. Where `first` is past `last` there are
-/// none.
+/// The touched columns of a line, in a form for which a loop that clears many lines is vectorized. Where `first` is
+/// past `last` there are none.
 #[derive(Clone, Copy, Debug)]
 pub(crate) struct Touched {
     first: u16,

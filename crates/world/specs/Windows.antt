@@ -118,12 +118,12 @@ no_cells y x = None
 abbrev pub within : Window → Drawing → Drawing
 within a f y x = if nat_lt y a.lines && nat_lt x a.columns then f y x else None
 
--- The drawing as a grid has it, where the window's (0, 0) leads to this place of the grid: (y, x) leads as many lines
--- and columns on. So `own` of each place has the place's cell.
+-- What the drawing gives a grid, where the window's (0, 0) leads to line p.line and column p.column of it: the cell at
+-- line y, column x takes the drawing's at (y - p.line, x - p.column), the place that leads there (`own`).
 abbrev pub grid_drawing : GridPlace → Drawing → Drawing
 grid_drawing p f y x = if nat_le p.line y && nat_le p.column x then f (y - p.line) (x - p.column) else None
 
--- a grid with a drawing laid over it
+-- a grid of which each cell takes what the drawing gives it, if anything, and else keeps its own
 abbrev pub laid_over : Drawing → Backing → Backing
 laid_over f (own_grid cells) = own_grid (λ y x. unwrap_or (f y x) (cells y x))
 laid_over f (part_of parent line column) = part_of parent line column
@@ -142,7 +142,8 @@ touched_below (suc n) test r = if test n then joined_columns (touched_below n te
 abbrev pub touched_by : Drawing → Window → ℕ → Option Columns
 touched_by f a y = touched_below a.columns (λ x. is_some (within a f y x)) (a.touched y)
 
--- window u, which is b, after the drawing f was written through window w, which is a and whose (0, 0) leads to p
+-- Window u, which is b, after the drawing f was written through window w, which is a and whose (0, 0) leads to p: the
+-- grid there takes the cells of f that are in a, and w is touched at their places.
 abbrev pub after_drawing : ℕ → Window → GridPlace → Drawing → ℕ → Window → Window
 after_drawing w a p f u b = record b {
   backing = (if u == p.grid then laid_over (grid_drawing p (within a f)) b.backing else b.backing);

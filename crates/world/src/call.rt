@@ -271,7 +271,8 @@ pub enum Reply {
     Nothing,
     /// The number of a new window or pad, or of a panel's window.
     Number(WinId),
-    /// A line and a column, or a number of lines and one of columns.
+    /// A line and a column; a number of lines and one of columns; the first line of a region and the last; or the bits
+    /// of attributes and the number of a pair.
     TwoNumbers(u16, u16),
     Cell(Cell),
     /// Yes or no.

@@ -13,7 +13,7 @@ use crate::number::{panel_of, saturated, window_of};
 use crate::question::{Question, Setting};
 use std::alloc::Global;
 
-/// Puts the cells of line `y` of a window or pad into a buffer, as many as fit, and answers how many they are.
+/// Puts the cells of line `y` of a window or pad into a buffer, as many as fit, and answers how many the line has.
 #[unsafe(no_mangle)]
 pub extern "C" fn curspan_row(
     alloc: Global,
@@ -28,7 +28,7 @@ pub extern "C" fn curspan_row(
     screen.tell_row(alloc, window_of(win), saturated(y), cells)
 }
 
-/// Puts the cells of line `y` of the virtual screen into a buffer, as many as fit, and answers how many they are.
+/// Puts the cells of line `y` of the virtual screen into a buffer, as many as fit, and answers how many the line has.
 #[unsafe(no_mangle)]
 pub extern "C" fn curspan_shown_row(
     alloc: Global,

@@ -27,5 +27,7 @@ returns-then-has_no_panel c =
     record {
       damaged = subst (λ (w : ℕ). Damages ws.columns (frame_shows_at ws.window ps w (Some r)) a.damage.now c.rectangle.new.self) (sym same)
           (damages-as ws.columns (frame_holds r) (frame_shows_at ws.window ps standard_screen (Some r)) a.damage.now c.rectangle.new.self
-          (damages-rectangle ws.columns r a.damage.now c.rectangle.new.self c.rectangle.ensures.height c.rectangle.ensures.each possible.1 (standard-inside ws r sound inside).1) (λ y x below left is. shows y x ∙ is) (λ y x left is. sym (shows y x) ∙ is));
+          (damages-rectangle ws.columns r a.damage.now c.rectangle.new.self c.rectangle.ensures.height c.rectangle.ensures.each possible.1
+          (standard-inside ws r sound inside).1)
+          (λ y x below left is. shows y x ∙ is) (λ y x left is. sym (shows y x) ∙ is));
     }

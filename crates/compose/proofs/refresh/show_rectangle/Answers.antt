@@ -12,19 +12,19 @@ use Rattle.compose.proofs.refresh.show_rectangle.Goals as goal
 pub overflow_add-columns : goal.overflow_add-columns
 overflow_add-columns c =
     let a = c.args in
-    let h = of-pad (windows a.table.now) a.source.win.0 a.source.line a.source.column a.frame.top a.frame.left a.frame.bottom a.frame.right c.requires.windows c.requires.accepted in
+    let h = of-pad (windows a.table.now) a.source.win.0 a.source.line a.source.column a.target.top a.target.left a.target.bottom a.target.right c.requires.windows c.requires.accepted in
     omega (arith, h.on_column, h.few_columns.1)
 
 pub overflow_add-y-end : goal.overflow_add-y-end
 overflow_add-y-end c =
     let a = c.args in
-    let h = of-pad (windows a.table.now) a.source.win.0 a.source.line a.source.column a.frame.top a.frame.left a.frame.bottom a.frame.right c.requires.windows c.requires.accepted in
+    let h = of-pad (windows a.table.now) a.source.win.0 a.source.line a.source.column a.target.top a.target.left a.target.bottom a.target.right c.requires.windows c.requires.accepted in
     omega (arith, h.on_line, h.few_lines.1)
 
 pub overflow_add-line : goal.overflow_add-line
 overflow_add-line c =
     let a = c.args in
-    let h = of-pad (windows a.table.now) a.source.win.0 a.source.line a.source.column a.frame.top a.frame.left a.frame.bottom a.frame.right c.requires.windows c.requires.accepted in
+    let h = of-pad (windows a.table.now) a.source.win.0 a.source.line a.source.column a.target.top a.target.left a.target.bottom a.target.right c.requires.windows c.requires.accepted in
     omega (arith, h.last_line, h.few_lines.0, c.loop-y-test.true)
 
 pub loop-y-preserved : goal.loop-y-preserved
@@ -34,14 +34,14 @@ loop-y-preserved c =
     let ws = windows table in
     let w = a.source.win.0 in
     let y = c.loop-y.y in
-    let h = of-pad ws w a.source.line a.source.column a.frame.top a.frame.left a.frame.bottom a.frame.right c.requires.windows c.requires.accepted in
-    let f : Drawing = copywin_drawing ws.window w a.source.line a.source.column a.frame.top a.frame.left a.frame.bottom a.frame.right false in
-    let next : a.frame.top + y + 1 ≡ a.frame.top + (y + 1) = omega arith in
+    let h = of-pad ws w a.source.line a.source.column a.target.top a.target.left a.target.bottom a.target.right c.requires.windows c.requires.accepted in
+    let f : Drawing = copywin_drawing ws.window w a.source.line a.source.column a.target.top a.target.left a.target.bottom a.target.right false in
+    let next : a.target.top + y + 1 ≡ a.target.top + (y + 1) = omega arith in
     record {
       laid = subst (λ n. LaidAbove a.pairs.now f table.lines table.columns a.picture.now.cells n c.show_piece.new.self.cells) next
-          (laid-more a.pairs.now f table.lines table.columns a.picture.now.cells (a.frame.top + y) a.frame.left (a.frame.right - a.frame.left + 1)
-          (λ u. cell_at ws.window w (a.source.line + y) (a.source.column + (u - a.frame.left))) c.loop-y.picture.cells c.show_piece.new.self.cells c.loop-y.invariant.laid
-          (pad-piece ws w a.source.line a.source.column a.frame.top a.frame.left a.frame.bottom a.frame.right h y c.loop-y-test.true)
+          (laid-more a.pairs.now f table.lines table.columns a.picture.now.cells (a.target.top + y) a.target.left (a.target.right - a.target.left + 1)
+          (λ u. cell_at ws.window w (a.source.line + y) (a.source.column + (u - a.target.left))) c.loop-y.picture.cells c.show_piece.new.self.cells c.loop-y.invariant.laid
+          (pad-piece ws w a.source.line a.source.column a.target.top a.target.left a.target.bottom a.target.right h y c.loop-y-test.true)
           c.show_piece.ensures.shown c.show_piece.ensures.size);
       changes = changes-then c.loop-y.invariant.changes c.show_piece.ensures.changes;
     }
@@ -52,10 +52,10 @@ returns c =
     let table = a.table.now in
     let ws = windows table in
     let w = a.source.win.0 in
-    let h = of-pad ws w a.source.line a.source.column a.frame.top a.frame.left a.frame.bottom a.frame.right c.requires.windows c.requires.accepted in
+    let h = of-pad ws w a.source.line a.source.column a.target.top a.target.left a.target.bottom a.target.right c.requires.windows c.requires.accepted in
     record {
-      shown = laid-all a.pairs.now (copywin_drawing ws.window w a.source.line a.source.column a.frame.top a.frame.left a.frame.bottom a.frame.right false) table.lines table.columns
-          a.picture.now.cells (a.frame.top + c.loop-y.y) c.loop-y.picture.cells c.loop-y.invariant.laid
-          (λ v from below. pad-below ws w a.source.line a.source.column a.frame.top a.frame.left a.frame.bottom a.frame.right h v (let end = c.loop-y-test.false in omega (arith, from, end)));
+      shown = laid-all a.pairs.now (copywin_drawing ws.window w a.source.line a.source.column a.target.top a.target.left a.target.bottom a.target.right false) table.lines table.columns
+          a.picture.now.cells (a.target.top + c.loop-y.y) c.loop-y.picture.cells c.loop-y.invariant.laid
+          (λ v from below. pad-below ws w a.source.line a.source.column a.target.top a.target.left a.target.bottom a.target.right h v (let end = c.loop-y-test.false in omega (arith, from, end)));
       changes = c.loop-y.invariant.changes;
     }

@@ -24,7 +24,9 @@ old c =
 abbrev new : goal.After-unmark_composed → DeskTable
 new c =
     let a = c.args in
-    desk_of c.unmark_composed.new.self.table.now c.unmark_composed.new.self.cells a.stack.now a.pairs.now c.show_damaged-cells.new.damage c.show_damaged-cells.new.picture.cells c.show_damaged-cells.new.picture.changes
+    let counted = c.unmark_composed.new.self in
+    let shown = c.show_damaged-cells.new in
+    desk_of counted.table.now counted.cells a.stack.now a.pairs.now shown.damage shown.picture.cells shown.picture.changes
     c.wanted_cursor.result (a.clear.now || c.unmark_composed.result)
 
 left : (c : goal.After-unmark_composed) → world (new c) ≡ world_after (world (old c)) (calls.Refresh UpdatePanels)

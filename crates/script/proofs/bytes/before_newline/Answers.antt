@@ -13,12 +13,15 @@ returns-then-newlines-eq0-clause-none c =
 
 pub returns-else-newlines-eq0-clause-within : goal.returns-else-newlines-eq0-clause-within
 returns-else-newlines-eq0-clause-within c = run_in_chunk_le is_newline _ _ LANES _ 0 c.requires
-    (before_marked is_newline _ _ LANES _ c.requires (omega arith) (bitmask_splat w8 eqb _ LANES newline (length-chunk c.args.from LANES c.args.text.now c.requires) (omega arith)) c.if-newlines-eq0.false)
+    (before_marked is_newline _ _ LANES _ c.requires (omega arith)
+    (bitmask_splat w8 eqb _ LANES newline (length-chunk c.args.from LANES c.args.text.now c.requires) (omega arith)) c.if-newlines-eq0.false)
 
 pub returns-else-newlines-eq0-clause-none : goal.returns-else-newlines-eq0-clause-none
 returns-else-newlines-eq0-clause-none c = run_in_chunk_fails is_newline _ _ LANES _ 0 c.requires
-    (before_marked is_newline _ _ LANES _ c.requires (omega arith) (bitmask_splat w8 eqb _ LANES newline (length-chunk c.args.from LANES c.args.text.now c.requires) (omega arith)) c.if-newlines-eq0.false)
+    (before_marked is_newline _ _ LANES _ c.requires (omega arith)
+    (bitmask_splat w8 eqb _ LANES newline (length-chunk c.args.from LANES c.args.text.now c.requires) (omega arith)) c.if-newlines-eq0.false)
 
 pub returns-else-newlines-eq0-clause-found : goal.returns-else-newlines-eq0-clause-found
 returns-else-newlines-eq0-clause-found c = run_in_chunk_stops is_newline _ _ LANES _ 0 c.requires
-    (before_marked is_newline _ _ LANES _ c.requires (omega arith) (bitmask_splat w8 eqb _ LANES newline (length-chunk c.args.from LANES c.args.text.now c.requires) (omega arith)) c.if-newlines-eq0.false)
+    (before_marked is_newline _ _ LANES _ c.requires (omega arith)
+    (bitmask_splat w8 eqb _ LANES newline (length-chunk c.args.from LANES c.args.text.now c.requires) (omega arith)) c.if-newlines-eq0.false)

@@ -30,12 +30,13 @@ refresh c = Pnoutrefresh c.args.pad c.args.pminrow c.args.pmincol c.args.sminrow
 made : (c : goal.After-self-1) → IsDesk (new c) × Called (the_view c.self.inside) (calls.Refresh (refresh c)) (Ok Nothing) (new c)
 made c =
     let a = c.args in let h = c.self.invariant in let ws = windows c.self.inside.windows.table in
-    let frame : Rect = record { top = a.sminrow; left = a.smincol; bottom = a.smaxrow; right = a.smaxcol } in
+    let target : Rect = record { top = a.sminrow; left = a.smincol; bottom = a.smaxrow; right = a.smaxcol } in
     let accepted : refresh_refusal (world (the_view c.self.inside)) (refresh c) ≡ None = search rules in
     let of = of-pad ws a.pad.0 a.pminrow a.pmincol a.sminrow a.smincol a.smaxrow a.smaxcol h.sound.windows accepted in
     let damaged = c.damage_part.ensures.damaged ws.columns of.on_column in
     call-accepted (the_view c.self.inside) (new c) (calls.Refresh (refresh c)) h accepted refl (search rules)
-    (pad-damages ws a.pad.0 a.pminrow a.pmincol a.sminrow a.smincol a.smaxrow a.smaxcol of frame refl refl refl refl c.self.inside.damage c.damage_part.new.damage damaged) refl c.show_rectangle.ensures.changes Nothing refl
+    (pad-damages ws a.pad.0 a.pminrow a.pmincol a.sminrow a.smincol a.smaxrow a.smaxcol of target refl refl refl refl
+    c.self.inside.damage c.damage_part.new.damage damaged) refl c.show_rectangle.ensures.changes Nothing refl
 
 pub invariant_of-self : goal.invariant_of-self
 invariant_of-self c = (made c).0

@@ -27,7 +27,8 @@ made c =
     let d = c.self.inside in let h = c.self.invariant in let t = d.windows.table in let part = c.window_part-part.result in let is = c.window_part-part.ensures in
     call-accepted (the_view d) (new c) (call c) h (search rules) refl (search rules)
     (damages-as t.columns (part_holds part) (λ y x. true) d.damage c.damage_part.new.damage (c.damage_part.ensures.damaged t.columns (part-right t.lines t.columns part is.within))
-    (λ y x below inside shown. is.holds y x ∙ standard-holds (windows_of t) y x h.sound.windows (subst (λ n. y < n) h.covered.height below) inside) (λ y x left held. refl)) refl (changes-none d.picture.changes d.picture.cells) Nothing refl
+    (λ y x below inside shown. is.holds y x ∙ standard-holds (windows_of t) y x h.sound.windows (subst (λ n. y < n) h.covered.height below) inside)
+    (λ y x left held. refl)) refl (changes-none d.picture.changes d.picture.cells) Nothing refl
 
 pub invariant_of-self : goal.invariant_of-self
 invariant_of-self c = (made c).0

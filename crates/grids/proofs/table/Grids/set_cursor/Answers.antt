@@ -12,7 +12,8 @@ invariant_of-self c =
 
 pub returns-clause-set : goal.returns-clause-set
 returns-clause-set c =
-    rw (← c.self.view_is) (windows-changed (the_view c.self.inside) c.set_slot_cursor.new.slots.items c.args.win.0 (set_in (with_cursor (c.args.y, c.args.x))) c.self.invariant c.set_slot_cursor.ensures)
+    rw (← c.self.view_is) (windows-changed (the_view c.self.inside) c.set_slot_cursor.new.slots.items c.args.win.0
+    (set_in (with_cursor (c.args.y, c.args.x))) c.self.invariant c.set_slot_cursor.ensures)
 
 pub returns-clause-sound : goal.returns-clause-sound
 returns-clause-sound c = sound _ (invariant_of-self c)
