@@ -1,6 +1,8 @@
 //! The script and the log of the program: standard streams, or files of the system.
 
 ghost use Rattle.std.specs.Prelude.{◌≡◌, IfOk, false};
+ghost use Rattle.std.specs.IoError.{error_kind};
+ghost use Rattle.curspan.specs.steps.Opening.{fault_of_kind};
 
 use crate::opening::{FileSink, FileSource};
 use commands::OpenFault;
@@ -64,7 +66,9 @@ impl<S: Write> Write for Place<S> {
 }
 
 /// Why a file of the system can't be opened.
-fn open_fault(error: io::Error) -> OpenFault {
+fn open_fault(error: io::Error) -> OpenFault
+    ensures { result ≡ fault_of_kind (error_kind error) }
+{
     match error.kind() {
         ErrorKind::NotFound => OpenFault::Missing,
         ErrorKind::PermissionDenied => OpenFault::Denied,
