@@ -40,7 +40,7 @@ advised =
     ∷ (codes "see attron, with 10", codes "standout")
     ∷ (codes "see attrset, with 00", codes "standend")
     ∷ (codes "see attrset, attron, attroff, color_set", codes "attr_set attr_on attr_off chgat")
-    ∷ (codes "no call answers attributes: see inch", codes "attr_get getattrs termattrs term_attrs")
+    ∷ (codes "see inch, which answers those of a cell", codes "attr_get getattrs termattrs term_attrs")
     ∷ (
       codes "colours are there from the first line on: see init_pair",
       codes "start_color init_color init_extended_color init_extended_pair use_default_colors"

@@ -9,12 +9,12 @@ use Rattle.explain.specs.Advice.{begins_with, names_in}
 use Rattle.script.specs.declared.words.Form.{Form}
 use Rattle.script.specs.declared.words.Form.TheVariants.{Number, NumberOrNone, Signed, Attributes, Flag, Character, Text}
 
--- what is said of a bad byte: a carriage return, a tab, a byte beyond ASCII, or another
+-- what is said of a bad byte: a carriage return, a tab, a backspace, or another
 abbrev pub byte_advice : ℕ → List ℕ
 byte_advice b = if b == carriage_return then codes "a line ends with a newline alone"
     else (if b == 9 then codes "words are separated by single spaces"
-    else (if nat_le 128 b then codes "characters are those of ASCII, from the space to the tilde"
-    else codes "a text has it as a backslash, x and these two digits"))
+    else (if b == 8 then codes "a text has it as a backslash and b"
+    else codes "characters are those of ASCII, from the space to the tilde"))
 
 -- what an argument of a form has to be
 abbrev pub requirement : Form → List ℕ
@@ -53,8 +53,9 @@ digits_reason said digits = if slice_index digits 0 == digit_0 then codes ": a n
 abbrev pub unsigned_reason : List ℕ → List ℕ
 unsigned_reason argument = if are_digits argument then digits_reason (codes ": it is too great") argument
     else (if begins_with (codes "-") argument then codes ": it has no minus"
+    else (if begins_with (codes "+") argument then codes ": it has no plus"
     else (if begins_with (codes "0x") argument then codes ": a number is decimal"
-    else []))
+    else [])))
 
 -- of one with a minus or without
 abbrev pub signed_reason : List ℕ → List ℕ
@@ -68,7 +69,7 @@ abbrev pub are_two_digits : List ℕ → Bool
 are_two_digits text = length text == 2 && list_all is_ascii_hexdigit text
 
 abbrev pub attributes_reason : List ℕ → List ℕ
-attributes_reason argument = if not (are_two_digits argument) then codes ": 01 is bold, 02 dim, 04 underline, 08 blink, 10 reverse, 20 invisible"
+attributes_reason argument = if not (are_two_digits argument) then codes ": a sum of 01 bold, 02 dim, 04 underline, 08 blink, 10 reverse, 20 invisible"
     else (if list_any is_ascii_uppercase argument then codes ": the digits are in lower case"
     else codes ": it is too great")
 

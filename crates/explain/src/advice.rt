@@ -31,7 +31,7 @@ const CONTENTS: &[u8] = b"no call answers a colour: see init_pair";
 
 const SAVED: &[u8] = b"nothing is saved or loaded";
 
-const RENDITION: &[u8] = b"no call answers attributes: see inch";
+const RENDITION: &[u8] = b"see inch, which answers those of a cell";
 
 const FLAGS: &[u8] = b"no window has this flag";
 

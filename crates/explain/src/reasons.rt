@@ -8,7 +8,7 @@ ghost use Rattle.explain.specs.Reasons.{are_digits, are_two_digits, attributes_r
 use crate::advice::is_among;
 use script::{Form, has_digits_alone};
 
-/// What is said of a bad byte: a carriage return, a tab, a byte beyond ASCII, or another.
+/// What is said of a bad byte: a carriage return, a tab, a backspace, or another.
 pub fn byte_advice(byte: u8) -> &'static [u8]
     ensures text { result.now ≡ byte_advice byte }
     ensures short { length result.now ≤ 80 }
@@ -16,8 +16,8 @@ pub fn byte_advice(byte: u8) -> &'static [u8]
     match byte {
         b'\r' => b"a line ends with a newline alone",
         b'\t' => b"words are separated by single spaces",
-        128.. => b"characters are those of ASCII, from the space to the tilde",
-        _ => b"a text has it as a backslash, x and these two digits",
+        8 => b"a text has it as a backslash and b",
+        _ => b"characters are those of ASCII, from the space to the tilde",
     }
 }
 
@@ -84,6 +84,9 @@ fn unsigned_reason(argument: &[u8]) -> &'static [u8]
     if argument.strip_prefix(b"-").is_some() {
         return b": it has no minus";
     }
+    if argument.strip_prefix(b"+").is_some() {
+        return b": it has no plus";
+    }
     if argument.strip_prefix(b"0x").is_some() {
         return b": a number is decimal";
     }
@@ -132,7 +135,7 @@ fn attributes_reason(argument: &[u8]) -> &'static [u8]
     ensures short { length result.now ≤ 80 }
 {
     if !are_two_digits(argument) {
-        b": 01 is bold, 02 dim, 04 underline, 08 blink, 10 reverse, 20 invisible"
+        b": a sum of 01 bold, 02 dim, 04 underline, 08 blink, 10 reverse, 20 invisible"
     } else if has_upper_case(argument) {
         b": the digits are in lower case"
     } else {
