@@ -64,8 +64,8 @@ pub(crate) fn write_damaging(
     Ok(outcome.reply)
 }
 
-/// Makes a call that copies cells or touches places, and adds what it damages. It is not inlined, so that other calls make
-/// no room for what it answers.
+/// Makes a call that copies cells or touches places, and adds what it damages. It is not inlined, so that other calls
+/// make no room for what it answers.
 #[inline(never)]
 #[tactic(auto, unfolding(crate::specs::steps::Outcomes::Affects))]
 pub(crate) fn copy_damaging(

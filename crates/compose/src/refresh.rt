@@ -199,8 +199,8 @@ fn require_rectangle(table: &Grids, source: Place, target: Rect) -> Result<(), R
     Ok(())
 }
 
-/// Untouches some lines of a window, which must exist, and clears its clear flag. It answers whether the window asked for
-/// a clear screen.
+/// Untouches some lines of a window, which must exist, and clears its clear flag. It answers whether the window asked
+/// for a clear screen.
 fn unmark_lines(windows: &mut Windows, win: WinId, first: u16, n: u16) -> bool
     requires { IsSomeAnd ((windows_of windows.old.table).window win.0) (λ a. (first < a.lines) × (first + n ≤ a.lines)) }
     ensures asked { result ≡ asks_for_clear (windows_of windows.old.table).window win.0 }

@@ -29,8 +29,8 @@ impl Grids {
         }
     }
 
-    /// Untouches all of a window, if there is one, and clears its clear flag. It answers whether the window asked for a clear
-    /// screen.
+    /// Untouches all of a window, if there is one, and clears its clear flag. It answers whether the window asked for a
+    /// clear screen.
     pub fn unmark(&mut self, win: WinId) -> bool
         ensures asked { result ≡ asks_for_clear (windows self.old).window win.0 }
         ensures unmarked { windows self.new ≡ record (windows self.old) { window = with_change (windows self.old).window win.0 without_marks } }

@@ -244,7 +244,7 @@ abbrev pub effect_frame : Windows → Effect → Option Rect
 effect_frame windows (arranges order) = order_frame windows order
 effect_frame windows _ = None
 
--- what an effect answers; what `composes` and `shows` answer says besides how much was read and sent
+-- what an effect answers, but for `composes` and `shows`, which answer how much was read or sent
 abbrev pub effect_reply : Effect → Reply
 effect_reply (arranges order) = order_reply order
 effect_reply _ = Nothing

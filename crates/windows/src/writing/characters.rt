@@ -33,9 +33,9 @@ const NEWLINE: u8 = 10;
 const CARRIAGE_RETURN: u8 = 13;
 
 impl Windows {
-    /// Writes a character at the cursor, which advances, from the last column to the next line. On the region's last line
-    /// the region scrolls, if the window does, and else the cursor stays. Newline (10), carriage return (13) and backspace
-    /// (8) move it.
+    /// Writes a character at the cursor, which advances, from the last column to the next line. On the region's last
+    /// line the region scrolls, if the window does, and else the cursor stays. Newline (10), carriage return (13) and
+    /// backspace (8) move it.
     ///
     /// # Errors
     /// `NoSuchWindow`; `BadCharacter` for another character outside 32 to 126.
