@@ -102,7 +102,7 @@ static void time_all(void) {
     for (int i = 0; i < MEASURES; i++) {
         clock_t began = clock();
         measures[i].make(measures[i].times);
-        fprintf(stderr, "%s\t%.3f\n", measures[i].name, (double)(clock() - began) / CLOCKS_PER_SEC * 1e6 / measures[i].times);
+        fprintf(stderr, "%s\t%.5f\n", measures[i].name, (double)(clock() - began) / CLOCKS_PER_SEC * 1e6 / measures[i].times);
     }
 }
 
