@@ -49,12 +49,12 @@ abbrev pub colour_tests : ℕ → ℕ → ℕ → List (Bool × Refusal)
 colour_tests pair foreground background = (pair == 0 || (is_no_pair pair || (is_no_colour foreground || is_no_colour background)), BadPair) ∷ []
 
 abbrev pub pnoutrefresh_tests : Windows → ℕ → ℕ → ℕ → ℕ → ℕ → ℕ → ℕ → List (Bool × Refusal)
-pnoutrefresh_tests windows w py px top left bottom right =
-    missing_window windows w
-    ∷ (not (is_pad windows.window w), NotPad)
-    ∷ (nat_lt bottom top || nat_lt right left, BadRectangle)
-    ∷ (lacks_place windows.window w (py + (bottom - top)) (px + (right - left)), OutsideWindow)
-    ∷ (is_beyond windows bottom right, OffScreen)
+pnoutrefresh_tests windows pad pminrow pmincol sminrow smincol smaxrow smaxcol =
+    missing_window windows pad
+    ∷ (not (is_pad windows.window pad), NotPad)
+    ∷ (nat_lt smaxrow sminrow || nat_lt smaxcol smincol, BadRectangle)
+    ∷ (lacks_place windows.window pad (pminrow + (smaxrow - sminrow)) (pmincol + (smaxcol - smincol)), OutsideWindow)
+    ∷ (is_beyond windows smaxrow smaxcol, OffScreen)
     ∷ []
 
 abbrev pub noutrefresh_tests : Windows → ℕ → List (Bool × Refusal)
