@@ -11,7 +11,7 @@ use Rattle.std.specs.Option.{option_map_or}
 use Rattle.cell.specs.Refusals.{first_of}
 use Rattle.world.specs.Windows.{Drawing, Window, WindowMap, Windows, ancestors, any_below, cell_at, derives, is_missing, touched_below}
 use Rattle.world.specs.Panels.{cell_on_screen, holds, place_of}
-use Rattle.world.specs.Rows.{overlaid_cell}
+use Rattle.world.specs.Rows.{is_among, overlaid_cell}
 use Rattle.world.specs.Sharing.{shows_part_of}
 use Rattle.world.specs.Effects.{Change, asks, edits, draws, marks, after_change}
 use Rattle.world.specs.calls.Making.{is_pad}
@@ -31,8 +31,7 @@ use Rattle.world.specs.declared.settings.Columns.{Columns}
 -- (sminrow, smincol) on.
 abbrev pub rectangle_copied : WindowMap → ℕ → ℕ → ℕ → ℕ → ℕ → ℕ → ℕ → Bool → Drawing
 rectangle_copied window src sminrow smincol dminrow dmincol lines columns overlay y x =
-    if (nat_le dminrow y && nat_lt y (dminrow + lines)) && (nat_le dmincol x && nat_lt x (dmincol + columns)) then
-    overlaid_cell overlay (cell_at window src (sminrow + (y - dminrow)) (smincol + (x - dmincol))) else None
+    if is_among dminrow lines y && is_among dmincol columns x then overlaid_cell overlay (cell_at window src (sminrow + (y - dminrow)) (smincol + (x - dmincol))) else None
 
 -- copywin: the destination's rectangle from (dminrow, dmincol) to (dmaxrow, dmaxcol), both in it
 abbrev pub copywin_drawing : WindowMap → ℕ → ℕ → ℕ → ℕ → ℕ → ℕ → ℕ → Bool → Drawing
@@ -52,7 +51,7 @@ common_cells window src dst overlay y x =
 -- n lines from a first one on are touched from their first column to their last, or not touched
 abbrev pub lines_marked : ℕ → ℕ → Bool → Window → Window
 lines_marked first n flag a = record a {
-  touched = λ y. if nat_le first y && nat_lt y (first + n) then (if flag then Some (record { first = 0; last = a.columns - 1 }) else None) else a.touched y;
+  touched = λ y. if is_among first n y then (if flag then Some (record { first = 0; last = a.columns - 1 }) else None) else a.touched y;
 }
 
 -- all lines
