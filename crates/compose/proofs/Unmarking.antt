@@ -9,7 +9,7 @@ use Rattle.cell.specs.declared.window.WinId.{WinId}
 use Rattle.world.specs.Settings.{set_in}
 use Rattle.world.specs.Windows.{Window, WindowMap, Windows, with_change}
 use Rattle.world.specs.calls.Copying.{after_copying, lines_marked}
-use Rattle.world.specs.calls.Refresh.{among_lines}
+use Rattle.world.specs.Rows.{is_among}
 use Rattle.world.specs.calls.Writing.{after_writing, with_clear, writing_refusal}
 use Rattle.world.specs.declared.call.Copying.TheVariants.{Touchln}
 use Rattle.world.specs.declared.call.Writing.TheVariants.{Clearok}
@@ -69,9 +69,9 @@ still-there windows win first n P h = grind (arith, none-if, there-missing)
 -- marks and settings, changed one after the other
 both-changed : (t : Bool) (first n : ℕ) (o : Option Window)
     → (if t then option_map (set_in (with_clear false)) (if t then option_map (lines_marked first n false) o else o) else (if t then option_map (lines_marked first n false) o else o))
-    ≡ (if t then option_map (unmarked_lines (among_lines first n)) o else o)
+    ≡ (if t then option_map (unmarked_lines (is_among first n)) o else o)
 both-changed t first n o = grind arith
 
 pub lines-unmarked : (windows : Windows) (win : WinId) (first n : ℕ) → after_writing (after_copying windows (Touchln win first n false)) (Clearok win false)
-    ≡ record windows { window = with_change windows.window win.0 (unmarked_lines (among_lines first n)) }
+    ≡ record windows { window = with_change windows.window win.0 (unmarked_lines (is_among first n)) }
 lines-unmarked windows win first n = λ i. record windows { window = fun_ext (λ u. both-changed (u == win.0) first n (windows.window u)) i }

@@ -4,11 +4,12 @@ ghost use Rattle.std.specs.Prelude.{◌≡◌, ◌<◌, ◌≤◌, ◌+◌, ◌-
 ghost use Rattle.std.specs.Result.{result_err};
 ghost use Rattle.cell.specs.Pictures.{HasSize, picture_of, shown_at};
 ghost use Rattle.cell.specs.Shown.{shown};
+ghost use Rattle.world.specs.Rows.{is_among};
 ghost use Rattle.world.specs.Sound.{AreSoundWindows};
 ghost use Rattle.world.specs.calls.Copying.{copywin_drawing};
 ghost use Rattle.world.specs.calls.Queries.{place_on_screen};
 ghost use Rattle.cell.specs.Refusals.{first_of};
-ghost use Rattle.world.specs.calls.Refresh.{touched_cells, among_lines, pnoutrefresh_tests};
+ghost use Rattle.world.specs.calls.Refresh.{touched_cells, pnoutrefresh_tests};
 ghost use Rattle.world.specs.Effects.{asks_for_clear, shown_over, unmarked_lines};
 ghost use Rattle.world.specs.Windows.{with_change};
 ghost use Rattle.extents.specs.Extents.{AddsChanges};
@@ -205,7 +206,7 @@ fn unmark_lines(windows: &mut Windows, win: WinId, first: u16, n: u16) -> bool
     requires { IsSomeAnd ((windows_of windows.old.table).window win.0) (λ a. (first < a.lines) × (first + n ≤ a.lines)) }
     ensures asked { result ≡ asks_for_clear (windows_of windows.old.table).window win.0 }
     ensures unmarked { windows_of windows.new.table ≡ record (windows_of windows.old.table)
-        { window = with_change (windows_of windows.old.table).window win.0 (unmarked_lines (among_lines first n)) } }
+        { window = with_change (windows_of windows.old.table).window win.0 (unmarked_lines (is_among first n)) } }
 {
     let asked = windows.table.settings(win).clear;
     match windows.table.wtouchln(win, first, n, false) {

@@ -1,9 +1,9 @@
 -- The lines that have columns, one after another; and a rectangle that is added line by line.
-use Rattle.std.proofs.Common.{◌≡◌, ℕ, ◌+◌, ◌-◌, ◌<◌, ◌≤◌, ◌==◌, ◌||◌, ◌&&◌, true, false, nat_le, nat_lt, if◌then◌else◌, List, Option, Some, None, length, set, refl, subst, sym, ◌∙◌, arith, rules}
+use Rattle.std.proofs.Common.{◌≡◌, ℕ, ◌+◌, ◌-◌, ◌<◌, ◌≤◌, ◌&&◌, true, false, nat_le, nat_lt, if◌then◌else◌, List, Option, Some, None, length, set, refl, subst, sym, ◌∙◌, arith, rules}
 use Rattle.std.specs.Prelude.{MatchOption, replicate, slice_set}
 use Rattle.std.specs.Option.{option_map_or}
 use Rattle.std.proofs.Common.{get_or-set_other, get_or-set_same}
-use Rattle.std.proofs.lemmas.Bool.{and_from, cases_eq, cases_lt, eq-eqb, le-leb, lt-ltb, ne_eqb}
+use Rattle.std.proofs.lemmas.Bool.{and_from, cases_eq, cases_lt, le-leb, lt-ltb}
 use Rattle.std.proofs.lemmas.Bool.Decides.{nat_tests}
 use Rattle.std.proofs.lemmas.List.{ext_get_or, length-set}
 use Rattle.std.proofs.lemmas.Simd.{get_or-replicate, length-replicate}
@@ -12,10 +12,6 @@ use Rattle.small_set.specs.Sets.{IsNext, contains}
 use Rattle.world.specs.Windows.{joined_columns}
 use Rattle.world.specs.declared.settings.Columns.{Columns}
 use Rattle.extents.specs.Extents.{columns_of}
-
--- a number below another, and that one
-pub below-or-here : (v y : ℕ) → (v == y || nat_lt v y) ≡ nat_lt v (y + 1)
-below-or-here v y = grind (arith, cases_eq, eq-eqb, nat_tests, ne_eqb)
 
 -- Lines that aren't in the set have no columns, nor have those before the next one of it that is looked at.
 pub record ClearedBefore (lines : List ℕ) (next : Option ℕ) (extents : List (Option Columns)) : Type 0 where
@@ -42,9 +38,6 @@ none-next lines extents next is h v = (subst (λ (o : Option ℕ). ClearedBefore
 module _ (lines : List ℕ) (extents : List (Option Columns)) (y : ℕ) (inside : y < length extents) (h : ClearedBefore lines (Some y) extents) where
   pub cleared-more : (next : Option ℕ) → IsNext lines (y + 1) next → ClearedBefore lines next (set extents y None)
   cleared-more = grind (arith, cleared-on, cases_eq, get_or-set_same, get_or-set_other)
-
-  pub fewer-left : y < 1024 → (next : Option ℕ) → IsNext lines (y + 1) next → lines-left next < lines-left (Some y)
-  fewer-left small z none = grind arith
 
 -- lines of which none has any
 pub none-left : (n : ℕ) (extents : List (Option Columns)) → length extents ≡ n → ((y : ℕ) → columns_of extents y ≡ None) → extents ≡ replicate n None

@@ -40,7 +40,7 @@ IsWindowTable-filled t new at k s set free kept chained placed from_one origin =
 
 -- ---- one slot's window was changed
 
-module _ (t : WindowTable) (new : List (Option Kept)) (at : ℕ) (change : Window → Window) (s : IsWindowTable t) (h : Changed t.slots new at change) where
+module _ {t : WindowTable} {new : List (Option Kept)} {at : ℕ} {change : Window → Window} (s : IsWindowTable t) (h : Changed t.slots new at change) where
   set_at : SetAt t.slots new at (Some h.after)
   set_at = rw h.set (SetAt-set t.slots at (Some h.after) s.few_slots (slot_below t.slots at h.before h.was))
 
@@ -70,15 +70,15 @@ module _ (t : WindowTable) (new : List (Option Kept)) (at : ℕ) (change : Windo
 -- two windows were changed one after the other, and each stays where it is
 pub IsWindowTable-twice : {t : WindowTable} {mid new : List (Option Kept)} {at win : ℕ} {f g : Window → Window} → IsWindowTable t → Changed t.slots mid at f → Changed mid new win g
     → ((a : Window) → (f a).place ≡ a.place) → ((a : Window) → (g a).place ≡ a.place) → IsWindowTable (record t { slots = new })
-IsWindowTable-twice {t = t} {mid = mid} s one other keeps too = IsWindowTable-changed (record t { slots = mid }) _ _ _ (IsWindowTable-changed t _ _ _ s one keeps) other too
+IsWindowTable-twice {t = t} {mid = mid} s one other keeps too = IsWindowTable-changed {t = record t { slots = mid }} (IsWindowTable-changed s one keeps) other too
 
 pub replaced-changed : (window : WindowMap) (w : ℕ) (change : Window → Window) (a : Window) → window w ≡ Some a → with_window window w (Some (change a)) ≡ with_change window w change
 replaced-changed window w change a e = grind (arith, cases_eq, eq-eqb, ne_eqb)
 
 -- the windows after it, as the definitions say it
-pub windows-changed : (t : WindowTable) (new : List (Option Kept)) (at : ℕ) (change : Window → Window) → IsWindowTable t → Changed t.slots new at change
+pub windows-changed : {t : WindowTable} {new : List (Option Kept)} {at : ℕ} {change : Window → Window} → IsWindowTable t → Changed t.slots new at change
     → windows (record t { slots = new }) ≡ record (windows t) { window = with_change (window_map t.slots) at change }
-windows-changed t new at change s h =
-    windows-set t new at (Some h.after) (set_at t new at change s h)
+windows-changed {t = t} {new = new} {at = at} {change = change} s h =
+    windows-set t new at (Some h.after) (set_at s h)
     ∙ ap (λ (map : WindowMap). record (windows t) { window = map })
     (ap (λ a. with_window (window_map t.slots) at (Some a)) h.window ∙ replaced-changed (window_map t.slots) at change (window_of h.before) (ap (option_map window_of) h.was))

@@ -7,14 +7,14 @@ use Rattle.world.specs.Sharing.{SharesPart}
 use Rattle.world.specs.Sound.{AreColumnsWithin}
 use Rattle.world.specs.Windows.{GridPlace, Window, WindowMap, own}
 use Rattle.world.specs.declared.settings.Columns.{Columns}
-use Rattle.grids.specs.steps.Syncs.{has_column}
+use Rattle.world.specs.calls.Refresh.{among}
 use Rattle.grids.proofs.Shared.{shared-in, from-shared}
 
 -- ---- lines, or columns, from a first to a last one, as they are counted from another place on
 
 module _ (first last from to size : ℕ) where
   abbrev pub Clips : Option Columns → Type 0
-  Clips o = (x : ℕ) → x < size → (nat_le from (to + x) && has_column (Some (record { first = first; last = last })) (to + x - from)) ≡ has_column o x
+  Clips o = (x : ℕ) → x < size → (nat_le from (to + x) && among (Some (record { first = first; last = last })) (to + x - from)) ≡ among o x
 
   clip-none : Clips None → (x : ℕ) → x < size → from + first ≤ to + x → to + x ≤ from + last → ⊥
   clip-none h x below l u = grind (arith, nat_tests, h x below)
@@ -82,7 +82,7 @@ module _ (window : WindowMap) (w u : ℕ) (r : Rect) (b : Window) (p q : GridPla
 -- ---- a window shows a part of itself where that is
 
 clips-itself : (from first last x : ℕ)
-    → (nat_le from (from + x) && has_column (Some (record { first = first; last = last })) (from + x - from)) ≡ has_column (Some (record { first = first; last = last })) x
+    → (nat_le from (from + x) && among (Some (record { first = first; last = last })) (from + x - from)) ≡ among (Some (record { first = first; last = last })) x
 clips-itself from first last x = grind (arith, nat_tests)
 
 pub seen-itself : (window : WindowMap) (w : ℕ) (r : Rect) (b : Window) (p : GridPlace) → window w ≡ Some b → own window w 0 0 ≡ Some p → r.top ≤ r.bottom → r.left ≤ r.right

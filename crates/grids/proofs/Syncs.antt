@@ -16,7 +16,8 @@ use Rattle.world.proofs.WindowLaws.{own-onward, touched-touched}
 use Rattle.slots.specs.declared.place.Place.{Place}
 use Rattle.slots.specs.declared.slot.Part.{Part}
 use Rattle.slots.specs.Slots.{in_parent}
-use Rattle.grids.specs.steps.Syncs.{has_column, part_in_parent, shows_touched, touched_shown}
+use Rattle.world.specs.calls.Refresh.{among}
+use Rattle.grids.specs.steps.Syncs.{part_in_parent, shows_touched, touched_shown}
 use Rattle.slots.proofs.Chain.{from_parent, no_parent, some_of}
 use Rattle.grids.proofs.Shared.{shared-in, from-shared}
 use Rattle.grids.proofs.Touches.{changed-here, changed-nothing, changed-other, changed-same, changed-twice, touching-is, touching-none}
@@ -36,7 +37,7 @@ module _ (window : WindowMap) (s t : ℕ) (a : Window) (g : GridPlace) (p0 p1 q0
   record Meets (o : Option Columns) (v y x : ℕ) : Type 0 where
     line : p0 + v ≡ q0 + y
     column : p1 ≤ q1 + x
-    among : has_column o (q1 + x - p1) ≡ true
+    touched : among o (q1 + x - p1) ≡ true
 
   meets : (o : Option Columns) (v y x : ℕ) → in_columns o v y x ≡ true → Meets o v y x
   unfolding in_columns
@@ -48,9 +49,9 @@ module _ (window : WindowMap) (s t : ℕ) (a : Window) (g : GridPlace) (p0 p1 q0
   from-meets None v y x h = grind arith
   from-meets (Some r) v y x h = grind (arith, nat_tests, from-shared window s t (onward p0 p1 g) (onward q0 q1 g) leads_s leads_t (in_line v r) y x)
 
-  pub shows-is : (y x : ℕ) → shows_touched_of window s t y x ≡ shows_touched a (p0, p1) (q0, q1) y x
+  pub shows-is : (y x : ℕ) → shows_touched_of window s t y x ≡ shows_touched a (q0, q1) (p0, p1) y x
   unfolding in_columns
-  shows-is y x = both_ways (shows_touched_of window s t y x) (shows_touched a (p0, p1) (q0, q1) y x)
+  shows-is y x = both_ways (shows_touched_of window s t y x) (shows_touched a (q0, q1) (p0, p1) y x)
       (λ h. grind (arith, nat_tests, meets, any_below-true a.lines (λ v. in_columns (a.touched v) v y x)))
       (λ h. grind (arith, nat_tests, any_below-some a.lines (λ v. in_columns (a.touched v) v y x) (q0 + y - p0), from-meets (a.touched (q0 + y - p0)) (q0 + y - p0) y x))
 
@@ -66,10 +67,10 @@ module _ (windows : Windows) (w u line column : ℕ) (sound : AreSoundWindows wi
   leads_w : own windows.window w 0 0 ≡ Some (onward line column end.0)
   leads_w = grind (arith, zero-add, own-onward, end)
 
-  pub shows-up : (y x : ℕ) → shows_touched_of windows.window w u y x ≡ shows_touched h.below (line, column) (0, 0) y x
+  pub shows-up : (y x : ℕ) → shows_touched_of windows.window w u y x ≡ shows_touched h.below (0, 0) (line, column) y x
   shows-up y x = shows-is windows.window w u h.below end.0 line column 0 0 h.from_is leads_w leads_u y x
 
-  pub shows-down : (y x : ℕ) → shows_touched_of windows.window u w y x ≡ shows_touched h.above (0, 0) (line, column) y x
+  pub shows-down : (y x : ℕ) → shows_touched_of windows.window u w y x ≡ shows_touched h.above (line, column) (0, 0) y x
   shows-down y x = shows-is windows.window u w h.above end.0 0 0 line column h.at_is leads_u leads_w y x
 
 -- ---- touching twice
@@ -151,9 +152,9 @@ module _ (old : Windows) (sound : AreSoundWindows old) (w u line column : ℕ) (
 
   -- one window further up
   module _ (cur next : Windows) (h : IsHandedTo old cur w u line column) (other : part.parent ≢ w)
-      (step : next ≡ record cur { window = with_change cur.window part.parent (with_touches (touched_shown cur.window w (line + part.line, column + part.column) (0, 0))) }) where
+      (step : next ≡ record cur { window = with_change cur.window part.parent (with_touches (touched_shown cur.window w (0, 0) (line + part.line, column + part.column))) }) where
     test : ℕ → ℕ → Bool
-    test = touched_shown cur.window w (line + part.line, column + part.column) (0, 0)
+    test = touched_shown cur.window w (0, 0) (line + part.line, column + part.column)
 
     test-is : test ≡ shows_touched_of old.window w part.parent
     unfolding test
@@ -186,9 +187,9 @@ taken-none windows w there = grind (arith, Walk-start)
 
 module _ (old : Windows) (sound : AreSoundWindows old) (w u line column : ℕ) (part : Part) (walk : Walk old.window w u line column)
     (part_is : part_in_parent walk.above.backing ≡ Some part) (cur next : Windows) (h : IsTakenFrom old cur w u line column) (other : part.parent ≢ w)
-    (step : next ≡ record cur { window = with_change cur.window w (with_touches (touched_shown cur.window part.parent (0, 0) (line + part.line, column + part.column))) }) where
+    (step : next ≡ record cur { window = with_change cur.window w (with_touches (touched_shown cur.window part.parent (line + part.line, column + part.column) (0, 0))) }) where
   taken : ℕ → ℕ → Bool
-  taken = touched_shown cur.window part.parent (0, 0) (line + part.line, column + part.column)
+  taken = touched_shown cur.window part.parent (line + part.line, column + part.column) (0, 0)
 
   further-walk : Walk old.window w part.parent (line + part.line) (column + part.column)
   further-walk = next-walk old sound w u line column part walk part_is

@@ -6,12 +6,13 @@ ghost use Rattle.world.specs.Replies.{no_answer};
 ghost use Rattle.world.specs.Sound.{AreColumnsWithin};
 ghost use Rattle.world.specs.Windows.{HasPlace, with_change};
 ghost use Rattle.world.specs.calls.Copying.{with_touches, after_copying};
+ghost use Rattle.world.specs.calls.Refresh.{among};
 ghost use Rattle.world.specs.declared.call.Copying.{Copying};
 ghost use Rattle.grids.specs.Calls.{Marked};
 ghost use Rattle.grids.specs.Tables.{windows};
 ghost use Rattle.slots.specs.Changes.{with_touched};
 ghost use Rattle.slots.specs.Slots.{depth_at};
-ghost use Rattle.grids.specs.steps.Syncs.{EndsWithin, has_column, touched_shown};
+ghost use Rattle.grids.specs.steps.Syncs.{EndsWithin, touched_shown};
 
 use crate::table::Grids;
 use cell::{Refusal, WinId};
@@ -55,7 +56,7 @@ impl Grids {
         let mut at = Place::first_of(win);
         while let Some(next) = self.place_above(at) {
             at = next;
-            self.touch_shown(at.win.0, (0, 0), win, (at.line, at.column));
+            self.touch_shown(win, (0, 0), at.win.0, (at.line, at.column));
         }
     }
 
@@ -68,57 +69,55 @@ impl Grids {
         let mut at = Place::first_of(win);
         while let Some(next) = self.place_above(at) {
             at = next;
-            self.touch_shown(win, (at.line, at.column), at.win.0, (0, 0));
+            self.touch_shown(at.win.0, (at.line, at.column), win, (0, 0));
         }
     }
 
-    /// Touches a window where it shows a touched place of another one, `source`. One derives from the other: `at` and
-    /// `source_at` are the places of the older one at which the two begin, (0, 0) for itself. So what is at
-    /// (y, x) of the window is at (at.0 + y - source_at.0, at.1 + x - source_at.1) of `source` (`shifted`).
-    fn touch_shown(&mut self, win: u16, at: (u16, u16), source: u16, source_at: (u16, u16))
+    /// Touches a window where it shows a touched place of another one, `source`. One derives from the other: the place
+    /// `from` of `source` is the place `to` of the window.
+    fn touch_shown(&mut self, source: u16, from: (u16, u16), win: u16, to: (u16, u16))
         requires other { win ≢ source }
-        requires window { EndsWithin (windows self.old).window win at }
-        requires source { EndsWithin (windows self.old).window source source_at }
+        requires source { EndsWithin (windows self.old).window source to }
+        requires window { EndsWithin (windows self.old).window win from }
         ensures touched { windows self.new ≡ record (windows self.old) {
-          window = with_change (windows self.old).window win
-              (with_touches (touched_shown (windows self.old).window source source_at at));
+          window = with_change (windows self.old).window win (with_touches (touched_shown (windows self.old).window source from to));
         } }
         ensures depths { (u : ℕ) → depth_at self.new.slots u ≡ depth_at self.old.slots u }
     {
         prove!(self.has_window(WinId::STANDARD));
         let lines = self.size(win).0;
         for y in 0..lines {
-            if let Some(columns) = self.shown_columns(win, at, source, source_at, y) {
+            if let Some(columns) = self.shown_columns(source, from, win, to, y) {
                 self.touch_columns(win, y, columns);
             }
         }
     }
 
-    /// The columns of a line of a window in which it shows touched places of another one, `source`, as `touch_shown`
-    /// has it.
+    /// The columns of a line of a window in which it shows touched places of another one, `source`, whose place `from`
+    /// is its place `to`.
     fn shown_columns(
         &self,
-        win: u16,
-        at: (u16, u16),
         source: u16,
-        source_at: (u16, u16),
+        from: (u16, u16),
+        win: u16,
+        to: (u16, u16),
         y: u16,
     ) -> Option<Columns>
         requires line { HasPlace (windows self.now).window win y 0 }
-        requires window { EndsWithin (windows self.now).window win at }
-        requires source { EndsWithin (windows self.now).window source source_at }
+        requires source { EndsWithin (windows self.now).window source to }
+        requires window { EndsWithin (windows self.now).window win from }
         ensures shown { IsSomeAnd ((windows self.now).window win) (λ a. (x : ℕ) → x < a.columns
-            → touched_shown (windows self.now).window source source_at at y x ≡ has_column result x) }
+            → touched_shown (windows self.now).window source from to y x ≡ among result x) }
         ensures within { IsSomeAnd ((windows self.now).window win) (λ a. AreColumnsWithin a.columns result) }
     {
         let (lines, _) = self.size(source);
         let (_, columns) = self.size(win);
-        let line = at.0 + y;
-        if line < source_at.0 || line - source_at.0 >= lines {
+        let line = from.0 + y;
+        if line < to.0 || line - to.0 >= lines {
             return None;
         }
-        let touched = self.touched_columns_of(source, line - source_at.0);
-        clip(touched, source_at.1, at.1, columns)
+        let touched = self.touched_columns_of(source, line - to.0);
+        clip(touched, to.1, from.1, columns)
     }
 
     /// The touched columns of a line of a window. The line must exist.
@@ -158,23 +157,23 @@ impl Grids {
     }
 }
 
-/// The columns of a line that show touched columns of another, of which it is a part, or which is a part of it. In the
-/// longer one the other begins at column `from`, and the line, of `columns` columns, at column `to`.
-pub fn clip(touched: Option<Columns>, from: u16, to: u16, columns: u16) -> Option<Columns>
+/// The columns of a line that show touched columns of another. Both lie on one line of a grid: the touched one from
+/// column `source_at` on, the other, of `columns` columns, from column `at` on.
+pub fn clip(touched: Option<Columns>, source_at: u16, at: u16, columns: u16) -> Option<Columns>
     requires some { 0 < columns }
-    requires source { MatchOption touched ⊤ (λ r. (r.first ≤ r.last) × (from + r.last < LARGEST_PAD)) }
-    requires target { to + columns ≤ LARGEST_PAD }
-    ensures shown { (x : ℕ) → x < columns → (nat_le from (to + x) && has_column touched (to + x - from)) ≡ has_column result x }
+    requires source { MatchOption touched ⊤ (λ r. (r.first ≤ r.last) × (source_at + r.last < LARGEST_PAD)) }
+    requires target { at + columns ≤ LARGEST_PAD }
+    ensures shown { (x : ℕ) → x < columns → (nat_le source_at (at + x) && among touched (at + x - source_at)) ≡ among result x }
     ensures within { AreColumnsWithin columns result }
 {
     let touched = touched?;
-    let first = (from + touched.first).max(to);
-    let last = (from + touched.last).min(to + columns - 1);
+    let first = (source_at + touched.first).max(at);
+    let last = (source_at + touched.last).min(at + columns - 1);
     if last < first {
         return None;
     }
     Some(Columns {
-        first: first - to,
-        last: last - to,
+        first: first - at,
+        last: last - at,
     })
 }

@@ -1,10 +1,12 @@
 -- Which cells windows show after a call: those that it wrote, and else those that were there.
-use Rattle.std.proofs.Common.{◌≡◌, ℕ, ◌<◌, false, ◌==◌, ◌||◌, Option, Some, None, IsSome, arith, refl, ap, subst, sym, ◌∙◌}
+use Rattle.std.proofs.Common.{◌≡◌, ℕ, ◌<◌, false, if◌then◌else◌, ◌==◌, ◌||◌, Option, Some, None, IsSome, arith, refl, ap, subst, sym, ◌∙◌}
 use Rattle.std.specs.Prelude.{MatchOption, ⊤}
-use Rattle.std.proofs.lemmas.Bool.{eqb-false, eqb-true, ne_eqb, or_parts}
+use Rattle.std.specs.Option.{option_map}
+use Rattle.std.proofs.lemmas.Bool.{cases_eq, eqb-false, eqb-true, ne_eqb, or_parts}
 use Rattle.cell.specs.Glyphs.{Glyph, blank}
 use Rattle.cell.specs.Pictures.{Place}
-use Rattle.world.specs.Windows.{Drawing, GridPlace, HasPlace, Window, WindowMap, Windows, cell_at, cell_in_grid, cell_of, derives, own, put_windows, window_limit, with_window}
+use Rattle.world.specs.Windows.{Drawing, GridPlace, HasPlace, IsWrite, Window, WindowMap, Windows, cell_at, cell_in_grid, cell_of, derives, own, put, put_from, put_windows, touched_by, unwritten}
+use Rattle.world.specs.Windows.{window_limit, with_window}
 use Rattle.world.specs.Sound.{AreSoundWindows, IsSound}
 use Rattle.world.specs.World.{World}
 use Rattle.world.specs.Frames.{Covers, IsFrameOf}
@@ -21,7 +23,7 @@ use Rattle.world.proofs.EditLaws.{differ-cells, edit-draws, frame-edit}
 use Rattle.world.proofs.FrameLaws.{frame-same, frame_of-is}
 use Rattle.world.proofs.MoveLaws.{leading-some, no-part, underived}
 use Rattle.world.proofs.ViewLaws.{backing_of, cell_at-same, own-same}
-use Rattle.world.proofs.WindowLaws.{own-ends, put-keeps, put-takes}
+use Rattle.world.proofs.WindowLaws.{own-ends, own-put, put-keeps, put-takes}
 use Rattle.world.proofs.WritingLaws.{view-edit}
 use Rattle.world.specs.declared.call.Call.{Call}
 use Rattle.world.specs.declared.call.Making.{Making}
@@ -44,6 +46,15 @@ module _ (windows : Windows) (sound : AreSoundWindows windows) where
   put-shows w y x f glyph u v z (Some a) (Some p) is origin place cell leads = let inside : (y < a.lines) × (x < a.columns) = rw is at place in
       put-takes windows.window w a p f y x glyph u v z is origin inside.0 inside.1 cell leads
 
+  put-touches : (w u : ℕ) (f : Drawing) (o : Option Window) (p : Option GridPlace) → windows.window w ≡ o → own windows.window w 0 0 ≡ p
+      → option_map (λ a. a.touched) (put_from windows.window w o p f u) ≡ option_map (λ a. if u == w then touched_by f a else a.touched) (windows.window u)
+  put-touches w u f None p is origin = grind (arith, cases_eq, eqb-true, ne_eqb)
+  put-touches w u f (Some a) None is origin = let some : IsSome (own windows.window w 0 0) = has-origin w a is in grind arith
+  put-touches w u f (Some a) (Some p) is origin = grind arith
+
+  put-leaves : (w u : ℕ) (f : Drawing) → option_map unwritten (put_windows windows.window w f u) ≡ option_map unwritten (windows.window u)
+  put-leaves w u f = grind arith
+
   edited-takes : (edit : Edit) (w y x : ℕ) (glyph : Glyph) (u v z : ℕ) → edit_window edit ≡ w → HasPlace windows.window w y x → edit_drawing windows edit y x ≡ Some glyph
       → own windows.window u v z ≡ own windows.window w y x → cell_at (after_edit windows edit).window u v z ≡ glyph
   edited-takes edit w y x glyph u v z same place cell leads =
@@ -53,6 +64,17 @@ edited-keeps : (windows : Windows) (edit : Edit) (u v z : ℕ)
     → ((y x : ℕ) → HasPlace windows.window (edit_window edit) y x → IsSome (edit_drawing windows edit y x) → own windows.window (edit_window edit) y x ≡ own windows.window u v z → ⊥)
     → cell_at (after_edit windows edit).window u v z ≡ cell_at windows.window u v z
 edited-keeps windows edit u v z apart = edited-cell windows edit u v z ∙ put-keeps windows.window (edit_window edit) (edit_drawing windows edit) u v z apart
+
+-- ---- a write
+
+pub is-write : (windows : Windows) (w : ℕ) (f : Drawing) → AreSoundWindows windows → IsWrite windows.window (put windows w f).window w f
+is-write windows w f sound = record {
+  written = λ y x glyph u v z. put-shows windows sound w y x f glyph u v z _ _ refl refl;
+  kept = put-keeps windows.window w f;
+  leads = own-put windows.window w f;
+  touched = λ u. put-touches windows sound w u f _ _ refl refl;
+  rest = λ u. put-leaves windows sound w u f;
+}
 
 -- ---- what changes no grid
 

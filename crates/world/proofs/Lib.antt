@@ -1,4 +1,4 @@
--- that one window's cells are another's, for own_after_write, own_is_moved, written_cell and kept_cell
+-- that one window's cells are another's, for own_is_moved and CellLaws
 pub mod WindowLaws
 -- that two writes are one, for joined_writes; compose's and windows' writes rest on it
 pub mod PutLaws
@@ -30,7 +30,8 @@ pub mod Allowed
 pub mod StackingLaws
 -- that a call keeps the picture at each place that it doesn't affect, for kept_picture and kept_places
 pub mod CallLaws
--- that a call changes the cells that it writes, and no others, for cells_after_calls and frames_of_calls
+-- that a write and a call change the cells that they write, and no others, for writes_are_shared, cells_after_calls
+-- and frames_of_calls
 pub mod CellLaws
 -- that making, deleting and moving keep what is found elsewhere, for kept_by_making
 pub mod MoveLaws

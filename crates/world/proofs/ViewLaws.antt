@@ -7,10 +7,8 @@ use Rattle.std.specs.List.{filter_map, list_any}
 use mathlib.Core.Path.{fun_ext}
 use Rattle.std.proofs.lemmas.Bool.{or_parts}
 use Rattle.cell.specs.Pictures.{Place}
-use Rattle.world.specs.Windows.{Backing, Window, WindowMap, Windows, cell_at, with_change, own, own_within, window_limit}
-use Rattle.world.specs.Settings.{set}
+use Rattle.world.specs.Windows.{Backing, Window, WindowMap, cell_at, with_change, own, own_within, window_limit}
 use Rattle.world.specs.Panels.{Panels, cell_on_screen, found_from_top, holds, owner, panel_holds, place_of, standard_screen, window_or_standard, windows_from_top}
-use Rattle.world.specs.declared.settings.Settings.{Settings}
 
 -- what doesn't look at what a change changes is the same
 pub same-if : {X : Type 0} (P : Option Window → X) (change : Window → Window) → ((a : Window) → P (Some (change a)) ≡ P (Some a))
@@ -111,6 +109,3 @@ found-dressed new old same panels y x = grind (arith, (found-same new old panels
 pub changed-cells : (window : WindowMap) (w : ℕ) (change : Window → Window) → ((a : Window) → outline_of (Some (change a)) ≡ outline_of (Some a))
     → ((a : Window) → backing_of (Some (change a)) ≡ backing_of (Some a)) → SameCells (with_change window w change) window
 changed-cells window w change outlines backings = grind (arith, outlines, backings)
-
-pub set-cells : (windows : Windows) (w : ℕ) (change : Settings → Settings) → SameCells (set windows w change).window windows.window
-set-cells windows w change = grind arith

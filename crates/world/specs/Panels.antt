@@ -1,6 +1,6 @@
 -- The panels, and the picture that they make of the windows.
 -- NetBSD panel(3): panels are windows with an order of depth, above the standard screen; hidden ones are not in it.
-use Rattle.std.specs.Prelude.{unwrap_or, ℕ, ◌+◌, ◌-◌, Bool, false, ◌==◌, ◌&&◌, nat_lt, nat_le, Option, Some, None, List, [], ◌∷◌, reverse, find}
+use Rattle.std.specs.Prelude.{unwrap_or, ℕ, ◌+◌, ◌-◌, Bool, false, ◌==◌, ◌&&◌, Option, Some, None, List, [], ◌∷◌, reverse, find}
 use Rattle.std.specs.List.{filter_map, last_or}
 use Rattle.std.specs.Option.{option_map_or}
 use Rattle.cell.specs.Glyphs.{Glyph}
@@ -8,6 +8,7 @@ use Rattle.cell.specs.Pictures.{Place, origin}
 use Rattle.cell.specs.declared.limits.TheConstants.{MOST_PANELS}
 use Rattle.cell.specs.declared.window.TheConstants.WinId.{STANDARD}
 use Rattle.world.specs.Windows.{Window, WindowMap, any_below, cell_at}
+use Rattle.world.specs.Rows.{is_among}
 
 -- the visible panels from bottom to top, and the window of each panel, which is hidden where the list lacks it
 pub record Panels : Type 0 where
@@ -47,7 +48,7 @@ window_or_standard panels (Some p) = unwrap_or (panels.window p) standard_screen
 
 -- whether the window's rectangle holds the place (y, x) of the screen; a pad's holds none
 abbrev pub holds_place : ℕ → ℕ → Window → Bool
-holds_place y x a = option_map_or (λ p. (nat_le p.0 y && nat_lt y (p.0 + a.lines)) && (nat_le p.1 x && nat_lt x (p.1 + a.columns))) a.place false
+holds_place y x a = option_map_or (λ p. is_among p.0 a.lines y && is_among p.1 a.columns x) a.place false
 
 abbrev pub holds : WindowMap → ℕ → ℕ → ℕ → Bool
 holds window w y x = option_map_or (holds_place y x) (window w) false

@@ -1,8 +1,8 @@
 -- Windows and pads: what they are, which cells they share, and what it is to write in one.
 -- X/Open Curses Issue 7: newwin, subwin and derwin (a derived window shares the cells of its parent), newpad, touchwin.
 -- Lines and columns count from 0; a place is named by its line y and its column x.
-use Rattle.std.specs.Prelude.{ℕ, zero, suc, ◌+◌, ◌-◌, ◌<◌, min, max, Bool, false, if◌then◌else◌, ◌==◌, nat_lt, nat_le, ◌&&◌, ◌||◌, Option, Some, None, is_some, is_none, unwrap_or}
-use Rattle.std.specs.Prelude.{option_and_then, IsSomeAnd, List, [], ◌∷◌}
+use Rattle.std.specs.Prelude.{◌≡◌, ℕ, zero, suc, ◌+◌, ◌-◌, ◌<◌, min, max, Bool, false, if◌then◌else◌, ◌==◌, nat_lt, nat_le, ◌&&◌, ◌||◌, Option, Some, None, is_some, is_none, unwrap_or}
+use Rattle.std.specs.Prelude.{option_and_then, IsSome, IsSomeAnd, List, [], ◌∷◌}
 use Rattle.std.specs.List.{list_any}
 use Rattle.std.specs.Option.{option_map, option_map_or}
 use Rattle.cell.specs.Glyphs.{Glyph, blank}
@@ -80,6 +80,10 @@ cell_in_grid window (Some p) = option_map_or (λ a. cell_of a.backing p.line p.c
 abbrev pub cell_at : WindowMap → ℕ → ℕ → ℕ → Glyph
 cell_at window w y x = cell_in_grid window (own window w y x)
 
+-- window w is there and has the place (y, x)
+abbrev pub HasPlace : WindowMap → ℕ → ℕ → ℕ → Type 0
+HasPlace window w y x = IsSomeAnd (window w) (λ a. (y < a.lines) × (x < a.columns))
+
 -- ---- ancestors
 
 -- the number of the parent that a backing names
@@ -154,13 +158,26 @@ abbrev pub put_from : WindowMap → ℕ → Option Window → Option GridPlace �
 put_from window w (Some a) (Some p) f u = option_map (after_drawing w a p f u) (window u)
 put_from window w _ _ f u = window u
 
--- The drawing f was written through window w: each place of f took its cell in the grid that it leads to, so every
--- window that shows that place shows the cell, and the places of f were touched in w, and in no other window.
+-- The drawing f was written through window w. `IsWrite` says what that is, without the lines and columns of grids.
 abbrev pub put_windows : WindowMap → ℕ → Drawing → WindowMap
 put_windows window w f = put_from window w (window w) (own window w 0 0) f
 
 abbrev pub put : Windows → ℕ → Drawing → Windows
 put windows w f = record windows { window = put_windows windows.window w f }
+
+-- what a write leaves of a window as it is
+abbrev pub unwritten : Window → Window
+unwritten a = record a { touched = λ y. None; backing = own_grid (λ y x. blank) }
+
+-- What a write through window w does, whatever windows share its cells, in a sound world: each place of any window that
+-- leads where a written place of w leads shows its cell, and each other place the cell that it showed. The written
+-- places are touched in w, and in no other window. Nothing else changes.
+pub record IsWrite (old new : WindowMap) (w : ℕ) (f : Drawing) : Type 0 where
+  pub written : (y x : ℕ) (glyph : Glyph) (u v z : ℕ) → HasPlace old w y x → f y x ≡ Some glyph → own old u v z ≡ own old w y x → cell_at new u v z ≡ glyph
+  pub kept : (u v z : ℕ) → ((y x : ℕ) → HasPlace old w y x → IsSome (f y x) → own old w y x ≡ own old u v z → ⊥) → cell_at new u v z ≡ cell_at old u v z
+  pub leads : (u y x : ℕ) → own new u y x ≡ own old u y x
+  pub touched : (u : ℕ) → option_map (λ a. a.touched) (new u) ≡ option_map (λ a. if u == w then touched_by f a else a.touched) (old u)
+  pub rest : (u : ℕ) → option_map unwritten (new u) ≡ option_map unwritten (old u)
 
 -- one drawing laid over another
 abbrev pub over : Drawing → Drawing → Drawing
@@ -172,10 +189,6 @@ over g f y x = if is_some (g y x) then g y x else f y x
 abbrev pub any_below : ℕ → (ℕ → Bool) → Bool
 any_below zero test = false
 any_below (suc n) test = test n || any_below n test
-
--- window w is there and has the place (y, x)
-abbrev pub HasPlace : WindowMap → ℕ → ℕ → ℕ → Type 0
-HasPlace window w y x = IsSomeAnd (window w) (λ a. (y < a.lines) × (x < a.columns))
 
 -- one window changed
 abbrev pub with_change : WindowMap → ℕ → (Window → Window) → WindowMap

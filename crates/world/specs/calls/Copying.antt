@@ -11,7 +11,7 @@ use Rattle.std.specs.Option.{option_map_or}
 use Rattle.cell.specs.Refusals.{first_of}
 use Rattle.world.specs.Windows.{Drawing, Window, WindowMap, Windows, ancestors, any_below, cell_at, derives, is_missing, touched_below}
 use Rattle.world.specs.Panels.{cell_on_screen, holds, place_of}
-use Rattle.world.specs.Rows.{overlaid_cell}
+use Rattle.world.specs.Rows.{is_among, overlaid_cell}
 use Rattle.world.specs.Sharing.{shows_part_of}
 use Rattle.world.specs.Effects.{Change, asks, edits, draws, marks, after_change}
 use Rattle.world.specs.calls.Making.{is_pad}
@@ -27,29 +27,31 @@ use Rattle.world.specs.declared.settings.Columns.{Columns}
 
 -- ---- what is copied: all cells, or all but the spaces
 
--- so many lines and columns of window src, from (sy, sx) on, for those from (dy, dx) on
+-- From (dminrow, dmincol) of the destination on, so many lines and columns take the cells that window src has from
+-- (sminrow, smincol) on.
 abbrev pub rectangle_copied : WindowMap → ℕ → ℕ → ℕ → ℕ → ℕ → ℕ → ℕ → Bool → Drawing
-rectangle_copied window src sy sx dy dx lines columns overlay y x =
-    if (nat_le dy y && nat_lt y (dy + lines)) && (nat_le dx x && nat_lt x (dx + columns)) then overlaid_cell overlay (cell_at window src (sy + (y - dy)) (sx + (x - dx))) else None
+rectangle_copied window src sminrow smincol dminrow dmincol lines columns overlay y x =
+    if is_among dminrow lines y && is_among dmincol columns x then overlaid_cell overlay (cell_at window src (sminrow + (y - dminrow)) (smincol + (x - dmincol))) else None
 
--- the cells of window src, for the places of window dst at which both cover the screen
+-- copywin: the destination's rectangle from (dminrow, dmincol) to (dmaxrow, dmaxcol), both in it
+abbrev pub copywin_drawing : WindowMap → ℕ → ℕ → ℕ → ℕ → ℕ → ℕ → ℕ → Bool → Drawing
+copywin_drawing window src sminrow smincol dminrow dmincol dmaxrow dmaxcol overlay =
+    rectangle_copied window src sminrow smincol dminrow dmincol (dmaxrow - dminrow + 1) (dmaxcol - dmincol + 1) overlay
+
+-- overlay and overwrite: where the two windows overlap on the screen, the place (y, x) of window dst takes the cell that
+-- window src has at the same place of the screen.
 abbrev pub common_cells : WindowMap → ℕ → ℕ → Bool → Drawing
 common_cells window src dst overlay y x =
     let line = (place_of window dst).0 + y in
     let column = (place_of window dst).1 + x in
     if holds window src line column then overlaid_cell overlay (cell_on_screen window src line column) else None
 
--- the rectangle of window src for one of another, both ends inclusive
-abbrev pub copywin_drawing : WindowMap → ℕ → ℕ → ℕ → ℕ → ℕ → ℕ → ℕ → Bool → Drawing
-copywin_drawing window src sy sx top left bottom right overlay =
-    rectangle_copied window src sy sx top left (bottom - top + 1) (right - left + 1) overlay
-
 -- ---- what is touched
 
 -- n lines from a first one on are touched from their first column to their last, or not touched
 abbrev pub lines_marked : ℕ → ℕ → Bool → Window → Window
 lines_marked first n flag a = record a {
-  touched = λ y. if nat_le first y && nat_lt y (first + n) then (if flag then Some (record { first = 0; last = a.columns - 1 }) else None) else a.touched y;
+  touched = λ y. if is_among first n y then (if flag then Some (record { first = 0; last = a.columns - 1 }) else None) else a.touched y;
 }
 
 -- all lines
@@ -91,13 +93,13 @@ overlay_tests windows src dst =
     ∷ (is_pad windows.window src || is_pad windows.window dst, IsPad)
     ∷ []
 
--- the rectangle of the destination has its last line or column before its first; or it isn't in its window, or the
--- source's isn't
+-- the destination's rectangle has its last line or column before its first; or it isn't in its window, or the source's
+-- isn't
 abbrev pub copywin_tests : Windows → ℕ → ℕ → ℕ → ℕ → ℕ → ℕ → ℕ → ℕ → List (Bool × Refusal)
-copywin_tests windows src dst sy sx top left bottom right =
+copywin_tests windows src dst sminrow smincol dminrow dmincol dmaxrow dmaxcol =
     (is_missing windows.window src || is_missing windows.window dst, NoSuchWindow)
-    ∷ (nat_lt bottom top || nat_lt right left, BadRectangle)
-    ∷ (lacks_place windows.window dst bottom right || lacks_place windows.window src (sy + (bottom - top)) (sx + (right - left)), OutsideWindow)
+    ∷ (nat_lt dmaxrow dminrow || nat_lt dmaxcol dmincol, BadRectangle)
+    ∷ (lacks_place windows.window dst dmaxrow dmaxcol || lacks_place windows.window src (sminrow + (dmaxrow - dminrow)) (smincol + (dmaxcol - dmincol)), OutsideWindow)
     ∷ []
 
 -- ---- calls

@@ -9,6 +9,7 @@ use Rattle.cell.specs.declared.limits.TheConstants.{LAST_COLOUR}
 use Rattle.cell.specs.declared.refusal.Refusal.{Refusal}
 use Rattle.cell.specs.declared.refusal.Refusal.TheVariants.{BadPair, BadRectangle, IsPad, NotPad, OffScreen, OutsideWindow}
 use Rattle.world.specs.Windows.{Drawing, WindowMap, Windows}
+use Rattle.world.specs.Rows.{is_among}
 use Rattle.world.specs.Panels.{cell_on_screen, cursor_on_screen, holds, place_of}
 use Rattle.world.specs.World.{World}
 use Rattle.world.specs.Effects.{Effect, refreshes, composes, shows, colours}
@@ -49,22 +50,18 @@ abbrev pub colour_tests : ℕ → ℕ → ℕ → List (Bool × Refusal)
 colour_tests pair foreground background = (pair == 0 || (is_no_pair pair || (is_no_colour foreground || is_no_colour background)), BadPair) ∷ []
 
 abbrev pub pnoutrefresh_tests : Windows → ℕ → ℕ → ℕ → ℕ → ℕ → ℕ → ℕ → List (Bool × Refusal)
-pnoutrefresh_tests windows w py px top left bottom right =
-    missing_window windows w
-    ∷ (not (is_pad windows.window w), NotPad)
-    ∷ (nat_lt bottom top || nat_lt right left, BadRectangle)
-    ∷ (lacks_place windows.window w (py + (bottom - top)) (px + (right - left)), OutsideWindow)
-    ∷ (is_beyond windows bottom right, OffScreen)
+pnoutrefresh_tests windows pad pminrow pmincol sminrow smincol smaxrow smaxcol =
+    missing_window windows pad
+    ∷ (not (is_pad windows.window pad), NotPad)
+    ∷ (nat_lt smaxrow sminrow || nat_lt smaxcol smincol, BadRectangle)
+    ∷ (lacks_place windows.window pad (pminrow + (smaxrow - sminrow)) (pmincol + (smaxcol - smincol)), OutsideWindow)
+    ∷ (is_beyond windows smaxrow smaxcol, OffScreen)
     ∷ []
 
 abbrev pub noutrefresh_tests : Windows → ℕ → List (Bool × Refusal)
 noutrefresh_tests windows w = missing_window windows w ∷ (is_pad windows.window w, IsPad) ∷ []
 
 -- ---- calls
-
--- n lines from a first one on
-abbrev pub among_lines : ℕ → ℕ → ℕ → Bool
-among_lines first n y = nat_le first y && nat_lt y (first + n)
 
 -- pnoutrefresh: a rectangle of the pad, touched or not, for one of the screen, both ends inclusive; the wanted cursor
 -- stays
@@ -75,7 +72,7 @@ refresh_rule world (Noutrefresh win) = record {
 }
 refresh_rule world (Pnoutrefresh pad pminrow pmincol sminrow smincol smaxrow smaxcol) = record {
   tests = pnoutrefresh_tests world.windows pad.0 pminrow pmincol sminrow smincol smaxrow smaxcol;
-  effect = refreshes pad.0 (among_lines pminrow (smaxrow - sminrow + 1))
+  effect = refreshes pad.0 (is_among pminrow (smaxrow - sminrow + 1))
       (copywin_drawing world.windows.window pad.0 pminrow pmincol sminrow smincol smaxrow smaxcol false) world.virtual.cursor;
 }
 refresh_rule world UpdatePanels = record { tests = []; effect = composes }

@@ -2,23 +2,20 @@
 use Rattle.std.proofs.Common.{arith, rules, refl}
 use Rattle.std.proofs.lemmas.Grind.{common_steps}
 use Rattle.std.proofs.lemmas.Bool.Decides.{nat_tests}
-use Rattle.world.specs.Effects.{with_place}
-use Rattle.grids.specs.contracts.table.Grids.{the_view}
 use Rattle.grids.proofs.Changes.{IsWindowTable-moved, windows-changed}
 use Rattle.grids.proofs.Sounds.{sound}
 use Rattle.grids.proofs.table.Grids.mvwin.Goals as goal
 
 pub invariant_of-self : goal.invariant_of-self
 invariant_of-self c =
-    IsWindowTable-moved (the_view c.self.inside) c.place_slot.new.slots.items c.args.win.0 (with_place c.args.y c.args.x) c.self.invariant c.place_slot.ensures
+    IsWindowTable-moved c.self.invariant c.place_slot.ensures
     (grind (arith, common_steps, nat_tests), grind (arith, common_steps, nat_tests)) (λ e. grind (arith, common_steps, nat_tests))
 
 pub returns : goal.returns
 returns c = record {
   refused = search rules;
   reply = refl;
-  changed =
-      rw (← c.self.view_is) (windows-changed (the_view c.self.inside) c.place_slot.new.slots.items c.args.win.0 (with_place c.args.y c.args.x) c.self.invariant c.place_slot.ensures);
+  changed = rw (← c.self.view_is) (windows-changed c.self.invariant c.place_slot.ensures);
   unchanged = tt;
   sound = sound _ (invariant_of-self c);
 }

@@ -16,7 +16,7 @@ pub loop-y-init : goal.loop-y-init
 loop-y-init c =
     let a = c.args in
     let w = windows a.self.now in
-    record { touched = none-before w a.win (touched_shown w.window a.source a.source_at a.at); depths = λ u. refl }
+    record { touched = none-before w a.win (touched_shown w.window a.source a.from a.to); depths = λ u. refl }
 
 pub shown_columns-requires : goal.shown_columns-requires
 shown_columns-requires c =
@@ -33,10 +33,10 @@ loop-y-preserved c =
     let a = c.args in
     let w = windows a.self.now in
     let l = at-line _ _ _ _ _ _ _ _ c.requires.other c.requires.window c.size-lines.ensures c.loop-y-test.true c.loop-y.invariant.touched in
-    let test = touched_shown w.window a.source a.source_at a.at in
+    let test = touched_shown w.window a.source a.from a.to in
     let cur = windows c.loop-y.self in
-    let same : (x : ℕ) → test c.loop-y.y x ≡ touched_shown cur.window a.source a.source_at a.at c.loop-y.y x =
-    λ x. ap (λ (o : Option Window). option_map_or (λ (d : Window). shows_touched d a.source_at a.at c.loop-y.y x) o false) (sym l.same) in
+    let same : (x : ℕ) → test c.loop-y.y x ≡ touched_shown cur.window a.source a.from a.to c.loop-y.y x =
+    λ x. ap (λ (o : Option Window). option_map_or (λ (d : Window). shows_touched d a.from a.to c.loop-y.y x) o false) (sym l.same) in
     elim c.match-shown_columns.branch [
       | in-Some v ↦
           let r = v.in-Some.columns in
