@@ -1,17 +1,32 @@
--- A line of a picture that is filled column after column.
-use Rattle.std.proofs.Common.{List, ◌≡◌, ℕ, ◌+◌, ◌<◌, ◌≤◌, ◌==◌, ◌&&◌, nat_le, nat_lt, if◌then◌else◌, length, arith, eq-eqb, ne_eqb}
+-- Places that are filled with one cell, one after another, and a line of which some are.
+use Rattle.std.proofs.Common.{◌≡◌, ℕ, ◌+◌, ◌-◌, ◌<◌, ◌≤◌, ◌==◌, ◌&&◌, nat_le, nat_lt, if◌then◌else◌, List, length, set, replicate, get_or, ap, sym, arith, eq-eqb, ne_eqb}
+use Rattle.std.specs.List.{splice}
 use Rattle.std.proofs.lemmas.Bool.{cases_eq}
 use Rattle.std.proofs.lemmas.Bool.Decides.{nat_tests}
-use Rattle.std.proofs.lemmas.List.{length-set, get_or-set_same, get_or-set_other, get_or_past}
-use Rattle.cell.specs.Pictures.{line_of, cell_or, with_cell}
-use Rattle.cell.proofs.PictureLemmas.{shown-here, shown-elsewhere}
+use Rattle.std.proofs.lemmas.List.{length-replicate, get_or-replicate}
+use Rattle.cell.specs.Grids.{rows, IsWhole}
+use Rattle.cell.specs.Pictures.{line_of}
+use Rattle.cell.proofs.PieceWrites.{PieceFits, PieceFits-from}
+use Rattle.std.proofs.lemmas.List.Edits.{fill_from_more, paste_all}
 
--- one column more, where a function says what is in each
-pub filled-more : {A : Type 0} (none : A) (picture old : List (List A)) (y start x : ℕ) (f : ℕ → A) → y < length picture → x < length (line_of picture y) → start ≤ x
-    → ((v u : ℕ) → cell_or none picture (v, u) ≡ (if (v == y) && (nat_le start u && nat_lt u x) then f u else cell_or none old (v, u)))
-    → (v u : ℕ) → cell_or none (with_cell picture (y, x) (f x)) (v, u) ≡ (if (v == y) && (nat_le start u && nat_lt u (x + 1)) then f u else cell_or none old (v, u))
-filled-more none picture old y start x f below left ordered before v u = grind (arith, cases_eq, shown-elsewhere, shown-here, nat_tests, eq-eqb, ne_eqb)
+-- what is put into a line that is filled fits into it
+pub PieceFits-filled : {A : Type 0} {Is : A → Type 0} {lines columns y start end : ℕ} {cells : List A} {picture : List (List A)} (cell : A)
+    → IsWhole Is lines columns cells → rows lines columns cells ≡ picture → y < length picture → start ≤ end → end ≤ length (line_of picture y)
+    → PieceFits lines columns cells (replicate (end - start) cell) y start
+PieceFits-filled {start = start} {end} cell grid is within ordered fits = PieceFits-from grid is within (omega (arith, length-replicate (end - start) cell))
 
--- no line changes its length
-pub width-with_cell : {A : Type 0} (picture : List (List A)) (y x v : ℕ) (glyph : A) → length (line_of (with_cell picture (y, x) glyph) v) ≡ length (line_of picture v)
-width-with_cell {A = A} picture y x v glyph = grind (arith, get_or-set_same, length-set, get_or_past, get_or-set_other)
+pub splice-filled : {A : Type 0} (cell : A) (cells : List A) (start count : ℕ)
+    → splice cells start (start + count) (replicate count cell) ≡ splice cells start (start + length (replicate count cell)) (replicate count cell)
+splice-filled cell cells start count = ap (λ n. splice cells start (start + n) (replicate count cell)) (sym (length-replicate count cell))
+
+-- the next place is filled
+pub filled-next : {A : Type 0} (cell : A) (cells : List A) (start x : ℕ) → start ≤ x → x < length cells
+    → set (splice cells start x (replicate (x - start) cell)) x cell ≡ splice cells start (x + 1) (replicate (x + 1 - start) cell)
+filled-next cell cells start x from within =
+    grind (arith, fill_from_more cells start (x - start) cell, paste_all cells start (replicate (x - start) cell) (x - start), paste_all cells start (replicate (x - start + 1) cell) (x - start + 1), length-replicate)
+
+-- what is shown where a line is filled
+pub shown-filled : {A : Type 0} (none cell other : A) (y start end v u : ℕ) → start ≤ end
+    → (if (v == y) && (nat_le start u && nat_lt u (start + length (replicate (end - start) cell))) then get_or (replicate (end - start) cell) (u - start) none else other)
+    ≡ (if (v == y) && (nat_le start u && nat_lt u end) then cell else other)
+shown-filled none cell other y start end v u ordered = grind (arith, length-replicate, cases_eq v y, eq-eqb, ne_eqb, nat_tests, get_or-replicate)

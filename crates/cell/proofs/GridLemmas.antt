@@ -8,7 +8,7 @@ use Rattle.std.proofs.lemmas.List.Elements.{All-from_recursion, recursion_from_A
 use Rattle.std.proofs.lemmas.List.FromFn.{length-map-range_with_len, get_or-map-range_with_len}
 use Rattle.std.proofs.lemmas.Nat.{mul-le, row_fits}
 use Rattle.cell.specs.Pictures.{line_of, with_cell, EachCell, size_of, all_of}
-use Rattle.cell.specs.Grids.{rows, IsGrid}
+use Rattle.cell.specs.Grids.{rows, IsWhole}
 use Rattle.cell.proofs.PictureLemmas.{each-map}
 
 abbrev line_at : {A : Type 0} → ℕ → List A → ℕ → List A
@@ -24,7 +24,7 @@ line_of-rows lines columns cells y below = get_or-map-range_with_len (line_at co
 pub line_end : (lines columns y : ℕ) → y < lines → y * columns + columns ≤ lines * columns
 line_end lines columns y below = row_fits y columns lines columns below (omega arith)
 
-pub length-line_of-rows : {A : Type 0} {Is : A → Type 0} (lines columns : ℕ) (cells : List A) (y : ℕ) → IsGrid Is lines columns cells → y < lines
+pub length-line_of-rows : {A : Type 0} {Is : A → Type 0} (lines columns : ℕ) (cells : List A) (y : ℕ) → IsWhole Is lines columns cells → y < lines
     → length (line_of (rows lines columns cells) y) ≡ columns
 length-line_of-rows lines columns cells y grid below = grind (arith, line_end, line_of-rows, length-take-le, length-drop)
 
@@ -43,7 +43,7 @@ rows-set lines columns cells y x cell below left =
 
 -- cells
 
-pub EachCell-rows : {A : Type 0} {Is : A → Type 0} (lines columns : ℕ) (cells : List A) → IsGrid Is lines columns cells → EachCell Is (rows lines columns cells)
+pub EachCell-rows : {A : Type 0} {Is : A → Type 0} (lines columns : ℕ) (cells : List A) → IsWhole Is lines columns cells → EachCell Is (rows lines columns cells)
 EachCell-rows {Is = Is} lines columns cells grid = search (arith, each-map, recursion_from_All, All-take, All-drop, All-from_recursion)
 
 -- a blank grid
@@ -55,11 +55,16 @@ rows-all_of cell lines columns =
 
 -- grids of one size
 
-pub same_grid_size : {A : Type 0} {Is : A → Type 0} {lines columns lines' columns' : ℕ} {cells cells' : List A} {picture picture' : List (List A)} → IsGrid Is lines columns cells
-    → IsGrid Is lines' columns' cells'
+pub same_grid_size : {A : Type 0} {Is : A → Type 0} {lines columns lines' columns' : ℕ} {cells cells' : List A} {picture picture' : List (List A)} → IsWhole Is lines columns cells
+    → IsWhole Is lines' columns' cells'
     → rows lines columns cells ≡ picture → rows lines' columns' cells' ≡ picture' → size_of picture ≡ size_of picture'
     → (length cells ≡ length cells') × (rows lines columns cells' ≡ picture')
 same_grid_size {lines} {columns} {lines'} {columns'} {cells} {cells'} grid other is other_is same = grind (arith, length-rows, length-line_of-rows, nil_from_length)
+
+pub same_width : {A : Type 0} {Is : A → Type 0} {lines columns lines' columns' : ℕ} {cells cells' : List A} {picture picture' : List (List A)} → IsWhole Is lines columns cells
+    → IsWhole Is lines' columns' cells'
+    → rows lines columns cells ≡ picture → rows lines' columns' cells' ≡ picture' → size_of picture ≡ size_of picture' → (lines ≡ lines') × (0 < lines → columns ≡ columns')
+same_width {lines} {columns} {lines'} {columns'} {cells} {cells'} grid other is other_is same = grind (arith, length-rows, length-line_of-rows)
 
 -- a line of the picture is a line of the grid, and a column of it a column
 
@@ -68,10 +73,10 @@ pub record HasLine {A : Type 0} (lines columns : ℕ) (cells : List A) (y : ℕ)
   pub end : y * columns + columns ≤ length cells
   pub few : length cells ≤ 1000000
 
-pub HasLine-from_length : {A : Type 0} {Is : A → Type 0} {lines columns y : ℕ} {cells : List A} {picture : List (List A)} → IsGrid Is lines columns cells → rows lines columns cells ≡ picture
+pub HasLine-from_length : {A : Type 0} {Is : A → Type 0} {lines columns y : ℕ} {cells : List A} {picture : List (List A)} → IsWhole Is lines columns cells → rows lines columns cells ≡ picture
     → y < length picture → HasLine lines columns cells y
 HasLine-from_length {lines} {columns} {y} {cells} grid is within = grind (arith, length-rows, line_end, mul-le)
 
-pub column_below : {A : Type 0} {Is : A → Type 0} {lines columns y x : ℕ} {cells : List A} {picture : List (List A)} → IsGrid Is lines columns cells → rows lines columns cells ≡ picture
+pub column_below : {A : Type 0} {Is : A → Type 0} {lines columns y x : ℕ} {cells : List A} {picture : List (List A)} → IsWhole Is lines columns cells → rows lines columns cells ≡ picture
     → y < length picture → x < length (line_of picture y) → x < columns
 column_below {lines} {columns} {y} {x} {cells} grid is within left = grind (arith, HasLine-from_length, length-line_of-rows)

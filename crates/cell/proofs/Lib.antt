@@ -3,13 +3,15 @@ pub mod Ranges
 -- The lines of a grid whose cells are one after another: each line, a change of one cell, and equal sizes; for `copy_from`, `new`,
 -- `put_cells` and others
 pub mod GridLemmas
--- Pictures of a known size: what each line has, what a change of one cell keeps, and when two are equal; for `fill`
+-- Pictures of a known size: what each line has, and when two are equal; for `clear`, `fill` and others
 pub mod PictureLemmas
--- A line of a picture that is filled column after column; for `fill`
+-- Places that are filled with one cell, one after another, and a line of which some are; for `fill`, `fill_piece`
 pub mod Fills
--- A piece of a line of a grid that is written at once; for `put_cells`
+-- A piece of a line of a grid that is written at once; for `fill`, `put_cells`, `show_cells`
 pub mod PieceWrites
--- A grid with one cell everywhere; for `clear`, `fill_cells`
+-- The cells that a grid has, with the blanks that are missing after them; for `reach`, `row` and others
+pub mod Blanks
+-- A grid with one cell everywhere; for `clear`
 pub mod Clearing
 -- Cells as numbers, one in each lane, and where no lane differs; for `lanes`, `same_lanes`
 pub mod LaneLaws

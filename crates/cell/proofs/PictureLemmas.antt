@@ -1,9 +1,8 @@
--- Pictures of a known size: what each line has, what a change of one cell keeps, and when two are equal.
-use Rattle.std.proofs.Common.{refl, ◌≡◌, ℕ, ◌+◌, ◌<◌, ◌∙◌, List, [], ◌∷◌, length, map, replicate, get_or, set, sym, zero, suc, arith, zero-add, lit≤, lit<, inl, inr}
-use Rattle.cell.specs.Pictures.{size_of, Place, line_of, cell_or, with_cell, HasSize, EachCell, all_of, lines_from}
+-- Pictures of a known size: what each line has, and when two are equal.
+use Rattle.std.proofs.Common.{refl, ◌≡◌, ℕ, ◌+◌, ◌<◌, ◌∙◌, List, [], ◌∷◌, length, map, replicate, get_or, set, sym, arith, zero-add, lit≤, lit<}
+use Rattle.cell.specs.Pictures.{size_of, line_of, cell_or, HasSize, EachCell, all_of, lines_from}
 use Rattle.std.specs.List.{AllByRecursion}
-use Rattle.std.proofs.lemmas.Bool.{cases_lt}
-use Rattle.std.proofs.lemmas.List.{length-set, length-replicate, ext_get_or, get_or-set_same, get_or-set_other, get_or_past}
+use Rattle.std.proofs.lemmas.List.{length-replicate, ext_get_or}
 use Rattle.std.proofs.lemmas.List.Elements.{All-from_recursion, recursion_from_All, All-get_or, All-map, All-replicate, All-set}
 use Rattle.std.proofs.lemmas.List.FromFn.{length-map-range_with_len, get_or-map-range_with_len}
 use Rattle.cell.specs.Glyphs.{blank, IsCell}
@@ -12,7 +11,7 @@ use Rattle.cell.specs.declared.limits.TheConstants.{LAST_PAIR}
 
 -- `AllByRecursion` of lists that are made by a rule
 
-each-replicate : {X : Type 0} (P : X → Type 0) (n : ℕ) (x : X) → P x → AllByRecursion P (replicate n x)
+pub each-replicate : {X : Type 0} (P : X → Type 0) (n : ℕ) (x : X) → P x → AllByRecursion P (replicate n x)
 each-replicate P n x h = recursion_from_All P (replicate n x) (All-replicate P n x h)
 
 pub each-map : {X : Type 0} (P : X → Type 0) (f : ℕ → X) → ((k : ℕ) → P (f k)) → (ks : List ℕ) → AllByRecursion P (map f ks)
@@ -32,16 +31,6 @@ HasSize-all_of cell lines columns = search (arith, length-replicate, each-replic
 pub HasSize-lines_from : {A : Type 0} (lines columns : ℕ) (shown : ℕ → ℕ → A) → HasSize lines columns (lines_from lines columns shown)
 HasSize-lines_from {A = A} lines columns shown = search (arith, length-map-range_with_len, each-map)
 
-width-with_cell : {A : Type 0} (columns : ℕ) (picture : List (List A)) (y x : ℕ) (shown : A) → AllByRecursion (λ line. length line ≡ columns) picture
-    → AllByRecursion (λ line. length line ≡ columns) (with_cell picture (y, x) shown)
-width-with_cell columns [] y x shown wide = tt
-width-with_cell columns (line ∷ lines) zero x shown wide = (length-set line x shown ∙ wide.0, wide.1)
-width-with_cell columns (line ∷ lines) (suc y) x shown wide = (wide.0, width-with_cell columns lines y x shown wide.1)
-
-pub HasSize-with_cell : {A : Type 0} {lines columns : ℕ} {picture : List (List A)} (place : Place) (shown : A) → HasSize lines columns picture
-    → HasSize lines columns (with_cell picture place shown)
-HasSize-with_cell {lines} {columns} {picture} place shown size = grind (arith, length-set, width-with_cell)
-
 -- cells
 
 pub IsCell-blank : IsCell blank
@@ -58,16 +47,6 @@ ArePairs-first = record { all = length-replicate (LAST_PAIR + 1) default_pair; e
 
 pub EachCell-all_of : {A : Type 0} (Is : A → Type 0) (cell : A) (lines columns : ℕ) → Is cell → EachCell Is (all_of cell lines columns)
 EachCell-all_of Is cell lines columns is = search (arith, each-replicate)
-
-each-line : {A : Type 0} (Is : A → Type 0) (picture : List (List A)) (y : ℕ) → EachCell Is picture → AllByRecursion Is (line_of picture y)
-each-line Is picture y cells = elim (cases_lt y (length picture)) [
-  | inl below ↦ All-get_or (AllByRecursion Is) picture y [] below (All-from_recursion (AllByRecursion Is) picture cells)
-  | inr past ↦ rw (get_or_past picture y [] past) tt
-]
-
-pub EachCell-with_cell : {A : Type 0} (Is : A → Type 0) (picture : List (List A)) (place : Place) (shown : A) → EachCell Is picture → Is shown → EachCell Is (with_cell picture place shown)
-EachCell-with_cell Is picture place shown cells cell =
-    each-set (AllByRecursion Is) picture place.0 _ (each-set Is (line_of picture place.0) place.1 shown cell (search (arith, each-line))) cells
 
 -- equal pictures
 
@@ -92,12 +71,3 @@ first_width lines columns (line ∷ more) (other ∷ others) size other_size = s
 
 pub same_size : {A : Type 0} {lines columns : ℕ} {one other : List (List A)} → HasSize lines columns one → HasSize lines columns other → size_of one ≡ size_of other
 same_size {lines} {columns} {one} {other} size other_size = grind (arith, first_width)
-
--- one other cell
-
-module _ {A : Type 0} (none : A) (picture : List (List A)) (y x : ℕ) (glyph : A) (in_lines : y < length picture) (in_columns : x < length (line_of picture y)) where
-  pub shown-here : cell_or none (with_cell picture (y, x) glyph) (y, x) ≡ glyph
-  shown-here = grind (arith, get_or-set_same, in_lines, in_columns)
-
-  pub shown-elsewhere : (v u : ℕ) → ((v ≡ y) → (u ≡ x) → ⊥) → cell_or none (with_cell picture (y, x) glyph) (v, u) ≡ cell_or none picture (v, u)
-  shown-elsewhere v u h = grind (arith, get_or-set_same, in_lines, get_or-set_other)

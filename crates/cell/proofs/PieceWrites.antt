@@ -1,5 +1,5 @@
 -- A piece of a line of a grid that is written at once.
-use Rattle.std.proofs.Common.{◌≡◌, ℕ, suc, ◌∷◌, ◌+◌, ◌-◌, ◌*◌, ◌<◌, ◌≤◌, ◌==◌, ◌&&◌, nat_le, nat_lt, if◌then◌else◌, true, false, List, [], length, map, take, get_or, sym, ◌∙◌}
+use Rattle.std.proofs.Common.{◌≡◌, ℕ, suc, ◌∷◌, ◌+◌, ◌-◌, ◌*◌, ◌<◌, ◌≤◌, ◌==◌, ◌&&◌, nat_le, nat_lt, if◌then◌else◌, true, false, List, [], length, map, take, get_or, ap, sym, ◌∙◌}
 use Rattle.std.proofs.Common.{arith, ◌⊎◌, length-append, eq-eqb, ne_eqb}
 use Rattle.std.specs.List.{AllByRecursion, splice}
 use Rattle.std.proofs.Math.ListN.{get_or-append}
@@ -9,7 +9,7 @@ use Rattle.std.proofs.lemmas.Bool.Decides.{nat_tests}
 use Rattle.std.proofs.lemmas.List.{get_or-map, get_or-take, get_or-drop, get_or_past, nil_from_length, length-map, length-take-le, length-drop}
 use Rattle.std.proofs.lemmas.List.Elements.{All-from_recursion, recursion_from_All, All-take, All-drop, All-append}
 use Rattle.cell.specs.Pictures.{line_of, cell_or, HasSize}
-use Rattle.cell.specs.Grids.{rows, IsGrid}
+use Rattle.cell.specs.Grids.{rows, IsWhole}
 use Rattle.cell.proofs.GridLemmas.{HasLine-from_length, length-rows, length-line_of-rows, line_of-rows, line_end}
 
 module _ {A : Type 0} (none : A) (old piece : List A) (start : ℕ) (fits : start + length piece ≤ length old) where
@@ -22,7 +22,7 @@ module _ {A : Type 0} (none : A) (old piece : List A) (start : ℕ) (fits : star
   within : (n : ℕ) → start ≤ n → n < start + length piece → get_or (splice old start (start + length piece) piece) n none ≡ get_or piece (n - start) none
   within n from to = grind (arith, get_or-append_right, prefix, get_or-append)
 
-  beyond : (n : ℕ) → start + length piece ≤ n → get_or (splice old start (start + length piece) piece) n none ≡ get_or old n none
+  pub beyond : (n : ℕ) → start + length piece ≤ n → get_or (splice old start (start + length piece) piece) n none ≡ get_or old n none
   beyond n from = grind (arith, get_or-append_right, prefix, get_or-drop)
 
   pub length-splice : length (splice old start (start + length piece) piece) ≡ length old
@@ -33,7 +33,7 @@ module _ {A : Type 0} (none : A) (old piece : List A) (start : ℕ) (fits : star
 shown-rows : {A : Type 0} (none : A) (lines columns : ℕ) (cells : List A) (v u : ℕ) → v < lines → u < columns → cell_or none (rows lines columns cells) (v, u) ≡ get_or cells (v * columns + u) none
 shown-rows {A = A} none lines columns cells v u below left = grind (arith, line_of-rows, below, get_or-take, get_or-drop)
 
-shown-outside : {A : Type 0} (none : A) {Is : A → Type 0} (lines columns : ℕ) (cells : List A) → IsGrid Is lines columns cells → (v u : ℕ) → (lines ≤ v) ⊎ (columns ≤ u)
+shown-outside : {A : Type 0} (none : A) {Is : A → Type 0} (lines columns : ℕ) (cells : List A) → IsWhole Is lines columns cells → (v u : ℕ) → (lines ≤ v) ⊎ (columns ≤ u)
     → cell_or none (rows lines columns cells) (v, u) ≡ none
 shown-outside none lines columns cells grid v u out = grind (arith, cases_lt, get_or_past, length-rows, length-line_of-rows)
 
@@ -43,18 +43,18 @@ inside v u y x n line from to = grind (arith, nat_tests)
 outside : (v u y x n : ℕ) → ((v ≡ y) → (x ≤ u) → (u < x + n) → ⊥) → ((v == y) && (nat_le x u && nat_lt u (x + n))) ≡ false
 outside v u y x n other = grind (arith, eq-eqb, nat_tests, ne_eqb)
 
-pub piece_end : {A B : Type 0} {Is : A → Type 0} (lines columns : ℕ) (cells : List A) (piece : List B) (y x : ℕ) → IsGrid Is lines columns cells → y < lines → x + length piece ≤ columns
+pub piece_end : {A B : Type 0} {Is : A → Type 0} (lines columns : ℕ) (cells : List A) (piece : List B) (y x : ℕ) → IsWhole Is lines columns cells → y < lines → x + length piece ≤ columns
     → y * columns + x + length piece ≤ length cells
 piece_end lines columns cells piece y x grid below fits = omega (arith, grid.whole, line_end lines columns y below, fits)
 
 -- a piece of line y from column x on
-module _ {A : Type 0} (none : A) {Is : A → Type 0} (lines columns : ℕ) (cells piece : List A) (y x : ℕ) (grid : IsGrid Is lines columns cells) (below : y < lines)
+module _ {A : Type 0} (none : A) {Is : A → Type 0} (lines columns : ℕ) (cells piece : List A) (y x : ℕ) (grid : IsWhole Is lines columns cells) (below : y < lines)
     (fits : x + length piece ≤ columns) where
   abbrev after : List A
   after = splice cells (y * columns + x) (y * columns + x + length piece) piece
 
-  pub IsGrid-piece : AllByRecursion Is piece → IsGrid Is lines columns after
-  IsGrid-piece sound = search (arith, length-splice, piece_end, below, fits, recursion_from_All, All-append, All-take, All-from_recursion, All-drop)
+  pub IsWhole-piece : AllByRecursion Is piece → IsWhole Is lines columns after
+  IsWhole-piece sound = search (arith, length-splice, piece_end, below, fits, recursion_from_All, All-append, All-take, All-from_recursion, All-drop)
 
   at_place : (v u : ℕ) → v < lines → u < columns → get_or after (v * columns + u) none ≡ (if (v == y) && (nat_le x u && nat_lt u (x + length piece)) then get_or piece (u - x) none else get_or cells
       (v * columns + u) none)
@@ -62,17 +62,18 @@ module _ {A : Type 0} (none : A) {Is : A → Type 0} (lines columns : ℕ) (cell
 
   pub shown-piece : AllByRecursion Is piece → (v u : ℕ)
       → cell_or none (rows lines columns after) (v, u) ≡ (if (v == y) && (nat_le x u && nat_lt u (x + length piece)) then get_or piece (u - x) none else cell_or none (rows lines columns cells) (v, u))
-  shown-piece sound v u = grind (arith, IsGrid-piece, shown-rows, at_place, shown-outside, outside, fits, below)
+  shown-piece sound v u = grind (arith, IsWhole-piece, shown-rows, at_place, shown-outside, outside, fits, below)
 
 -- a piece made of another one by a function
 
-module _ {A B : Type 0} (f : A → B) (none : A) (other : B) {Is : B → Type 0} (lines columns : ℕ) (cells : List B) (piece : List A) (y x : ℕ) (grid : IsGrid Is lines columns cells)
+pub splice-made : {A B : Type 0} (f : A → B) (cells : List B) (piece : List A) (start : ℕ)
+    → splice cells start (start + length piece) (map f piece) ≡ splice cells start (start + length (map f piece)) (map f piece)
+splice-made f cells piece start = ap (λ n. splice cells start (start + n) (map f piece)) (sym (length-map piece f))
+
+module _ {A B : Type 0} (f : A → B) (none : A) (other : B) {Is : B → Type 0} (lines columns : ℕ) (cells : List B) (piece : List A) (y x : ℕ) (grid : IsWhole Is lines columns cells)
     (below : y < lines) (fits : x + length piece ≤ columns) (sound : AllByRecursion Is (map f piece)) where
   same_length : length (map f piece) ≡ length piece
   same_length = length-map piece f
-
-  pub IsGrid-made : IsGrid Is lines columns (splice cells (y * columns + x) (y * columns + x + length piece) (map f piece))
-  IsGrid-made = rw (← same_length) (IsGrid-piece other lines columns cells (map f piece) y x grid below (omega (arith, same_length, fits)) sound)
 
   pub shown-made : (v u : ℕ) → cell_or other (rows lines columns (splice cells (y * columns + x) (y * columns + x + length piece) (map f piece))) (v, u)
       ≡ (if (v == y) && (nat_le x u && nat_lt u (x + length piece)) then f (get_or piece (u - x) none) else cell_or other (rows lines columns cells) (v, u))
@@ -86,11 +87,11 @@ widths width [] other e same h = grind (arith, nil_from_length)
 widths width (line ∷ lines) [] e same h = absurd (omega arith)
 widths width (line ∷ lines) (other ∷ others) e same h = (sym (same 0) ∙ h.0, widths width lines others (omega arith) (λ k. same (suc k)) h.1)
 
-pub line_width : {A : Type 0} {Is : A → Type 0} (lines columns : ℕ) (one other : List A) → IsGrid Is lines columns one → IsGrid Is lines columns other → (k : ℕ)
+pub line_width : {A : Type 0} {Is : A → Type 0} (lines columns : ℕ) (one other : List A) → IsWhole Is lines columns one → IsWhole Is lines columns other → (k : ℕ)
     → length (line_of (rows lines columns one) k) ≡ length (line_of (rows lines columns other) k)
 line_width {A = A} lines columns one other grid grid' k = grind (arith, cases_lt, length-line_of-rows, get_or_past, length-rows)
 
-pub HasSize-same : {A : Type 0} {Is : A → Type 0} {height width lines columns : ℕ} {one other : List A} → IsGrid Is lines columns one → IsGrid Is lines columns other
+pub HasSize-same : {A : Type 0} {Is : A → Type 0} {height width lines columns : ℕ} {one other : List A} → IsWhole Is lines columns one → IsWhole Is lines columns other
     → HasSize height width (rows lines columns one) → HasSize height width (rows lines columns other)
 HasSize-same {height} {width} {lines} {columns} {one} {other} grid grid' size = grind (arith, length-rows, widths, line_width)
 
@@ -102,5 +103,5 @@ pub record PieceFits {A B : Type 0} (lines columns : ℕ) (cells : List A) (piec
   pub few : length cells ≤ 1000000
 
 pub PieceFits-from : {A B : Type 0} {Is : A → Type 0} {lines columns y x : ℕ} {cells : List A} {piece : List B} {picture : List (List A)}
-    → IsGrid Is lines columns cells → rows lines columns cells ≡ picture → y < length picture → x + length piece ≤ length (line_of picture y) → PieceFits lines columns cells piece y x
+    → IsWhole Is lines columns cells → rows lines columns cells ≡ picture → y < length picture → x + length piece ≤ length (line_of picture y) → PieceFits lines columns cells piece y x
 PieceFits-from {lines} {columns} {y} {x} {cells} {piece} grid is within fits = grind (arith, HasLine-from_length, length-line_of-rows, piece_end)

@@ -1,5 +1,5 @@
 -- The lines of a grid whose cells are one after another. How it keeps them is its own choice; it shows lines of cells.
-use Rattle.std.specs.Prelude.{◌≡◌, ℕ, ◌*◌, ◌≤◌, List, length, map, take, drop}
+use Rattle.std.specs.Prelude.{◌≡◌, ℕ, ◌+◌, ◌-◌, ◌*◌, ◌<◌, ◌≤◌, ◌++◌, List, length, map, take, drop, replicate, slice_index_or}
 use Rattle.std.specs.List.{AllByRecursion, range_with_len}
 use Rattle.cell.specs.declared.limits.TheConstants.{LARGEST_PAD}
 
@@ -7,9 +7,26 @@ use Rattle.cell.specs.declared.limits.TheConstants.{LARGEST_PAD}
 abbrev pub rows : {A : Type 0} → ℕ → ℕ → List A → List (List A)
 rows lines columns cells = map (λ y. take columns (drop (y * columns) cells)) (range_with_len 0 lines)
 
+-- so many cells: those given, and after them blanks
+abbrev pub with_blanks : {A : Type 0} → A → ℕ → List A → List A
+with_blanks blank n cells = cells ++ replicate (n - length cells) blank
+
 -- each line has its cells, and each cell passes the test
-pub record IsGrid {A : Type 0} (Is : A → Type 0) (lines columns : ℕ) (cells : List A) : Type 0 where
+pub record IsWhole {A : Type 0} (Is : A → Type 0) (lines columns : ℕ) (cells : List A) : Type 0 where
   pub few_lines : lines ≤ LARGEST_PAD
   pub few_columns : columns ≤ LARGEST_PAD
   pub whole : length cells ≡ lines * columns
   pub each : AllByRecursion Is cells
+
+-- the cells of a grid, in memory for so many, are there up to a blank line, or all of them; those that aren't are blank
+pub record IsGrid {A : Type 0} (Is : A → Type 0) (blank : A) (lines columns : ℕ) (cells : List A) (capacity : ℕ) : Type 0 where
+  pub all : IsWhole Is lines columns (with_blanks blank (lines * columns) cells)
+  pub room : lines * columns ≤ capacity
+  pub some : 0 < lines → columns ≤ length cells
+  pub last : length cells < lines * columns → (k : ℕ) → length cells ≤ k + columns → slice_index_or cells k blank ≡ blank
+
+-- after blanks were added: the grid is as it was, and line y is there, which isn't the last one if a line is missing
+pub record IsReached {A : Type 0} (blank : A) (lines columns y : ℕ) (old new : List A) : Type 0 where
+  pub same : with_blanks blank (lines * columns) new ≡ with_blanks blank (lines * columns) old
+  pub there : y * columns + columns ≤ length new
+  pub above : length new < lines * columns → y * columns + columns + columns ≤ length new

@@ -3,7 +3,9 @@
 ghost use Rattle.std.specs.Prelude.{◌≡◌, ◌≤◌, ◌<◌, ◌==◌, ◌&&◌, ℕ, ◌+◌, ◌-◌, ◌*◌, nat_le, nat_lt, if◌then◌else◌, length, map, replicate, slice_index_or, IfOk, true};
 ghost use Rattle.std.specs.List.{AllByRecursion, splice};
 ghost use Rattle.cell.specs.Glyphs.{blank, IsCell};
+ghost use Rattle.cell.specs.Grids.{with_blanks, IsGrid, IsReached};
 ghost use Rattle.cell.specs.Shown.{shown, shown_blank, IsShown};
+ghost use Rattle.std.specs.Vec.{vec_capacity};
 ghost use Rattle.cell.specs.Pictures.{EachCell, HasSize, all_of, cell_or, line_of, shown_at, size_of, with_cell};
 
 use crate::cell::Cell;
@@ -28,16 +30,12 @@ pub trait Element: Copy {
     fn character(self) -> u8
         ensures printable { 32 ≤ result }
         ensures sound { Is self };
-
-    ghost clones_are_equal: { (x y : Self) → Self.is_clone x y → y ≡ x };
 }
 
 impl Element for Cell {
     ghost blank = { blank };
 
     ghost Is = { IsCell };
-
-    ghost clones_are_equal = { λ _ _ e. e };
 
     fn blank() -> Cell {
         Cell::BLANK
@@ -53,8 +51,6 @@ impl Element for Shown {
 
     ghost Is = { IsShown };
 
-    ghost clones_are_equal = { λ _ _ e. e };
-
     fn blank() -> Shown {
         Shown::BLANK
     }
@@ -69,18 +65,21 @@ impl Element for Shown {
 pub struct Grid<T: Element> {
     lines: usize,
     columns: usize,
+    // The cells of the first lines, in memory for all. Where lines are missing, the last of these is blank, and stands
+    // for them.
     cells: Vec<T>,
 }
 
 impl<T: Element> Model for Grid<T> {
-    ghost use Rattle.std.specs.Prelude.{List};
-    ghost use Rattle.cell.specs.Grids.{rows, IsGrid};
+    ghost use Rattle.std.specs.Prelude.{List, ◌*◌};
+    ghost use Rattle.std.specs.Vec.{vec_capacity};
+    ghost use Rattle.cell.specs.Grids.{rows, with_blanks, IsGrid};
 
     ghost Value = { List (List T) };
 
-    ghost view = { λ grid. rows grid.lines grid.columns grid.cells.items };
+    ghost view = { λ grid. rows grid.lines grid.columns (with_blanks T.blank (grid.lines * grid.columns) grid.cells.items) };
 
-    ghost invariant = { λ grid. IsGrid T.Is grid.lines grid.columns grid.cells.items };
+    ghost invariant = { λ grid. IsGrid T.Is T.blank grid.lines grid.columns grid.cells.items (vec_capacity grid.cells) };
 }
 
 impl<T: Element> Grid<T> {
@@ -93,12 +92,12 @@ impl<T: Element> Grid<T> {
     {
         let lines = usize::from(lines);
         let columns = usize::from(columns);
-        let blank = T::blank();
-        prove!(blank.character() >= b' ');
+        let mut cells = Vec::with_capacity(alloc, lines * columns)?;
+        add_blanks(&mut cells, columns.min(lines * columns));
         Ok(Grid {
             lines,
             columns,
-            cells: vec![in alloc; blank; lines * columns]?,
+            cells,
         })
     }
 
@@ -108,7 +107,8 @@ impl<T: Element> Grid<T> {
         ensures row { result.now ≡ line_of self.now y }
         ensures cells { EachCell T.Is self.now }
     {
-        let start = y * self.columns;
+        let last = self.cells.len() - self.columns;
+        let start = (y * self.columns).min(last);
         &self.cells[start..start + self.columns]
     }
 
@@ -119,7 +119,8 @@ impl<T: Element> Grid<T> {
         ensures { self.new ≡ with_cell self.old (y, x) cell }
     {
         prove!(cell.character() >= b' ');
-        self.cells[y * self.columns + x] = cell;
+        let line = reach(&mut self.cells, self.lines, self.columns, y);
+        self.cells[line + x] = cell;
     }
 
     /// Puts one cell in the columns of line `y` from `start` on, up to `end`, which it leaves out.
@@ -135,9 +136,8 @@ impl<T: Element> Grid<T> {
         ensures cells { EachCell T.Is self.old → EachCell T.Is self.new }
     {
         prove!(cell.character() >= b' ');
-        for x in start..end {
-            self.set(y, x, cell);
-        }
+        let line = reach(&mut self.cells, self.lines, self.columns, y);
+        fill_piece(&mut self.cells, line + start, end - start, cell);
     }
 
     /// Puts cells into line `y`, from column `x` on.
@@ -151,16 +151,16 @@ impl<T: Element> Grid<T> {
         ensures size { (lines columns : ℕ) → HasSize lines columns self.old → HasSize lines columns self.new }
         ensures cells { EachCell T.Is self.old → EachCell T.Is self.new }
     {
-        put_piece(&mut self.cells, y * self.columns + x, cells);
+        let line = reach(&mut self.cells, self.lines, self.columns, y);
+        put_piece(&mut self.cells, line + x, cells);
     }
 
     /// Puts blanks everywhere.
     pub fn clear(&mut self)
         ensures { (lines columns : ℕ) → HasSize lines columns self.old → self.new ≡ all_of T.blank lines columns }
     {
-        let blank = T::blank();
-        prove!(blank.character() >= b' ');
-        fill_cells(&mut self.cells, blank);
+        self.cells.truncate(0);
+        add_blanks(&mut self.cells, self.columns.min(self.lines * self.columns));
     }
 
     /// Takes over all cells of a grid of the same size.
@@ -168,7 +168,8 @@ impl<T: Element> Grid<T> {
         requires { size_of self.old ≡ size_of other.now }
         ensures { self.new ≡ other.now }
     {
-        self.cells.copy_from_slice(&other.cells);
+        self.cells.clear();
+        self.cells.extend_from_slice(&other.cells).unwrap();
     }
 }
 
@@ -182,8 +183,13 @@ pub fn show_cells(cells: &[Cell], pairs: &Pairs, y: u16, x: u16, picture: &mut G
     ensures height { length picture.new ≡ length picture.old }
     ensures width { (v : ℕ) → length (line_of picture.new v) ≡ length (line_of picture.old v) }
 {
-    let start = usize::from(y) * picture.columns + usize::from(x);
-    show_piece(cells, pairs, &mut picture.cells, start);
+    let line = reach(
+        &mut picture.cells,
+        picture.lines,
+        picture.columns,
+        usize::from(y),
+    );
+    show_piece(cells, pairs, &mut picture.cells, line + usize::from(x));
 }
 
 /// Puts how cells are shown among others, from a place on.
@@ -191,15 +197,49 @@ fn show_piece(piece: &[Cell], pairs: &Pairs, cells: &mut Vec<Shown>, start: usiz
     requires { start + length piece.now ≤ length cells.old.items }
     ensures cells { cells.new.items ≡ splice cells.old.items start (start + length piece.now) (map (shown pairs.now) piece.now) }
     ensures sound { AllByRecursion IsShown (map (shown pairs.now) piece.now) }
+    ensures room { vec_capacity cells.new ≡ vec_capacity cells.old }
 {
     pairs.show(piece, &mut cells[start..start + piece.len()]);
 }
 
-/// Puts one cell everywhere.
-fn fill_cells<T: Copy>(cells: &mut Vec<T>, cell: T)
-    ensures { cells.new.items ≡ replicate (length cells.old.items) cell }
+/// Sees that line `y` of so many is there, and one below it if there is one, and answers where it starts.
+#[inline(always)]
+fn reach<T: Element>(cells: &mut Vec<T>, lines: usize, columns: usize, y: usize) -> usize
+    requires grid { IsGrid T.Is T.blank lines columns cells.old.items (vec_capacity cells.old) }
+    requires line { y < lines }
+    ensures line { result ≡ y * columns }
+    ensures grid { IsGrid T.Is T.blank lines columns cells.new.items (vec_capacity cells.new) }
+    ensures reached { IsReached T.blank lines columns y cells.old.items cells.new.items }
 {
-    for x in 0..cells.len() {
+    let line = y * columns;
+    let end = line + columns + columns;
+    if cells.len() < end {
+        add_blanks(cells, end.min(lines * columns));
+    }
+    line
+}
+
+/// Adds blanks until there are so many cells. There is memory for them.
+#[inline(never)]
+fn add_blanks<T: Element>(cells: &mut Vec<T>, end: usize)
+    requires { end ≤ vec_capacity cells.old }
+    ensures cells { cells.new.items ≡ with_blanks T.blank end cells.old.items }
+    ensures room { vec_capacity cells.old ≤ vec_capacity cells.new }
+    ensures blank { T.Is T.blank }
+{
+    let blank = T::blank();
+    prove!(blank.character() >= b' ');
+    let end = end.max(cells.len());
+    cells.resize(end, blank).unwrap();
+}
+
+/// Puts one cell in so many places, from one on.
+fn fill_piece<T: Copy>(cells: &mut Vec<T>, start: usize, count: usize, cell: T)
+    requires { start + count ≤ length cells.old.items }
+    ensures cells { cells.new.items ≡ splice cells.old.items start (start + count) (replicate count cell) }
+    ensures room { vec_capacity cells.new ≡ vec_capacity cells.old }
+{
+    for x in start..start + count {
         cells[x] = cell;
     }
 }
@@ -207,7 +247,8 @@ fn fill_cells<T: Copy>(cells: &mut Vec<T>, cell: T)
 /// Puts cells among others, from a place on.
 fn put_piece<T: Copy>(cells: &mut Vec<T>, start: usize, piece: &[T])
     requires { start + length piece.now ≤ length cells.old.items }
-    ensures { cells.new.items ≡ splice cells.old.items start (start + length piece.now) piece.now }
+    ensures cells { cells.new.items ≡ splice cells.old.items start (start + length piece.now) piece.now }
+    ensures room { vec_capacity cells.new ≡ vec_capacity cells.old }
 {
     cells[start..start + piece.len()].copy_from_slice(piece);
 }

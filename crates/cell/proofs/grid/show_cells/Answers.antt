@@ -1,24 +1,42 @@
--- `show_cells`: a piece of a line of a grid that is written at once (`PieceWrites`).
+-- `show_cells`: a piece of a line of a grid that is written at once (`PieceWrites`); the blanks that are missing after a grid's cells (`Blanks`).
+use Rattle.std.proofs.Common.{arith, map}
+use Rattle.std.proofs.lemmas.List.{length-map}
 use Rattle.cell.specs.Glyphs.{blank}
 use Rattle.cell.specs.Shown.{shown, shown_blank}
-use Rattle.cell.proofs.PieceWrites.{PieceFits-from, IsGrid-made, shown-made, HasSize-same, line_width}
+use Rattle.cell.proofs.PieceWrites.{PieceFits-from, shown-made, splice-made, HasSize-same, line_width}
+use Rattle.cell.proofs.Blanks.{IsGrid-piece, blanks-piece}
 use Rattle.cell.proofs.grid.show_cells.Goals as goal
 
+pub reach-line-requires-clause-line : goal.reach-line-requires-clause-line
+reach-line-requires-clause-line c = rw c.from.ensures (PieceFits-from c.picture.invariant.all c.picture.view_is c.requires.line c.requires.columns).below
+
 pub show_piece-requires : goal.show_piece-requires
-show_piece-requires c = rw (c.from.ensures, c.from-2.ensures) (PieceFits-from c.picture.invariant c.picture.view_is c.requires.line c.requires.columns).end
+show_piece-requires c = let piece = PieceFits-from c.picture.invariant.all c.picture.view_is c.requires.line c.requires.columns in
+    omega (arith, c.from-2.ensures, c.reach-line.ensures.line, c.reach-line.ensures.reached.there, piece.fits)
 
 pub invariant_of-picture : goal.invariant_of-picture
-invariant_of-picture c = let piece = PieceFits-from c.picture.invariant c.picture.view_is c.requires.line c.requires.columns in
-    rw (c.show_piece.ensures.cells, c.from.ensures, c.from-2.ensures)
-    (IsGrid-made (shown c.args.pairs.now) blank shown_blank _ _ _ c.args.cells.now c.args.y c.args.x c.picture.invariant piece.below piece.fits c.show_piece.ensures.sound)
+invariant_of-picture c = let a = c.args in let piece = PieceFits-from c.picture.invariant.all c.picture.view_is c.requires.line c.requires.columns in
+    rw (c.show_piece.ensures.cells, c.reach-line.ensures.line, splice-made (shown a.pairs.now) _ a.cells.now _)
+    (IsGrid-piece c.from.result c.from-2.result c.reach-line.ensures.grid c.reach-line.ensures.reached (rw c.from.ensures piece.below) c.show_piece.ensures.room
+    (map (shown a.pairs.now) a.cells.now) (rw (c.from-2.ensures, length-map) piece.fits) c.show_piece.ensures.sound)
 
 pub returns-clause-shown : goal.returns-clause-shown
-returns-clause-shown c = let piece = PieceFits-from c.picture.invariant c.picture.view_is c.requires.line c.requires.columns in
-    rw (← c.picture.view_is, c.show_piece.ensures.cells, c.from.ensures, c.from-2.ensures)
-    (shown-made (shown c.args.pairs.now) blank shown_blank _ _ _ c.args.cells.now c.args.y c.args.x c.picture.invariant piece.below piece.fits c.show_piece.ensures.sound)
+returns-clause-shown c = let a = c.args in let piece = PieceFits-from c.picture.invariant.all c.picture.view_is c.requires.line c.requires.columns in
+    rw (
+      ← c.picture.view_is,
+      c.show_piece.ensures.cells,
+      c.reach-line.ensures.line,
+      splice-made (shown a.pairs.now) _ a.cells.now _,
+      blanks-piece c.from.result c.from-2.result c.reach-line.ensures.grid c.reach-line.ensures.reached (rw c.from.ensures piece.below) c.show_piece.ensures.room
+          (map (shown a.pairs.now) a.cells.now) (rw (c.from-2.ensures, length-map) piece.fits),
+      ← splice-made (shown a.pairs.now) _ a.cells.now _,
+      c.from.ensures,
+      c.from-2.ensures,
+    )
+    (shown-made (shown a.pairs.now) blank shown_blank _ _ _ a.cells.now a.y a.x c.picture.invariant.all piece.below piece.fits c.show_piece.ensures.sound)
 
 pub returns-clause-size : goal.returns-clause-size
-returns-clause-size c = rw (← c.picture.view_is) (λ lines columns size. HasSize-same c.picture.invariant (invariant_of-picture c) size)
+returns-clause-size c = rw (← c.picture.view_is) (λ lines columns size. HasSize-same c.picture.invariant.all (invariant_of-picture c).all size)
 
 pub returns-clause-width : goal.returns-clause-width
-returns-clause-width c = rw (← c.picture.view_is) (line_width _ _ _ _ (invariant_of-picture c) c.picture.invariant)
+returns-clause-width c = rw (← c.picture.view_is) (line_width _ _ _ _ (invariant_of-picture c).all c.picture.invariant.all)
