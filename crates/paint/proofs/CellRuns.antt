@@ -149,27 +149,37 @@ run-cost : (x n : ℕ) (shown wanted : List Shown) → length shown ≡ length w
 run-cost x zero shown wanted same room differs = grind arith
 run-cost x (suc n) shown wanted same room differs = grind (arith, left, line_bytes-other, run-cost (x + 1) n shown wanted same (omega arith) (λ v from to. differs v (omega arith) (omega arith)))
 
-pub line-run : {before mid now : Seen} {old pen next : Pen} {line x stop : ℕ} {shown wanted : List Shown} (cells : List Shown)
+-- a byte for each cell of a run but the first
+pub run-short : (x stop : ℕ) (shown wanted : List Shown) → length shown ≡ length wanted → x < stop → stop ≤ length shown
+    → ((v : ℕ) → x ≤ v → v < stop → same_shown (get_or shown v shown_blank) (get_or wanted v shown_blank) ≡ false)
+    → stop - (x + 1) + line_bytes (drop stop shown) (drop stop wanted) ≤ line_bytes (drop (x + 1) shown) (drop (x + 1) wanted)
+run-short x stop shown wanted same some inside differs =
+    let all : x + 1 + (stop - (x + 1)) ≡ stop = omega (arith, some) in
+    subst (λ n. stop - (x + 1) + line_bytes (drop n shown) (drop n wanted) ≤ line_bytes (drop (x + 1) shown) (drop (x + 1) wanted)) all
+    (run-cost (x + 1) (stop - (x + 1)) shown wanted same (omega (arith, some, inside)) (λ v from to. differs v (omega arith) (omega (arith, to, some))))
+
+pub line-stretch : {before mid now : Seen} {old pen next : Pen} {line x stop : ℕ} {shown wanted : List Shown} (cells : List Shown)
     → length shown ≡ length wanted → x < stop → x + length cells ≡ stop → stop ≤ length shown
     → IsLinePainted before mid old pen line x shown wanted → length shown ≡ old.columns
     → ((k : ℕ) → k < length cells → get_or cells k shown_blank ≡ get_or wanted (x + k) shown_blank)
-    → ((v : ℕ) → x ≤ v → v < stop → same_shown (get_or shown v shown_blank) (get_or wanted v shown_blank) ≡ false)
+    → same_shown (get_or shown x shown_blank) (get_or wanted x shown_blank) ≡ false
+    → stop - (x + 1) + line_bytes (drop stop shown) (drop stop wanted) ≤ line_bytes (drop (x + 1) shown) (drop (x + 1) wanted)
     → ((picture : Picture) → length (line_of picture line) ≡ pen.columns → take x (line_of picture line) ≡ take x wanted
     → Strokes (run_bytes cells) mid now pen next picture (with_cells picture (line, x) cells))
     → next.columns ≡ pen.columns → IsLinePainted before now old next line stop shown wanted
-line-run {mid} {now} {pen} {next} {line} {x} {stop} {shown} {wanted} cells same some end room h wide are differs strokes columns = record {
+line-stretch {mid} {now} {pen} {next} {line} {x} {stop} {shown} {wanted} cells same some end room h wide are differs short strokes columns = record {
   spent = h.spent + run_bytes cells;
   within =
       let here : x + 0 ≡ x = omega arith in
-      let after : x + 1 + (length cells - 1) ≡ stop = omega arith in
       let first : get_or cells 0 shown_blank ≡ get_or wanted x shown_blank = are 0 (omega arith) ∙ ap (λ n. get_or wanted n shown_blank) here in
       omega (
         arith,
         h.within,
         left x shown wanted same (omega arith),
-        line_bytes-other (get_or shown x shown_blank) (get_or wanted x shown_blank) (drop (x + 1) shown) (drop (x + 1) wanted) (differs x (omega arith) some),
-        run-cost (x + 1) (length cells - 1) shown wanted same (omega arith) (λ v from to. differs v (omega arith) (omega arith)),
-        ap (λ k. line_bytes (drop k shown) (drop k wanted)) after,
+        line_bytes-other (get_or shown x shown_blank) (get_or wanted x shown_blank) (drop (x + 1) shown) (drop (x + 1) wanted) differs,
+        short,
+        some,
+        end,
         ap cell_bytes first,
       );
   strokes = λ picture high at.
@@ -181,6 +191,17 @@ line-run {mid} {now} {pen} {next} {line} {x} {stop} {shown} {wanted} cells same 
       (strokes (set picture line row) long (ap (take x) here ∙ take-with_prefix x wanted shown (omega arith))));
   columns = columns ∙ h.columns;
 }
+
+pub line-run : {before mid now : Seen} {old pen next : Pen} {line x stop : ℕ} {shown wanted : List Shown} (cells : List Shown)
+    → length shown ≡ length wanted → x < stop → x + length cells ≡ stop → stop ≤ length shown
+    → IsLinePainted before mid old pen line x shown wanted → length shown ≡ old.columns
+    → ((k : ℕ) → k < length cells → get_or cells k shown_blank ≡ get_or wanted (x + k) shown_blank)
+    → ((v : ℕ) → x ≤ v → v < stop → same_shown (get_or shown v shown_blank) (get_or wanted v shown_blank) ≡ false)
+    → ((picture : Picture) → length (line_of picture line) ≡ pen.columns → take x (line_of picture line) ≡ take x wanted
+    → Strokes (run_bytes cells) mid now pen next picture (with_cells picture (line, x) cells))
+    → next.columns ≡ pen.columns → IsLinePainted before now old next line stop shown wanted
+line-run {x = x} {stop = stop} {shown = shown} {wanted = wanted} cells same some end room h wide are differs strokes columns =
+    line-stretch cells same some end room h wide are (differs x (omega arith) some) (run-short x stop shown wanted same some room differs) strokes columns
 
 -- a part of the wanted line as a run
 pub part-of : (x stop k : ℕ) (wanted : List Shown) → k < stop - x → get_or (cells_between x stop wanted) k shown_blank ≡ get_or wanted (x + k) shown_blank

@@ -8,7 +8,7 @@ ghost use Rattle.cell.specs.declared.limits.TheConstants.{LARGEST_SCREEN};
 ghost use Rattle.streams.specs.Sinks.{Seen};
 ghost use Rattle.paint.specs.Updates.{place_bytes};
 ghost use Rattle.paint.specs.steps.Strokes.{IsPlainAt, SameTerminals, Strokes, line_bytes, reach_bytes, run_bytes, with_cells};
-ghost use Rattle.paint.specs.steps.Walks.{AreOfRun, DifferWithin, IsLinePainted, IsOver, IsReadyToErase, IsRun, StrokesLine, cells_between};
+ghost use Rattle.paint.specs.steps.Walks.{AreOfRun, DifferWithin, IsLinePainted, IsOver, IsReadyToErase, IsRun, IsStretch, StrokesLine, HaveOneRendition, cells_between};
 
 use crate::gap::{approach, is_plain_gap};
 use crate::pen::Pen;
@@ -142,7 +142,7 @@ fn paint_cells<W: Sink>(
             x = next_changed(shown, wanted, x + 1, end);
             continue;
         }
-        let stop = run_end(shown, wanted, x, end);
+        let stop = stretch_end(shown, wanted, x, end);
         paint_run(pen, sink, row, gap, x, stop);
         x = stop;
         gap = stop;
@@ -171,6 +171,46 @@ pub fn next_changed(shown: &[Shown], wanted: &[Shown], from: usize, end: usize) 
         Some(skipped) => near + skipped,
         None => end,
     }
+}
+
+/// Where the cells end, before an end, that are printed together from a changed one on: runs of one rendition, with a
+/// single cell of it between two, which is shown already. To print that again takes fewer bytes than to move over it.
+fn stretch_end(shown: &[Shown], wanted: &[Shown], start: usize, end: usize) -> usize
+    requires same { length shown.now ≡ length wanted.now }
+    requires begun { start < end }
+    requires inside { end ≤ length wanted.now }
+    requires differs { same_shown (slice_index_or shown.now start shown_blank) (slice_index_or wanted.now start shown_blank) ≡ false }
+    ensures { IsStretch shown.now wanted.now start end result }
+{
+    let rendition = wanted[start].rendition();
+    let mut stop = run_end(shown, wanted, start, end);
+    while goes_on(shown, wanted, stop, end, rendition) {
+        stop = run_end(shown, wanted, stop + 1, end);
+    }
+    stop
+}
+
+/// Whether, before an end, a cell and a changed one after it have a rendition.
+fn goes_on(shown: &[Shown], wanted: &[Shown], at: usize, end: usize, rendition: Rendition) -> bool
+    requires same { length shown.now ≡ length wanted.now }
+    requires at { at ≤ end }
+    requires inside { end ≤ length wanted.now }
+    ensures inside { result ≡ true → at + 1 < end }
+    ensures first { result ≡ true → (slice_index_or wanted.now at shown_blank).rendition ≡ rendition }
+    ensures second { result ≡ true → (slice_index_or wanted.now (at + 1) shown_blank).rendition ≡ rendition }
+    ensures changed { result ≡ true → same_shown (slice_index_or shown.now (at + 1) shown_blank) (slice_index_or wanted.now (at + 1) shown_blank) ≡ false }
+{
+    if end - at < 2 {
+        return false;
+    }
+    let next = at + 1;
+    if shown[next] == wanted[next] {
+        return false;
+    }
+    if wanted[at].rendition() != rendition {
+        return false;
+    }
+    wanted[next].rendition() == rendition
 }
 
 /// Where the run of changed cells of one rendition ends that begins at a column, before an end. Of a long one many
@@ -229,8 +269,8 @@ fn are_of_run(shown: &[Shown], wanted: &[Shown], rendition: Rendition) -> bool
     all
 }
 
-/// Draws a run of changed cells of one rendition, from a column up to another, after a gap of cells that are shown
-/// already. It is inlined, as a picture of many renditions has many runs.
+/// Draws cells of one rendition, from a column up to another, after a gap of cells that are shown already. It is
+/// inlined, as a picture of many renditions has many runs.
 #[inline(always)]
 pub fn paint_run<W: Sink>(
     pen: &mut Pen,
@@ -242,7 +282,7 @@ pub fn paint_run<W: Sink>(
 )
     requires width { pen.old.columns ≡ length row.now.wanted.now }
     requires gap { gap ≤ start }
-    requires run { IsRun row.now.shown.now row.now.wanted.now start (length row.now.wanted.now) end }
+    requires run { HaveOneRendition row.now.wanted.now start end }
     ensures strokes { (picture : Picture) → length (line_of picture row.now.line) ≡ pen.old.columns
         → cells_between gap start (line_of picture row.now.line) ≡ cells_between gap start row.now.wanted.now
         → Strokes (run_bytes (cells_between start end row.now.wanted.now)) (W.seen sink.old) (W.seen sink.new) pen.old pen.new picture

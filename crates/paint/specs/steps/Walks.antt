@@ -28,6 +28,20 @@ IsOver shown wanted start stop =
     (same_shown (slice_index_or shown stop shown_blank) (slice_index_or wanted stop shown_blank) ≡ true)
     ⊎ (same_rendition (slice_index_or wanted stop shown_blank).rendition (slice_index_or wanted start shown_blank).rendition ≡ false)
 
+-- cells of one rendition, from a column up to another, which isn't one of them
+pub record HaveOneRendition (wanted : List Shown) (start stop : ℕ) : Type 0 where
+  pub some : start < stop
+  pub within : stop ≤ length wanted
+  pub rendition : (x : ℕ) → start ≤ x → x < stop → (slice_index_or wanted x shown_blank).rendition ≡ (slice_index_or wanted start shown_blank).rendition
+
+-- Such cells, up to a column that isn't past an end. The first is changed, and a byte for each of the others is within what the changed ones
+-- among them may cost.
+pub record IsStretch (shown wanted : List Shown) (start end stop : ℕ) : Type 0 where
+  pub cells : HaveOneRendition wanted start stop
+  pub within : stop ≤ end
+  pub changed : same_shown (slice_index_or shown start shown_blank) (slice_index_or wanted start shown_blank) ≡ false
+  pub short : stop - (start + 1) + line_bytes (drop stop shown) (drop stop wanted) ≤ line_bytes (drop (start + 1) shown) (drop (start + 1) wanted)
+
 -- the first cells are changed, so many, and have one rendition
 pub record AreOfRun (shown wanted : List Shown) (rendition : Rendition) (count : ℕ) : Type 0 where
   pub changed : (k : ℕ) → k < count → same_shown (slice_index_or shown k shown_blank) (slice_index_or wanted k shown_blank) ≡ false
