@@ -1,8 +1,8 @@
 -- Runs of cells: printed one after another, and drawn in a line.
 use Rattle.std.proofs.Common.{◌≡◌, Bool, ℕ, zero, suc, ◌+◌, ◌-◌, ◌<◌, ◌≤◌, true, false, List, [], ◌∷◌, ◌++◌, length, get_or, set, take, drop}
 use Rattle.std.proofs.Common.{Some, inl, inr, refl, sym, ap, ◌∙◌, subst, arith, length-append, length-set}
-use Rattle.std.specs.Prelude.{not}
-use Rattle.std.proofs.lemmas.Bool.{and_parts, cases_lt, lt-ltb}
+use Rattle.std.specs.Prelude.{not, ◌⊎◌}
+use Rattle.std.proofs.lemmas.Bool.{and_parts, cases_Bool, cases_lt, lt-ltb}
 use Rattle.std.proofs.Math.Seq.{take-add}
 use Rattle.std.proofs.lemmas.List.{drop-drop, get_or_default, get_or_past, get_or-drop, get_or-set_same, get_or-take, length-map, set-get_or}
 use Rattle.cell.specs.Shown.{IsRendition, IsShown, Rendition, Shown, shown_blank}
@@ -20,7 +20,7 @@ use Rattle.streams.specs.Sinks.{Seen}
 use Rattle.paint.specs.declared.pen.Pen.{Pen}
 use Rattle.paint.specs.steps.Gathering.{Gathers}
 use Rattle.paint.specs.steps.Strokes.{all_have, Draws, Strokes, cell_bytes, characters, line_bytes, most_approach, run_bytes, with_cells, within}
-use Rattle.paint.specs.steps.Walks.{cells_between, with_prefix, AreOfRun, IsLinePainted, IsRun}
+use Rattle.paint.specs.steps.Walks.{cells_between, with_prefix, AreOfRun, IsLinePainted, IsOver, IsRun, is_over}
 use Rattle.paint.proofs.Prefixes.{length-with_prefix, take-with_prefix}
 use Rattle.paint.proofs.PenStrokes.{Draws-then, Strokes-then, spelled-print}
 use Rattle.paint.proofs.Walks.{left, line_bytes-other, one-drawn}
@@ -233,12 +233,12 @@ run-begun shown wanted start end some differs = record {
 }
 
 -- and further cells
-pub run-further : (n : ℕ) {shown wanted : List Shown} {start end x : ℕ} {rendition : Rendition} → IsRun shown wanted start end x → rendition ≡ (get_or wanted start shown_blank).rendition
-    → AreOfRun (take n (drop x shown)) (take n (drop x wanted)) rendition n → x + n ≤ end → IsRun shown wanted start end (x + n)
-run-further n {shown} {wanted} {x} h is more inside =
+pub run-further : (n w : ℕ) → n ≤ w → {shown wanted : List Shown} {start end x : ℕ} {rendition : Rendition} → IsRun shown wanted start end x → rendition ≡ (get_or wanted start shown_blank).rendition
+    → AreOfRun (take w (drop x shown)) (take w (drop x wanted)) rendition n → x + n ≤ end → IsRun shown wanted start end (x + n)
+run-further n w few {shown} {wanted} {x} h is more inside =
     let at = λ (l : List Shown) (v : ℕ) (from : x ≤ v) (to : v < x + n).
     let split : x + (v - x) ≡ v = omega arith in
-    get_or-take n (drop x l) (v - x) shown_blank (omega arith) ∙ get_or-drop x l (v - x) shown_blank ∙ ap (λ k. get_or l k shown_blank) split in
+    get_or-take w (drop x l) (v - x) shown_blank (omega (arith, few, from, to)) ∙ get_or-drop x l (v - x) shown_blank ∙ ap (λ k. get_or l k shown_blank) split in
     record {
       some = omega (arith, h.some);
       within = inside;
@@ -251,3 +251,13 @@ run-further n {shown} {wanted} {x} h is more inside =
         | inr late ↦ ap (λ (cell : Shown). cell.rendition) (sym (at wanted v late to)) ∙ more.rendition_of (v - x) (omega arith) ∙ is
       ];
     }
+
+-- where one ends among the next cells
+pub over-at : (n w start x : ℕ) (shown wanted : List Shown) (rendition : Rendition) → n < w → rendition ≡ (get_or wanted start shown_blank).rendition
+    → is_over (get_or (take w (drop x shown)) n shown_blank) (get_or (take w (drop x wanted)) n shown_blank) rendition ≡ true → IsOver shown wanted start (x + n)
+over-at n w start x shown wanted rendition few is over =
+    let at = λ (l : List Shown). get_or-take w (drop x l) n shown_blank few ∙ get_or-drop x l n shown_blank in
+    over-parts (get_or shown (x + n) shown_blank) (get_or wanted (x + n) shown_blank) (get_or wanted start shown_blank).rendition
+    ((λ i. is_over (sym (at shown) i) (sym (at wanted) i) (sym is i)) ∙ over) where
+      over-parts : (a b : Shown) (r : Rendition) → is_over a b r ≡ true → (same_shown a b ≡ true) ⊎ (same_rendition b.rendition r ≡ false)
+      over-parts a b r h = grind (arith, cases_Bool)
