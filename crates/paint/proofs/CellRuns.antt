@@ -1,8 +1,8 @@
 -- Runs of cells: printed one after another, and drawn in a line.
 use Rattle.std.proofs.Common.{◌≡◌, Bool, ℕ, zero, suc, ◌+◌, ◌-◌, ◌<◌, ◌≤◌, true, false, List, [], ◌∷◌, ◌++◌, length, get_or, set, take, drop}
 use Rattle.std.proofs.Common.{Some, inl, inr, refl, sym, ap, ◌∙◌, subst, arith, length-append, length-set}
-use Rattle.std.specs.Prelude.{not}
-use Rattle.std.proofs.lemmas.Bool.{and_parts, cases_lt, lt-ltb}
+use Rattle.std.specs.Prelude.{not, ◌⊎◌}
+use Rattle.std.proofs.lemmas.Bool.{and_parts, cases_Bool, cases_lt, lt-ltb}
 use Rattle.std.proofs.Math.Seq.{take-add}
 use Rattle.std.proofs.lemmas.List.{drop-drop, get_or_default, get_or_past, get_or-drop, get_or-set_same, get_or-take, length-map, set-get_or}
 use Rattle.cell.specs.Shown.{IsRendition, IsShown, Rendition, Shown, shown_blank}
@@ -20,7 +20,7 @@ use Rattle.streams.specs.Sinks.{Seen}
 use Rattle.paint.specs.declared.pen.Pen.{Pen}
 use Rattle.paint.specs.steps.Gathering.{Gathers}
 use Rattle.paint.specs.steps.Strokes.{all_have, Draws, Strokes, cell_bytes, characters, line_bytes, most_approach, run_bytes, with_cells, within}
-use Rattle.paint.specs.steps.Walks.{cells_between, with_prefix, AreOfRun, IsLinePainted, IsRun}
+use Rattle.paint.specs.steps.Walks.{cells_between, with_prefix, AreOfRun, IsLinePainted, IsOver, IsRun, is_over}
 use Rattle.paint.proofs.Prefixes.{length-with_prefix, take-with_prefix}
 use Rattle.paint.proofs.PenStrokes.{Draws-then, Strokes-then, spelled-print}
 use Rattle.paint.proofs.Walks.{left, line_bytes-other, one-drawn}
@@ -149,27 +149,37 @@ run-cost : (x n : ℕ) (shown wanted : List Shown) → length shown ≡ length w
 run-cost x zero shown wanted same room differs = grind arith
 run-cost x (suc n) shown wanted same room differs = grind (arith, left, line_bytes-other, run-cost (x + 1) n shown wanted same (omega arith) (λ v from to. differs v (omega arith) (omega arith)))
 
-pub line-run : {before mid now : Seen} {old pen next : Pen} {line x stop : ℕ} {shown wanted : List Shown} (cells : List Shown)
+-- a byte for each cell of a run but the first
+pub run-short : (x stop : ℕ) (shown wanted : List Shown) → length shown ≡ length wanted → x < stop → stop ≤ length shown
+    → ((v : ℕ) → x ≤ v → v < stop → same_shown (get_or shown v shown_blank) (get_or wanted v shown_blank) ≡ false)
+    → stop - (x + 1) + line_bytes (drop stop shown) (drop stop wanted) ≤ line_bytes (drop (x + 1) shown) (drop (x + 1) wanted)
+run-short x stop shown wanted same some inside differs =
+    let all : x + 1 + (stop - (x + 1)) ≡ stop = omega (arith, some) in
+    subst (λ n. stop - (x + 1) + line_bytes (drop n shown) (drop n wanted) ≤ line_bytes (drop (x + 1) shown) (drop (x + 1) wanted)) all
+    (run-cost (x + 1) (stop - (x + 1)) shown wanted same (omega (arith, some, inside)) (λ v from to. differs v (omega arith) (omega (arith, to, some))))
+
+pub line-stretch : {before mid now : Seen} {old pen next : Pen} {line x stop : ℕ} {shown wanted : List Shown} (cells : List Shown)
     → length shown ≡ length wanted → x < stop → x + length cells ≡ stop → stop ≤ length shown
     → IsLinePainted before mid old pen line x shown wanted → length shown ≡ old.columns
     → ((k : ℕ) → k < length cells → get_or cells k shown_blank ≡ get_or wanted (x + k) shown_blank)
-    → ((v : ℕ) → x ≤ v → v < stop → same_shown (get_or shown v shown_blank) (get_or wanted v shown_blank) ≡ false)
+    → same_shown (get_or shown x shown_blank) (get_or wanted x shown_blank) ≡ false
+    → stop - (x + 1) + line_bytes (drop stop shown) (drop stop wanted) ≤ line_bytes (drop (x + 1) shown) (drop (x + 1) wanted)
     → ((picture : Picture) → length (line_of picture line) ≡ pen.columns → take x (line_of picture line) ≡ take x wanted
     → Strokes (run_bytes cells) mid now pen next picture (with_cells picture (line, x) cells))
     → next.columns ≡ pen.columns → IsLinePainted before now old next line stop shown wanted
-line-run {mid} {now} {pen} {next} {line} {x} {stop} {shown} {wanted} cells same some end room h wide are differs strokes columns = record {
+line-stretch {mid} {now} {pen} {next} {line} {x} {stop} {shown} {wanted} cells same some end room h wide are differs short strokes columns = record {
   spent = h.spent + run_bytes cells;
   within =
       let here : x + 0 ≡ x = omega arith in
-      let after : x + 1 + (length cells - 1) ≡ stop = omega arith in
       let first : get_or cells 0 shown_blank ≡ get_or wanted x shown_blank = are 0 (omega arith) ∙ ap (λ n. get_or wanted n shown_blank) here in
       omega (
         arith,
         h.within,
         left x shown wanted same (omega arith),
-        line_bytes-other (get_or shown x shown_blank) (get_or wanted x shown_blank) (drop (x + 1) shown) (drop (x + 1) wanted) (differs x (omega arith) some),
-        run-cost (x + 1) (length cells - 1) shown wanted same (omega arith) (λ v from to. differs v (omega arith) (omega arith)),
-        ap (λ k. line_bytes (drop k shown) (drop k wanted)) after,
+        line_bytes-other (get_or shown x shown_blank) (get_or wanted x shown_blank) (drop (x + 1) shown) (drop (x + 1) wanted) differs,
+        short,
+        some,
+        end,
         ap cell_bytes first,
       );
   strokes = λ picture high at.
@@ -181,6 +191,17 @@ line-run {mid} {now} {pen} {next} {line} {x} {stop} {shown} {wanted} cells same 
       (strokes (set picture line row) long (ap (take x) here ∙ take-with_prefix x wanted shown (omega arith))));
   columns = columns ∙ h.columns;
 }
+
+pub line-run : {before mid now : Seen} {old pen next : Pen} {line x stop : ℕ} {shown wanted : List Shown} (cells : List Shown)
+    → length shown ≡ length wanted → x < stop → x + length cells ≡ stop → stop ≤ length shown
+    → IsLinePainted before mid old pen line x shown wanted → length shown ≡ old.columns
+    → ((k : ℕ) → k < length cells → get_or cells k shown_blank ≡ get_or wanted (x + k) shown_blank)
+    → ((v : ℕ) → x ≤ v → v < stop → same_shown (get_or shown v shown_blank) (get_or wanted v shown_blank) ≡ false)
+    → ((picture : Picture) → length (line_of picture line) ≡ pen.columns → take x (line_of picture line) ≡ take x wanted
+    → Strokes (run_bytes cells) mid now pen next picture (with_cells picture (line, x) cells))
+    → next.columns ≡ pen.columns → IsLinePainted before now old next line stop shown wanted
+line-run {x = x} {stop = stop} {shown = shown} {wanted = wanted} cells same some end room h wide are differs strokes columns =
+    line-stretch cells same some end room h wide are (differs x (omega arith) some) (run-short x stop shown wanted same some room differs) strokes columns
 
 -- a part of the wanted line as a run
 pub part-of : (x stop k : ℕ) (wanted : List Shown) → k < stop - x → get_or (cells_between x stop wanted) k shown_blank ≡ get_or wanted (x + k) shown_blank
@@ -212,12 +233,12 @@ run-begun shown wanted start end some differs = record {
 }
 
 -- and further cells
-pub run-further : (n : ℕ) {shown wanted : List Shown} {start end x : ℕ} {rendition : Rendition} → IsRun shown wanted start end x → rendition ≡ (get_or wanted start shown_blank).rendition
-    → AreOfRun (take n (drop x shown)) (take n (drop x wanted)) rendition n → x + n ≤ end → IsRun shown wanted start end (x + n)
-run-further n {shown} {wanted} {x} h is more inside =
+pub run-further : (n w : ℕ) → n ≤ w → {shown wanted : List Shown} {start end x : ℕ} {rendition : Rendition} → IsRun shown wanted start end x → rendition ≡ (get_or wanted start shown_blank).rendition
+    → AreOfRun (take w (drop x shown)) (take w (drop x wanted)) rendition n → x + n ≤ end → IsRun shown wanted start end (x + n)
+run-further n w few {shown} {wanted} {x} h is more inside =
     let at = λ (l : List Shown) (v : ℕ) (from : x ≤ v) (to : v < x + n).
     let split : x + (v - x) ≡ v = omega arith in
-    get_or-take n (drop x l) (v - x) shown_blank (omega arith) ∙ get_or-drop x l (v - x) shown_blank ∙ ap (λ k. get_or l k shown_blank) split in
+    get_or-take w (drop x l) (v - x) shown_blank (omega (arith, few, from, to)) ∙ get_or-drop x l (v - x) shown_blank ∙ ap (λ k. get_or l k shown_blank) split in
     record {
       some = omega (arith, h.some);
       within = inside;
@@ -230,3 +251,13 @@ run-further n {shown} {wanted} {x} h is more inside =
         | inr late ↦ ap (λ (cell : Shown). cell.rendition) (sym (at wanted v late to)) ∙ more.rendition_of (v - x) (omega arith) ∙ is
       ];
     }
+
+-- where one ends among the next cells
+pub over-at : (n w start x : ℕ) (shown wanted : List Shown) (rendition : Rendition) → n < w → rendition ≡ (get_or wanted start shown_blank).rendition
+    → is_over (get_or (take w (drop x shown)) n shown_blank) (get_or (take w (drop x wanted)) n shown_blank) rendition ≡ true → IsOver shown wanted start (x + n)
+over-at n w start x shown wanted rendition few is over =
+    let at = λ (l : List Shown). get_or-take w (drop x l) n shown_blank few ∙ get_or-drop x l n shown_blank in
+    over-parts (get_or shown (x + n) shown_blank) (get_or wanted (x + n) shown_blank) (get_or wanted start shown_blank).rendition
+    ((λ i. is_over (sym (at shown) i) (sym (at wanted) i) (sym is i)) ∙ over) where
+      over-parts : (a b : Shown) (r : Rendition) → is_over a b r ≡ true → (same_shown a b ≡ true) ⊎ (same_rendition b.rendition r ≡ false)
+      over-parts a b r h = grind (arith, cases_Bool)

@@ -21,6 +21,10 @@ pub mod SentTexts
 pub mod Repair
 -- Runs of cells: printed one after another, and drawn in a line; for `have_rendition`, `paint_cells`, `paint_run` and others
 pub mod CellRuns
+-- The first of some cells that isn't of a run, by a mask with a bit for each; for `run_before`
+pub mod RunLanes
+-- Cells of one rendition that are printed together: runs, and a cell between two that is shown already; for `paint_pass`, `stretch_end`
+pub mod Stretches
 -- Lines that are the same before one column and from another one on; for `changed_tail`, `first_changed`, `last_changed`
 pub mod LineParts
 -- Pictures that differ in some columns only; for `changed_lines`, `paint_picture`

@@ -124,7 +124,7 @@ run-added {order} {shown} {wanted} runs run h is = record {
         ap (end_of (runs ++ run ∷ [])) (sym last) ∙ end_of-append runs (run ∷ []) (length runs) (omega arith) in
         subst (λ (one : Run). IsListed order shown wanted (end_of (runs ++ run ∷ []) k) one) (sym new)
         (subst (λ (place : Place). IsListed order shown wanted place run) (sym from)
-        (record { line = is.line; before = h.rest; cells = is.cells; gap = is.gap; gap_same = is.gap_same; pass = is.pass }))
+        (record { line = is.line; before = h.rest; cells = is.cells; longest = is.longest; gap = is.gap; gap_same = is.gap_same; pass = is.pass }))
   ];
   rest =
       let long : length (runs ++ run ∷ []) ≡ suc (length runs) = omega (arith, length-append runs (run ∷ [])) in

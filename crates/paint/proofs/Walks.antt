@@ -35,6 +35,14 @@ line_bytes-drop (suc x) (a ∷ old) [] = elim (drop x old) as (λ (rest : List S
 ]
 line_bytes-drop (suc x) (a ∷ old) (b ∷ new) = omega (arith, line_bytes-drop x old new)
 
+-- what the cells from a later one on may cost, those from an earlier one on may cost too
+pub line_bytes-later : (x z : ℕ) (old new : List Shown) → x ≤ z → line_bytes (drop z old) (drop z new) ≤ line_bytes (drop x old) (drop x new)
+line_bytes-later x z old new before =
+    let split : x + (z - x) ≡ z = omega (arith, before) in
+    let one : drop (z - x) (drop x old) ≡ drop z old = drop-drop (z - x) x old ∙ ap (λ n. drop n old) split in
+    let other : drop (z - x) (drop x new) ≡ drop z new = drop-drop (z - x) x new ∙ ap (λ n. drop n new) split in
+    subst (λ n. n ≤ line_bytes (drop x old) (drop x new)) (λ i. line_bytes (one i) (other i)) (line_bytes-drop (z - x) (drop x old) (drop x new))
+
 -- ---- a line
 
 same-line : (picture : Picture) (line : ℕ) (cells : List Shown) → line_of picture line ≡ cells → set picture line cells ≡ picture

@@ -7,7 +7,7 @@ ghost use Rattle.paint.specs.steps.Listing.{AreRuns};
 ghost use Rattle.paint.specs.steps.Strokes.{SameTerminals};
 
 use crate::changes::Frame;
-use crate::counting::are_passes_shorter;
+use crate::counting::{are_passes_shorter, are_written_at_ends, walk_length};
 use crate::page::paint_picture;
 use crate::passes::{order_of, paint_passes};
 use crate::pen::Pen;
@@ -16,9 +16,10 @@ use cell::Rendition;
 use streams::{Discard, Sink};
 
 /// Draws the wanted picture of a frame over the one that is shown, from where the cursor is, and goes to a place. Where
-/// passes may take fewer bytes than one walk over all lines, the walk is drawn into the pen's room first, and what
-/// passes take is counted. If that is fewer, they are drawn. If not, the walk's text stays where all of it is in the
-/// room still, and else it is drawn again for the sink.
+/// passes may take fewer bytes than one walk over all lines, what they take is counted, and so is what the walk takes
+/// where it erases nothing: the shorter one is drawn. Else the walk is drawn into the pen's room first. If passes take
+/// fewer bytes, they are drawn. If not, the walk's text stays where all of it is in the room still, and else it is drawn
+/// again for the sink.
 pub fn draw_frame<W: Sink>(
     pen: &mut Pen,
     runs: &mut Runs,
@@ -41,11 +42,21 @@ pub fn draw_frame<W: Sink>(
         draw_walk(pen, sink, frame, from, to);
         return;
     }
+    let runs = runs.as_slice();
+    let passes = order.len() as u16 + 1;
+    if are_written_at_ends(frame, runs) {
+        let walk = walk_length(frame, runs, from, to);
+        if are_passes_shorter(frame, runs, passes, from, to, walk) {
+            draw_passes(pen, sink, frame, runs, order, from, to);
+        } else {
+            draw_walk(pen, sink, frame, from, to);
+        }
+        return;
+    }
     let mut discard = Discard::new();
     draw_walk(pen, &mut discard, frame, from, to);
-    let passes = order.len() as u16 + 1;
-    if are_passes_shorter(frame, runs.as_slice(), passes, from, to, pen.bytes()) {
-        draw_passes(pen, sink, frame, runs.as_slice(), order, from, to);
+    if are_passes_shorter(frame, runs, passes, from, to, pen.bytes() as usize) {
+        draw_passes(pen, sink, frame, runs, order, from, to);
     } else if !pen.holds_all() {
         draw_walk(pen, sink, frame, from, to);
     }

@@ -5,10 +5,11 @@ ghost use Rattle.cell.specs.Differences.{same_shown};
 ghost use Rattle.cell.specs.Pictures.{Picture, line_of};
 ghost use Rattle.cell.specs.Shown.{shown_blank};
 ghost use Rattle.cell.specs.declared.limits.TheConstants.{LARGEST_SCREEN};
+ghost use Rattle.cell.specs.declared.lanes.TheConstants.{LANES};
 ghost use Rattle.streams.specs.Sinks.{Seen};
 ghost use Rattle.paint.specs.Updates.{place_bytes};
 ghost use Rattle.paint.specs.steps.Strokes.{IsPlainAt, SameTerminals, Strokes, line_bytes, reach_bytes, run_bytes, with_cells};
-ghost use Rattle.paint.specs.steps.Walks.{AreOfRun, DifferWithin, IsLinePainted, IsOver, IsReadyToErase, IsRun, StrokesLine, cells_between};
+ghost use Rattle.paint.specs.steps.Walks.{AreEnds, AreOfRun, DifferWithin, IsLinePainted, IsOver, IsReadyToErase, IsRun, IsStretch, StrokesLine, HaveOneRendition, cells_between, is_over};
 
 use crate::gap::{approach, is_plain_gap};
 use crate::pen::Pen;
@@ -16,10 +17,8 @@ use crate::tail::{
     changed_end, changed_tail, erased_from, first_changed, is_erased, last_changed, tail_start,
 };
 use cell::{LANES, Rendition, Shown, first_diff};
+use std::simd::prelude::*;
 use streams::Sink;
-
-/// How many cells of a run are looked at one after another.
-const SHORT: usize = 8;
 
 /// How many cells of a gap are looked at one after another.
 const NEAR: usize = 4;
@@ -142,7 +141,7 @@ fn paint_cells<W: Sink>(
             x = next_changed(shown, wanted, x + 1, end);
             continue;
         }
-        let stop = run_end(shown, wanted, x, end);
+        let stop = stretch_end(shown, wanted, x, end);
         paint_run(pen, sink, row, gap, x, stop);
         x = stop;
         gap = stop;
@@ -173,8 +172,48 @@ pub fn next_changed(shown: &[Shown], wanted: &[Shown], from: usize, end: usize) 
     }
 }
 
-/// Where the run of changed cells of one rendition ends that begins at a column, before an end. Of a long one many
-/// cells are looked at together.
+/// Where the cells end, before an end, that are printed together from a changed one on: runs of one rendition, with a
+/// single cell of it between two, which is shown already. To print that again takes fewer bytes than to move over it.
+fn stretch_end(shown: &[Shown], wanted: &[Shown], start: usize, end: usize) -> usize
+    requires same { length shown.now ≡ length wanted.now }
+    requires begun { start < end }
+    requires inside { end ≤ length wanted.now }
+    requires differs { same_shown (slice_index_or shown.now start shown_blank) (slice_index_or wanted.now start shown_blank) ≡ false }
+    ensures { IsStretch shown.now wanted.now start end result }
+{
+    let rendition = wanted[start].rendition();
+    let mut stop = run_end(shown, wanted, start, end);
+    while goes_on(shown, wanted, stop, end, rendition) {
+        stop = run_end(shown, wanted, stop + 1, end);
+    }
+    stop
+}
+
+/// Whether, before an end, a cell and a changed one after it have a rendition.
+fn goes_on(shown: &[Shown], wanted: &[Shown], at: usize, end: usize, rendition: Rendition) -> bool
+    requires same { length shown.now ≡ length wanted.now }
+    requires at { at ≤ end }
+    requires inside { end ≤ length wanted.now }
+    ensures inside { result ≡ true → at + 1 < end }
+    ensures first { result ≡ true → (slice_index_or wanted.now at shown_blank).rendition ≡ rendition }
+    ensures second { result ≡ true → (slice_index_or wanted.now (at + 1) shown_blank).rendition ≡ rendition }
+    ensures changed { result ≡ true → same_shown (slice_index_or shown.now (at + 1) shown_blank) (slice_index_or wanted.now (at + 1) shown_blank) ≡ false }
+{
+    if end - at < 2 {
+        return false;
+    }
+    let next = at + 1;
+    if shown[next] == wanted[next] {
+        return false;
+    }
+    if wanted[at].rendition() != rendition {
+        return false;
+    }
+    wanted[next].rendition() == rendition
+}
+
+/// Where the run of changed cells of one rendition ends that begins at a column, before an end. Many cells are looked at
+/// together.
 pub fn run_end(shown: &[Shown], wanted: &[Shown], start: usize, end: usize) -> usize
     requires same { length shown.now ≡ length wanted.now }
     requires begun { start < end }
@@ -183,14 +222,14 @@ pub fn run_end(shown: &[Shown], wanted: &[Shown], start: usize, end: usize) -> u
     ensures run { IsRun shown.now wanted.now start end result }
     ensures longest { result < end → IsOver shown.now wanted.now start result }
 {
-    let near = end.min(start + SHORT);
-    let mut x = run_end_from(shown, wanted, start, start + 1, near);
-    if x < near {
-        return x;
-    }
     let rendition = wanted[start].rendition();
-    while end - x >= LANES && are_of_run(&shown[x..x + LANES], &wanted[x..x + LANES], rendition) {
-        x += LANES;
+    let mut x = start + 1;
+    while end - x >= LANES {
+        let more = run_before(&shown[x..x + LANES], &wanted[x..x + LANES], rendition);
+        x += more;
+        if more < LANES {
+            return x;
+        }
     }
     run_end_from(shown, wanted, start, x, end)
 }
@@ -215,22 +254,50 @@ fn run_end_from(shown: &[Shown], wanted: &[Shown], start: usize, from: usize, en
     end
 }
 
-/// Whether some cells are changed and have a rendition, all of them, by a loop with one exit, which the compiler
-/// vectorizes.
-fn are_of_run(shown: &[Shown], wanted: &[Shown], rendition: Rendition) -> bool
-    requires { length shown.now ≡ length wanted.now }
-    ensures { result ≡ true → AreOfRun shown.now wanted.now rendition (length wanted.now) }
+/// How many of so many cells come before the first that isn't of a run: all, where each is.
+#[inline(always)]
+fn run_before(shown: &[Shown], wanted: &[Shown], rendition: Rendition) -> usize
+    requires shown { length shown.now ≡ LANES }
+    requires wanted { length wanted.now ≡ LANES }
+    ensures within { result ≤ LANES }
+    ensures run { AreOfRun shown.now wanted.now rendition result }
+    ensures longest { result < LANES → is_over (slice_index_or shown.now result shown_blank) (slice_index_or wanted.now result shown_blank) rendition ≡ true }
 {
-    let mut all = true;
-    for x in 0..wanted.len() {
-        all &= shown[x] != wanted[x];
-        all &= wanted[x].rendition() == rendition;
+    let ends = ends_of(shown, wanted, rendition)
+        .simd_ne(u32x16::splat(0))
+        .to_bitmask();
+    if ends == 0 {
+        LANES
+    } else {
+        ends.trailing_zeros() as usize
     }
-    all
 }
 
-/// Draws a run of changed cells of one rendition, from a column up to another, after a gap of cells that are shown
-/// already. It is inlined, as a picture of many renditions has many runs.
+/// Of so many cells the number 1 for each that isn't of a run, and else 0, by a loop that the compiler vectorizes.
+#[inline(always)]
+fn ends_of(shown: &[Shown], wanted: &[Shown], rendition: Rendition) -> u32x16
+    requires shown { length shown.now ≡ LANES }
+    requires wanted { length wanted.now ≡ LANES }
+    ensures long { length result ≡ LANES }
+    ensures ends { AreEnds shown.now wanted.now rendition result LANES }
+{
+    let mut ends = [0; LANES];
+    for x in 0..LANES {
+        ends[x] = u32::from(is_over(shown[x], wanted[x], rendition));
+    }
+    u32x16::from_array(ends)
+}
+
+/// Whether a cell isn't of a run: it is shown already, or has another rendition.
+#[inline(always)]
+fn is_over(shown: Shown, wanted: Shown, rendition: Rendition) -> bool
+    ensures { result ≡ is_over shown wanted rendition }
+{
+    (shown == wanted) | (wanted.rendition() != rendition)
+}
+
+/// Draws cells of one rendition, from a column up to another, after a gap of cells that are shown already. It is
+/// inlined, as a picture of many renditions has many runs.
 #[inline(always)]
 pub fn paint_run<W: Sink>(
     pen: &mut Pen,
@@ -242,7 +309,7 @@ pub fn paint_run<W: Sink>(
 )
     requires width { pen.old.columns ≡ length row.now.wanted.now }
     requires gap { gap ≤ start }
-    requires run { IsRun row.now.shown.now row.now.wanted.now start (length row.now.wanted.now) end }
+    requires run { HaveOneRendition row.now.wanted.now start end }
     ensures strokes { (picture : Picture) → length (line_of picture row.now.line) ≡ pen.old.columns
         → cells_between gap start (line_of picture row.now.line) ≡ cells_between gap start row.now.wanted.now
         → Strokes (run_bytes (cells_between start end row.now.wanted.now)) (W.seen sink.old) (W.seen sink.new) pen.old pen.new picture

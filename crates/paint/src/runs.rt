@@ -1,9 +1,11 @@
 //! The runs of changed cells of a frame, as a list.
 
-ghost use Rattle.std.specs.Prelude.{◌≡◌, ◌++◌, ◌∷◌, ◌<◌, ◌≤◌, IfOk, [], if◌then◌else◌, length, true};
+ghost use Rattle.std.specs.Prelude.{◌≡◌, ◌++◌, ◌∷◌, ◌<◌, ◌≤◌, IfOk, [], false, if◌then◌else◌, length, nat_lt, slice_index_or, true};
+ghost use Rattle.cell.specs.Differences.{same_shown};
+ghost use Rattle.cell.specs.Shown.{shown_blank};
 ghost use Rattle.cell.specs.Pictures.{Picture, line_of};
 ghost use Rattle.paint.specs.declared.passes.TheConstants.{MOST};
-ghost use Rattle.paint.specs.steps.Listing.{AreRuns};
+ghost use Rattle.paint.specs.steps.Listing.{AreRuns, AreTooMany};
 
 use crate::changes::Frame;
 use crate::line::{Row, next_changed, run_end};
@@ -44,21 +46,21 @@ pub struct Runs {
 }
 
 impl Model for Runs {
-    ghost use Rattle.std.specs.Prelude.{List, ◌≤◌, length, take};
-    ghost use Rattle.paint.specs.declared.runs.Run.{Run};
+    ghost use Rattle.std.specs.Prelude.{◌≤◌, length, take};
+    ghost use Rattle.paint.specs.steps.Listing.{RunList};
 
-    ghost Value = { List Run };
+    ghost Value = { RunList };
 
-    ghost view = { λ runs. take runs.count runs.room.items };
+    ghost view = { λ list. record { runs = take list.count list.room.items; room = length list.room.items } };
 
-    ghost invariant = { λ runs. runs.count ≤ length runs.room.items };
+    ghost invariant = { λ list. list.count ≤ length list.room.items };
 }
 
 impl Runs {
-    /// None, and memory for so many.
+    /// None, and room for so many.
     pub fn new(alloc: Global, most: usize) -> Result<Runs, AllocError>
         requires { most ≤ 65536 }
-        ensures { IfOk result (λ runs. runs ≡ []) }
+        ensures { IfOk result (λ list. list ≡ record { runs = []; room = most }) }
     {
         Ok(Runs {
             room: vec![in alloc; Run::NONE; most]?,
@@ -68,21 +70,22 @@ impl Runs {
 
     /// The runs.
     pub fn as_slice(&self) -> &[Run]
-        ensures { result.now ≡ self.now }
+        ensures { result.now ≡ self.now.runs }
     {
         &self.room[..self.count]
     }
 
     /// Leaves none of them.
     fn clear(&mut self)
-        ensures { self.new ≡ [] }
+        ensures { self.new ≡ record self.old { runs = [] } }
     {
         self.count = 0;
     }
 
-    /// Adds one, if there is memory for it, and answers whether there was.
+    /// Adds one, if there is room for it, and answers whether there was.
     fn push(&mut self, run: Run) -> bool
-        ensures { self.new ≡ (if result then self.old ++ run ∷ [] else self.old) }
+        ensures fits { result ≡ nat_lt (length self.old.runs) self.old.room }
+        ensures added { self.new ≡ (if result then record self.old { runs = self.old.runs ++ run ∷ [] } else self.old) }
     {
         if self.count >= self.room.len() {
             return false;
@@ -93,10 +96,12 @@ impl Runs {
     }
 
     /// Lists the runs of a frame, in the passes of an order, in place of those that were there. It answers whether
-    /// there was memory for all.
+    /// there was room for all.
     pub fn list(&mut self, frame: &Frame<'_>, order: &[Rendition]) -> bool
         requires { length order.now ≤ MOST }
-        ensures { result ≡ true → AreRuns order.now frame.now.shown.now frame.now.wanted.now self.new (frame.now.lines, 0) }
+        ensures runs { result ≡ true → AreRuns order.now frame.now.shown.now frame.now.wanted.now self.new.runs (frame.now.lines, 0) }
+        ensures full { result ≡ false → AreTooMany order.now frame.now.shown.now frame.now.wanted.now self.new }
+        ensures room { self.new.room ≡ self.old.room }
     {
         self.clear();
         let mut line = frame.changes.next(0);
@@ -121,8 +126,12 @@ impl Runs {
         requires ordered { start ≤ end }
         requires inside { end ≤ length row.now.wanted.now }
         requires few { length order.now ≤ MOST }
-        ensures { result ≡ true → (shown wanted : Picture) → line_of shown row.now.line ≡ row.now.shown.now → line_of wanted row.now.line ≡ row.now.wanted.now
-            → AreRuns order.now shown wanted self.old (row.now.line, start) → AreRuns order.now shown wanted self.new (row.now.line, end) }
+        requires after { end < length row.now.wanted.now → same_shown (slice_index_or row.now.shown.now end shown_blank) (slice_index_or row.now.wanted.now end shown_blank) ≡ true }
+        ensures runs { result ≡ true → (shown wanted : Picture) → line_of shown row.now.line ≡ row.now.shown.now → line_of wanted row.now.line ≡ row.now.wanted.now
+            → AreRuns order.now shown wanted self.old.runs (row.now.line, start) → AreRuns order.now shown wanted self.new.runs (row.now.line, end) }
+        ensures full { result ≡ false → (shown wanted : Picture) → line_of shown row.now.line ≡ row.now.shown.now → line_of wanted row.now.line ≡ row.now.wanted.now
+            → AreRuns order.now shown wanted self.old.runs (row.now.line, start) → AreTooMany order.now shown wanted self.new }
+        ensures room { self.new.room ≡ self.old.room }
     {
         let (shown, wanted) = (row.shown, row.wanted);
         let Some(skipped) = first_diff(&shown[start..end], &wanted[start..end]) else {

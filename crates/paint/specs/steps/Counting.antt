@@ -1,6 +1,6 @@
--- How many bytes it takes to draw runs in passes.
-use Rattle.std.specs.Prelude.{ℕ, zero, suc, ◌+◌, ◌-◌, ◌<◌, ◌≤◌, ◌==◌, if◌then◌else◌, List, [], ◌∷◌, length, Some, slice_index_or}
-use Rattle.cell.specs.Shown.{no_rendition}
+-- How many bytes it takes to draw runs: in passes, and in one walk.
+use Rattle.std.specs.Prelude.{◌≡◌, ◌≢◌, ℕ, zero, suc, ◌+◌, ◌-◌, ◌<◌, ◌≤◌, ◌==◌, ◌||◌, not, nat_le, Bool, true, if◌then◌else◌, List, [], ◌∷◌, length, Some, slice_index_or}
+use Rattle.cell.specs.Shown.{no_rendition, shown_blank}
 use Rattle.cell.specs.Pictures.{Picture, Place, line_of, shown_at}
 use Rattle.paint.specs.declared.counting.Count.{Count}
 use Rattle.paint.specs.declared.runs.Run.{Run}
@@ -44,9 +44,28 @@ abbrev pub with_passes : ℕ → Picture → ℕ → Count → List Run → Coun
 with_passes columns wanted zero count runs = count
 with_passes columns wanted (suc passes) count runs = with_pass columns wanted passes (with_passes columns wanted passes count runs) runs
 
--- Those, from a place on, and then to go to another with the empty rendition. The sum stays at the greatest number of
--- 64 bits.
+-- all runs, one after another
+abbrev pub with_runs : ℕ → Picture → Count → List Run → Count
+with_runs columns wanted count [] = count
+with_runs columns wanted count (run ∷ runs) = with_runs columns wanted (with_run columns wanted count run) runs
+
+-- what was counted, and then to go to a place with the empty rendition. The sum stays at the greatest number of 64 bits.
+abbrev pub ended_bytes : Count → Place → ℕ
+ended_bytes count to = saturating_usize (count.bytes + moved_bytes count.pen.cursor count.pen.rendition to no_rendition)
+
+-- in passes, from a place on up to another, and in one walk that erases nothing
 abbrev pub passes_bytes : ℕ → Picture → ℕ → List Run → Place → Place → ℕ
-passes_bytes columns wanted passes runs from to =
-    let count = with_passes columns wanted passes (count_from from) runs in
-    saturating_usize (count.bytes + moved_bytes count.pen.cursor count.pen.rendition to no_rendition)
+passes_bytes columns wanted passes runs from to = ended_bytes (with_passes columns wanted passes (count_from from) runs) to
+
+abbrev pub walk_bytes : ℕ → Picture → List Run → Place → Place → ℕ
+walk_bytes columns wanted runs from to = ended_bytes (with_runs columns wanted (count_from from) runs) to
+
+-- the run after one is in another line, or there is none
+abbrev pub is_last_of_line : List Run → ℕ → Bool
+is_last_of_line runs k = nat_le (length runs) (k + 1) || not ((slice_index_or runs (k + 1) no_run).line == (slice_index_or runs k no_run).line)
+
+-- of the first runs, so many, those that are the last of their lines end in a cell that isn't blank
+abbrev pub AreWrittenAtEnds : Picture → List Run → ℕ → Type 0
+AreWrittenAtEnds wanted runs count =
+    (k : ℕ) → k < count → is_last_of_line runs k ≡ true
+    → shown_at wanted ((slice_index_or runs k no_run).line, (slice_index_or runs k no_run).end - 1) ≢ shown_blank

@@ -1,12 +1,13 @@
 -- The runs of changed cells of a frame, one after another.
 use Rattle.std.specs.Prelude.{◌≡◌, ℕ, zero, suc, ◌<◌, ◌≤◌, ◌==◌, ◌&&◌, ◌||◌, true, false, Bool, nat_lt, List, length, slice_index_or}
 use Rattle.cell.specs.Shown.{Rendition}
+use Rattle.cell.specs.Differences.{same_shown}
 use Rattle.cell.specs.Pictures.{Picture, Place, line_of, origin, shown_at}
 use Rattle.streams.specs.Sinks.{Seen}
 use Rattle.paint.specs.declared.pen.Pen.{Pen}
 use Rattle.paint.specs.declared.runs.Run.{Run}
 use Rattle.paint.specs.steps.Passes.{pass_of}
-use Rattle.paint.specs.steps.Walks.{IsLinePainted, IsPicturePainted, IsRun}
+use Rattle.paint.specs.steps.Walks.{IsLinePainted, IsOver, IsPicturePainted, IsRun}
 
 -- a place comes before another one, line by line
 abbrev pub is_before : Place → Place → Bool
@@ -21,17 +22,23 @@ pub record AreSameBetween (shown wanted : Picture) (from to : Place) : Type 0 wh
 abbrev pub no_run : Run
 no_run = record { line = 0; gap = 0; start = 0; end = 0; pass = 0 }
 
+-- runs, and for how many there is room
+pub record RunList : Type 0 where
+  pub runs : List Run
+  pub room : ℕ
+
 -- where the first runs end, so many
 abbrev pub end_of : List Run → ℕ → Place
 end_of runs zero = origin
 end_of runs (suc k) = let run = slice_index_or runs k no_run in (run.line, run.end)
 
--- A run of changed cells: nothing differs between a place and it, nor in its gap, and it is drawn in the pass of its
--- rendition.
+-- A run of changed cells: nothing differs between a place and it, nor in its gap, it doesn't go on where it ends, and it is drawn in the
+-- pass of its rendition.
 pub record IsListed (order : List Rendition) (shown wanted : Picture) (from : Place) (run : Run) : Type 0 where
   pub line : run.line < length wanted
   pub before : AreSameBetween shown wanted from (run.line, run.start)
   pub cells : IsRun (line_of shown run.line) (line_of wanted run.line) run.start (length (line_of wanted run.line)) run.end
+  pub longest : run.end < length (line_of wanted run.line) → IsOver (line_of shown run.line) (line_of wanted run.line) run.start run.end
   pub gap : run.gap ≤ run.start
   pub gap_same : (x : ℕ) → run.gap ≤ x → x < run.start → shown_at shown (run.line, x) ≡ shown_at wanted (run.line, x)
   pub pass : run.pass ≡ pass_of order (shown_at wanted (run.line, run.start)).rendition
@@ -40,6 +47,13 @@ pub record IsListed (order : List Rendition) (shown wanted : Picture) (from : Pl
 pub record AreRuns (order : List Rendition) (shown wanted : Picture) (runs : List Run) (to : Place) : Type 0 where
   pub each : (k : ℕ) → k < length runs → IsListed order shown wanted (end_of runs k) (slice_index_or runs k no_run)
   pub rest : AreSameBetween shown wanted (end_of runs (length runs)) to
+
+-- There are more runs than there is room for: these take all of it, and are the runs before a changed cell.
+pub record AreTooMany (order : List Rendition) (shown wanted : Picture) (list : RunList) : Type 0 where
+  pub place : Place
+  pub full : list.room ≤ length list.runs
+  pub before : AreRuns order shown wanted list.runs place
+  pub changed : same_shown (shown_at shown place) (shown_at wanted place) ≡ false
 
 -- The places before one are the wanted ones: the lines before its line, and there the cells before its column.
 pub record IsPaintedTo (before now : Seen) (old pen : Pen) (to : Place) (shown wanted : Picture) : Type 0 where

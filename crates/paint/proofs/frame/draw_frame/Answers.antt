@@ -16,15 +16,17 @@ returns-then-not-list-clause-holds g c = c.draw_walk-then-not-list.ensures.holds
 pub are_passes_shorter-requires-clause-runs : goal.are_passes_shorter-requires-clause-runs
 are_passes_shorter-requires-clause-runs g c =
     let f = c.args.frame.now.sound in
-    subst (AreInside c.args.frame.now.lines c.args.frame.now.columns) (sym c.as_slice.ensures) (runs-inside f.wanted (c.list.ensures c.if-not-list.false))
+    subst (AreInside c.args.frame.now.lines c.args.frame.now.columns) (sym c.as_slice-runs.ensures) (runs-inside f.wanted (c.list.ensures.runs c.if-not-list.false))
 
 pub draw_passes-requires-clause-runs : goal.draw_passes-requires-clause-runs
 draw_passes-requires-clause-runs g c =
     subst (λ (runs : List Run). AreRuns c.renditions-order.result.now c.args.frame.now.shown.now c.args.frame.now.wanted.now runs (c.args.frame.now.lines, 0))
-    (sym c.as_slice-then-are_passes_shorter.ensures) (c.list.ensures c.if-not-list.false)
+    (sym c.as_slice-runs.ensures) (c.list.ensures.runs c.if-not-list.false)
 
-pub returns-then-are_passes_shorter-clause-holds : goal.returns-then-are_passes_shorter-clause-holds
-returns-then-are_passes_shorter-clause-holds g c = c.draw_passes.ensures.holds
+pub draw_passes-requires-then-are_passes_shorter-2-clause-runs : goal.draw_passes-requires-then-are_passes_shorter-2-clause-runs
+draw_passes-requires-then-are_passes_shorter-2-clause-runs g c =
+    subst (λ (runs : List Run). AreRuns c.renditions-order.result.now c.args.frame.now.shown.now c.args.frame.now.wanted.now runs (c.args.frame.now.lines, 0))
+    (sym c.as_slice-runs.ensures) (c.list.ensures.runs c.if-not-list.false)
 
 pub returns-then-not-holds_all-clause-holds : goal.returns-then-not-holds_all-clause-holds
 returns-then-not-holds_all-clause-holds g c = c.draw_walk-then-not-holds_all.ensures.holds

@@ -4,7 +4,7 @@ use Rattle.std.proofs.Common.{◌≡◌, ◌<◌, ◌≤◌, ◌∙◌, length, 
 use Rattle.cell.specs.Pictures.{line_of}
 use Rattle.paint.specs.steps.Walks.{cells_between}
 use Rattle.paint.proofs.Prefixes.{between}
-use Rattle.paint.proofs.CellRuns.{same_shown-at, line-run, part-of, run-longer}
+use Rattle.paint.proofs.CellRuns.{same_shown-at, line-stretch, part-of}
 use Rattle.paint.proofs.Walks.{alike-same, length-between, line-kept, line-skipped}
 use Rattle.paint.proofs.line.paint_cells.Goals as goal
 
@@ -24,32 +24,33 @@ loop-x-preserved-then-eq g c =
       same = c.loop-x.invariant.same;
     }
 
-pub run_end-stop-requires-clause-differs : goal.run_end-stop-requires-clause-differs
-run_end-stop-requires-clause-differs g c =
+pub stretch_end-stop-requires-clause-differs : goal.stretch_end-stop-requires-clause-differs
+stretch_end-stop-requires-clause-differs g c =
     let inside : c.loop-x.x < length c.args.row.now.wanted.now = omega (arith, c.loop-x-test.true, c.requires.inside) in
     same_shown-at c.args.row.now.shown.now c.args.row.now.wanted.now c.loop-x.x c.index-shown-x.is c.index-wanted-x.is (omega (arith, inside, c.args.row.now.same)) inside c.if-eq.ensures
 
 pub loop-x-preserved : goal.loop-x-preserved
 loop-x-preserved g c =
     let x = c.loop-x.x in
-    let stop = c.run_end-stop.result in
-    let run = c.run_end-stop.ensures.run in
+    let stop = c.stretch_end-stop.result in
+    let stretch = c.stretch_end-stop.ensures in
+    let cells = stretch.cells in
     let wanted = c.args.row.now.wanted.now in
     let same : length c.args.row.now.shown.now ≡ length wanted = c.args.row.now.same in
-    let inside : stop ≤ length wanted = omega (arith, run.within, c.requires.inside) in
-    let long = length-between x stop wanted (omega (arith, run.some)) inside in
+    let inside : stop ≤ length wanted = omega (arith, stretch.within, c.requires.inside) in
+    let long = length-between x stop wanted (omega (arith, cells.some)) inside in
     record {
       painted = λ before old h.
           let so_far = c.loop-x.invariant.painted before old h in
-          line-run (cells_between x stop wanted) same run.some (omega (arith, long, run.some)) (omega (arith, inside, same)) so_far
-          (c.args.row.now.same ∙ sym c.requires.width ∙ sym c.loop-x.invariant.columns ∙ so_far.columns) (λ k few. part-of x stop k wanted (omega (arith, long))) run.changed
+          line-stretch (cells_between x stop wanted) same cells.some (omega (arith, long, cells.some)) (omega (arith, inside, same)) so_far
+          (c.args.row.now.same ∙ sym c.requires.width ∙ sym c.loop-x.invariant.columns ∙ so_far.columns) (λ k few. part-of x stop k wanted (omega (arith, long))) stretch.changed stretch.short
           (λ picture wide prefix. c.paint_run.ensures.strokes picture wide (between c.loop-x.gap x (line_of picture c.args.row.now.line) wanted c.loop-x.invariant.gap prefix))
           c.paint_run.ensures.same.columns;
       gap = omega arith;
-      within = run.within;
+      within = stretch.within;
       columns = c.paint_run.ensures.same.columns ∙ c.loop-x.invariant.columns;
       same = c.paint_run.ensures.same.sink ∙ c.loop-x.invariant.same;
     }
 
 pub paint_run-requires-clause-run : goal.paint_run-requires-clause-run
-paint_run-requires-clause-run g c = run-longer c.run_end-stop.ensures.run c.requires.inside
+paint_run-requires-clause-run g c = c.stretch_end-stop.ensures.cells

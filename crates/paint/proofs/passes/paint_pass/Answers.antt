@@ -6,6 +6,7 @@ use Rattle.paint.specs.steps.Listing.{IsPaintedTo, end_of, no_run}
 use Rattle.paint.specs.steps.Passes.{is_drawn, picture_after, pass_of as pass_in}
 use Rattle.paint.proofs.Choices.{not-yet, now-drawn, other-pass}
 use Rattle.paint.proofs.Listing.{columns-kept, end-below, painted-further, painted-none, painted-whole, run-drawn, run-skipped}
+use Rattle.paint.proofs.Stretches.{run-cells}
 use Rattle.paint.proofs.passes.paint_pass.Goals as goal
 
 pub loop-i-init : goal.loop-i-init
@@ -50,7 +51,7 @@ paint_run-requires-clause-width g c =
 pub paint_run-requires-clause-run : goal.paint_run-requires-clause-run
 paint_run-requires-clause-run g c =
     let is = c.requires.runs.each c.loop-i.i c.loop-i-test.true in
-    rw (c.row.ensures.row, c.row-in-loop-i.ensures.row, c.from-at.ensures, c.from-start.ensures, c.from.ensures) is.cells
+    rw (c.row-in-loop-i.ensures.row, c.from-at.ensures, c.from-start.ensures, c.from.ensures) (run-cells is.cells (omega arith))
 
 pub loop-i-preserved : goal.loop-i-preserved
 loop-i-preserved g c =

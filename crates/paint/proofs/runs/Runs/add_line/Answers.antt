@@ -1,19 +1,21 @@
 -- `add_line`: what isn't in a run is shown already (`Listing`).
-use Rattle.std.proofs.Common.{◌≡◌, ℕ, ◌+◌, ◌-◌, ◌<◌, ◌≤◌, ◌++◌, ◌∷◌, [], ◌∙◌, List, drop, get_or, inl, inr, length, take, sym, ap, subst, arith}
+use Rattle.std.proofs.Common.{◌≡◌, ℕ, ◌+◌, ◌-◌, ◌<◌, ◌≤◌, ◌++◌, ◌∷◌, [], ◌∙◌, List, drop, get_or, inl, inr, length, take, true, refl, sym, ap, subst, arith}
 use Rattle.std.specs.Prelude.{if◌then◌else◌}
 use Rattle.std.proofs.lemmas.Bool.{cases_lt}
+use Rattle.std.proofs.lemmas.Bool.Decides.{nat_tests}
 use Rattle.std.proofs.lemmas.List.{get_or_default, length-take}
 use Rattle.cell.specs.Shown.{Shown, shown_blank}
 use Rattle.cell.specs.EqualityLaws.{same_shown-equal}
+use Rattle.cell.specs.Differences.{same_shown}
 use Rattle.paint.specs.declared.runs.Run.{Run}
-use Rattle.paint.specs.steps.Listing.{AreRuns}
+use Rattle.paint.specs.steps.Listing.{AreRuns, AreTooMany, RunList}
 use Rattle.paint.specs.steps.Passes.{pass_of as pass_in}
 use Rattle.paint.proofs.CellRuns.{run-longer, same_shown-at}
 use Rattle.paint.proofs.Listing.{line-there, part-same, run-added, runs-further, same-in_line, same-nothing}
 use Rattle.paint.proofs.runs.Runs.add_line.Goals as goal
 
-pub returns-in_default : goal.returns-in_default
-returns-in_default c = λ _ shown wanted old new h.
+pub returns-in_default-clause-runs : goal.returns-in_default-clause-runs
+returns-in_default-clause-runs c = λ _ shown wanted old new h.
     let start = c.args.start in
     let n = c.args.end - c.args.start in
     let all = rw c.in_default.is at c.first_diff.ensures in
@@ -36,6 +38,7 @@ loop-x-init c =
       gap = omega arith;
       within = omega arith;
       kept = λ v from to. absurd (omega arith);
+      room = refl;
     }
 
 pub loop-x-preserved-then-eq : goal.loop-x-preserved-then-eq
@@ -61,6 +64,7 @@ loop-x-preserved-then-eq c =
         | inl h ↦ c.loop-x.invariant.kept v from h
         | inr h ↦ same v (omega arith) to
       ];
+      room = c.loop-x.invariant.room;
     }
 
 pub run_end-stop-requires-clause-differs : goal.run_end-stop-requires-clause-differs
@@ -78,15 +82,20 @@ loop-x-preserved c =
     let order = c.args.order.now in
     let inside : x < length wanted = omega (arith, c.loop-x-test.true, c.requires.inside) in
     let run : Run = record { line = y; gap = c.loop-x.gap; start = x; end = stop; pass = c.pass_of.result } in
-    let pushed : c.push.new.self ≡ c.loop-x.self ++ run ∷ [] =
-    c.push.ensures ∙ ap (λ b. if b then c.loop-x.self ++ run ∷ [] else c.loop-x.self) c.if-not-push.false in
+    let pushed : c.push.new.self ≡ record c.loop-x.self { runs = c.loop-x.self.runs ++ run ∷ [] } =
+    c.push.ensures.added ∙ ap (λ b. if b then record c.loop-x.self { runs = c.loop-x.self.runs ++ run ∷ [] } else c.loop-x.self) c.if-not-push.false in
     let cell = c.index-wanted-x-in-loop-x.is ∙ get_or_default wanted x c.index-wanted-x-in-loop-x.result shown_blank inside in
     record {
-      listed = λ S W old new h. subst (λ (runs : List Run). AreRuns order S W runs (y, stop)) (sym pushed)
-          (run-added c.loop-x.self run (c.loop-x.invariant.listed S W old new h) (record {
+      listed = λ S W old new h. subst (λ (list : RunList). AreRuns order S W list.runs (y, stop)) (sym pushed)
+          (run-added c.loop-x.self.runs run (c.loop-x.invariant.listed S W old new h) (record {
             line = line-there W y x wanted new inside;
             before = same-nothing S W (y, x);
             cells = rw (old, new) (run-longer c.run_end-stop.ensures.run c.requires.inside);
+            longest = rw (old, new) (λ further. elim (cases_lt stop c.args.end) [
+              | inl before ↦ c.run_end-stop.ensures.longest before
+              | inr past ↦ let here : c.args.end ≡ stop = omega (arith, past, c.run_end-stop.ensures.run.within) in
+                  inl (subst (λ n. same_shown (get_or shown n shown_blank) (get_or wanted n shown_blank) ≡ true) here (c.requires.after (omega (arith, here, further))))
+            ]);
             gap = c.loop-x.invariant.gap;
             gap_same = λ v from to. ap (λ (l : List Shown). get_or l v shown_blank) old ∙ c.loop-x.invariant.kept v from to ∙ ap (λ (l : List Shown). get_or l v shown_blank) (sym new);
             pass = c.pass_of.ensures.value ∙ ap (pass_in order) (c.rendition.ensures.value ∙ ap (λ (cell : Shown). cell.rendition) cell
@@ -95,4 +104,20 @@ loop-x-preserved c =
       gap = omega arith;
       within = c.run_end-stop.ensures.run.within;
       kept = λ v from to. absurd (omega arith);
+      room = ap (λ (list : RunList). list.room) pushed ∙ c.loop-x.invariant.room;
     }
+
+pub returns-then-not-push-clause-full : goal.returns-then-not-push-clause-full
+returns-then-not-push-clause-full c = λ _ S W old new h.
+    let x = c.loop-x.x in
+    let y = c.args.row.now.line in
+    let shown = c.args.row.now.shown.now in
+    let wanted = c.args.row.now.wanted.now in
+    let inside : x < length wanted = omega (arith, c.loop-x-test.true, c.requires.inside) in
+    let kept : c.push.new.self ≡ c.loop-x.self = c.if-not-push.ensures.added in
+    subst (AreTooMany c.args.order.now S W) (sym kept) (record {
+      place = (y, x);
+      full = grind (arith, nat_tests, c.if-not-push.ensures.fits);
+      before = c.loop-x.invariant.listed S W old new h;
+      changed = rw (old, new) (same_shown-at shown wanted x c.index-shown-x.is c.index-wanted-x.is (omega (arith, inside, c.args.row.now.same)) inside c.if-eq.ensures);
+    })

@@ -7,7 +7,8 @@ use Rattle.paint.proofs.runs.Runs.add_line.Given as goal
 abbrev pub invariant-loop-x : goal.invariant-loop-x
 invariant-loop-x l = record {
   listed : (shown wanted : Picture) → line_of shown l.row.line ≡ l.row.shown.now → line_of wanted l.row.line ≡ l.row.wanted.now
-      → AreRuns l.order shown wanted l.fn.self (l.row.line, l.start) → AreRuns l.order shown wanted l.self (l.row.line, l.x);
+      → AreRuns l.order shown wanted l.fn.self.runs (l.row.line, l.start) → AreRuns l.order shown wanted l.self.runs (l.row.line, l.x);
+  room : l.self.room ≡ l.fn.self.room;
   gap : l.gap ≤ l.x;
   within : l.x ≤ l.end;
   kept : (v : ℕ) → l.gap ≤ v → v < l.x → get_or l.row.shown.now v shown_blank ≡ get_or l.row.wanted.now v shown_blank;

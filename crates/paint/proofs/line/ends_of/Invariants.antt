@@ -1,0 +1,10 @@
+use Rattle.std.proofs.Common.{◌≡◌, length}
+use Rattle.cell.specs.declared.lanes.TheConstants.{LANES}
+use Rattle.paint.specs.steps.Walks.{AreEnds}
+use Rattle.paint.proofs.line.ends_of.Given as goal
+
+abbrev pub invariant-loop-x : goal.invariant-loop-x
+invariant-loop-x l = record {
+  long : length l.ends ≡ LANES;
+  ends : AreEnds l.shown l.wanted l.rendition l.ends l.x;
+}
