@@ -30,3 +30,5 @@ pub mod Padding
 pub mod CellsRead
 -- A call on windows, made on a desk: it leaves a desk, and was made; for `call`
 mod WindowCalls
+-- What a method of a call answers, as the outcome of the call or its reply; for `make`, `draw`, `write`, `copy`, `arrange`
+pub mod OutcomeLaws

@@ -8,13 +8,14 @@ use Rattle.cell.specs.declared.window.WinId.{WinId}
 use Rattle.world.specs.Panels.{Panels}
 use Rattle.world.specs.Windows.{WindowMap, Windows}
 use Rattle.world.specs.Sound.{AreSoundPanels}
-use Rattle.world.specs.Effects.{Order, orders, panels_after, windows_after}
+use Rattle.world.specs.Effects.{Order, order_reply, orders, panels_after, windows_after}
 use Rattle.world.specs.calls.Affected.{order_shows_at, panel_shows_at, stays_on_top}
-use Rattle.world.specs.calls.Stacking.{new_panel_number, next_panel, stacking_order}
+use Rattle.world.specs.calls.Stacking.{after_stacking, new_panel_number, next_panel, stacking_order}
+use Rattle.world.specs.declared.call.Reply.{Reply}
 use Rattle.world.specs.declared.call.Stacking.{Stacking}
 use Rattle.picture.specs.Parts.{IsFrameWithin}
 use Rattle.picture.proofs.VisiblePanels.{absent-hidden}
-use Rattle.compose.specs.steps.Changes.{named_panel, order_panel, ordered_panel, top_window}
+use Rattle.compose.specs.steps.Changes.{changed_panel, named_panel, ordered_panel, top_window}
 
 find-free : (window : ℕ → Option ℕ) (ps : List ℕ) (p : ℕ) → find (λ q. is_none (window q)) ps ≡ Some p → window p ≡ None
 find-free window [] p is = cc
@@ -38,10 +39,10 @@ order_stays ps (orders p order) = stays_on_top ps order p
 order_stays ps _ = false
 
 -- it does so where the window on top is the same one before and after
-pub stays-where-same : (ps : Panels) (order : Order) (one other : Option WinId) → option_map (λ (u : WinId). u.0) one ≡ top_window ps (ordered_panel order)
-    → option_map (λ (u : WinId). u.0) other ≡ top_window (panels_after ps order) (ordered_panel order)
-    → option_map_or (λ w. option_map_or (λ u. u.0 == w.0) other false) one false ≡ order_stays ps order
-stays-where-same ps order one other was is = grind arith
+pub stays-where-same : (ps : Panels) (stacking : Stacking) (one other : Option WinId) → option_map (λ (u : WinId). u.0) one ≡ top_window ps (ordered_panel stacking)
+    → option_map (λ (u : WinId). u.0) other ≡ top_window (after_stacking ps stacking) (ordered_panel stacking)
+    → option_map_or (λ w. option_map_or (λ u. u.0 == w.0) other false) one false ≡ order_stays ps (stacking_order ps stacking)
+stays-where-same ps stacking one other was is = grind arith
 
 -- where a panel stays on top, no place is affected
 pub unseen-where-same : (ws : Windows) (ps : Panels) (order : Order) (y x : ℕ) → order_stays ps order ≡ true → order_shows_at ws ps order y x ≡ false
@@ -49,11 +50,11 @@ unseen-where-same ws ps order y x stays = grind (arith, true≢false)
 
 -- The part before the call and the part after it make up what the call changes, where they hold what the panel had that it names, and
 -- what the panel has that it changed, and the panel doesn't stay on top.
-pub stacking-parts : (ws new : Windows) (ps rest : Panels) (stacking : Stacking) (named changed : Option ℕ) (before after : Bool) (y x : ℕ) → AreSoundPanels ws.window ps
+pub stacking-parts : (ws new : Windows) (ps rest : Panels) (stacking : Stacking) (reply : Reply) (named changed : Option ℕ) (before after : Bool) (y x : ℕ) → AreSoundPanels ws.window ps
     → new ≡ windows_after ws ps (stacking_order ps stacking) → rest ≡ panels_after ps (stacking_order ps stacking) → order_stays ps (stacking_order ps stacking) ≡ false
-    → named ≡ named_panel stacking → changed ≡ order_panel (stacking_order ps stacking) → before ≡ part_shows ws ps y x named → after ≡ part_shows new rest y x changed
+    → reply ≡ order_reply (stacking_order ps stacking) → named ≡ named_panel stacking → changed ≡ changed_panel stacking reply → before ≡ part_shows ws ps y x named → after ≡ part_shows new rest y x changed
     → order_shows_at ws ps (stacking_order ps stacking) y x ≡ (before || after)
-stacking-parts ws new ps rest stacking named changed before after y x sound is are moves name change was will = grind (arith, (next-hidden ws.window ps y x))
+stacking-parts ws new ps rest stacking reply named changed before after y x sound is are moves said name change was will = grind (arith, (next-hidden ws.window ps y x))
 
 pub part-within : (lines columns height : ℕ) (part : Option Rect) → MatchOption part ⊤ (IsFrameWithin lines columns) → lines ≡ height → MatchOption part ⊤ (λ r. IsFrameWithin height (r.right + 1) r)
 part-within lines columns height part h same = grind arith

@@ -1,27 +1,24 @@
 //! The calls, by the group that they are in.
 
-ghost use Rattle.std.specs.Prelude.{◌≡◌, ℕ, Option, None, false};
-ghost use Rattle.cell.specs.Pictures.{Place};
-ghost use Rattle.cell.specs.declared.refusal.Refusal.{Refusal};
-ghost use Rattle.world.specs.Panels.{is_in_panel, Panels};
+ghost use Rattle.std.specs.Prelude.{◌≡◌, false};
+ghost use Rattle.world.specs.Panels.{is_in_panel};
 ghost use Rattle.world.specs.Sound.{AreSoundPanels};
 ghost use Rattle.world.specs.calls.Copying.{copying_refusal, copying_change};
 ghost use Rattle.world.specs.calls.Making.{making_refusal, making_change};
-ghost use Rattle.world.specs.calls.Stacking.{panel_number, stacking_order};
+ghost use Rattle.world.specs.calls.Stacking.{panel_number};
 ghost use Rattle.world.specs.calls.Dispatch.{is_doupdate};
 ghost use Rattle.world.specs.calls.Writing.{writing_refusal, writing_edit};
-ghost use Rattle.world.specs.Effects.{Change, edits, makes, shifts, Edit, edit_window, order_reply};
-ghost use Rattle.world.specs.Windows.{Window};
+ghost use Rattle.world.specs.Effects.{edits};
 ghost use Rattle.world.specs.declared.call.Call.{Call};
 ghost use Rattle.world.specs.declared.call.Reply.{Reply};
+ghost use Rattle.calls.specs.Methods.{as_reply};
 ghost use Rattle.calls.specs.Queries.{is_query};
-ghost use Rattle.grids.specs.Calls.{Changed};
-ghost use Rattle.grids.specs.Tables.{WindowTable, windows as windows_of};
+ghost use Rattle.grids.specs.Tables.{windows as windows_of};
 ghost use Rattle.windows.specs.Calls.{Drew, its_frame, no_frame};
-ghost use Rattle.world.specs.Replies.{its_number, its_panel, no_answer};
+ghost use Rattle.world.specs.Replies.{its_panel, no_answer};
 ghost use Rattle.stack.specs.Tables.{panels};
-ghost use Rattle.compose.specs.steps.Changes.{affected_by, named_panel, order_panel, ordered_panel};
-ghost use Rattle.compose.specs.steps.Outcomes.{Affects, AnswersCall, AnswersOrder, Rearranges};
+ghost use Rattle.compose.specs.steps.Changes.{changed_panel, named_panel, ordered_panel};
+ghost use Rattle.compose.specs.steps.Outcomes.{Affects, Rearranges, as_outcome, drawn, numbered, shifted, unseen, with_frame, written_window};
 ghost use Rattle.compose.specs.Calling.{Called};
 
 use crate::damaging::Affected;
@@ -42,6 +39,7 @@ pub struct Outcome {
 
 /// Makes a call that makes, places or deletes a window or pad.
 #[rattlefmt::skip]
+#[tactic(auto, using(crate::proofs::OutcomeLaws::outcomes))]
 pub(crate) fn make(table: &mut Grids, stack: &Stack, making: Making) -> Result<Outcome, Refusal>
     requires { AreSoundPanels (windows_of table.old).window (panels stack.now) }
     ensures { Affects table.old (making_refusal (windows_of table.old) (is_in_panel (panels stack.now)) making)
@@ -61,36 +59,39 @@ pub(crate) fn make(table: &mut Grids, stack: &Stack, making: Making) -> Result<O
 
 /// The window that a call writes in, or of which it sets how it is written in.
 fn window_of(writing: Writing<'_>) -> WinId
-    ensures { (table : WindowTable) → edit_window (writing_edit (windows_of table) writing.entry) ≡ result.0 }
+    ensures { result.0 ≡ written_window writing.entry }
 {
     match writing {
-        Writing::Move { win, .. }
-        | Writing::Addch { win, .. }
-        | Writing::Addstr { win, .. }
-        | Writing::Insch { win, .. }
-        | Writing::Delch { win }
-        | Writing::Insertln { win }
-        | Writing::Deleteln { win }
-        | Writing::Erase { win }
-        | Writing::Clear { win }
-        | Writing::Clrtoeol { win }
-        | Writing::Clrtobot { win }
-        | Writing::Scrl { win, .. }
-        | Writing::Setscrreg { win, .. }
-        | Writing::Scrollok { win, .. }
-        | Writing::Clearok { win, .. }
-        | Writing::Attrset { win, .. }
-        | Writing::Attron { win, .. }
-        | Writing::Attroff { win, .. }
-        | Writing::Bkgdset { win, .. }
-        | Writing::ColorSet { win, .. }
-        | Writing::Bkgdpair { win, .. } => win,
+        // Written by tools/calls from calls.table: windows
+        Writing::Move { win, .. } => win,
+        Writing::Addch { win, .. } => win,
+        Writing::Addstr { win, .. } => win,
+        Writing::Insch { win, .. } => win,
+        Writing::Delch { win } => win,
+        Writing::Insertln { win } => win,
+        Writing::Deleteln { win } => win,
+        Writing::Erase { win } => win,
+        Writing::Clear { win } => win,
+        Writing::Clrtoeol { win } => win,
+        Writing::Clrtobot { win } => win,
+        Writing::Scrl { win, .. } => win,
+        Writing::Setscrreg { win, .. } => win,
+        Writing::Scrollok { win, .. } => win,
+        Writing::Clearok { win, .. } => win,
+        Writing::Attrset { win, .. } => win,
+        Writing::Attron { win, .. } => win,
+        Writing::Attroff { win, .. } => win,
+        Writing::Bkgdset { win, .. } => win,
+        Writing::ColorSet { win, .. } => win,
+        Writing::Bkgdpair { win, .. } => win,
+        // End of what tools/calls wrote
     }
 }
 
 /// Makes a call that writes in a window, or sets how it is written in, and answers its frame.
 #[rattlefmt::skip]
 #[inline(always)]
+#[tactic(auto, using(crate::proofs::OutcomeLaws::framed))]
 fn draw(windows: &mut Windows, writing: Writing<'_>) -> Result<Option<Rect>, Refusal>
     ensures { Drew its_frame windows.old.table (writing_refusal (windows_of windows.old.table) writing.entry)
         (edits (writing_edit (windows_of windows.old.table) writing.entry)) result windows.new.table }
@@ -123,8 +124,7 @@ fn draw(windows: &mut Windows, writing: Writing<'_>) -> Result<Option<Rect>, Ref
 /// The frame of a call that set how a window is written in: it has none.
 #[inline(always)]
 fn without_frame(end: Result<(), Refusal>) -> Result<Option<Rect>, Refusal>
-    ensures { (old new : WindowTable) (refusal : Option Refusal) (change : Change)
-        → Drew no_frame old refusal change end new → Drew its_frame old refusal change result new }
+    ensures { result ≡ with_frame no_frame end }
 {
     end?;
     Ok(None)
@@ -132,6 +132,7 @@ fn without_frame(end: Result<(), Refusal>) -> Result<Option<Rect>, Refusal>
 
 /// Makes a call that writes in a window, or sets how it is written in.
 #[inline(always)]
+#[tactic(auto, using(crate::proofs::OutcomeLaws::outcomes))]
 pub(crate) fn write(windows: &mut Windows, writing: Writing<'_>) -> Result<Outcome, Refusal>
     ensures { Affects windows.old.table (writing_refusal (windows_of windows.old.table) writing.entry)
         (edits (writing_edit (windows_of windows.old.table) writing.entry)) result windows.new.table }
@@ -141,6 +142,7 @@ pub(crate) fn write(windows: &mut Windows, writing: Writing<'_>) -> Result<Outco
 
 /// Makes a call that copies cells or touches places.
 #[rattlefmt::skip]
+#[tactic(auto, using(crate::proofs::OutcomeLaws::outcomes))]
 pub(crate) fn copy(windows: &mut Windows, copying: Copying) -> Result<Outcome, Refusal>
     requires { is_query (Call.Copying copying) ≡ false }
     ensures { Affects windows.old.table (copying_refusal (windows_of windows.old.table) copying)
@@ -162,13 +164,11 @@ pub(crate) fn copy(windows: &mut Windows, copying: Copying) -> Result<Outcome, R
     }
 }
 
-#[tactic(auto, unfolding(crate::specs::steps::Outcomes::Affects))]
 impl Outcome {
     /// Of a call that drew in a window.
     #[inline(always)]
     fn drawing(win: WinId, frame: Result<Option<Rect>, Refusal>) -> Result<Outcome, Refusal>
-        ensures { (old new : WindowTable) (refusal : Option Refusal) (edit : Edit) → edit_window edit ≡ win.0
-            → Drew its_frame old refusal (edits edit) frame new → Affects old refusal (edits edit) result new }
+        ensures { result ≡ as_outcome (drawn win) frame }
     {
         let affected = match frame? {
             Some(frame) => Some(Affected::Written { win, frame }),
@@ -182,8 +182,7 @@ impl Outcome {
 
     /// Of a call that answers nothing, and affects nothing that windows show.
     fn unseen(end: Result<(), Refusal>) -> Result<Outcome, Refusal>
-        ensures { (old new : WindowTable) (refusal : Option Refusal) (change : Change) → affected_by (windows_of old) change ≡ None
-            → Changed no_answer old refusal change end new → Affects old refusal change result new }
+        ensures { result ≡ as_outcome unseen end }
     {
         end?;
         Ok(Outcome {
@@ -194,8 +193,7 @@ impl Outcome {
 
     /// Of a call that moved a window in its parent.
     fn shift(win: WinId, end: Result<(), Refusal>) -> Result<Outcome, Refusal>
-        ensures { (old new : WindowTable) (refusal : Option Refusal) (place : Place)
-            → Changed no_answer old refusal (shifts win.0 place) end new → Affects old refusal (shifts win.0 place) result new }
+        ensures { result ≡ as_outcome (shifted win) end }
     {
         end?;
         Ok(Outcome {
@@ -206,8 +204,7 @@ impl Outcome {
 
     /// Of a call that made a window.
     fn window(made: Result<WinId, Refusal>) -> Result<Outcome, Refusal>
-        ensures { (old new : WindowTable) (refusal : Option Refusal) (number : ℕ) (window : Option Window)
-            → Changed its_number old refusal (makes number window) made new → Affects old refusal (makes number window) result new }
+        ensures { result ≡ as_outcome numbered made }
     {
         Ok(Outcome {
             reply: Reply::Number(made?),
@@ -218,6 +215,7 @@ impl Outcome {
 
 /// Makes a call that makes, deletes, orders or moves a panel, or gives it a window.
 #[rattlefmt::skip]
+#[tactic(auto, using(crate::proofs::OutcomeLaws::replies))]
 pub(crate) fn arrange(table: &mut Grids, stack: &mut Stack, stacking: Stacking) -> Result<Reply, Refusal>
     requires panels { AreSoundPanels (windows_of table.old).window (panels stack.old) }
     requires changes { is_query (Call.Stacking stacking) ≡ false }
@@ -257,7 +255,7 @@ pub(crate) fn named_panel(stacking: Stacking) -> Option<PanelId>
 
 /// The panel whose place in the order a call changes, or its window, if it does so.
 pub(crate) fn ordered_panel(stacking: Stacking) -> Option<PanelId>
-    ensures { (ps : Panels) → panel_number result ≡ ordered_panel (stacking_order ps stacking) }
+    ensures { panel_number result ≡ ordered_panel stacking }
 {
     match stacking {
         Stacking::MovePanel { .. } => None,
@@ -267,7 +265,7 @@ pub(crate) fn ordered_panel(stacking: Stacking) -> Option<PanelId>
 
 /// The panel that a call changed or made, if it did so.
 pub(crate) fn changed_panel(stacking: Stacking, reply: &Reply) -> Option<PanelId>
-    ensures { (ps : Panels) → reply.now ≡ order_reply (stacking_order ps stacking) → panel_number result ≡ order_panel (stacking_order ps stacking) }
+    ensures { panel_number result ≡ changed_panel stacking reply.now }
 {
     match (stacking, *reply) {
         (Stacking::NewPanel { .. }, Reply::Panel(made)) => made,
@@ -292,19 +290,16 @@ pub(crate) fn refresh(desk: &mut Desk, refresh: Refresh) -> Result<Reply, Refusa
 }
 
 /// The answer of a call that answers nothing.
-#[tactic(auto, unfolding(crate::specs::steps::Outcomes::Rearranges))]
 fn nothing(end: Result<(), Refusal>) -> Result<Reply, Refusal>
-    ensures made { AnswersCall no_answer end result }
-    ensures reordered { AnswersOrder end result }
+    ensures { result ≡ as_reply no_answer end }
 {
     end?;
     Ok(Reply::Nothing)
 }
 
 /// The answer of a call that made a panel.
-#[tactic(auto, unfolding(crate::specs::steps::Outcomes::Rearranges))]
 fn new_number(made: Result<PanelId, Refusal>) -> Result<Reply, Refusal>
-    ensures { AnswersCall its_panel made result }
+    ensures { result ≡ as_reply its_panel made }
 {
     Ok(Reply::Panel(Some(made?)))
 }

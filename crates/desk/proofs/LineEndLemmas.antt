@@ -1,5 +1,5 @@
 -- How a line of a script ends.
-use Rattle.std.proofs.Common.{arith, ◌≡◌, ℕ, List, [], ◌∷◌, Bool, true, false, Option, None, Some, Ok, Err, Result, is_err, is_ok, not, refl, sym, ◌∙◌}
+use Rattle.std.proofs.Common.{arith, ◌≡◌, ℕ, [], ◌∷◌, Bool, true, false, Option, None, Some, Ok, Err, Result, is_err, is_ok, not, refl, sym, ◌∙◌}
 use Rattle.std.proofs.KnownBytes.{Appends-nil}
 use Rattle.std.proofs.Math.Bool.{or-false}
 use Rattle.streams.specs.Counts.{count_after}
@@ -9,7 +9,7 @@ use Rattle.desk.specs.Ends.{CallEnds}
 use Rattle.desk.proofs.MakesLemmas.{Makes-nothing, Makes-one}
 use Rattle.desk.specs.steps.Answers.{call_end}
 use Rattle.desk.proofs.AnswerLemmas.{is_answered}
-use Rattle.script.specs.Readings.{parse_line}
+use Rattle.script.specs.declared.fault.TextFault.{TextFault}
 use Rattle.script.specs.Log.{log_line}
 use Rattle.desk.specs.ScriptEnds.{LineEnds, LineSays, Logs, StopsAt, log_failed}
 use Rattle.world.specs.declared.call.Call.{Call}
@@ -32,8 +32,8 @@ refused_is answer r e = grind arith
 
 module _ {W : Type 0} (seen : W → Seen) where
   -- No call was made.
-  pub line_without_call : {old new : ScreenOver W} {n : ℕ} {line : List ℕ} {log : Seen} (fault : Option ScriptFault) → LineSays n (parse_line line) None fault → StopsAt seen old fault new
-      → Logs log log [] fault → log.failures ≡ count_after (log_failed fault) log.failures → LineEnds seen old new n line log log (record { refused = false; fault = fault })
+  pub line_without_call : {old new : ScreenOver W} {n : ℕ} {said : Result (Option Call) TextFault} {log : Seen} (fault : Option ScriptFault) → LineSays n said None fault → StopsAt seen old fault new
+      → Logs log log [] fault → log.failures ≡ count_after (log_failed fault) log.failures → LineEnds seen old new n said log log (record { refused = false; fault = fault })
   line_without_call {old} fault says stop logs failures = record {
     call = None;
     outcomes = [];
@@ -48,10 +48,10 @@ module _ {W : Type 0} (seen : W → Seen) where
   }
 
   -- A call was made, and not cut short.
-  pub line_of_call : {old new : ScreenOver W} {n : ℕ} {line : List ℕ} {log written : Seen} {r : Bool} (call : Call) (answer : Result Reply Refusal) (fault : Option ScriptFault)
-      → LineSays n (parse_line line) (Some call) fault → StopsAt seen new fault new → CallEnds seen old call (call_end (Ok answer)) new → r ≡ is_err answer
+  pub line_of_call : {old new : ScreenOver W} {n : ℕ} {said : Result (Option Call) TextFault} {log written : Seen} {r : Bool} (call : Call) (answer : Result Reply Refusal) (fault : Option ScriptFault)
+      → LineSays n said (Some call) fault → StopsAt seen new fault new → CallEnds seen old call (call_end (Ok answer)) new → r ≡ is_err answer
       → Logs log written (log_line n answer ∷ []) fault → written.failures ≡ count_after (log_failed fault) log.failures → written.flushes ≡ log.flushes
-      → LineEnds seen old new n line log written (record { refused = r; fault = fault })
+      → LineEnds seen old new n said log written (record { refused = r; fault = fault })
   line_of_call {old} {new} {r} call answer fault says stop h e logs failures flushes = let a = is_answered seen old call answer new h in record {
     call = Some call;
     outcomes = record { answer = answer; sent = a.1.0 } ∷ [];
@@ -65,7 +65,6 @@ module _ {W : Type 0} (seen : W → Seen) where
     refused = refused_is answer r e ∙ sym (or-false _);
   }
 
-  pub line_is_cut : (old new : ScreenOver W) (n : ℕ) (line : List ℕ) (log : Seen) (call : Call) (fault : WriteFault)
-      → parse_line line ≡ Ok (Some call) → CallEnds seen old call (Err (Cut fault)) new
-      → LineEnds seen old new n line log log (record { refused = false; fault = Some (Write n fault) })
-  line_is_cut old new n line log call fault said a = grind (arith, line_without_call, the_doupdate, Appends-nil)
+  pub line_is_cut : (old new : ScreenOver W) (n : ℕ) (log : Seen) (call : Call) (fault : WriteFault) → CallEnds seen old call (Err (Cut fault)) new
+      → LineEnds seen old new n (Ok (Some call)) log log (record { refused = false; fault = Some (Write n fault) })
+  line_is_cut old new n log call fault a = grind (arith, line_without_call, the_doupdate, Appends-nil)

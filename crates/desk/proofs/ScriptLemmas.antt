@@ -27,7 +27,8 @@ use Rattle.desk.specs.Showing.{RunShows}
 use Rattle.desk.proofs.ShowingLemmas.{cut-keeps_size, makes-keep_size, shows-broken, shows-unbroken, then-keeps_size}
 use Rattle.script.specs.Readings.{Reading, before_others, ends_with, next_number, reading, reading_of, parse_line}
 use Rattle.script.specs.Characters.{is_newline}
-use Rattle.script.specs.Lines.{HasNoNewline, ReadsLine}
+use Rattle.script.specs.Lines.{HasNoNewline, ReadsLine, end_failed, met_end}
+use Rattle.script.specs.declared.bytes.LineEnd.{LineEnd}
 use Rattle.desk.specs.ScriptEnds.{FlushFails, FlushSucceeds, LineEnds, LineSays, LogCloses, Logs, MayFollow, RunsLines, ScriptEnds, ScriptSays, StopsAt, calls_of, log_failed, log_lines, log_text}
 use Rattle.desk.specs.ScriptEnds.{numbered_call, write_fault}
 use Rattle.world.specs.declared.call.Call.{Call}
@@ -162,7 +163,7 @@ module _ {W : Type 0} (seen : W → Seen) where
   -- one more line
   pub so_far_next : (old mid now : ScreenOver W) (input r1 r2 : SourceSeen) (log l1 l2 : Seen) (unused left line : List ℕ) (n : ℕ) (b : Bool) (end : ScriptEnd)
       → SoFar old mid input r1 log l1 unused n b → ReadsLine r1 r2 unused left line (Some Newline) → r2.met_end ≡ r1.met_end → ReadsOnce r1 r2
-      → LineEnds seen mid now n line l1 l2 end → end.fault ≡ None → SoFar old now input r2 log l2 left (next_number n) (b || end.refused)
+      → LineEnds seen mid now n (parse_line line) l1 l2 end → end.fault ≡ None → SoFar old now input r2 log l2 left (next_number n) (b || end.refused)
   so_far_next old mid now input r1 r2 log l1 l2 unused left line n b end s r met once e none =
       let said : parse_line line ≡ Ok e.call = subst (LineSays n (parse_line line) e.call) none e.says in
       let stop : now ≡ e.at_stop = subst (λ f. StopsAt seen e.at_stop f now) none e.stop in
@@ -229,7 +230,7 @@ module _ {W : Type 0} (seen : W → Seen) where
 
   -- The script ends at a line.
   ends_at_line : (old mid now : ScreenOver W) (input r1 r2 : SourceSeen) (log l1 l2 : Seen) (unused line bytes : List ℕ) (n : ℕ) (b : Bool) (end : ScriptEnd) (z : List ℕ → Reading)
-      (s : SoFar old mid input r1 log l1 unused n b) → Consumes r1.left r2.left bytes → ReadsOnce r1 r2 → LineEnds seen mid now n line l1 l2 end
+      (s : SoFar old mid input r1 log l1 unused n b) → Consumes r1.left r2.left bytes → ReadsOnce r1 r2 → LineEnds seen mid now n (parse_line line) l1 l2 end
       → ((more : List ℕ) → MayFollow r2.met_end more → reading false ((s.text ++ bytes) ++ more) ≡ prepend s.made (before_others n (parse_line line) (z more)))
       → (end.fault ≡ None → (r2.met_end ≡ true) × (z [] ≡ ends_with None))
       → (end.fault ≡ None → IsAtEnd r2.left)
@@ -252,8 +253,8 @@ module _ {W : Type 0} (seen : W → Seen) where
   }
 
   -- A line has a fault, and a newline ends it.
-  pub ends_in_line : (old mid now : ScreenOver W) (input r1 r2 : SourceSeen) (log l1 l2 : Seen) (unused left line : List ℕ) (n : ℕ) (b : Bool) (end : ScriptEnd)
-      → SoFar old mid input r1 log l1 unused n b → ReadsLine r1 r2 unused left line (Some Newline) → ReadsOnce r1 r2 → LineEnds seen mid now n line l1 l2 end
+  ends_in_line : (old mid now : ScreenOver W) (input r1 r2 : SourceSeen) (log l1 l2 : Seen) (unused left line : List ℕ) (n : ℕ) (b : Bool) (end : ScriptEnd)
+      → SoFar old mid input r1 log l1 unused n b → ReadsLine r1 r2 unused left line (Some Newline) → ReadsOnce r1 r2 → LineEnds seen mid now n (parse_line line) l1 l2 end
       → (end.fault ≡ None → ⊥)
       → RunsLines seen old now input r2 log l2 (record { refused = b || end.refused; fault = end.fault })
   ends_in_line old mid now input r1 r2 log l1 l2 unused left line n b end s r once e some =
@@ -261,8 +262,8 @@ module _ {W : Type 0} (seen : W → Seen) where
       s r.read once e (λ more h. line_says s r false more) (λ none. absurd (some none)) (λ none. absurd (some none))
 
   -- the last line
-  pub ends_in_last_line : (old mid now : ScreenOver W) (input r1 r2 : SourceSeen) (log l1 l2 : Seen) (unused left line : List ℕ) (n : ℕ) (b : Bool) (end : ScriptEnd)
-      → SoFar old mid input r1 log l1 unused n b → ReadsLine r1 r2 unused left line (Some Script_end) → ReadsOnce r1 r2 → LineEnds seen mid now n line l1 l2 end → r2.met_end ≡ true
+  ends_in_last_line : (old mid now : ScreenOver W) (input r1 r2 : SourceSeen) (log l1 l2 : Seen) (unused left line : List ℕ) (n : ℕ) (b : Bool) (end : ScriptEnd)
+      → SoFar old mid input r1 log l1 unused n b → ReadsLine r1 r2 unused left line (Some Script_end) → ReadsOnce r1 r2 → LineEnds seen mid now n (parse_line line) l1 l2 end → r2.met_end ≡ true
       → RunsLines seen old now input r2 log l2 (record { refused = b || end.refused; fault = end.fault })
   ends_in_last_line old mid now input r1 r2 log l1 l2 unused left line n b end s r once e ended =
       ends_at_line old mid now input r1 r2 log l1 l2 unused line r.bytes n b end (λ more. ends_with None) s r.read once e
@@ -271,6 +272,17 @@ module _ {W : Type 0} (seen : W → Seen) where
       ∙ ap (λ l. prepend s.made (reading_of false n (slice_split is_newline l))) (ap (λ m. unused ++ (r.bytes ++ m)) (h ended) ∙ ap (λ l. unused ++ l) (append-nil r.bytes) ∙ r.is_line.0.0)
       ∙ ap (λ ps. prepend s.made (reading_of false n ps)) (slice_split_none is_newline line (no_newlines line r.no_newline)))
       (λ none. (ended, refl)) (λ none. r.at_end refl)
+
+  -- the last line that is run, be it the last of all or one with a fault
+  pub ends_after_last : (old mid now : ScreenOver W) (input r1 r2 : SourceSeen) (log l1 l2 : Seen) (unused left line : List ℕ) (n : ℕ) (b : Bool) (end : ScriptEnd) (line_end : LineEnd)
+      → SoFar old mid input r1 log l1 unused n b → ReadsLine r1 r2 unused left line (Some line_end) → ReadsOnce r1 r2 → LineEnds seen mid now n (parse_line line) l1 l2 end
+      → r2.met_end ≡ (met_end line_end || r1.met_end) → false ≡ end_failed line_end → true ≡ (met_end line_end || is_some end.fault)
+      → RunsLines seen old now input r2 log l2 (record { refused = b || end.refused; fault = end.fault })
+  ends_after_last old mid now input r1 r2 log l1 l2 unused left line n b end Newline s r once e met read last =
+      ends_in_line old mid now input r1 r2 log l1 l2 unused left line n b end s r once e (λ none. grind arith)
+  ends_after_last old mid now input r1 r2 log l1 l2 unused left line n b end Script_end s r once e met read last =
+      ends_in_last_line old mid now input r1 r2 log l1 l2 unused left line n b end s r once e met
+  ends_after_last old mid now input r1 r2 log l1 l2 unused left line n b end ReadFailed s r once e met read last = cc
 
   -- The script ends after the lines that were run.
   ends_after_lines : {old mid : ScreenOver W} {input r1 r2 : SourceSeen} {log l1 : Seen} {unused : List ℕ} {n : ℕ} {b : Bool} (bytes : List ℕ) (fault : ScriptFault)
@@ -295,10 +307,12 @@ module _ {W : Type 0} (seen : W → Seen) where
   }
 
   -- A read failed.
-  pub ends_in_failed_read : (old mid : ScreenOver W) (input r1 r2 : SourceSeen) (log l1 : Seen) (unused left line : List ℕ) (n : ℕ) (b : Bool)
-      → SoFar old mid input r1 log l1 unused n b → ReadsLine r1 r2 unused left line (Some ReadFailed) → ReadsOnce r1 r2
+  pub ends_in_failed_read : (old mid : ScreenOver W) (input r1 r2 : SourceSeen) (log l1 : Seen) (unused left line : List ℕ) (n : ℕ) (b : Bool) (line_end : LineEnd)
+      → SoFar old mid input r1 log l1 unused n b → ReadsLine r1 r2 unused left line (Some line_end) → ReadsOnce r1 r2 → true ≡ end_failed line_end
       → RunsLines seen old mid input r2 log l1 (record { refused = b; fault = Some Reading_fault })
-  ends_in_failed_read old mid input r1 r2 log l1 unused left line n b s r once = ends_after_lines r.bytes Reading_fault s r.read once s.logs s.failures
+  ends_in_failed_read old mid input r1 r2 log l1 unused left line n b Newline s r once failed = cc
+  ends_in_failed_read old mid input r1 r2 log l1 unused left line n b Script_end s r once failed = cc
+  ends_in_failed_read old mid input r1 r2 log l1 unused left line n b ReadFailed s r once failed = ends_after_lines r.bytes Reading_fault s r.read once s.logs s.failures
       (ap (reading true) (ap (λ l. s.text ++ l) (sym (append-nil r.bytes))) ∙ s.says true (r.bytes ++ [])
       ∙ ap (λ l. prepend s.made (reading_of true n (slice_split is_newline l))) (ap (λ l. unused ++ l) (append-nil r.bytes) ∙ r.is_line.0.0)
       ∙ ap (λ ps. prepend s.made (reading_of true n ps)) (slice_split_none is_newline line (no_newlines line r.no_newline))
@@ -321,8 +335,13 @@ module _ {W : Type 0} (seen : W → Seen) where
       ∙ ap (λ (calls : List (ℕ × Call)). let x : Reading = record { calls = calls; fault = Some (Text n LineTooLong) } in x) (append-nil s.made))
       refl
 
-pub some_fault : (fault : Option ScriptFault) → true ≡ is_some fault → fault ≡ None → ⊥
-some_fault fault h e = grind arith
+-- A line with a newline and no fault is followed by others.
+pub goes_on_after : (line_end : LineEnd) (fault : Option ScriptFault) → false ≡ end_failed line_end → false ≡ (met_end line_end || is_some fault)
+    → (line_end ≡ Newline) × (fault ≡ None)
+goes_on_after Newline None read goes_on = (refl, refl)
+goes_on_after Newline (Some fault) read goes_on = cc
+goes_on_after Script_end fault read goes_on = cc
+goes_on_after ReadFailed fault read goes_on = cc
 
 pub no_fault : (fault : Option ScriptFault) → false ≡ is_some fault → fault ≡ None
 no_fault fault h = grind arith

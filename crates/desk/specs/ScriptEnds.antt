@@ -9,7 +9,7 @@ use Rattle.desk.specs.Runs.{Outcome, is_refused}
 use Rattle.desk.specs.Ends.{IsCut, Makes}
 use Rattle.desk.specs.Showing.{RunShows}
 use Rattle.streams.specs.Sources.{SourceSeen}
-use Rattle.script.specs.Readings.{Reading, reading, parse_line}
+use Rattle.script.specs.Readings.{Reading, reading}
 use Rattle.script.specs.Log.{log_line}
 use Rattle.world.specs.declared.call.Call.{Call}
 use Rattle.world.specs.declared.call.Call.TheVariants.{Refresh}
@@ -126,13 +126,13 @@ module _ {W : Type 0} (seen : W → Seen) where
   StopsAt at_stop (Some (Write line fault)) new = IsCut seen at_stop new fault
   StopsAt at_stop _ new = new ≡ at_stop
 
-  -- A line was run and logged.
-  pub record LineEnds (old new : ScreenOver W) (number : ℕ) (line : List ℕ) (log written : Seen) (end : ScriptEnd) : Type 0 where
+  -- A line that says this was run and logged.
+  pub record LineEnds (old new : ScreenOver W) (number : ℕ) (said : Result (Option Call) TextFault) (log written : Seen) (end : ScriptEnd) : Type 0 where
     pub call : Option Call
     pub outcomes : List Outcome
     pub at_stop : ScreenOver W
     pub makes : Makes seen old (calls_of (numbered_call number call)) outcomes at_stop
-    pub says : LineSays number (parse_line line) call end.fault
+    pub says : LineSays number said call end.fault
     pub stop : StopsAt at_stop end.fault new
     pub logs : Logs log written (log_lines (numbered_call number call) outcomes) end.fault
     pub failures : written.failures ≡ count_after (log_failed end.fault) log.failures

@@ -1,6 +1,9 @@
 //! Runs scripts.
 
-ghost use Rattle.std.specs.Prelude.{◌≡◌, ◌≤◌, ◌||◌, length, is_some, false};
+ghost use Rattle.std.specs.Prelude.{◌≡◌, ◌≤◌, ◌||◌, Ok, Some, length, is_some, false};
+ghost use Rattle.script.specs.Lines.{end_failed, met_end};
+ghost use Rattle.script.specs.Readings.{parse_line};
+ghost use Rattle.script.specs.Words.{entry_of};
 ghost use Rattle.world.specs.Sound.{IsSound};
 ghost use Rattle.desk.specs.Methods.{CallMade};
 ghost use Rattle.desk.specs.steps.Answers.{call_end};
@@ -13,7 +16,7 @@ use crate::screen::{Fault, Screen};
 use calls::Calls;
 use cell::Refusal;
 use script::{
-    Arguments, LONGEST_LINE, LineEnd, Lines, ScriptEnd, ScriptFault, TextFault, log_answer,
+    Arguments, LONGEST_LINE, LineEnd, Lines, ScriptEnd, ScriptFault, TextFault, Word, log_answer,
     read_line,
 };
 use streams::{Sink, Source, WriteFault};
@@ -42,7 +45,7 @@ impl<W: Sink> Screen<W> {
         log: &mut L,
     ) -> ScriptEnd
         requires { length line.now ≤ LONGEST_LINE }
-        ensures line { LineEnds W.seen self.old self.new number line.now (L.seen log.old) (L.seen log.new) result }
+        ensures line { LineEnds W.seen self.old self.new number (parse_line line.now) (L.seen log.old) (L.seen log.new) result }
         ensures writer { (W.seen self.new.writer).failures ≡ count_after (is_some (write_fault result.fault)) (W.seen self.old.writer).failures }
         ensures same { W.name self.new.writer ≡ W.name self.old.writer }
         ensures reads { read_failed result.fault ≡ false }
@@ -55,7 +58,27 @@ impl<W: Sink> Screen<W> {
                 return script_end(false, Some(ScriptFault::Text { line, fault }));
             }
         };
-        match self.answer(&word.call(taken)) {
+        match word {
+            Word::Writing(_) => self.run_word(number, word, taken, log),
+            _ => self.run_other(number, word, taken, log),
+        }
+    }
+
+    /// Makes the call of a word with its arguments, and logs it.
+    #[inline(always)]
+    fn run_word<L: Sink>(
+        &mut self,
+        number: u64,
+        word: Word,
+        arguments: &Arguments,
+        log: &mut L,
+    ) -> ScriptEnd
+        ensures line { LineEnds W.seen self.old self.new number (Ok (Some ((entry_of word).call arguments.now))) (L.seen log.old) (L.seen log.new) result }
+        ensures writer { (W.seen self.new.writer).failures ≡ count_after (is_some (write_fault result.fault)) (W.seen self.old.writer).failures }
+        ensures same { W.name self.new.writer ≡ W.name self.old.writer }
+        ensures reads { read_failed result.fault ≡ false }
+    {
+        match self.answer(&word.call(arguments)) {
             Ok(answer) => {
                 let refused = answer.is_err();
                 match log_answer(log, number, answer) {
@@ -70,6 +93,23 @@ impl<W: Sink> Screen<W> {
         }
     }
 
+    /// The same. It is not inlined, so that a call that writes, as most do, makes no room for what others need.
+    #[inline(never)]
+    fn run_other<L: Sink>(
+        &mut self,
+        number: u64,
+        word: Word,
+        arguments: &Arguments,
+        log: &mut L,
+    ) -> ScriptEnd
+        ensures line { LineEnds W.seen self.old self.new number (Ok (Some ((entry_of word).call arguments.now))) (L.seen log.old) (L.seen log.new) result }
+        ensures writer { (W.seen self.new.writer).failures ≡ count_after (is_some (write_fault result.fault)) (W.seen self.old.writer).failures }
+        ensures same { W.name self.new.writer ≡ W.name self.old.writer }
+        ensures reads { read_failed result.fault ≡ false }
+    {
+        self.run_word(number, word, arguments, log)
+    }
+
     /// Makes the calls of the script's lines in order.
     fn run_lines<R: Source, L: Sink>(&mut self, input: &mut R, log: &mut L) -> ScriptEnd
         ensures lines { RunsLines W.seen self.old self.new (R.seen input.old) (R.seen input.new) (L.seen log.old) (L.seen log.new) result }
@@ -82,28 +122,23 @@ impl<W: Sink> Screen<W> {
         let mut number = 1u64;
         let mut refused = false;
         loop {
-            match lines.next_line(input) {
-                Some(LineEnd::Newline) => {
-                    let end = self.run_line(number, lines.line(), &mut taken, log);
-                    refused = either(refused, end.refused);
-                    if end.fault.is_some() {
-                        return script_end(refused, end.fault);
-                    }
-                    number = number.saturating_add(1);
-                }
-                Some(LineEnd::ScriptEnd) => {
-                    let end = self.run_line(number, lines.line(), &mut taken, log);
-                    return script_end(either(refused, end.refused), end.fault);
-                }
-                Some(LineEnd::ReadFailed) => {
-                    return script_end(refused, Some(ScriptFault::Reading));
-                }
+            let line_end = match lines.next_line(input) {
+                Some(line_end) => line_end,
                 None => {
                     let fault = TextFault::LineTooLong;
                     let line = number;
                     return script_end(refused, Some(ScriptFault::Text { line, fault }));
                 }
+            };
+            if end_failed(line_end) {
+                return script_end(refused, Some(ScriptFault::Reading));
             }
+            let end = self.run_line(number, lines.line(), &mut taken, log);
+            refused = either(refused, end.refused);
+            if is_last(line_end, end) {
+                return script_end(refused, end.fault);
+            }
+            number = number.saturating_add(1);
         }
     }
 
@@ -140,6 +175,19 @@ fn close_log<L: Sink>(log: &mut L, end: ScriptEnd) -> ScriptEnd
         Err(_) if end.fault.is_none() => script_end(end.refused, Some(ScriptFault::Log)),
         Err(_) => end,
     }
+}
+
+fn end_failed(end: LineEnd) -> bool
+    ensures { result ≡ end_failed end }
+{
+    matches!(end, LineEnd::ReadFailed)
+}
+
+/// Whether no line is run after one that ends so.
+fn is_last(line_end: LineEnd, end: ScriptEnd) -> bool
+    ensures { result ≡ (met_end line_end || is_some end.fault) }
+{
+    matches!(line_end, LineEnd::ScriptEnd) || end.fault.is_some()
 }
 
 fn log_failed(end: ScriptEnd) -> bool

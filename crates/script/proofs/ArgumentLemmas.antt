@@ -7,7 +7,7 @@ use Rattle.std.proofs.lemmas.List.Splits.{join_with_byte-slice_split, length-sli
 use Rattle.script.specs.Characters.{is_space}
 use Rattle.script.specs.Readings.{arguments, is_text}
 use Rattle.script.specs.Texts.{parse_arguments}
-use Rattle.script.specs.Words.{Arguments, no_arguments}
+use Rattle.script.specs.Words.{Arguments}
 use Rattle.script.specs.Pieces.{pieces_of}
 use Rattle.script.specs.declared.words.Form.{Form}
 
@@ -45,5 +45,5 @@ pub as_many : (forms : List Form) (pieces : List (List ℕ)) (i : ℕ) → Count
 as_many forms pieces i counted all = grind (arith, arguments_none)
 
 -- What all arguments say is what those say that are left, after those that were taken.
-pub record Taken (forms : List Form) (pieces : List (List ℕ)) (i : ℕ) (rest : List (List ℕ)) (a : Arguments) : Type 0 where
-  pub same : parse_arguments forms (arguments forms pieces) no_arguments ≡ parse_arguments (drop i forms) (arguments (drop i forms) rest) a
+pub record Taken (forms : List Form) (pieces : List (List ℕ)) (start : Arguments) (i : ℕ) (rest : List (List ℕ)) (a : Arguments) : Type 0 where
+  pub same : parse_arguments forms (arguments forms pieces) start ≡ parse_arguments (drop i forms) (arguments (drop i forms) rest) a

@@ -1,6 +1,6 @@
 //! What a line of a script says.
 
-ghost use Rattle.std.specs.Prelude.{◌≡◌, ◌≤◌, ◌+◌, ◌<◌, ◌∷◌, ◌≢◌, ℕ, List, length, position, slice_index, IfSome, Some, None, false, true};
+ghost use Rattle.std.specs.Prelude.{◌≡◌, ◌≤◌, ◌+◌, ◌<◌, ◌∷◌, ◌≢◌, ◌↔◌, ℕ, List, length, position, slice_index, IfSome, Some, None, false, true};
 ghost use Rattle.std.specs.List.{list_all, list_any, slice_split};
 ghost use Rattle.std.specs.Bool.{OnTrue};
 ghost use Rattle.cell.specs.Glyphs.{is_printable};
@@ -73,6 +73,13 @@ fn is_text(form: Form) -> bool
     ensures { result ≡ is_text form }
 {
     matches!(form, Form::Character | Form::Text)
+}
+
+/// Whether an argument is a number.
+fn is_number(form: Form) -> bool
+    ensures { (result ≡ true) ↔ (form ≡ Form.Number) }
+{
+    matches!(form, Form::Number)
 }
 
 /// How many bytes are looked through at once for the space after a word. `move`, `addch` and `addstr` have theirs among
@@ -167,10 +174,8 @@ fn has_count(forms: &[Form], text: Option<&[u8]>) -> bool
     }
 }
 
-/// Takes what the first argument of a text says, and answers what follows it, if it has its form. It is not inlined, so
-/// that a loop over numbers keeps to registers.
-#[inline(never)]
-fn take_any_first<'a>(form: Form, text: &'a [u8], taken: &mut Arguments) -> Option<Option<&'a [u8]>>
+/// Takes what the first argument of a text says, and answers what follows it, if it has its form.
+fn take_first<'a>(form: Form, text: &'a [u8], taken: &mut Arguments) -> Option<Option<&'a [u8]>>
     requires room { length taken.old.numbers < MOST_ARGUMENTS }
     requires short { length text.now ≤ LONGEST_LINE }
     ensures takes { TakesFirst form text.now taken.old taken.new result }
@@ -185,26 +190,33 @@ fn take_any_first<'a>(form: Form, text: &'a [u8], taken: &mut Arguments) -> Opti
     }
 }
 
-/// The same. A number is read and split off in one pass.
-#[inline(always)]
-fn take_first<'a>(form: Form, text: &'a [u8], taken: &mut Arguments) -> Option<Option<&'a [u8]>>
-    requires room { length taken.old.numbers < MOST_ARGUMENTS }
+/// Takes what the arguments of a text say, after others, and answers whether they are as many as the forms and each has
+/// its own. It is not inlined, so that a loop over numbers keeps to registers.
+#[inline(never)]
+#[tactic(auto, using(crate::proofs::ArgumentLemmas::too_few, crate::proofs::ArgumentLemmas::too_many, crate::proofs::ArgumentLemmas::as_many))]
+fn take_more(forms: &[Form], text: &[u8], taken: &mut Arguments) -> bool
+    requires room { length forms.now + length taken.old.numbers ≤ MOST_ARGUMENTS }
     requires short { length text.now ≤ LONGEST_LINE }
-    ensures takes { TakesFirst form text.now taken.old taken.new result }
-    ensures count { length taken.new.numbers ≤ length taken.old.numbers + 1 }
-    ensures short { IfSome result (λ after. IfSome after (λ rest. length rest.now ≤ length text.now)) }
+    ensures count { OnTrue result (length (arguments forms.now (slice_split is_space text.now)) ≡ length forms.now) }
+    ensures right { OnTrue result (parse_arguments forms.now (arguments forms.now (slice_split is_space text.now)) taken.old ≡ Some taken.new) }
+    ensures wrong { result ≡ false → length (arguments forms.now (slice_split is_space text.now)) ≡ length forms.now
+        → parse_arguments forms.now (arguments forms.now (slice_split is_space text.now)) taken.old ≡ None }
 {
-    match form {
-        Form::Number => {
-            let (number, after) = next_number(text)?;
-            taken.push(number);
-            Some(after)
-        }
-        _ => take_any_first(form, text, taken),
+    let mut rest = Some(text);
+    for form in forms {
+        let Some(text) = rest else { return false };
+        let Some(after) = take_first(*form, text, taken) else {
+            return false;
+        };
+        rest = after;
+    }
+    match rest {
+        Some(_) => false,
+        None => true,
     }
 }
 
-/// Takes what the arguments say, and answers whether they are as many as the forms and each has its own.
+/// Takes what the arguments say, and answers the same. A number is read and split off in one pass.
 #[inline(always)]
 #[tactic(auto, using(crate::proofs::ArgumentLemmas::too_few, crate::proofs::ArgumentLemmas::too_many, crate::proofs::ArgumentLemmas::as_many))]
 fn take_all(forms: &[Form], text: Option<&[u8]>, taken: &mut Arguments) -> bool
@@ -217,11 +229,15 @@ fn take_all(forms: &[Form], text: Option<&[u8]>, taken: &mut Arguments) -> bool
         → parse_arguments forms.now (arguments forms.now (pieces_of text.entry)) no_arguments ≡ None }
 {
     let mut rest = text;
-    for form in forms {
+    for (at, form) in forms.iter().enumerate() {
         let Some(text) = rest else { return false };
-        let Some(after) = take_first(*form, text, taken) else {
+        if !is_number(*form) {
+            return take_more(&forms[at..], text, taken);
+        }
+        let Some((number, after)) = next_number(text) else {
             return false;
         };
+        taken.push(number);
         rest = after;
     }
     match rest {

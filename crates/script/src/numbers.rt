@@ -79,13 +79,13 @@ fn after_digits(text: &[u8], count: usize) -> Option<Option<&[u8]>>
     }
 }
 
-/// What the digit says that a text begins with, if no other follows it.
+/// What the digit says that a text begins with, if a space or nothing follows it.
 fn single_digit(text: &[u8]) -> Option<u32>
     ensures { IfSome result (λ value. DigitsSoFar text.now 1 value × (1 ≤ length text.now)
         × (1 < length text.now → is_ascii_digit (slice_index text.now 1) ≡ false)) }
 {
     let first = *text.first()?;
-    if !first.is_ascii_digit() || (text.len() > 1 && text[1].is_ascii_digit()) {
+    if !first.is_ascii_digit() || (text.len() > 1 && text[1] != b' ') {
         return None;
     }
     Some(u32::from(first - b'0'))

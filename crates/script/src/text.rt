@@ -51,17 +51,6 @@ fn first_character(piece: &[u8]) -> Option<(u8, &[u8])>
     Some((character, rest))
 }
 
-/// Whether a text has a backslash, by a loop with one exit, which the compiler vectorizes.
-fn has_backslash(text: &[u8]) -> bool
-    ensures { result ≡ list_any (λ b. b == backslash) text.now }
-{
-    let mut found = false;
-    for b in text {
-        found |= *b == b'\\';
-    }
-    found
-}
-
 /// Puts the characters of a text in place of what was there, and answers whether each backslash has after it what it
 /// needs.
 pub fn read_text(piece: &[u8], text: &mut ArrayVec<u8, LONGEST_LINE>) -> bool
@@ -69,7 +58,7 @@ pub fn read_text(piece: &[u8], text: &mut ArrayVec<u8, LONGEST_LINE>) -> bool
     ensures { text_of piece.now ≡ (if result then Some text.new.items else None) }
 {
     text.clear();
-    if !has_backslash(piece) {
+    if !piece.contains(&b'\\') {
         if text.try_extend_from_slice(piece).is_err() {
             unreachable!();
         }

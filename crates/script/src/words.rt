@@ -1,6 +1,7 @@
 //! The calls by their script words: lists by first letter, and a row for each call.
 
 ghost use Rattle.std.specs.Prelude.{◌≡◌, ◌≤◌, ◌<◌, [], IfSome, length, map, option_map, slice_index_or};
+ghost use Rattle.std.specs.Str.{bytes_eq};
 ghost use Rattle.script.specs.Words.{entry_of, placeless, word_of};
 ghost use Rattle.script.specs.steps.Rows.{IsRow, find_named, words_like};
 ghost use Rattle.script.specs.declared.words.Word.TheVariants as word;
@@ -181,6 +182,22 @@ fn words_like(text: &[u8]) -> &'static [Word]
     }
 }
 
+/// Whether two texts are the same. Names of calls are short, so their bytes are compared one after another.
+#[inline(always)]
+fn are_same(text: &[u8], name: &[u8]) -> bool
+    ensures { result ≡ bytes_eq text.now name.now }
+{
+    if text.len() != name.len() {
+        return false;
+    }
+    for (at, byte) in text.iter().enumerate() {
+        if *byte != name[at] {
+            return false;
+        }
+    }
+    true
+}
+
 /// Finds the first of some words that is written so, and the forms of its call's arguments.
 #[inline(always)]
 fn find_named(words: &[Word], text: &[u8]) -> Option<(Word, &'static [Form])>
@@ -190,7 +207,7 @@ fn find_named(words: &[Word], text: &[u8]) -> Option<(Word, &'static [Form])>
 {
     for word in words {
         let (name, forms) = word.name_and_forms();
-        if text == name {
+        if are_same(text, name) {
             return Some((*word, forms));
         }
     }

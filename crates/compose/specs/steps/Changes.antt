@@ -3,10 +3,13 @@ use Rattle.std.specs.Prelude.{ℕ, ◌≤◌, Bool, false, Option, Some, None, �
 use Rattle.std.specs.Option.{option_map}
 use Rattle.world.specs.Panels.{Panels}
 use Rattle.world.specs.Windows.{Windows, HasPlace, WindowMap}
-use Rattle.world.specs.Effects.{Change, edits, shifts, edit_frame, edit_window, Order, changes, adds, orders, carries}
+use Rattle.world.specs.Effects.{Change, edits, shifts, edit_frame, edit_window}
 use Rattle.world.specs.calls.Affected.{frame_shows_at, move_shows_at, follows_at, shows_at, window_if_topmost}
 use Rattle.world.specs.declared.call.Stacking.{Stacking}
-use Rattle.world.specs.declared.call.Stacking.TheVariants.{DelPanel, ShowPanel, HidePanel, TopPanel, BottomPanel, MovePanel, ReplacePanel}
+use Rattle.world.specs.declared.call.Stacking.TheVariants.{NewPanel, DelPanel, ShowPanel, HidePanel, TopPanel, BottomPanel, MovePanel, ReplacePanel}
+use Rattle.world.specs.declared.call.Reply.{Reply}
+use Rattle.world.specs.declared.call.Reply.TheVariants.{Panel}
+use Rattle.world.specs.calls.Stacking.{panel_number}
 use Rattle.compose.specs.declared.damaging.Affected.{Affected}
 use Rattle.compose.specs.declared.damaging.Affected.TheVariants.{Written, Moved}
 
@@ -45,19 +48,17 @@ named_panel (MovePanel panel y x) = Some panel.0
 named_panel (ReplacePanel panel win) = Some panel.0
 named_panel _ = None
 
--- the panel that an `Order` makes or changes; none, where it changes windows alone
-abbrev pub order_panel : Order → Option ℕ
-order_panel (changes change) = None
-order_panel (adds p w) = Some p
-order_panel (orders p order) = Some p
-order_panel (carries p place) = Some p
+-- the panel that it puts elsewhere in the order, hides, takes out or gives a window: one that is moved keeps its place
+abbrev pub ordered_panel : Stacking → Option ℕ
+ordered_panel (MovePanel panel y x) = None
+ordered_panel stacking = named_panel stacking
 
--- the panel that it puts elsewhere in the order, hides, takes out or gives a window
-abbrev pub ordered_panel : Order → Option ℕ
-ordered_panel (orders p order) = Some p
-ordered_panel _ = None
+-- the panel that it changed, or made, as it was answered
+abbrev pub changed_panel : Stacking → Reply → Option ℕ
+changed_panel (NewPanel win) (Panel made) = panel_number made
+changed_panel stacking reply = named_panel stacking
 
--- its window, if it is the topmost
+-- the window of a panel, if it is the topmost
 abbrev pub top_window : Panels → Option ℕ → Option ℕ
 top_window panels None = None
 top_window panels (Some p) = window_if_topmost panels p

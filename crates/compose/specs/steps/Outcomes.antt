@@ -1,23 +1,62 @@
 -- A call made on windows, with what it affects of what is shown, and one with what it damages; and a call on panels.
-use Rattle.std.specs.Prelude.{◌≡◌, IfOk, OnErr, OnOk, Option, List, Result}
+use Rattle.std.specs.Prelude.{◌≡◌, ℕ, IfOk, OnErr, OnOk, Option, Some, None, List, Result, Ok, Err}
+use Rattle.std.specs.Option.{option_map}
 use Rattle.std.specs.Result.{result_err}
 use Rattle.cell.specs.declared.refusal.Refusal.{Refusal}
-use Rattle.world.specs.Effects.{Change, order_reply, order_takes_memory, windows_after}
+use Rattle.world.specs.Effects.{Change, edit_window, order_reply, order_takes_memory, windows_after}
 use Rattle.world.specs.Panels.{Panels}
-use Rattle.world.specs.Replies.{no_answer}
 use Rattle.world.specs.calls.Affected.{change_shows_at, order_shows_at}
 use Rattle.world.specs.calls.Refused.{Refused}
-use Rattle.world.specs.calls.Stacking.{after_stacking, stacking_order, stacking_refusal, stacking_tests}
+use Rattle.world.specs.calls.Stacking.{after_stacking, stacking_order, stacking_refusal}
+use Rattle.cell.specs.declared.window.Rect.{Rect}
+use Rattle.cell.specs.declared.window.WinId.{WinId}
 use Rattle.world.specs.declared.call.Reply.{Reply}
+use Rattle.world.specs.declared.call.Reply.TheVariants.{Nothing, Number}
+use Rattle.world.specs.calls.Writing.{writing_edit}
 use Rattle.world.specs.declared.call.Stacking.{Stacking}
+use Rattle.world.specs.declared.call.Writing.{Writing}
+use Rattle.stack.specs.Calls.{no_windows}
 use Rattle.world.specs.declared.settings.Columns.{Columns}
 use Rattle.grids.specs.Calls.{Changed}
 use Rattle.grids.specs.Tables.{WindowTable, windows}
-use Rattle.stack.specs.Calls.{Arranged}
 use Rattle.stack.specs.Tables.{PanelTable, panels}
 use Rattle.picture.specs.Damages.{Damages}
+use Rattle.compose.specs.declared.damaging.Affected.TheVariants.{Written, Moved}
 use Rattle.compose.specs.declared.dispatch.Outcome.{Outcome}
 use Rattle.compose.specs.steps.Changes.{affected_by}
+
+-- ---- what a method of a call answers, as the outcome of the call
+
+abbrev pub as_outcome : {T : Type 0} → (T → Outcome) → Result T Refusal → Result Outcome Refusal
+as_outcome outcome_of (Ok answer) = Ok (outcome_of answer)
+as_outcome outcome_of (Err e) = Err e
+
+-- of one that affects nothing that windows show
+abbrev pub unseen : Unit {0} → Outcome
+unseen done = record { reply = Nothing; affected = None }
+
+-- of one that drew in a window
+abbrev pub drawn : WinId → Option Rect → Outcome
+drawn win frame = record { reply = Nothing; affected = option_map (Written win) frame }
+
+-- of one that moved a window in its parent
+abbrev pub shifted : WinId → Unit {0} → Outcome
+shifted win done = record { reply = Nothing; affected = Some (Moved win) }
+
+-- of one that made a window
+abbrev pub numbered : WinId → Outcome
+numbered win = record { reply = Number win; affected = None }
+
+-- the frame of one that drew
+abbrev pub with_frame : {T : Type 0} → (T → Option Rect) → Result T Refusal → Result (Option Rect) Refusal
+with_frame frame_of (Ok answer) = Ok (frame_of answer)
+with_frame frame_of (Err e) = Err e
+
+-- the window that a call writes in, which is the same whatever windows there are
+abbrev pub written_window : Writing → ℕ
+written_window writing = edit_window (writing_edit no_windows writing)
+
+-- ---- a call that was made
 
 -- A call was made, and what it affects is what its change does. Only the proofs of a kind of call, and of what is
 -- damaged, look into it.
@@ -51,17 +90,6 @@ Rearranges old old_panels stacking r new new_panels = Ordered (λ (reply : Reply
 pub record Answered (refusal : Option Refusal) (answer : Reply) (r : Result Reply Refusal) : Type 0 where
   pub refused : result_err r ≡ refusal
   pub reply : IfOk r (λ reply. reply ≡ answer)
-
--- this is the answer of any call on panels that a method made, whose answer is r
-abbrev pub AnswersCall : {T : Type 0} → (T → Reply) → Result T Refusal → Result Reply Refusal → Type 0
-AnswersCall reply_of r answer =
-    (old new : WindowTable) (ps after : PanelTable) (stacking : Stacking) → Ordered reply_of old ps stacking r new after → Rearranges old ps stacking answer new after
-
--- of one that a stack of panels made alone
-abbrev pub AnswersOrder : Result (Unit {0}) Refusal → Result Reply Refusal → Type 0
-AnswersOrder r answer =
-    (table : WindowTable) (ps after : PanelTable) (stacking : Stacking) → Arranged no_answer (stacking_tests (windows table) (panels ps) stacking) ps stacking r after
-    → windows_after (windows table) (panels ps) (stacking_order (panels ps) stacking) ≡ windows table → Rearranges table ps stacking answer table after
 
 -- it was made, and what is damaged is what windows show of its order; a refused one damages nothing
 pub record OrderedDamaging (old : WindowTable) (old_panels : PanelTable) (stacking : Stacking) (damage : List (Option Columns)) (r : Result Reply Refusal)

@@ -32,11 +32,11 @@ returns c =
     let size = size-ordered _ t a.stack.now a.stacking c.arrange.result new _ c.arrange.ensures in
     let are : panels c.arrange.new.stack ≡ panels_after ps order = c.in_ok-reply.ensures.arranged in
     let moves : order_stays ps order ≡ false =
-    sym (stays-where-same ps order c.top_window-top.result c.top_window.result (c.top_window-top.ensures ∙ ap (top_window ps) (c.ordered_panel-ordered.ensures ps))
-    (c.top_window.ensures ∙ (λ i. top_window (are i) (c.ordered_panel-ordered.ensures ps i)))) ∙ sym c.is_same_window.ensures ∙ c.if-is_same_window.false in
+    sym (stays-where-same ps c.args.stacking c.top_window-top.result c.top_window.result (c.top_window-top.ensures ∙ ap (top_window ps) c.ordered_panel-ordered.ensures)
+    (c.top_window.ensures ∙ (λ i. top_window (are i) (c.ordered_panel-ordered.ensures i)))) ∙ sym c.is_same_window.ensures ∙ c.if-is_same_window.false in
     let shows = λ (y x : ℕ).
-    stacking-parts (windows t) (windows new) ps (panels c.arrange.new.stack) a.stacking _ _ (part_holds before y x) (part_holds after y x) y x c.requires.panels c.in_ok-reply.ensures.changed are
-    moves c.named_panel.ensures (c.changed_panel.ensures ps c.in_ok-reply.ensures.reply) (c.part_of-before.ensures.holds y x) (c.part_of-after.ensures.holds y x) in
+    stacking-parts (windows t) (windows new) ps (panels c.arrange.new.stack) a.stacking _ _ _ (part_holds before y x) (part_holds after y x) y x c.requires.panels c.in_ok-reply.ensures.changed are
+    moves c.in_ok-reply.ensures.reply c.named_panel.ensures c.changed_panel.ensures (c.part_of-before.ensures.holds y x) (c.part_of-after.ensures.holds y x) in
     let first = c.damage_part.ensures.damaged t.columns (part-right t.lines t.columns before c.part_of-before.ensures.within) in
     let second = c.damage_part-2.ensures.damaged t.columns (rw (← size.columns) (part-right new.lines new.columns after c.part_of-after.ensures.within)) in
     let both = damages-then t.columns (part_holds before) (part_holds after) a.damage.now c.damage_part.new.damage c.damage_part-2.new.damage first second in
@@ -52,6 +52,6 @@ returns-then-is_same_window c =
     let order = stacking_order ps c.args.stacking in
     let are : panels c.arrange.new.stack ≡ panels_after ps order = c.in_ok-reply.ensures.arranged in
     let stays : order_stays ps order ≡ true =
-    sym (stays-where-same ps order c.top_window-top.result c.top_window.result (c.top_window-top.ensures ∙ ap (top_window ps) (c.ordered_panel-ordered.ensures ps))
-    (c.top_window.ensures ∙ (λ i. top_window (are i) (c.ordered_panel-ordered.ensures ps i)))) ∙ sym c.is_same_window.ensures ∙ c.if-is_same_window.true in
+    sym (stays-where-same ps c.args.stacking c.top_window-top.result c.top_window.result (c.top_window-top.ensures ∙ ap (top_window ps) c.ordered_panel-ordered.ensures)
+    (c.top_window.ensures ∙ (λ i. top_window (are i) (c.ordered_panel-ordered.ensures i)))) ∙ sym c.is_same_window.ensures ∙ c.if-is_same_window.true in
     record { call = c.in_ok-reply.ensures; damaged = damages-none _ _ _ (λ y x below left. unseen-where-same ws ps order y x stays); undamaged = tt }

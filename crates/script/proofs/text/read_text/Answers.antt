@@ -5,8 +5,8 @@ use Rattle.script.proofs.TextLemmas.{nothing_before, one_before, plain_text}
 use Rattle.script.proofs.ByteLemmas.{ok_parts}
 use Rattle.script.proofs.text.read_text.Goals as goal
 
-pub returns-then-not-has_backslash : goal.returns-then-not-has_backslash
-returns-then-not-has_backslash c = grind (arith, ok_parts, plain_text)
+pub returns-then-not-contains : goal.returns-then-not-contains
+returns-then-not-contains c = grind (arith, ok_parts, plain_text)
 
 pub loop-rest-init : goal.loop-rest-init
 loop-rest-init c = (grind (arith, nothing_before), grind (arith, common_steps))

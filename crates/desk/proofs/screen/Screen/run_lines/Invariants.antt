@@ -2,8 +2,8 @@ use Rattle.std.proofs.Common.{◌≡◌, ◌+◌, ◌*◌, length}
 use Rattle.desk.proofs.ScriptLemmas.{SoFar}
 use Rattle.desk.proofs.screen.Screen.run_lines.Given as goal
 
-abbrev pub invariant-loop-self : goal.invariant-loop-self
-invariant-loop-self g l =
+abbrev pub invariant-loop-line_end : goal.invariant-loop-line_end
+invariant-loop-line_end g l =
     let source = g.R.Source.seen in
     let writer = g.W.Sink.seen in
     let logged = g.L.Sink.seen in
@@ -14,5 +14,5 @@ invariant-loop-self g l =
       same : g.W.Sink.name l.self.writer ≡ g.W.Sink.name l.fn.self.writer;
     }
 
-abbrev pub decreases-loop-self : goal.decreases-loop-self
-decreases-loop-self g l = 513 * (g.R.Source.seen l.input).reads_left + length l.lines.unused
+abbrev pub decreases-loop-line_end : goal.decreases-loop-line_end
+decreases-loop-line_end g l = 513 * (g.R.Source.seen l.input).reads_left + length l.lines.unused

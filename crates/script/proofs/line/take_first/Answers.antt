@@ -1,7 +1,7 @@
 -- Where a line goes on after its first argument, the pieces of the rest are those that are left.
 use Rattle.std.proofs.Common.{refl}
 use Rattle.script.specs.Pieces.{pieces_of}
-use Rattle.script.proofs.line.take_any_first.Goals as goal
+use Rattle.script.proofs.line.take_first.Goals as goal
 
 pub returns-else-take : goal.returns-else-take
 returns-else-take c =
