@@ -9,7 +9,7 @@ letters = map (λ entry. (entry.0, map (λ row. (row.0.now, row.1.now)) entry.1.
 
 pub table-rows : HaveRows letters
 unfolding advised
-table-rows = (refl, (refl, (refl, (refl, (refl, (refl, (refl, (refl, (refl, (refl, (refl, (refl, (refl, (refl, (refl, (refl, (refl, (refl, (refl, (refl, (refl, (refl, (refl, tt)))))))))))))))))))))))
+table-rows = (refl, (refl, (refl, (refl, (refl, (refl, (refl, (refl, (refl, (refl, (refl, (refl, (refl, (refl, (refl, (refl, (refl, (refl, (refl, (refl, (refl, (refl, (refl, (refl, (refl, (refl, (refl, tt)))))))))))))))))))))))))))
 
 pub table-all : HaveAll letters
 unfolding advised
