@@ -397,9 +397,10 @@ curspan_answer curspan_panel_hidden(const curspan *screen, uint32_t panel);
 curspan_answer curspan_wnoutrefresh(curspan *screen, uint32_t win);
 
 /* Takes the cells of a pad from line `pminrow` and column `pmincol` on into the lines from `sminrow` to `smaxrow` and
-   the columns from `smincol` to `smaxcol` of the virtual screen, all inclusive, whether they are touched or not.
-   Refused: NO_SUCH_WINDOW, NOT_PAD; BAD_RECTANGLE if a last line or column comes before its first; OUTSIDE_WINDOW if
-   the rectangle isn't in the pad; OFF_SCREEN if it isn't on the screen. */
+   the columns from `smincol` to `smaxcol` of the virtual screen, all inclusive, whether they are touched or not. Then
+   those lines of the pad are untouched, also beside the rectangle; and if the pad asked for a clear screen, the virtual
+   screen asks for it instead. Refused: NO_SUCH_WINDOW, NOT_PAD; BAD_RECTANGLE if a last line or column comes before its
+   first; OUTSIDE_WINDOW if the rectangle isn't in the pad; OFF_SCREEN if it isn't on the screen. */
 curspan_answer curspan_pnoutrefresh(curspan *screen, uint32_t pad, uint32_t pminrow, uint32_t pmincol, uint32_t sminrow,
                                     uint32_t smincol, uint32_t smaxrow, uint32_t smaxcol);
 

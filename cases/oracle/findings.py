@@ -16,7 +16,7 @@ def finding(number, line, fault):
         forms = CALLS[word][0]
         pieces = pieces_of(line, forms)
         wanted = f'{len(forms)} argument' + ('' if len(forms) == 1 else 's')
-        end = ': ' if any(is_stray(piece) for piece in pieces) else '\n'
+        end = ': ' if forms or any(is_stray(piece) for piece in pieces) else '\n'
         what = f'{word} wants ' if fault.kind == BAD_ARGUMENT else f'{word} takes {wanted}, {len(pieces)} given{end}'
     return f'line {number}, column {fault.column}: {what}'
 

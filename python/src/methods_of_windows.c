@@ -580,9 +580,10 @@ PyMethodDef curspan_pad_methods[] = {
      "\n"
      "Takes the cells of a pad from line pminrow and column pmincol on into the lines from sminrow to\n"
      "smaxrow and the columns from smincol to smaxcol of the virtual screen, all inclusive, whether they\n"
-     "are touched or not. Refused: NoSuchWindow, NotPad; BadRectangle if a last line or column comes\n"
-     "before its first; OutsideWindow if the rectangle isn't in the pad; OffScreen if it isn't on the\n"
-     "screen."},
+     "are touched or not. Then those lines of the pad are untouched, also beside the rectangle; and if the\n"
+     "pad asked for a clear screen, the virtual screen asks for it instead. Refused: NoSuchWindow, NotPad;\n"
+     "BadRectangle if a last line or column comes before its first; OutsideWindow if the rectangle isn't\n"
+     "in the pad; OffScreen if it isn't on the screen."},
     /* End of what tools/calls wrote */
     {NULL, NULL, 0, NULL},
 };

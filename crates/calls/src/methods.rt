@@ -713,7 +713,8 @@ pub trait Calls {
 
     /// Takes the cells of a pad from line `pminrow` and column `pmincol` on into the lines from `sminrow` to `smaxrow`
     /// and the columns from `smincol` to `smaxcol` of the virtual screen, all inclusive, whether they are touched or
-    /// not.
+    /// not. Then those lines of the pad are untouched, also beside the rectangle; and if the pad asked for a clear
+    /// screen, the virtual screen asks for it instead.
     ///
     /// # Errors
     /// `NoSuchWindow`, `NotPad`; `BadRectangle` if a last line or column comes before its first; `OutsideWindow` if the

@@ -1,16 +1,21 @@
--- What to write for a name of curses that is no word of scripts. The texts are Curspan's own.
-use Rattle.std.specs.Prelude.{ℕ, Bool, List, [], ◌∷◌, ◌++◌, codes, drop, find, is_some, length, Option, option_map, Some, None, take, unwrap_or, if◌then◌else◌}
+-- What to write for a name of curses, or a word of another language, that is no word of scripts. The texts are Curspan's own.
+use Rattle.std.specs.Prelude.{◌==◌, ◌||◌, ℕ, Bool, List, [], ◌∷◌, ◌++◌, codes, drop, find, is_some, length, Option, option_map, Some, None, take, unwrap_or, if◌then◌else◌}
+use Rattle.std.specs.Char.{is_ascii_alphanumeric, to_ascii_lowercase}
 use Rattle.std.specs.List.{list_any, slice_split}
 use Rattle.std.specs.Str.{bytes_eq}
 use Rattle.script.specs.Characters.{is_space}
 use Rattle.explain.specs.Nearest.{nearest}
 use Rattle.script.specs.Words.{word_of}
 
+-- `_`
+abbrev pub underscore : ℕ
+underscore = 95
+
 -- names with a space between any two
 abbrev pub names_in : List ℕ → List (List ℕ)
 names_in text = slice_split is_space text
 
--- what is said of names of curses that are no words of scripts, and of which
+-- what is said of such names, and of which
 unfoldable pub advised : List (List ℕ × List ℕ)
 advised =
     (codes "see noutrefresh, doupdate", codes "refresh")
@@ -18,48 +23,62 @@ advised =
     ∷ (codes "see addch, noutrefresh, doupdate", codes "echochar pechochar")
     ∷ (
       codes "no call reads keys",
-      codes "getch ungetch getstr getnstr scanw vwscanw vw_scanw keypad nodelay notimeout timeout halfdelay"
-          ++ codes " cbreak nocbreak echo noecho raw noraw nl nonl flushinp intrflush meta qiflush noqiflush typeahead"
-          ++ codes " has_key keyname keyok keybound key_defined define_key erasechar killchar set_escdelay get_escdelay",
+      codes "getch ungetch getstr getnstr scanw vwscanw vw_scanw keypad nodelay notimeout timeout halfdelay cbreak"
+          ++ codes " nocbreak noecho raw noraw nl nonl flushinp intrflush meta qiflush noqiflush typeahead has_key keyname"
+          ++ codes " keyok keybound key_defined define_key erasechar killchar set_escdelay get_escdelay read readkey read_key"
+          ++ codes " getkey get_key key input gets getc getchar getche scanf kbhit key_up key_down key_left key_right"
+          ++ codes " key_enter",
     )
     ∷ (codes "no call reads the mouse", codes "getmouse ungetmouse mousemask mouseinterval has_mouse mouse_trafo enclose")
     ∷ (
       codes "the screen is there from the first line on, and ends with the script",
-      codes "initscr newterm new_prescr endwin isendwin delscreen set_term use_screen use_window exit_curses",
+      codes "initscr newterm new_prescr endwin isendwin delscreen set_term use_screen use_window exit_curses exit"
+          ++ codes " quit end bye stop close",
     )
-    ∷ (codes "lines are drawn by the characters of addstr", codes "box border hline vline")
-    ∷ (codes "no call formats: see addstr", codes "printw vwprintw vw_printw vsscanf")
-    ∷ (codes "see addstr", codes "addnstr addchstr addchnstr")
-    ∷ (codes "see insch", codes "insstr insnstr")
-    ∷ (codes "see insertln, deleteln", codes "insdelln")
-    ∷ (codes "see inch", codes "instr innstr inchstr inchnstr")
-    ∷ (codes "see bkgdset, erase", codes "bkgd")
+    ∷ (
+      codes "lines are drawn by the characters of addstr",
+      codes "box border hline vline line rect rectangle frame draw_box drawbox acs_hline acs_vline",
+    )
+    ∷ (codes "no call formats: see addstr", codes "printw vwprintw vw_printw vsscanf printf sprintf fprintf format")
+    ∷ (
+      codes "see addstr",
+      codes "addnstr addchstr addchnstr print println puts putstr put write writestr text say string addstring"
+          ++ codes " addtext",
+    )
+    ∷ (codes "see insch", codes "insstr insnstr insert inschar inserch insertch")
+    ∷ (codes "see insertln, deleteln", codes "insdelln insertline insline deleteline delline")
+    ∷ (codes "see inch", codes "instr innstr inchstr inchnstr inchar")
+    ∷ (codes "see bkgdset, erase", codes "bkgd background setbkgd")
     ∷ (codes "no call answers a background: see inch", codes "getbkgd")
     ∷ (codes "a window keeps its size", codes "resize resizeterm resize_term is_term_resized")
     ∷ (codes "see newwin, overwrite", codes "dupwin")
     ∷ (codes "see attron, with 10", codes "standout")
     ∷ (codes "see attrset, with 00", codes "standend")
-    ∷ (codes "see attrset, attron, attroff, color_set", codes "attr_set attr_on attr_off chgat")
+    ∷ (
+      codes "see attrset, attron, attroff, color_set",
+      codes "attr_set attr_on attr_off chgat attr attribute attributes bold dim underline blink reverse inverse"
+          ++ codes " a_bold a_dim a_underline a_blink a_reverse a_invis a_standout a_normal",
+    )
     ∷ (codes "see inch, which answers those of a cell", codes "attr_get getattrs termattrs term_attrs")
     ∷ (
       codes "colours are there from the first line on: see init_pair",
-      codes "start_color init_color init_extended_color init_extended_pair use_default_colors"
-          ++ codes " assume_default_colors reset_color_pairs has_colors can_change_color",
+      codes "start_color init_color init_extended_color init_extended_pair use_default_colors assume_default_colors"
+          ++ codes " reset_color_pairs has_colors can_change_color start_colour",
     )
     ∷ (codes "no call answers a colour: see init_pair", codes "color_content extended_color_content pair_content extended_pair_content")
-    ∷ (codes "a pair is its number: see init_pair, color_set", codes "COLOR_PAIR PAIR_NUMBER alloc_pair find_pair free_pair")
-    ∷ (codes "see scrl", codes "scroll")
+    ∷ (codes "a pair is its number: see init_pair, color_set", codes "alloc_pair find_pair free_pair color_pair pair_number")
+    ∷ (codes "see scrl", codes "scroll scroll_up scroll_down scrollup scrolldown")
     ∷ (codes "see clearok, touchwin", codes "redrawwin redrawln")
-    ∷ (codes "see move", codes "cursyncup")
-    ∷ (codes "see getyx", codes "getcurx getcury getsyx")
+    ∷ (codes "see move", codes "cursyncup goto gotoxy cursor move_cursor movecursor setcursor set_cursor locate at mv moveto")
+    ∷ (codes "see getyx", codes "getcurx getcury getsyx getcursor get_cursor getpos")
     ∷ (codes "see getbegyx", codes "getbegx getbegy")
     ∷ (codes "see getparyx", codes "getparx getpary")
-    ∷ (codes "see getmaxyx", codes "getmaxx getmaxy")
+    ∷ (codes "see getmaxyx", codes "getmaxx getmaxy size getsize get_size getmax")
     ∷ (codes "no window has this flag", codes "leaveok immedok syncok idlok idcok")
     ∷ (
       codes "no call answers this",
-      codes "is_cleared is_idcok is_idlok is_immedok is_keypad is_leaveok is_nodelay is_notimeout is_pad"
-          ++ codes " is_scrollok is_subwin is_syncok getparent getdelay getscrreg",
+      codes "is_cleared is_idcok is_idlok is_immedok is_keypad is_leaveok is_nodelay is_notimeout is_pad is_scrollok"
+          ++ codes " is_subwin is_syncok getparent getdelay getscrreg",
     )
     ∷ (codes "see panel_above, with none", codes "ground_panel")
     ∷ (codes "see panel_below, with none", codes "ceiling_panel")
@@ -67,25 +86,61 @@ advised =
     ∷ (
       codes "characters are those of ASCII",
       codes "add_wch add_wchstr add_wchnstr addwstr addnwstr bkgrnd bkgrndset border_set box_set echo_wchar"
-          ++ codes " erasewchar get_wch get_wstr getn_wstr getbkgrnd getcchar hline_set in_wch in_wchstr in_wchnstr"
-          ++ codes " innwstr ins_nwstr ins_wch ins_wstr inwstr key_name killwchar pecho_wchar setcchar unget_wch"
-          ++ codes " vline_set wunctrl",
+          ++ codes " erasewchar get_wch get_wstr getn_wstr getbkgrnd getcchar hline_set in_wch in_wchstr in_wchnstr innwstr"
+          ++ codes " ins_nwstr ins_wch ins_wstr inwstr key_name killwchar pecho_wchar setcchar unget_wch vline_set wunctrl",
     )
     ∷ (
       codes "there are no soft labels",
-      codes "slk_attr slk_attr_off slk_attr_on slk_attr_set slk_attroff slk_attron slk_attrset slk_clear"
-          ++ codes " slk_color extended_slk_color slk_init slk_label slk_noutrefresh slk_refresh slk_restore slk_set"
-          ++ codes " slk_touch slk_wset",
+      codes "slk_attr slk_attr_off slk_attr_on slk_attr_set slk_attroff slk_attron slk_attrset slk_clear slk_color"
+          ++ codes " extended_slk_color slk_init slk_label slk_noutrefresh slk_refresh slk_restore slk_set slk_touch slk_wset",
     )
     ∷ (
       codes "nothing is asked of the terminal, nor set there",
       codes "baudrate beep flash curs_set def_prog_mode def_shell_mode reset_prog_mode reset_shell_mode resetty"
-          ++ codes " savetty has_ic has_il longname termname mcprint mvcur napms delay_output putp tigetflag tigetnum"
-          ++ codes " tigetstr tiparm tparm vidattr vidputs vid_attr vid_puts ripoffline set_tabsize setsyx use_env"
-          ++ codes " use_tioctl filter nofilter use_extended_names use_legacy_coding",
+          ++ codes " savetty has_ic has_il longname termname mcprint mvcur putp tigetflag tigetnum tigetstr tiparm tparm"
+          ++ codes " vidattr vidputs vid_attr vid_puts ripoffline set_tabsize setsyx use_env use_tioctl filter nofilter"
+          ++ codes " use_extended_names use_legacy_coding bell tput stty",
     )
     ∷ (codes "nothing is saved or loaded", codes "scr_dump scr_init scr_restore scr_set getwin putwin")
     ∷ (codes "no call traces or names a version", codes "trace curses_trace curses_version")
+    ∷ (codes "no call reads keys: to write, see addstr", codes "echo")
+    ∷ (codes "see addch", codes "addchar addc putch putc putchar")
+    ∷ (codes "see delch", codes "delchar deletech deletechar")
+    ∷ (codes "see clear, erase", codes "cls clr clrscr clearscreen clear_screen clear_window wipe reset")
+    ∷ (codes "see clrtobot", codes "clrtobottom clrtoeos")
+    ∷ (codes "see clrtoeol", codes "clear_line clearline erase_line")
+    ∷ (codes "see update_panels, doupdate", codes "update update_screen updatescreen flush draw redraw render display show_screen sync")
+    ∷ (codes "see newwin", codes "window win newwindow new_window create_window createwin makewin mkwin openwin open_window")
+    ∷ (codes "see delwin", codes "delwindow delete_window del_window destroy_window rmwin closewin close_window destroy delete")
+    ∷ (codes "see mvwin, move_panel", codes "move_window move_win movewin movewindow")
+    ∷ (codes "see new_panel", codes "panel create_panel add_panel make_panel")
+    ∷ (codes "see show_panel, hide_panel", codes "show hide show_window hide_window")
+    ∷ (codes "see top_panel, bottom_panel", codes "raise lower front back raise_panel lower_panel focus top bottom")
+    ∷ (codes "see setscrreg", codes "setscroll setscrollreg set_scroll_region scroll_region")
+    ∷ (codes "see copywin, overwrite, overlay", codes "copy copywindow copy_window")
+    ∷ (codes "see touchwin", codes "touch touchwindow touch_window")
+    ∷ (codes "see is_wintouched, is_linetouched", codes "is_touched istouched")
+    ∷ (
+      codes "see init_pair, color_set",
+      codes "color colour colors colours setcolor set_color textcolor fg bg foreground pair setpair set_pair",
+    )
+    ∷ (codes "no call waits", codes "sleep usleep msleep wait pause delay napms delay_output")
+    ∷ (
+      codes "there are no menus or forms",
+      codes "menu new_menu free_menu post_menu unpost_menu menu_driver new_item free_item form new_form free_form"
+          ++ codes " post_form unpost_form form_driver new_field free_field",
+    )
+    ∷ (
+      codes "a line begins with a call",
+      codes "stdscr curscr newscr lines cols null true false color_black color_red color_green color_yellow"
+          ++ codes " color_blue color_magenta color_cyan color_white curses",
+    )
+    ∷ (
+      codes "a script has calls alone: no variables, loops or functions",
+      codes "if then else elif fi for while until do done case esac switch break continue return int void char const"
+          ++ codes " static struct let local export set declare function def import from { }",
+    )
+    ∷ (codes "a comment begins with #", codes "; % -- rem")
     ∷ []
 
 -- the first row of a table that has the name
@@ -101,6 +156,18 @@ advice_on name = advice_in advised name
 abbrev pub begins_with : List ℕ → List ℕ → Bool
 begins_with prefix text = bytes_eq (take (length prefix) text) prefix
 
+-- what begins a comment in other languages
+abbrev pub begins_comment : List ℕ → Bool
+begins_comment text = begins_with (codes "//") text || begins_with (codes "/*") text
+
+abbrev pub is_name_byte : ℕ → Bool
+is_name_byte b = is_ascii_alphanumeric b || b == underscore
+
+-- the name that a word begins with, in lower case: `getch();`, `GETCH` and `getch` have the same
+abbrev pub name_in : List ℕ → List ℕ
+name_in [] = []
+name_in (b ∷ bs) = if is_name_byte b then to_ascii_lowercase b ∷ name_in bs else []
+
 -- what is said of a name without its prefix: this, before it, if it is a call; else what the table has
 abbrev pub advice_on_rest : List ℕ → List ℕ → Option (List ℕ)
 advice_on_rest said rest = if is_some (word_of rest) then Some (said ++ rest) else advice_on rest
@@ -114,18 +181,22 @@ abbrev pub or_else : Option (List ℕ) → Option (List ℕ) → Option (List �
 or_else None other = other
 or_else (Some said) other = Some said
 
+-- of a name: what is said of it without a prefix; or else, where it begins with `mvw`, `mv` or `w`, of the rest
+unfoldable pub said_of_name : List ℕ → Option (List ℕ)
+said_of_name name =
+    or_else (advice_on_rest (codes "see ") name)
+    (or_else (after_prefix (codes "mvw") (codes "see move, ") name)
+    (or_else (after_prefix (codes "mv") (codes "see move, ") name)
+    (after_prefix (codes "w") (codes "see ") name)))
+
 -- the call that is near the word
 abbrev pub see_nearest : List ℕ → Option (List ℕ)
 see_nearest word = option_map (λ name. codes "see " ++ name) (nearest word)
 
--- what the table has; else, of a word with the prefix `mvw`, `mv` or `w`, what is said of the rest; else the nearest
-abbrev pub said_of : List ℕ → Option (List ℕ)
-said_of word =
-    or_else (advice_on word)
-    (or_else (after_prefix (codes "mvw") (codes "see move, ") word)
-    (or_else (after_prefix (codes "mv") (codes "see move, ") word)
-    (or_else (after_prefix (codes "w") (codes "see ") word)
-    (see_nearest word))))
+-- what the table has of the word as it is; or else what is said of its name; or else the nearest call
+unfoldable pub said_of : List ℕ → Option (List ℕ)
+said_of word = if begins_comment word then Some (codes "a comment begins with #")
+    else or_else (advice_on word) (or_else (said_of_name (name_in word)) (see_nearest word))
 
 abbrev pub call_advice : List ℕ → List ℕ
 call_advice word = codes ": " ++ unwrap_or (said_of word) (codes "curspan(1) lists the calls")

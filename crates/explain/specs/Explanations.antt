@@ -6,12 +6,21 @@ use Rattle.cell.specs.Attributes.{hex_digits}
 use Rattle.script.specs.Characters.{is_space, newline}
 use Rattle.script.specs.declared.fault.TextFault.{TextFault}
 use Rattle.script.specs.declared.fault.TextFault.TheVariants.{LineTooLong, BadByte, UnknownCall, WrongNumberOfArguments, BadArgument}
-use Rattle.explain.specs.Advice.{begins_with, call_advice}
+use Rattle.script.specs.Words.{word_of}
+use Rattle.explain.specs.Advice.{begins_comment, begins_with, call_advice}
 use Rattle.explain.specs.Faults.{IllFormed, arguments_in, bad_place, column_of, find_ill_formed_in, find_stray_in, forms_of, word_in}
 use Rattle.explain.specs.Reasons.{byte_advice, reason, requirement_of}
+use Rattle.explain.specs.Signatures.{names_of_arguments}
 
 abbrev pub byte_order_mark : List ℕ
 byte_order_mark = 239 ∷ 187 ∷ 191 ∷ []
+
+-- those of UTF-16, with the lesser byte of a character first or last
+abbrev pub little_mark : List ℕ
+little_mark = 255 ∷ 254 ∷ []
+
+abbrev pub big_mark : List ℕ
+big_mark = 254 ∷ 255 ∷ []
 
 -- `"`
 abbrev pub quotation_mark : ℕ
@@ -40,14 +49,26 @@ abbrev pub number_text : List ℕ → ℕ → ℕ → List ℕ
 number_text word taken given = word ++ codes " takes " ++ count_text taken ++ codes ", " ++ decimal given ++ codes " given"
 
 -- what is said of a stray argument
-abbrev pub stray_text : Option (ℕ × List ℕ) → List ℕ
-stray_text None = []
-stray_text (Some stray) = if length stray.1 == 0 then codes ": single spaces separate words" else codes ": a comment has a line of its own"
+abbrev pub stray_text : List ℕ → List ℕ
+stray_text argument = if length argument == 0 then codes ": single spaces separate words"
+    else (if begins_comment argument then codes ": a comment has a line of its own, and begins with #"
+    else codes ": a comment has a line of its own")
+
+-- what a call's arguments are, if it takes some
+abbrev pub signature_text : List ℕ → List ℕ
+signature_text names = if length names == 0 then [] else codes ": " ++ names
+
+-- what is said after the number of arguments: of the stray one, or else what they are
+abbrev pub number_advice : List ℕ → Option (ℕ × List ℕ) → List ℕ
+number_advice word None = signature_text (option_map_or names_of_arguments (word_of word) [])
+number_advice word (Some stray) = stray_text stray.1
 
 -- what is said of a line with a bad byte
 abbrev pub bad_line_text : List ℕ → List ℕ
 bad_line_text line = if begins_with byte_order_mark line then codes "bad byte ef: a script has no byte order mark"
-    else bad_byte_text (slice_index line (bad_place line))
+    else (if begins_with little_mark line then codes "bad byte ff: the script is in UTF-16, and has to be in ASCII"
+    else (if begins_with big_mark line then codes "bad byte fe: the script is in UTF-16, and has to be in ASCII"
+    else bad_byte_text (slice_index line (bad_place line))))
 
 -- what is said of a fault
 abbrev pub explanation : TextFault → List ℕ → List ℕ
@@ -56,7 +77,7 @@ explanation BadByte line = bad_line_text line
 explanation UnknownCall line = unknown_text (word_in (slice_split is_space line))
 explanation WrongNumberOfArguments line =
     let pieces = slice_split is_space line in
-    number_text (word_in pieces) (length (forms_of (word_in pieces))) (length (arguments_in pieces)) ++ stray_text (find_stray_in pieces)
+    number_text (word_in pieces) (length (forms_of (word_in pieces))) (length (arguments_in pieces)) ++ number_advice (word_in pieces) (find_stray_in pieces)
 explanation BadArgument line =
     let pieces = slice_split is_space line in
     option_map_or (ill_formed_text (word_in pieces)) (find_ill_formed_in pieces) []

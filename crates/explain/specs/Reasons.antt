@@ -1,5 +1,5 @@
 -- What an argument of a form has to be, and why a byte or an argument is faulty. The texts are Curspan's own.
-use Rattle.std.specs.Prelude.{◌==◌, ◌&&◌, ℕ, Bool, not, List, [], codes, drop, length, nat_le, slice_index, if◌then◌else◌}
+use Rattle.std.specs.Prelude.{◌==◌, ◌&&◌, ◌||◌, ℕ, Bool, not, List, [], ◌++◌, codes, drop, length, slice_index, if◌then◌else◌}
 use Rattle.std.specs.Char.{is_ascii_digit, is_ascii_hexdigit, is_ascii_uppercase}
 use Rattle.std.specs.List.{list_all, list_any, take_while}
 use Rattle.std.specs.Str.{bytes_eq}
@@ -9,12 +9,21 @@ use Rattle.explain.specs.Advice.{begins_with, names_in}
 use Rattle.script.specs.declared.words.Form.{Form}
 use Rattle.script.specs.declared.words.Form.TheVariants.{Number, NumberOrNone, Signed, Attributes, Flag, Character, Text}
 
--- what is said of a bad byte: a carriage return, a tab, a backspace, or another
+-- what is said of a bad byte: a carriage return, a tab, a backspace, an escape, a 0, or another
 abbrev pub byte_advice : ℕ → List ℕ
 byte_advice b = if b == carriage_return then codes "a line ends with a newline alone"
     else (if b == 9 then codes "words are separated by single spaces"
     else (if b == 8 then codes "a text has it as a backslash and b"
-    else codes "characters are those of ASCII, from the space to the tilde"))
+    else (if b == 27 then codes "a text has no control sequences: see attrset, color_set, move"
+    else (if b == 0 then codes "a character is one byte, and not two as in UTF-16"
+    else codes "characters are those of ASCII, from the space to the tilde"))))
+
+-- `,` and `;`
+abbrev pub comma : ℕ
+comma = 44
+
+abbrev pub semicolon : ℕ
+semicolon = 59
 
 -- what an argument of a form has to be
 abbrev pub requirement : Form → List ℕ
@@ -49,19 +58,55 @@ are_digits text = list_all is_ascii_digit text && not (length text == 0)
 abbrev pub digits_reason : List ℕ → List ℕ → List ℕ
 digits_reason said digits = if slice_index digits 0 == digit_0 then codes ": a number has no leading 0" else said
 
+-- the text has the byte
+abbrev pub has_byte : ℕ → List ℕ → Bool
+has_byte byte text = list_any (λ b. b == byte) text
+
+-- one of some names, with a space between any two
+abbrev pub is_one_of : List ℕ → List ℕ → Bool
+is_one_of names text = list_any (bytes_eq text) (names_in names)
+
+abbrev pub is_quoted : List ℕ → Bool
+is_quoted text = begins_with (codes "\"") text || begins_with (codes "'") text
+
+-- the marks of other languages that an argument may not have; where it has none, this is said
+abbrev pub mark_reason : List ℕ → List ℕ → List ℕ
+mark_reason said argument = if is_quoted argument then codes ": it has no quotes"
+    else (if has_byte comma argument then codes ": spaces separate arguments, and no commas"
+    else (if has_byte semicolon argument then codes ": a line has no semicolon"
+    else (if begins_with (codes "$") argument then codes ": a script has no variables"
+    else said)))
+
+abbrev pub colour_names : List ℕ
+colour_names =
+    codes "black red green yellow blue magenta cyan white"
+    ++ codes " COLOR_BLACK COLOR_RED COLOR_GREEN COLOR_YELLOW COLOR_BLUE COLOR_MAGENTA COLOR_CYAN COLOR_WHITE"
+
+-- of what may stand for a number elsewhere
+abbrev pub name_reason : List ℕ → List ℕ
+name_reason argument = if bytes_eq argument (codes "stdscr") then codes ": the standard screen is 0"
+    else (if is_one_of colour_names argument then codes ": 0 black, 1 red, 2 green, 3 yellow, 4 blue, 5 magenta, 6 cyan, 7 white"
+    else (if begins_with (codes "COLOR_PAIR") argument then codes ": a pair is its number"
+    else (if begins_with (codes "0x") argument then codes ": a number is decimal"
+    else codes ": windows, panels, lines and columns are numbers of digits alone")))
+
 -- of a number without a sign
 abbrev pub unsigned_reason : List ℕ → List ℕ
 unsigned_reason argument = if are_digits argument then digits_reason (codes ": it is too great") argument
     else (if begins_with (codes "-") argument then codes ": it has no minus"
     else (if begins_with (codes "+") argument then codes ": it has no plus"
-    else (if begins_with (codes "0x") argument then codes ": a number is decimal"
-    else [])))
+    else mark_reason (name_reason argument) argument))
+
+-- of one that may be none
+abbrev pub unsigned_or_none_reason : List ℕ → List ℕ
+unsigned_or_none_reason argument = if is_one_of (codes "None NONE NULL null nil no - -1") argument then codes ": write none" else unsigned_reason argument
 
 -- of one with a minus or without
 abbrev pub signed_reason : List ℕ → List ℕ
 signed_reason argument = if begins_with (codes "-") argument
     then (if bytes_eq argument (codes "-0") then codes ": 0 has no minus"
-    else (if are_digits (drop 1 argument) then digits_reason (codes ": it is too small") (drop 1 argument) else []))
+    else (if are_digits (drop 1 argument) then digits_reason (codes ": it is too small") (drop 1 argument)
+    else codes ": it has digits alone after a minus"))
     else unsigned_reason argument
 
 -- two hexadecimal digits, in lower case or upper case
@@ -74,9 +119,20 @@ attributes_reason argument = if not (are_two_digits argument) then codes ": a su
     else codes ": it is too great")
 
 abbrev pub flag_reason : List ℕ → List ℕ
-flag_reason argument = if list_any (bytes_eq argument) (names_in (codes "ON On TRUE True true YES Yes yes 1")) then codes ": write on"
-    else (if list_any (bytes_eq argument) (names_in (codes "OFF Off FALSE False false NO No no 0")) then codes ": write off"
-    else [])
+flag_reason argument = if is_one_of (codes "ON On TRUE True true YES Yes yes 1") argument then codes ": write on"
+    else (if is_one_of (codes "OFF Off FALSE False false NO No no 0") argument then codes ": write off"
+    else mark_reason [] argument)
+
+-- a text with a backslash that begins no escape
+abbrev pub text_reason : List ℕ
+text_reason = codes ": a backslash itself is written as two"
+
+abbrev pub character_reason : List ℕ → List ℕ
+character_reason argument = if length argument == 0 then []
+    else (if begins_with (codes "\\") argument then text_reason
+    else (if begins_with (codes "ACS_") argument then codes ": lines are drawn by characters such as + - and |"
+    else (if is_quoted argument then codes ": it has no quotes"
+    else codes ": it is more than one")))
 
 -- Where there is no argument, two spaces are in a row, or one is at the line's end.
 abbrev pub unless_missing : List ℕ → List ℕ → List ℕ
@@ -84,12 +140,12 @@ unless_missing said argument = if length argument == 0 then codes ": single spac
 
 abbrev pub reason : Form → List ℕ → List ℕ
 reason Number argument = unless_missing (unsigned_reason argument) argument
-reason NumberOrNone argument = unless_missing (unsigned_reason argument) argument
+reason NumberOrNone argument = unless_missing (unsigned_or_none_reason argument) argument
 reason Signed argument = unless_missing (signed_reason argument) argument
 reason Attributes argument = unless_missing (attributes_reason argument) argument
 reason Flag argument = unless_missing (flag_reason argument) argument
-reason Character argument = []
-reason Text argument = []
+reason Character argument = character_reason argument
+reason Text argument = text_reason
 
 -- the number that a text has after so many bytes
 abbrev pub numeral_in : ℕ → List ℕ → ℕ

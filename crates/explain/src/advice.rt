@@ -1,4 +1,4 @@
-//! What to write for names of curses that are no words of scripts.
+//! What to write for names of curses, and for words of other languages, that are no words of scripts.
 
 ghost use Rattle.std.specs.Prelude.{◌≡◌, ◌≤◌, IfSome, length, option_map};
 ghost use Rattle.std.specs.List.{list_any};
@@ -53,68 +53,156 @@ const TRACES: &[u8] = b"no call traces or names a version";
 
 const ATTRIBUTES: &[u8] = b"see attrset, attron, attroff, color_set";
 
+const COLOURED: &[u8] = b"see init_pair, color_set";
+
+const TEXTS: &[u8] = b"see addstr";
+
+const CALLS_ALONE: &[u8] = b"a script has calls alone: no variables, loops or functions";
+
+const MENUS: &[u8] = b"there are no menus or forms";
+
+const BEGINNINGS: &[u8] = b"a line begins with a call";
+
+const UPDATES: &[u8] = b"see update_panels, doupdate";
+
+const ERASED: &[u8] = b"see clear, erase";
+
+const WINDOWS: &[u8] = b"see newwin";
+
+const DELETED: &[u8] = b"see delwin";
+
+const PANELS: &[u8] = b"see new_panel";
+
+const SHOWN: &[u8] = b"see show_panel, hide_panel";
+
+const RAISED: &[u8] = b"see top_panel, bottom_panel";
+
+const CURSOR: &[u8] = b"see move";
+
+const WAITS: &[u8] = b"no call waits";
+
+const SIZES: &[u8] = b"see getmaxyx";
+
+const LINES_INSERTED: &[u8] = b"see insertln, deleteln";
+
+const BACKGROUND: &[u8] = b"see bkgdset, erase";
+
+const COMMENT: &[u8] = b"a comment begins with #";
+
+const CHARACTERS: &[u8] = b"see addch";
+
+const LINE_ERASED: &[u8] = b"see clrtoeol";
+
 /// The names of curses that scripts have under another name, or not at all, by their first letters.
 #[rattlefmt::skip]
-const ADVICE: [(u8, &[Row]); 23] = [
-    (b'C', &[
-        (PAIRS, b"COLOR_PAIR"),
+const ADVICE: [(u8, &[Row]); 27] = [
+    (b'%', &[
+        (COMMENT, b"%"),
     ]),
-    (b'P', &[
-        (PAIRS, b"PAIR_NUMBER"),
+    (b'-', &[
+        (COMMENT, b"--"),
+    ]),
+    (b';', &[
+        (COMMENT, b";"),
     ]),
     (b'a', &[
-        (b"see addstr", b"addnstr addchstr addchnstr"),
-        (ATTRIBUTES, b"attr_set attr_on attr_off"),
+        (LINES, b"acs_hline acs_vline"),
+        (TEXTS, b"addnstr addchstr addchnstr addstring addtext"),
+        (ATTRIBUTES,
+            b"attr_set attr_on attr_off attr attribute attributes a_bold a_dim a_underline a_blink a_reverse \
+            a_invis a_standout a_normal"),
         (RENDITION, b"attr_get"),
         (COLOURS, b"assume_default_colors"),
         (PAIRS, b"alloc_pair"),
+        (CURSOR, b"at"),
         (ASCII, b"add_wch add_wchstr add_wchnstr addwstr addnwstr"),
+        (CHARACTERS, b"addchar addc"),
+        (PANELS, b"add_panel"),
     ]),
     (b'b', &[
+        (SCREEN, b"bye"),
         (LINES, b"box border"),
-        (b"see bkgdset, erase", b"bkgd"),
+        (BACKGROUND, b"bkgd background"),
+        (ATTRIBUTES, b"bold blink"),
         (ASCII, b"bkgrnd bkgrndset border_set box_set"),
-        (TERMINAL, b"baudrate beep"),
+        (TERMINAL, b"baudrate beep bell"),
+        (RAISED, b"back bottom"),
+        (COLOURED, b"bg"),
+        (CALLS_ALONE, b"break"),
     ]),
     (b'c', &[
         (KEYS, b"cbreak"),
+        (SCREEN, b"close"),
         (ATTRIBUTES, b"chgat"),
         (COLOURS, b"can_change_color"),
         (CONTENTS, b"color_content"),
-        (b"see move", b"cursyncup"),
+        (PAIRS, b"color_pair"),
+        (CURSOR, b"cursyncup cursor"),
         (b"see panel_below, with none", b"ceiling_panel"),
         (TERMINAL, b"curs_set"),
         (TRACES, b"curses_trace curses_version"),
+        (ERASED, b"cls clr clrscr clearscreen clear_screen clear_window"),
+        (b"see clrtobot", b"clrtobottom clrtoeos"),
+        (LINE_ERASED, b"clear_line clearline"),
+        (WINDOWS, b"create_window createwin"),
+        (DELETED, b"closewin close_window"),
+        (PANELS, b"create_panel"),
+        (b"see copywin, overwrite, overlay", b"copy copywindow copy_window"),
+        (COLOURED, b"color colour colors colours"),
+        (BEGINNINGS,
+            b"curscr cols color_black color_red color_green color_yellow color_blue color_magenta color_cyan \
+            color_white curses"),
+        (CALLS_ALONE, b"case continue char const"),
     ]),
     (b'd', &[
         (KEYS, b"define_key"),
         (SCREEN, b"delscreen"),
+        (LINES, b"draw_box drawbox"),
+        (LINES_INSERTED, b"deleteline delline"),
         (b"see newwin, overwrite", b"dupwin"),
-        (TERMINAL, b"def_prog_mode def_shell_mode delay_output"),
+        (ATTRIBUTES, b"dim"),
+        (TERMINAL, b"def_prog_mode def_shell_mode"),
+        (b"see delch", b"delchar deletech deletechar"),
+        (UPDATES, b"draw display"),
+        (DELETED, b"delwindow delete_window del_window destroy_window destroy delete"),
+        (WAITS, b"delay delay_output"),
+        (CALLS_ALONE, b"do done declare def"),
     ]),
     (b'e', &[
         (ECHOED, b"echochar"),
-        (KEYS, b"echo erasechar"),
+        (KEYS, b"erasechar"),
         (MOUSE, b"enclose"),
-        (SCREEN, b"endwin exit_curses"),
+        (SCREEN, b"endwin exit_curses exit end"),
         (CONTENTS, b"extended_color_content extended_pair_content"),
         (ASCII, b"echo_wchar erasewchar"),
         (LABELS, b"extended_slk_color"),
+        (b"no call reads keys: to write, see addstr", b"echo"),
+        (LINE_ERASED, b"erase_line"),
+        (CALLS_ALONE, b"else elif esac export"),
     ]),
     (b'f', &[
         (KEYS, b"flushinp"),
+        (LINES, b"frame"),
+        (FORMATS, b"fprintf format"),
         (PAIRS, b"find_pair free_pair"),
         (TERMINAL, b"flash filter"),
+        (UPDATES, b"flush"),
+        (RAISED, b"front focus"),
+        (COLOURED, b"fg foreground"),
+        (MENUS, b"free_menu free_item form free_form form_driver free_field"),
+        (BEGINNINGS, b"false"),
+        (CALLS_ALONE, b"fi for function from"),
     ]),
     (b'g', &[
-        (KEYS, b"getch getstr getnstr get_escdelay"),
+        (KEYS, b"getch getstr getnstr get_escdelay getkey get_key gets getc getchar getche"),
         (MOUSE, b"getmouse"),
         (b"no call answers a background: see inch", b"getbkgd"),
         (RENDITION, b"getattrs"),
-        (b"see getyx", b"getcurx getcury getsyx"),
+        (CURSOR, b"goto gotoxy"),
+        (b"see getyx", b"getcurx getcury getsyx getcursor get_cursor getpos"),
         (b"see getbegyx", b"getbegx getbegy"),
         (b"see getparyx", b"getparx getpary"),
-        (b"see getmaxyx", b"getmaxx getmaxy"),
+        (SIZES, b"getmaxx getmaxy getsize get_size getmax"),
         (SETTINGS, b"getparent getdelay getscrreg"),
         (b"see panel_above, with none", b"ground_panel"),
         (ASCII, b"get_wch get_wstr getn_wstr getbkgrnd getcchar"),
@@ -127,89 +215,152 @@ const ADVICE: [(u8, &[Row]); 23] = [
         (COLOURS, b"has_colors"),
         (ASCII, b"hline_set"),
         (TERMINAL, b"has_ic has_il"),
+        (SHOWN, b"hide hide_window"),
     ]),
     (b'i', &[
-        (KEYS, b"intrflush"),
+        (KEYS, b"intrflush input"),
         (SCREEN, b"initscr isendwin"),
-        (b"see insch", b"insstr insnstr"),
-        (b"see insertln, deleteln", b"insdelln"),
-        (b"see inch", b"instr innstr inchstr inchnstr"),
+        (b"see insch", b"insstr insnstr insert inschar inserch insertch"),
+        (LINES_INSERTED, b"insdelln insertline insline"),
+        (b"see inch", b"instr innstr inchstr inchnstr inchar"),
         (SIZE, b"is_term_resized"),
+        (ATTRIBUTES, b"inverse"),
         (COLOURS, b"init_color init_extended_color init_extended_pair"),
         (FLAGS, b"immedok idlok idcok"),
         (SETTINGS,
             b"is_cleared is_idcok is_idlok is_immedok is_keypad is_leaveok is_nodelay is_notimeout is_pad \
             is_scrollok is_subwin is_syncok"),
         (ASCII, b"in_wch in_wchstr in_wchnstr innwstr ins_nwstr ins_wch ins_wstr inwstr"),
+        (b"see is_wintouched, is_linetouched", b"is_touched istouched"),
+        (CALLS_ALONE, b"if int import"),
     ]),
     (b'k', &[
-        (KEYS, b"keypad keyname keyok keybound key_defined killchar"),
+        (KEYS,
+            b"keypad keyname keyok keybound key_defined killchar key kbhit key_up key_down key_left key_right \
+            key_enter"),
         (ASCII, b"key_name killwchar"),
     ]),
     (b'l', &[
+        (LINES, b"line"),
+        (CURSOR, b"locate"),
         (FLAGS, b"leaveok"),
         (TERMINAL, b"longname"),
+        (RAISED, b"lower lower_panel"),
+        (BEGINNINGS, b"lines"),
+        (CALLS_ALONE, b"let local"),
     ]),
     (b'm', &[
         (KEYS, b"meta"),
         (MOUSE, b"mousemask mouseinterval mouse_trafo"),
+        (CURSOR, b"move_cursor movecursor mv moveto"),
         (TERMINAL, b"mcprint mvcur"),
+        (WINDOWS, b"makewin mkwin"),
+        (b"see mvwin, move_panel", b"move_window move_win movewin movewindow"),
+        (PANELS, b"make_panel"),
+        (WAITS, b"msleep"),
+        (MENUS, b"menu menu_driver"),
     ]),
     (b'n', &[
         (KEYS, b"nodelay notimeout nocbreak noecho noraw nl nonl noqiflush"),
         (SCREEN, b"newterm new_prescr"),
-        (TERMINAL, b"napms nofilter"),
+        (TERMINAL, b"nofilter"),
+        (WINDOWS, b"newwindow new_window"),
+        (WAITS, b"napms"),
+        (MENUS, b"new_menu new_item new_form new_field"),
+        (BEGINNINGS, b"newscr null"),
+    ]),
+    (b'o', &[
+        (WINDOWS, b"openwin open_window"),
     ]),
     (b'p', &[
         (b"see pnoutrefresh, doupdate", b"prefresh"),
         (ECHOED, b"pechochar"),
-        (FORMATS, b"printw"),
+        (FORMATS, b"printw printf"),
+        (TEXTS, b"print println puts putstr put"),
         (CONTENTS, b"pair_content"),
+        (PAIRS, b"pair_number"),
         (POINTERS, b"panel_userptr"),
         (ASCII, b"pecho_wchar"),
         (TERMINAL, b"putp"),
         (SAVED, b"putwin"),
+        (CHARACTERS, b"putch putc putchar"),
+        (PANELS, b"panel"),
+        (COLOURED, b"pair"),
+        (WAITS, b"pause"),
+        (MENUS, b"post_menu post_form"),
     ]),
     (b'q', &[
         (KEYS, b"qiflush"),
+        (SCREEN, b"quit"),
     ]),
     (b'r', &[
         (b"see noutrefresh, doupdate", b"refresh"),
-        (KEYS, b"raw"),
+        (KEYS, b"raw read readkey read_key"),
+        (LINES, b"rect rectangle"),
         (SIZE, b"resize resizeterm resize_term"),
+        (ATTRIBUTES, b"reverse"),
         (COLOURS, b"reset_color_pairs"),
         (b"see clearok, touchwin", b"redrawwin redrawln"),
         (TERMINAL, b"reset_prog_mode reset_shell_mode resetty ripoffline"),
+        (ERASED, b"reset"),
+        (UPDATES, b"redraw render"),
+        (DELETED, b"rmwin"),
+        (RAISED, b"raise raise_panel"),
+        (CALLS_ALONE, b"return"),
+        (COMMENT, b"rem"),
     ]),
     (b's', &[
-        (KEYS, b"scanw set_escdelay"),
-        (SCREEN, b"set_term"),
+        (KEYS, b"scanw set_escdelay scanf"),
+        (SCREEN, b"set_term stop"),
+        (FORMATS, b"sprintf"),
+        (TEXTS, b"say string"),
+        (BACKGROUND, b"setbkgd"),
         (b"see attron, with 10", b"standout"),
         (b"see attrset, with 00", b"standend"),
-        (COLOURS, b"start_color"),
-        (b"see scrl", b"scroll"),
+        (COLOURS, b"start_color start_colour"),
+        (b"see scrl", b"scroll scroll_up scroll_down scrollup scrolldown"),
+        (CURSOR, b"setcursor set_cursor"),
+        (SIZES, b"size"),
         (FLAGS, b"syncok"),
         (POINTERS, b"set_panel_userptr"),
         (ASCII, b"setcchar"),
         (LABELS,
             b"slk_attr slk_attr_off slk_attr_on slk_attr_set slk_attroff slk_attron slk_attrset slk_clear \
             slk_color slk_init slk_label slk_noutrefresh slk_refresh slk_restore slk_set slk_touch slk_wset"),
-        (TERMINAL, b"savetty set_tabsize setsyx"),
+        (TERMINAL, b"savetty set_tabsize setsyx stty"),
         (SAVED, b"scr_dump scr_init scr_restore scr_set"),
+        (UPDATES, b"show_screen sync"),
+        (SHOWN, b"show show_window"),
+        (b"see setscrreg", b"setscroll setscrollreg set_scroll_region scroll_region"),
+        (COLOURED, b"setcolor set_color setpair set_pair"),
+        (WAITS, b"sleep"),
+        (BEGINNINGS, b"stdscr"),
+        (CALLS_ALONE, b"switch static struct set"),
     ]),
     (b't', &[
         (KEYS, b"timeout typeahead"),
+        (TEXTS, b"text"),
         (RENDITION, b"termattrs term_attrs"),
-        (TERMINAL, b"termname tigetflag tigetnum tigetstr tiparm tparm"),
+        (TERMINAL, b"termname tigetflag tigetnum tigetstr tiparm tparm tput"),
         (TRACES, b"trace"),
+        (RAISED, b"top"),
+        (b"see touchwin", b"touch touchwindow touch_window"),
+        (COLOURED, b"textcolor"),
+        (BEGINNINGS, b"true"),
+        (CALLS_ALONE, b"then"),
     ]),
     (b'u', &[
         (KEYS, b"ungetch"),
         (MOUSE, b"ungetmouse"),
         (SCREEN, b"use_screen use_window"),
+        (ATTRIBUTES, b"underline"),
         (COLOURS, b"use_default_colors"),
         (ASCII, b"unget_wch"),
         (TERMINAL, b"use_env use_tioctl use_extended_names use_legacy_coding"),
+        (UPDATES, b"update update_screen updatescreen"),
+        (WAITS, b"usleep"),
+        (MENUS, b"unpost_menu unpost_form"),
+        (CALLS_ALONE, b"until"),
     ]),
     (b'v', &[
         (KEYS, b"vwscanw vw_scanw"),
@@ -217,9 +368,21 @@ const ADVICE: [(u8, &[Row]); 23] = [
         (FORMATS, b"vwprintw vw_printw vsscanf"),
         (ASCII, b"vline_set"),
         (TERMINAL, b"vidattr vidputs vid_attr vid_puts"),
+        (CALLS_ALONE, b"void"),
     ]),
     (b'w', &[
+        (TEXTS, b"write writestr"),
         (ASCII, b"wunctrl"),
+        (ERASED, b"wipe"),
+        (WINDOWS, b"window win"),
+        (WAITS, b"wait"),
+        (CALLS_ALONE, b"while"),
+    ]),
+    (b'{', &[
+        (CALLS_ALONE, b"{"),
+    ]),
+    (b'}', &[
+        (CALLS_ALONE, b"}"),
     ]),
 ];
 

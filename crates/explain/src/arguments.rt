@@ -5,6 +5,7 @@ ghost use Rattle.script.specs.Pieces.{pieces_of, room_of};
 ghost use Rattle.script.specs.Readings.{arguments};
 ghost use Rattle.explain.specs.Faults.{IllFormed as Ill, find_ill_formed, find_stray, forms_of, has_form, is_stray};
 
+use crate::names::begins_comment;
 use script::{Arguments, Form, LONGEST_LINE, MOST_ARGUMENTS, Word, next_argument, split_at_space};
 
 /// An argument without its form, and its column.
@@ -83,12 +84,12 @@ pub struct Stray<'a> {
     pub argument: &'a [u8],
 }
 
-/// Whether an argument is that.
+/// Whether an argument is none, or would begin a comment, here or in other languages.
 fn is_stray(argument: &[u8]) -> bool
     ensures { result ≡ is_stray argument.now }
 {
     match argument.first() {
-        Some(first) => *first == b'#',
+        Some(first) => *first == b'#' || begins_comment(argument),
         None => true,
     }
 }

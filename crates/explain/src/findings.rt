@@ -3,15 +3,17 @@
 ghost use Rattle.std.specs.Prelude.{◌≡◌, ◌≤◌, ◌+◌, ◌++◌, ◌<◌, codes, decimal, length, option_map};
 ghost use Rattle.explain.specs.Advice.{call_advice};
 ghost use Rattle.explain.specs.Faults.{IllFormed as Ill};
-ghost use Rattle.explain.specs.Explanations.{bad_byte_text, bad_line_text, count_text, explanation, finding, ill_formed_text, number_text, quotation, stray_text, unknown_text};
+ghost use Rattle.explain.specs.Explanations.{bad_byte_text, bad_line_text, count_text, explanation, finding, ill_formed_text, number_advice, number_text, quotation, signature_text, stray_text, unknown_text};
 
 use crate::arguments::{IllFormed, Stray, count, find_ill_formed, find_stray, forms_of};
 use crate::column::{bad_byte, column_of};
+use crate::names::{begins_comment, name_of};
 use crate::reasons::{byte_advice, reason, requirement_of};
+use crate::signatures::names_of_arguments;
 use crate::suggestions::said_of;
 use arrayvec::ArrayVec;
 use cell::hex_digits;
-use script::{LONGEST_LINE, TextFault, split_at_space};
+use script::{LONGEST_LINE, TextFault, Word, split_at_space};
 use streams::{append, append_decimal};
 
 /// Room for a line about a fault: two words of a line, and 512 bytes more.
@@ -83,8 +85,9 @@ fn append_advice(text: &mut Finding, word: &[u8])
     ensures text { text.new.items ≡ text.old.items ++ call_advice word.now }
     ensures short { length text.new.items < FINDING_ROOM }
 {
+    let name = name_of(word);
     append(text, b": ");
-    match said_of(word) {
+    match said_of(word, name.as_slice()) {
         Some(said) => {
             append(text, said.text);
             append(text, said.call);
@@ -124,14 +127,44 @@ fn append_number(text: &mut Finding, word: &[u8], wanted: usize, given: usize)
 }
 
 /// What is said of a stray argument.
-fn stray_text(stray: Option<Stray<'_>>) -> &'static [u8]
-    ensures text { result.now ≡ stray_text (option_map (λ s. (s.column, s.argument.now)) stray.entry) }
+fn stray_text(argument: &[u8]) -> &'static [u8]
+    ensures text { result.now ≡ stray_text argument.now }
     ensures short { length result.now ≤ 80 }
 {
+    if argument.is_empty() {
+        b": single spaces separate words"
+    } else if begins_comment(argument) {
+        b": a comment has a line of its own, and begins with #"
+    } else {
+        b": a comment has a line of its own"
+    }
+}
+
+/// Appends what a call's arguments are, if it takes some.
+fn append_signature(text: &mut Finding, names: &[u8])
+    requires room { length text.old.items ≤ 1024 }
+    requires names { length names.now ≤ 96 }
+    ensures text { text.new.items ≡ text.old.items ++ signature_text names.now }
+    ensures short { length text.new.items < FINDING_ROOM }
+{
+    if !names.is_empty() {
+        append(text, b": ");
+        append(text, names);
+    }
+}
+
+/// Appends what is said after the number of a word's arguments.
+fn append_number_advice(text: &mut Finding, word: &[u8], stray: Option<Stray<'_>>)
+    requires { length text.old.items ≤ 1024 }
+    ensures text { text.new.items ≡ text.old.items ++ number_advice word.now (option_map (λ s. (s.column, s.argument.now)) stray.entry) }
+    ensures short { length text.new.items < FINDING_ROOM }
+{
     match stray {
-        None => b"",
-        Some(stray) if stray.argument.is_empty() => b": single spaces separate words",
-        Some(_) => b": a comment has a line of its own",
+        Some(stray) => append(text, stray_text(stray.argument)),
+        None => match Word::of(word) {
+            Some(word) => append_signature(text, names_of_arguments(word)),
+            None => {}
+        },
     }
 }
 
@@ -143,6 +176,18 @@ fn append_bad_line(text: &mut Finding, line: &[u8])
 {
     if line.strip_prefix(b"\xef\xbb\xbf").is_some() {
         return append(text, b"bad byte ef: a script has no byte order mark");
+    }
+    if line.strip_prefix(b"\xff\xfe").is_some() {
+        return append(
+            text,
+            b"bad byte ff: the script is in UTF-16, and has to be in ASCII",
+        );
+    }
+    if line.strip_prefix(b"\xfe\xff").is_some() {
+        return append(
+            text,
+            b"bad byte fe: the script is in UTF-16, and has to be in ASCII",
+        );
     }
     append_bad_byte(text, bad_byte(line));
 }
@@ -162,10 +207,8 @@ fn append_explanation(text: &mut Finding, fault: TextFault, line: &[u8])
         TextFault::WrongNumberOfArguments => {
             let forms = forms_of(word);
             append_number(text, word, forms.len(), count(forms, arguments));
-            append(
-                text,
-                stray_text(find_stray(word.len() + 2, forms, arguments)),
-            );
+            let stray = find_stray(word.len() + 2, forms, arguments);
+            append_number_advice(text, word, stray);
         }
         TextFault::BadArgument => {
             if let Some(ill) = find_ill_formed(word.len() + 2, forms_of(word), arguments) {

@@ -6,8 +6,10 @@
 //! - `everywhere`: the calls that every screen refuses
 //! - `findings`: the line on a fault
 //! - `laws`: the numerals that are printed are the limits
+//! - `names`: the name that a word begins with, and what begins a comment elsewhere
 //! - `nearest`: the call that a word was meant to be
 //! - `reasons`: what an argument has to be, and why it is not
+//! - `signatures`: what the arguments of each call are
 //! - `suggestions`: what to write for a word that is no call
 #![tactic(auto)]
 
@@ -17,8 +19,10 @@ mod column;
 mod everywhere;
 mod findings;
 mod laws;
+mod names;
 mod nearest;
 mod reasons;
+mod signatures;
 mod suggestions;
 
 pub use everywhere::{refusal_everywhere, refused_line};

@@ -3,12 +3,12 @@
 ghost use Rattle.std.specs.Prelude.{◌≡◌, ◌≤◌, length};
 ghost use Rattle.std.specs.Char.{is_ascii_hexdigit, is_ascii_uppercase};
 ghost use Rattle.std.specs.List.{list_all, list_any};
-ghost use Rattle.explain.specs.Reasons.{are_digits, are_two_digits, attributes_reason, byte_advice, digits_reason, flag_reason, reason, requirement, requirement_of, signed_reason, unless_missing, unsigned_reason};
+ghost use Rattle.explain.specs.Reasons.{are_digits, are_two_digits, attributes_reason, byte_advice, character_reason, digits_reason, flag_reason, has_byte, is_quoted, mark_reason, name_reason, reason, requirement, requirement_of, signed_reason, text_reason, unless_missing, unsigned_or_none_reason, unsigned_reason};
 
 use crate::advice::is_among;
 use script::{Form, has_digits_alone};
 
-/// What is said of a bad byte: a carriage return, a tab, a backspace, or another.
+/// What is said of a bad byte: a carriage return, a tab, a backspace, an escape, a 0, or another.
 pub fn byte_advice(byte: u8) -> &'static [u8]
     ensures text { result.now ≡ byte_advice byte }
     ensures short { length result.now ≤ 80 }
@@ -17,6 +17,8 @@ pub fn byte_advice(byte: u8) -> &'static [u8]
         b'\r' => b"a line ends with a newline alone",
         b'\t' => b"words are separated by single spaces",
         8 => b"a text has it as a backslash and b",
+        27 => b"a text has no control sequences: see attrset, color_set, move",
+        0 => b"a character is one byte, and not two as in UTF-16",
         _ => b"characters are those of ASCII, from the space to the tilde",
     }
 }
@@ -73,6 +75,66 @@ fn are_digits(text: &[u8]) -> bool
     has_digits_alone(text) && !text.is_empty()
 }
 
+/// Whether a text has a byte.
+fn has_byte(text: &[u8], byte: u8) -> bool
+    ensures { result ≡ has_byte byte text.now }
+{
+    text.iter().any(|b| *b == byte)
+}
+
+/// Whether a text begins with a quote.
+fn is_quoted(text: &[u8]) -> bool
+    ensures { result ≡ is_quoted text.now }
+{
+    text.strip_prefix(b"\"").is_some() || text.strip_prefix(b"'").is_some()
+}
+
+/// The marks of other languages that an argument may not have; where it has none, this is said.
+fn mark_reason(said: &'static [u8], argument: &[u8]) -> &'static [u8]
+    requires { length said.now ≤ 80 }
+    ensures text { result.now ≡ mark_reason said.now argument.now }
+    ensures short { length result.now ≤ 80 }
+{
+    if is_quoted(argument) {
+        return b": it has no quotes";
+    }
+    if has_byte(argument, b',') {
+        return b": spaces separate arguments, and no commas";
+    }
+    if has_byte(argument, b';') {
+        return b": a line has no semicolon";
+    }
+    if argument.strip_prefix(b"$").is_some() {
+        return b": a script has no variables";
+    }
+    said
+}
+
+/// The names of the colours, in scripts of others and in C.
+const COLOURS: &[u8] =
+    b"black red green yellow blue magenta cyan white COLOR_BLACK COLOR_RED COLOR_GREEN COLOR_YELLOW \
+    COLOR_BLUE COLOR_MAGENTA COLOR_CYAN COLOR_WHITE";
+
+/// What is said of an argument that may stand for a number elsewhere.
+fn name_reason(argument: &[u8]) -> &'static [u8]
+    ensures text { result.now ≡ name_reason argument.now }
+    ensures short { length result.now ≤ 80 }
+{
+    if argument == b"stdscr".as_slice() {
+        return b": the standard screen is 0";
+    }
+    if is_among(argument, COLOURS) {
+        return b": 0 black, 1 red, 2 green, 3 yellow, 4 blue, 5 magenta, 6 cyan, 7 white";
+    }
+    if argument.strip_prefix(b"COLOR_PAIR").is_some() {
+        return b": a pair is its number";
+    }
+    if argument.strip_prefix(b"0x").is_some() {
+        return b": a number is decimal";
+    }
+    b": windows, panels, lines and columns are numbers of digits alone"
+}
+
 /// Why an argument is no number without a sign.
 fn unsigned_reason(argument: &[u8]) -> &'static [u8]
     ensures text { result.now ≡ unsigned_reason argument.now }
@@ -87,10 +149,18 @@ fn unsigned_reason(argument: &[u8]) -> &'static [u8]
     if argument.strip_prefix(b"+").is_some() {
         return b": it has no plus";
     }
-    if argument.strip_prefix(b"0x").is_some() {
-        return b": a number is decimal";
+    mark_reason(name_reason(argument), argument)
+}
+
+/// Why it is neither that nor `none`.
+fn unsigned_or_none_reason(argument: &[u8]) -> &'static [u8]
+    ensures text { result.now ≡ unsigned_or_none_reason argument.now }
+    ensures short { length result.now ≤ 80 }
+{
+    if is_among(argument, b"None NONE NULL null nil no - -1") {
+        return b": write none";
     }
-    b""
+    unsigned_reason(argument)
 }
 
 /// Why it is no number with a minus or without.
@@ -103,7 +173,7 @@ fn signed_reason(argument: &[u8]) -> &'static [u8]
     }
     match argument.strip_prefix(b"-") {
         Some(digits) if are_digits(digits) => digits_reason(b": it is too small", digits),
-        Some(_) => b"",
+        Some(_) => b": it has digits alone after a minus",
         None => unsigned_reason(argument),
     }
 }
@@ -153,7 +223,33 @@ fn flag_reason(argument: &[u8]) -> &'static [u8]
     } else if is_among(argument, b"OFF Off FALSE False false NO No no 0") {
         b": write off"
     } else {
+        mark_reason(b"", argument)
+    }
+}
+
+/// What is said of a text with a backslash that begins no escape.
+fn text_reason() -> &'static [u8]
+    ensures text { result.now ≡ text_reason }
+    ensures short { length result.now ≤ 80 }
+{
+    b": a backslash itself is written as two"
+}
+
+/// Why an argument is no character.
+fn character_reason(argument: &[u8]) -> &'static [u8]
+    ensures text { result.now ≡ character_reason argument.now }
+    ensures short { length result.now ≤ 80 }
+{
+    if argument.is_empty() {
         b""
+    } else if argument.strip_prefix(b"\\").is_some() {
+        text_reason()
+    } else if argument.strip_prefix(b"ACS_").is_some() {
+        b": lines are drawn by characters such as + - and |"
+    } else if is_quoted(argument) {
+        b": it has no quotes"
+    } else {
+        b": it is more than one"
     }
 }
 
@@ -176,10 +272,12 @@ pub fn reason(form: Form, argument: &[u8]) -> &'static [u8]
     ensures short { length result.now ≤ 80 }
 {
     match form {
-        Form::Number | Form::NumberOrNone => unless_missing(unsigned_reason(argument), argument),
+        Form::Number => unless_missing(unsigned_reason(argument), argument),
+        Form::NumberOrNone => unless_missing(unsigned_or_none_reason(argument), argument),
         Form::Signed => unless_missing(signed_reason(argument), argument),
         Form::Attributes => unless_missing(attributes_reason(argument), argument),
         Form::Flag => unless_missing(flag_reason(argument), argument),
-        Form::Character | Form::Text => b"",
+        Form::Character => character_reason(argument),
+        Form::Text => text_reason(),
     }
 }

@@ -1,10 +1,11 @@
 //! What to write for a word that is no call.
 
 ghost use Rattle.std.specs.Prelude.{◌≡◌, ◌≤◌, ◌+◌, IfSome, length};
-ghost use Rattle.explain.specs.Advice.{advice_on_rest, after_prefix, said_of, see_nearest};
+ghost use Rattle.explain.specs.Advice.{advice_on_rest, after_prefix, name_in, said_of, said_of_name, see_nearest};
 ghost use Rattle.explain.specs.steps.Suggestions.{said_now};
 
 use crate::advice::advice_on;
+use crate::names::begins_comment;
 use crate::nearest::nearest;
 use script::Word;
 
@@ -62,22 +63,43 @@ fn see_nearest<'a>(word: &[u8]) -> Option<Said<'a>>
     }
 }
 
-/// What is said of a word that is no call.
-pub fn said_of<'a>(word: &'a [u8]) -> Option<Said<'a>>
+/// What is said of a name: with no prefix, or else with one of three.
+#[tactic(auto, unfolding(crate::specs::Advice::said_of_name))]
+fn said_of_name<'a>(name: &'a [u8]) -> Option<Said<'a>>
+    ensures said { said_now result ≡ said_of_name name.now }
+    ensures short { IfSome result (λ s. length s.text.now ≤ 80) }
+    ensures call { IfSome result (λ s. length s.call.now ≤ length name.now) }
+{
+    if let Some(said) = advice_on_rest(b"see ", name) {
+        return Some(said);
+    }
+    if let Some(said) = after_prefix(b"mvw", b"see move, ", name) {
+        return Some(said);
+    }
+    if let Some(said) = after_prefix(b"mv", b"see move, ", name) {
+        return Some(said);
+    }
+    after_prefix(b"w", b"see ", name)
+}
+
+/// What is said of a word that is no call, and that begins with a name.
+#[tactic(auto, unfolding(crate::specs::Advice::said_of))]
+pub fn said_of<'a>(word: &[u8], name: &'a [u8]) -> Option<Said<'a>>
+    requires { name.now ≡ name_in word.now }
     ensures said { said_now result ≡ said_of word.now }
     ensures short { IfSome result (λ s. length s.text.now ≤ 80) }
-    ensures call { IfSome result (λ s. length s.call.now ≤ length word.now + 80) }
+    ensures call { IfSome result (λ s. length s.call.now ≤ length name.now + 80) }
 {
+    if begins_comment(word) {
+        return Some(Said {
+            text: b"a comment begins with #",
+            call: b"",
+        });
+    }
     if let Some(text) = advice_on(word) {
         return Some(Said { text, call: b"" });
     }
-    if let Some(said) = after_prefix(b"mvw", b"see move, ", word) {
-        return Some(said);
-    }
-    if let Some(said) = after_prefix(b"mv", b"see move, ", word) {
-        return Some(said);
-    }
-    if let Some(said) = after_prefix(b"w", b"see ", word) {
+    if let Some(said) = said_of_name(name) {
         return Some(said);
     }
     see_nearest(word)

@@ -8,15 +8,16 @@ use world::Call;
 
 /// Faulty lines, and what is said of each.
 #[rattlefmt::skip]
-static FINDINGS: [(TextFault, &[u8], &str); 9] = [
+static FINDINGS: [(TextFault, &[u8], &str); 10] = [
     (TextFault::LineTooLong, b"", "line 12, column 513: the line is longer than 512 bytes\n"),
     (TextFault::BadByte, b"addstr 0 hi\r", "line 12, column 12: bad byte 0d: a line ends with a newline alone\n"),
     (TextFault::UnknownCall, b"fly 0", "line 12, column 1: unknown call \"fly\": curspan(1) lists the calls\n"),
     (TextFault::UnknownCall, b"wrefresh 1", "line 12, column 1: unknown call \"wrefresh\": see noutrefresh, doupdate\n"),
+    (TextFault::UnknownCall, b"REFRESH();", "line 12, column 1: unknown call \"REFRESH();\": see noutrefresh, doupdate\n"),
     (TextFault::UnknownCall, b"mvwaddch 0 1 1 h", "line 12, column 1: unknown call \"mvwaddch\": see move, addch\n"),
     (TextFault::UnknownCall, b" move 0 0 0", "line 12, column 1: the line begins with a space, and not with a call\n"),
-    (TextFault::WrongNumberOfArguments, b"addch 0", "line 12, column 9: addch takes 2 arguments, 1 given\n"),
-    (TextFault::WrongNumberOfArguments, b"erase 0 $", "line 12, column 9: erase takes 1 argument, 2 given\n"),
+    (TextFault::WrongNumberOfArguments, b"addch 0", "line 12, column 9: addch takes 2 arguments, 1 given: window, character\n"),
+    (TextFault::WrongNumberOfArguments, b"erase 0 $", "line 12, column 9: erase takes 1 argument, 2 given: window\n"),
     (
         TextFault::BadArgument,
         b"move 0 65536 0",

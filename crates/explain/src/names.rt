@@ -1,0 +1,42 @@
+//! The name that a word begins with, and what begins a comment in other languages.
+
+ghost use Rattle.std.specs.Prelude.{◌≡◌, ◌≤◌, length};
+ghost use Rattle.explain.specs.Advice.{begins_comment, is_name_byte, name_in};
+
+use arrayvec::ArrayVec;
+use script::LONGEST_LINE;
+
+/// Room for the name of a word.
+pub type Name = ArrayVec<u8, LONGEST_LINE>;
+
+/// Whether a text begins as comments do in other languages.
+pub fn begins_comment(text: &[u8]) -> bool
+    ensures { result ≡ begins_comment text.now }
+{
+    text.strip_prefix(b"//").is_some() || text.strip_prefix(b"/*").is_some()
+}
+
+/// Whether a name may have a byte.
+fn is_name_byte(byte: u8) -> bool
+    ensures { result ≡ is_name_byte byte }
+{
+    byte.is_ascii_alphanumeric() || byte == b'_'
+}
+
+/// The name that a word begins with, in lower case.
+pub fn name_of(word: &[u8]) -> Name
+    requires { length word.now ≤ LONGEST_LINE }
+    ensures name { result.items ≡ name_in word.now }
+    ensures short { length result.items ≤ length word.now }
+{
+    let mut name = Name::new();
+    let mut left = word;
+    while let Some((byte, rest)) = left.split_first() {
+        if !is_name_byte(*byte) {
+            return name;
+        }
+        name.push(byte.to_ascii_lowercase());
+        left = rest;
+    }
+    name
+}

@@ -1,0 +1,116 @@
+//! What the arguments of each call are.
+
+ghost use Rattle.std.specs.Prelude.{◌≡◌, ◌≤◌, length};
+ghost use Rattle.explain.specs.Signatures.{names_of_arguments};
+ghost use Rattle.script.specs.declared.words.Word.TheVariants as words;
+
+use script::{CopyingWord, MakingWord, QueryWord, RefreshWord, StackingWord, Word, WritingWord};
+
+/// What the arguments are of a call that makes, deletes or places a window or pad.
+fn making_arguments(word: MakingWord) -> &'static [u8]
+    ensures text { result.now ≡ names_of_arguments (words.Making word) }
+    ensures short { length result.now ≤ 96 }
+{
+    match word {
+        MakingWord::Newwin => b"lines, columns, top line, left column",
+        MakingWord::Subwin | MakingWord::Derwin => b"window, lines, columns, top line, left column",
+        MakingWord::Newpad => b"lines, columns",
+        MakingWord::Subpad => b"pad, lines, columns, top line, left column",
+        MakingWord::Delwin => b"window",
+        MakingWord::Mvwin | MakingWord::Mvderwin => b"window, top line, left column",
+    }
+}
+
+/// What the arguments are of one that writes, or sets how it is written.
+fn writing_arguments(word: WritingWord) -> &'static [u8]
+    ensures text { result.now ≡ names_of_arguments (words.Writing word) }
+    ensures short { length result.now ≤ 96 }
+{
+    match word {
+        WritingWord::Move => b"window, line, column",
+        WritingWord::Addch | WritingWord::Insch => b"window, character",
+        WritingWord::Addstr => b"window, text",
+        WritingWord::Delch
+        | WritingWord::Insertln
+        | WritingWord::Deleteln
+        | WritingWord::Erase
+        | WritingWord::Clear
+        | WritingWord::Clrtoeol
+        | WritingWord::Clrtobot => b"window",
+        WritingWord::Scrl => b"window, how many lines",
+        WritingWord::Setscrreg => b"window, first line, last line",
+        WritingWord::Scrollok | WritingWord::Clearok => b"window, on or off",
+        WritingWord::Attrset | WritingWord::Attron | WritingWord::Attroff => b"window, attributes",
+        WritingWord::Bkgdset => b"window, attributes, character",
+        WritingWord::ColorSet | WritingWord::Bkgdpair => b"window, pair",
+    }
+}
+
+/// What the arguments are of one that copies, or on what is touched.
+fn copying_arguments(word: CopyingWord) -> &'static [u8]
+    ensures text { result.now ≡ names_of_arguments (words.Copying word) }
+    ensures short { length result.now ≤ 96 }
+{
+    match word {
+        CopyingWord::Overlay | CopyingWord::Overwrite => b"window, window to write in",
+        CopyingWord::Copywin =>
+            b"window, window to write in, line, column, there top, left, bottom, right, on or off",
+        CopyingWord::Touchwin
+        | CopyingWord::Untouchwin
+        | CopyingWord::Syncup
+        | CopyingWord::Syncdown
+        | CopyingWord::IsWintouched => b"window",
+        CopyingWord::Touchline => b"window, first line, how many lines",
+        CopyingWord::Touchln => b"window, first line, how many lines, on or off",
+        CopyingWord::IsLinetouched => b"window, line",
+    }
+}
+
+/// What the arguments are of one on panels.
+fn stacking_arguments(word: StackingWord) -> &'static [u8]
+    ensures text { result.now ≡ names_of_arguments (words.Stacking word) }
+    ensures short { length result.now ≤ 96 }
+{
+    match word {
+        StackingWord::NewPanel => b"window",
+        StackingWord::DelPanel
+        | StackingWord::ShowPanel
+        | StackingWord::HidePanel
+        | StackingWord::TopPanel
+        | StackingWord::BottomPanel
+        | StackingWord::PanelWindow
+        | StackingWord::PanelHidden => b"panel",
+        StackingWord::MovePanel => b"panel, top line, left column",
+        StackingWord::ReplacePanel => b"panel, window",
+        StackingWord::PanelAbove | StackingWord::PanelBelow => b"panel or none",
+    }
+}
+
+/// What the arguments are of one that refreshes, or sets the colours of a pair.
+fn refresh_arguments(word: RefreshWord) -> &'static [u8]
+    ensures text { result.now ≡ names_of_arguments (words.Refresh word) }
+    ensures short { length result.now ≤ 96 }
+{
+    match word {
+        RefreshWord::Noutrefresh => b"window",
+        RefreshWord::Pnoutrefresh =>
+            b"pad, its line, its column, then top, left, bottom and right of the screen",
+        RefreshWord::UpdatePanels | RefreshWord::Doupdate => b"",
+        RefreshWord::InitPair => b"pair, foreground colour, background colour",
+    }
+}
+
+/// What the arguments of a call are.
+pub fn names_of_arguments(word: Word) -> &'static [u8]
+    ensures text { result.now ≡ names_of_arguments word }
+    ensures short { length result.now ≤ 96 }
+{
+    match word {
+        Word::Making(word) => making_arguments(word),
+        Word::Writing(word) => writing_arguments(word),
+        Word::Copying(word) => copying_arguments(word),
+        Word::Query(_) => b"window",
+        Word::Stacking(word) => stacking_arguments(word),
+        Word::Refresh(word) => refresh_arguments(word),
+    }
+}
