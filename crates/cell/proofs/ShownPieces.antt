@@ -52,6 +52,14 @@ pub shown_fewer : {A B : Type 0} (f : A → B) (cells : List A) (places : List B
 shown_fewer f cells places n start fewer before =
     sym (take-take n start places fewer) ∙ ap (take n) before ∙ take-map f n (take start cells) ∙ ap (map f) (take-take n start cells fewer)
 
+-- a piece that begins before what isn't shown yet
+pub shown_again : {A B : Type 0} (f : A → B) (cells : List A) (places new : List B) (start from n to : ℕ) → from ≤ start → start ≤ length places → to ≡ from + n
+    → length new ≡ n → new ≡ map f (take n (drop from cells)) → take start places ≡ map f (take start cells)
+    → take to (put_mid from n places new) ≡ map f (take to cells)
+shown_again f cells places new start from n to early inside end long is before =
+    subst (λ m. take m (put_mid from n places new) ≡ map f (take m cells)) (sym end)
+    (shown_more f cells places new from n (omega (arith, early, inside)) long is (shown_fewer f cells places from start early before))
+
 -- the last piece
 pub shown_rest : {A B : Type 0} (f : A → B) (cells : List A) (places new : List B) (start : ℕ) → start ≤ length places → length places ≡ length cells
     → length new ≡ length places - start → new ≡ map f (take (length cells - start) (drop start cells)) → take start places ≡ map f (take start cells)
@@ -74,13 +82,22 @@ sound_more Is places new start n inside long before sound =
     rw (take-put_mid start n places new (start + n) (omega (arith, long)) inside)
     (recursion_from_All Is (take start places ++ new) (All-append Is (take start places) new (All-from_recursion Is (take start places) before) (All-from_recursion Is new sound)))
 
+sound_fewer : {B : Type 0} (Is : B → Type 0) (places : List B) (n start : ℕ) → n ≤ start → AllByRecursion Is (take start places) → AllByRecursion Is (take n places)
+sound_fewer Is places n start fewer before =
+    subst (AllByRecursion Is) (take-take n start places fewer) (recursion_from_All Is (take n (take start places)) (All-take Is n (take start places) (All-from_recursion Is (take start places) before)))
+
+pub sound_again : {B : Type 0} (Is : B → Type 0) (places new : List B) (start from n to : ℕ) → from ≤ start → start ≤ length places → to ≡ from + n → length new ≡ n
+    → AllByRecursion Is (take start places) → AllByRecursion Is new → AllByRecursion Is (take to (put_mid from n places new))
+sound_again Is places new start from n to early inside end long before sound =
+    subst (λ m. AllByRecursion Is (take m (put_mid from n places new))) (sym end)
+    (sound_more Is places new from n (omega (arith, early, inside)) long (sound_fewer Is places from start early before) sound)
+
 -- the last of them, from a piece on that is known to be sound already
 pub sound_rest : {B : Type 0} (Is : B → Type 0) (places new : List B) (n start : ℕ) → n ≤ start → start ≤ length places → length new ≡ length places - n
     → AllByRecursion Is (take start places) → AllByRecursion Is new → AllByRecursion Is (put_mid n (length places - n) places new)
 sound_rest {B = B} Is places new n start fewer inside long before sound =
     subst (AllByRecursion Is) (ap (λ m. take m whole) (omega (arith, fewer, inside, same)) ∙ take-length whole)
-    (sound_more Is places new n (length places - n) (omega (arith, fewer, inside)) long
-    (subst (AllByRecursion Is) (take-take n start places fewer) (recursion_from_All Is (take n (take start places)) (All-take Is n (take start places) (All-from_recursion Is (take start places) before)))) sound) where
+    (sound_more Is places new n (length places - n) (omega (arith, fewer, inside)) long (sound_fewer Is places n start fewer before) sound) where
       whole : List B
       whole = put_mid n (length places - n) places new
 

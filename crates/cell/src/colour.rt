@@ -203,6 +203,7 @@ impl Pairs {
     }
 
     /// Writes shown cells into as many places, so many together where there are at least so many.
+    #[inline(always)]
     pub(crate) fn show(&self, cells: &[Cell], places: &mut [Shown])
         requires { length places.old ≡ length cells.now }
         ensures shown { places.new ≡ map (shown self.now) cells.now }
@@ -210,23 +211,27 @@ impl Pairs {
     {
         if cells.len() < LANES {
             self.show_each(cells, places);
+        } else if cells.len() < BLOCK {
+            self.show_rest(cells, places);
         } else {
             self.show_blocks(cells, places);
         }
     }
 
-    /// The same, a block after another.
+    /// The same, a block after another. Where much is left after them, the last block begins before it, and some cells
+    /// are shown twice.
+    #[inline(never)]
     fn show_blocks(&self, cells: &[Cell], places: &mut [Shown])
-        requires many { LANES ≤ length cells.now }
+        requires many { BLOCK ≤ length cells.now }
         requires places { length places.old ≡ length cells.now }
         ensures shown { places.new ≡ map (shown self.now) cells.now }
         ensures cells { AllByRecursion IsShown places.new }
     {
         let mut start = 0;
-        while cells.len() - start >= BLOCK {
-            let end = start + BLOCK;
-            self.show_block(&cells[start..end], &mut places[start..end]);
-            start = end;
+        while cells.len() - start > BLOCK / 2 {
+            let from = start.min(cells.len() - BLOCK);
+            start = from + BLOCK;
+            self.show_block(&cells[from..start], &mut places[from..start]);
         }
         if start < cells.len() {
             let rest = start.min(cells.len() - LANES);
@@ -235,6 +240,7 @@ impl Pairs {
     }
 
     /// The same of so many cells. Most have one pair, which is looked up once.
+    #[inline(always)]
     fn show_block(&self, cells: &[Cell], places: &mut [Shown])
         requires cells { length cells.now ≡ BLOCK }
         requires places { length places.old ≡ BLOCK }
@@ -242,20 +248,22 @@ impl Pairs {
         ensures cells { AllByRecursion IsShown places.new }
     {
         let pair = cells[0].pair();
-        if !have_pair(cells, pair) {
-            self.show_rest(cells, places);
-            return;
-        }
         let colours = self.colours_of(pair);
         if pair == PairId::DEFAULT && colours.are_default() {
-            show_plain(cells, places);
-        } else {
+            if have_pair(cells, PairId::DEFAULT) {
+                show_plain(cells, places);
+                return;
+            }
+        } else if have_pair(cells, pair) {
             show_alike(colours, cells, places);
+            return;
         }
+        self.show_rest(cells, places);
     }
 
     /// The same of fewer cells, or of a block's of several pairs. Where the last of them aren't as many as are shown
     /// together, some are shown twice.
+    #[inline(never)]
     fn show_rest(&self, cells: &[Cell], places: &mut [Shown])
         requires many { LANES ≤ length cells.now }
         requires places { length places.old ≡ length cells.now }
@@ -265,23 +273,27 @@ impl Pairs {
         let mut start = 0;
         while cells.len() - start >= LANES {
             let end = start + LANES;
-            self.show_many(&cells[start..end], &mut places[start..end]);
+            self.show_many(
+                cells[start].pair(),
+                &cells[start..end],
+                &mut places[start..end],
+            );
             start = end;
         }
         if start < cells.len() {
             let last = cells.len() - LANES;
-            self.show_many(&cells[last..], &mut places[last..]);
+            self.show_many(cells[last].pair(), &cells[last..], &mut places[last..]);
         }
     }
 
-    /// The same of as many cells as are looked at together.
-    fn show_many(&self, cells: &[Cell], places: &mut [Shown])
+    /// The same of as many cells as are looked at together: in the colours of a pair, if it is that of all.
+    #[inline(never)]
+    fn show_many(&self, pair: PairId, cells: &[Cell], places: &mut [Shown])
         requires cells { length cells.now ≡ LANES }
         requires places { length places.old ≡ LANES }
         ensures shown { places.new ≡ map (shown self.now) cells.now }
         ensures cells { AllByRecursion IsShown places.new }
     {
-        let pair = cells[0].pair();
         if lanes_have_pair(cells, pair) {
             places.copy_from_slice(&show_in(self.colours_of(pair), cells));
         } else {
