@@ -316,10 +316,10 @@ curspan_answer curspan_touchline(curspan *screen, uint32_t win, uint32_t y, uint
    OUTSIDE_WINDOW if the window hasn't line `y`, or not `n` lines from it on. */
 curspan_answer curspan_wtouchln(curspan *screen, uint32_t win, uint32_t y, uint32_t n, bool flag);
 
-/* Touches each ancestor of a window where it shows what is touched of the window. Refused: NO_SUCH_WINDOW. */
+/* Touches, in each ancestor of a window, the places that show a touched cell of the window. Refused: NO_SUCH_WINDOW. */
 curspan_answer curspan_wsyncup(curspan *screen, uint32_t win);
 
-/* Touches a window where it shows what is touched of an ancestor. Refused: NO_SUCH_WINDOW. */
+/* Touches, in a window, the places that show a touched cell of an ancestor. Refused: NO_SUCH_WINDOW. */
 curspan_answer curspan_wsyncdown(curspan *screen, uint32_t win);
 
 /* Whether line `y` of a window is touched. Answers 1 where it is so, and else 0. Refused: NO_SUCH_WINDOW;
@@ -397,10 +397,11 @@ curspan_answer curspan_panel_hidden(const curspan *screen, uint32_t panel);
 curspan_answer curspan_wnoutrefresh(curspan *screen, uint32_t win);
 
 /* Takes the cells of a pad from line `pminrow` and column `pmincol` on into the lines from `sminrow` to `smaxrow` and
-   the columns from `smincol` to `smaxcol` of the virtual screen, all inclusive, whether they are touched or not. Then
-   those lines of the pad are untouched, also beside the rectangle; and if the pad asked for a clear screen, the virtual
-   screen asks for it instead. Refused: NO_SUCH_WINDOW, NOT_PAD; BAD_RECTANGLE if a last line or column comes before its
-   first; OUTSIDE_WINDOW if the rectangle isn't in the pad; OFF_SCREEN if it isn't on the screen. */
+   the columns from `smincol` to `smaxcol` of the virtual screen, all inclusive, whether they are touched or not. The
+   cursor stays where it is. Then those lines of the pad are untouched, also beside the rectangle; and if the pad asked
+   for a clear screen, the virtual screen asks for it instead. Refused: NO_SUCH_WINDOW, NOT_PAD; BAD_RECTANGLE if a last
+   line or column comes before its first; OUTSIDE_WINDOW if the rectangle isn't in the pad; OFF_SCREEN if it isn't on
+   the screen. */
 curspan_answer curspan_pnoutrefresh(curspan *screen, uint32_t pad, uint32_t pminrow, uint32_t pmincol, uint32_t sminrow,
                                     uint32_t smincol, uint32_t smaxrow, uint32_t smaxcol);
 

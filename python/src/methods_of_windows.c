@@ -503,13 +503,13 @@ PyMethodDef curspan_window_methods[] = {
      "syncup($self)\n"
      "--\n"
      "\n"
-     "Touches each ancestor of a window where it shows what is touched of the window. Refused:\n"
+     "Touches, in each ancestor of a window, the places that show a touched cell of the window. Refused:\n"
      "NoSuchWindow."},
     {"syncdown", AS_FUNCTION(window_syncdown), METH_NOARGS,
      "syncdown($self)\n"
      "--\n"
      "\n"
-     "Touches a window where it shows what is touched of an ancestor. Refused: NoSuchWindow."},
+     "Touches, in a window, the places that show a touched cell of an ancestor. Refused: NoSuchWindow."},
     {"is_linetouched", AS_FUNCTION(window_is_linetouched), METH_FASTCALL | METH_KEYWORDS,
      "is_linetouched($self, y)\n"
      "--\n"
@@ -580,10 +580,10 @@ PyMethodDef curspan_pad_methods[] = {
      "\n"
      "Takes the cells of a pad from line pminrow and column pmincol on into the lines from sminrow to\n"
      "smaxrow and the columns from smincol to smaxcol of the virtual screen, all inclusive, whether they\n"
-     "are touched or not. Then those lines of the pad are untouched, also beside the rectangle; and if the\n"
-     "pad asked for a clear screen, the virtual screen asks for it instead. Refused: NoSuchWindow, NotPad;\n"
-     "BadRectangle if a last line or column comes before its first; OutsideWindow if the rectangle isn't\n"
-     "in the pad; OffScreen if it isn't on the screen."},
+     "are touched or not. The cursor stays where it is. Then those lines of the pad are untouched, also\n"
+     "beside the rectangle; and if the pad asked for a clear screen, the virtual screen asks for it\n"
+     "instead. Refused: NoSuchWindow, NotPad; BadRectangle if a last line or column comes before its\n"
+     "first; OutsideWindow if the rectangle isn't in the pad; OffScreen if it isn't on the screen."},
     /* End of what tools/calls wrote */
     {NULL, NULL, 0, NULL},
 };

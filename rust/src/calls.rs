@@ -499,7 +499,7 @@ impl<W> Screen<W> {
         Ok(())
     }
 
-    /// Touches each ancestor of a window where it shows what is touched of the window.
+    /// Touches, in each ancestor of a window, the places that show a touched cell of the window.
     ///
     /// # Errors
     ///
@@ -511,7 +511,7 @@ impl<W> Screen<W> {
         Ok(())
     }
 
-    /// Touches a window where it shows what is touched of an ancestor.
+    /// Touches, in a window, the places that show a touched cell of an ancestor.
     ///
     /// # Errors
     ///
@@ -761,9 +761,9 @@ impl<W> Screen<W> {
 
     /// Takes the cells of a pad from line `pminrow` and column `pmincol` on into the lines from
     /// `sminrow` to `smaxrow` and the columns from `smincol` to `smaxcol` of the virtual screen,
-    /// all inclusive, whether they are touched or not. Then those lines of the pad are untouched,
-    /// also beside the rectangle; and if the pad asked for a clear screen, the virtual screen asks
-    /// for it instead.
+    /// all inclusive, whether they are touched or not. The cursor stays where it is. Then those
+    /// lines of the pad are untouched, also beside the rectangle; and if the pad asked for a clear
+    /// screen, the virtual screen asks for it instead.
     ///
     /// # Errors
     ///

@@ -490,7 +490,7 @@ pub trait Calls {
         self.make(&Call::wtouchln(win, y, n, flag))
     }
 
-    /// Touches each ancestor of a window where it shows what is touched of the window.
+    /// Touches, in each ancestor of a window, the places that show a touched cell of the window.
     ///
     /// # Errors
     /// `NoSuchWindow`.
@@ -500,7 +500,7 @@ pub trait Calls {
         self.make(&Call::wsyncup(win))
     }
 
-    /// Touches a window where it shows what is touched of an ancestor.
+    /// Touches, in a window, the places that show a touched cell of an ancestor.
     ///
     /// # Errors
     /// `NoSuchWindow`.
@@ -713,8 +713,8 @@ pub trait Calls {
 
     /// Takes the cells of a pad from line `pminrow` and column `pmincol` on into the lines from `sminrow` to `smaxrow`
     /// and the columns from `smincol` to `smaxcol` of the virtual screen, all inclusive, whether they are touched or
-    /// not. Then those lines of the pad are untouched, also beside the rectangle; and if the pad asked for a clear
-    /// screen, the virtual screen asks for it instead.
+    /// not. The cursor stays where it is. Then those lines of the pad are untouched, also beside the rectangle; and if
+    /// the pad asked for a clear screen, the virtual screen asks for it instead.
     ///
     /// # Errors
     /// `NoSuchWindow`, `NotPad`; `BadRectangle` if a last line or column comes before its first; `OutsideWindow` if the

@@ -123,7 +123,7 @@ pub extern "C" fn curspan_wtouchln(
     )
 }
 
-/// Touches each ancestor of a window where it shows what is touched of the window.
+/// Touches, in each ancestor of a window, the places that show a touched cell of the window.
 #[unsafe(no_mangle)]
 pub extern "C" fn curspan_wsyncup(alloc: Global, screen: &mut Handle, win: u32) -> Answer
     ensures { Called ⟦<Outlet as Sink>⟧ screen.old.value (Call.Copying (Copying.Syncup (window_of win))) result screen.new.value }
@@ -131,7 +131,7 @@ pub extern "C" fn curspan_wsyncup(alloc: Global, screen: &mut Handle, win: u32) 
     screen.call(alloc, &Call::wsyncup(window_of(win)))
 }
 
-/// Touches a window where it shows what is touched of an ancestor.
+/// Touches, in a window, the places that show a touched cell of an ancestor.
 #[unsafe(no_mangle)]
 pub extern "C" fn curspan_wsyncdown(alloc: Global, screen: &mut Handle, win: u32) -> Answer
     ensures { Called ⟦<Outlet as Sink>⟧ screen.old.value (Call.Copying (Copying.Syncdown (window_of win))) result screen.new.value }

@@ -23,9 +23,9 @@ pub extern "C" fn curspan_wnoutrefresh(alloc: Global, screen: &mut Handle, win: 
 }
 
 /// Takes the cells of a pad from line `pminrow` and column `pmincol` on into the lines from `sminrow` to `smaxrow` and
-/// the columns from `smincol` to `smaxcol` of the virtual screen, all inclusive, whether they are touched or not. Then
-/// those lines of the pad are untouched, also beside the rectangle; and if the pad asked for a clear screen, the
-/// virtual screen asks for it instead.
+/// the columns from `smincol` to `smaxcol` of the virtual screen, all inclusive, whether they are touched or not. The
+/// cursor stays where it is. Then those lines of the pad are untouched, also beside the rectangle; and if the pad asked
+/// for a clear screen, the virtual screen asks for it instead.
 #[unsafe(no_mangle)]
 pub extern "C" fn curspan_pnoutrefresh(
     alloc: Global,
