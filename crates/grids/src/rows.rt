@@ -51,7 +51,6 @@ impl Grids {
 
     /// Sets the cells of line `y` of a window in the columns from `left` to `right`, both inclusive, to one cell. The
     /// places must exist, and `left` must not be after `right`.
-    #[inline(always)]
     pub fn fill(&mut self, win: WinId, y: u16, left: u16, right: u16, cell: Cell)
         requires ordered { left ≤ right }
         requires there { HasPlace (windows self.old).window win.0 y right }
@@ -77,7 +76,17 @@ impl Grids {
         ensures written { windows self.new ≡ put (windows self.old) win.0 (filled_cells y x x cell) }
         ensures sound { AreSoundWindows (windows self.new) }
     {
-        self.fill(win, y, x, x, cell);
+        let origin = origin_of(&self.slots, win.0);
+        let column = origin.column + x;
+        fill_row(
+            &mut self.slots,
+            origin.grid,
+            origin.line + y,
+            column,
+            column,
+            cell,
+        );
+        touch_row(&mut self.slots, win.0, y, x, x);
     }
 
     /// Prints characters from 32 to 126 in line `y` of a window, from column `left` on, each with the attributes and
