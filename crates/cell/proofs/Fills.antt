@@ -23,7 +23,8 @@ splice-filled cell cells start count = ap (λ n. splice cells start (start + n) 
 pub filled-next : {A : Type 0} (cell : A) (cells : List A) (start x : ℕ) → start ≤ x → x < length cells
     → set (splice cells start x (replicate (x - start) cell)) x cell ≡ splice cells start (x + 1) (replicate (x + 1 - start) cell)
 filled-next cell cells start x from within =
-    grind (arith, fill_from_more cells start (x - start) cell, paste_all cells start (replicate (x - start) cell) (x - start), paste_all cells start (replicate (x - start + 1) cell) (x - start + 1), length-replicate)
+    let i = x - start in
+    grind (arith, fill_from_more cells start i cell, paste_all cells start (replicate i cell) i, paste_all cells start (replicate (i + 1) cell) (i + 1), length-replicate)
 
 -- what is shown where a line is filled
 pub shown-filled : {A : Type 0} (none cell other : A) (y start end v u : ℕ) → start ≤ end

@@ -213,13 +213,15 @@ fn reach<T: Element>(cells: &mut Vec<T>, lines: usize, columns: usize, y: usize)
 {
     let line = y * columns;
     let end = line + columns + columns;
-    if cells.len() < end {
-        add_blanks(cells, end.min(lines * columns));
+    if cells.len() < end && cells.len() < lines * columns {
+        let twice = cells.len() * 2;
+        add_blanks(cells, end.max(twice).min(lines * columns));
     }
     line
 }
 
 /// Adds blanks until there are so many cells. There is memory for them.
+#[cold]
 #[inline(never)]
 fn add_blanks<T: Element>(cells: &mut Vec<T>, end: usize)
     requires { end ≤ vec_capacity cells.old }
