@@ -8,8 +8,8 @@ ghost use Rattle.world.specs.Effects.{asks_for_clear, with_unmarked};
 ghost use Rattle.world.specs.Panels.{cursor_of_topmost, found_from_top, standard_screen, windows_from_top};
 ghost use Rattle.grids.specs.Tables.{windows as windows_of};
 ghost use Rattle.stack.specs.Tables.{panels};
-ghost use Rattle.extents.specs.Extents.{AddsChanges, columns_of};
-ghost use Rattle.picture.specs.Damages.{cells_above};
+ghost use Rattle.extents.specs.Extents.{AddsChanges, columns_of, is_among};
+ghost use Rattle.picture.specs.Damages.{Damages, cells_above};
 ghost use Rattle.picture.specs.Repairs.{IsRepairable};
 
 use crate::marks::unmark_composed;
@@ -63,6 +63,7 @@ impl<'a> CountedWindows<'a> {
         ensures none { (y : ℕ) → columns_of damage.new y ≡ None }
         ensures read { result ≡ cells_above damage.old self.old.table.now.lines }
         ensures changes { AddsChanges picture.old.changes picture.old.cells picture.new.changes picture.new.cells }
+        ensures few { Damages self.old.table.now.columns (is_among damage.old) picture.old.changes picture.new.changes }
         ensures count { self.new.cells ≡ (self.old.cells + result) % 2 ^ 64 }
         ensures same { self.new.table.ghost_name ≡ self.old.table.ghost_name }
         ensures table { self.new.table.now ≡ self.old.table.now }

@@ -117,6 +117,7 @@ fn show_touched(
     ensures shown { picture.new.cells ≡ picture_of table.now.lines table.now.columns (shown_over pairs.now picture.old.cells
         (touched_cells (windows_of table.now).window win.0)) }
     ensures changes { AddsChanges picture.old.changes picture.old.cells picture.new.changes picture.new.cells }
+    ensures few { Damages table.now.columns (λ y x. is_some (touched_cells (windows_of table.now).window win.0 y x)) picture.old.changes picture.new.changes }
     ensures damaged { Damages table.now.columns (λ y x. is_some (touched_cells (windows_of table.now).window win.0 y x)) damage.old damage.new }
 {
     let Ok((lines, _)) = table.getmaxyx(win) else {
@@ -164,6 +165,8 @@ fn show_rectangle(
     ensures shown { picture.new.cells ≡ picture_of table.now.lines table.now.columns (shown_over pairs.now picture.old.cells
         (copywin_drawing (windows_of table.now).window source.win.0 source.line source.column target.top target.left target.bottom target.right false)) }
     ensures changes { AddsChanges picture.old.changes picture.old.cells picture.new.changes picture.new.cells }
+    ensures few { Damages table.now.columns (λ y x. is_some (copywin_drawing (windows_of table.now).window source.win.0 source.line source.column
+        target.top target.left target.bottom target.right false y x)) picture.old.changes picture.new.changes }
 {
     let columns = target.right - target.left + 1;
     for y in 0..target.bottom - target.top + 1 {

@@ -7,6 +7,8 @@ ghost use Rattle.cell.specs.declared.limits.TheConstants.{LARGEST_SCREEN};
 ghost use Rattle.world.specs.Windows.{HasPlace, cell_at};
 ghost use Rattle.extents.specs.Extents.{AddsChanges};
 ghost use Rattle.grids.specs.Tables.{windows as windows_of};
+ghost use Rattle.picture.specs.Damages.{Damages};
+ghost use Rattle.picture.specs.Parts.{frame_holds};
 
 use cell::{Grid, Pairs, Shown, WinId};
 use extents::Extents;
@@ -57,6 +59,7 @@ impl VirtualPicture {
             (cell_at (windows_of table.now).window source.win.0 source.line (source.column + (u - x))) else shown_at self.old.cells (v, u)) }
         ensures size { HasSize table.now.lines table.now.columns self.new.cells }
         ensures changes { AddsChanges self.old.changes self.old.cells self.new.changes self.new.cells }
+        ensures few { Damages table.now.columns (frame_holds (record { top = y; left = x; bottom = y; right = x + (n - 1) })) self.old.changes self.new.changes }
     {
         prove!(table.has_window(WinId::STANDARD));
         show_piece(table, pairs, source, n, y, x, &mut self.cells);

@@ -1,16 +1,17 @@
 -- What steps do to the damage, one after another; and what is damaged of a rectangle.
-use Rattle.std.proofs.Common.{◌≡◌, ℕ, ◌+◌, ◌<◌, ◌≤◌, Bool, true, false, ◌&&◌, ◌||◌, nat_le, nat_lt, if◌then◌else◌, Option, Some, None, is_some, List, length, inl, inr, refl, sym}
+use Rattle.std.proofs.Common.{◌≡◌, ℕ, ◌+◌, ◌<◌, ◌≤◌, Bool, true, false, ◌&&◌, ◌||◌, nat_lt, if◌then◌else◌, Option, Some, None, is_some, List, length, inl, inr, refl, ap}
 use Rattle.std.proofs.Common.{arith, get_or-set_other, get_or-set_same, rules}
 use Rattle.std.specs.Prelude.{MatchOption, slice_set, ⊤}
 use Rattle.std.specs.Option.{option_map}
-use Rattle.std.proofs.lemmas.Bool.{and_parts, and_from, or_left, or_right, or_cases, cases_eq, cases_lt, leb-true, le-leb, lt-ltb}
+use Rattle.std.proofs.lemmas.Bool.{and_parts, and_from, or_left, or_right, or_cases, cases_eq, cases_lt, leb-true, le-leb}
 use Rattle.std.proofs.lemmas.Bool.Decides.{nat_tests}
 use Rattle.std.proofs.lemmas.List.{length-set}
 use Rattle.cell.specs.declared.window.Rect.{Rect}
 use Rattle.world.specs.declared.settings.Columns.{Columns}
 use Rattle.world.specs.Windows.{any_below, joined_columns}
+use Rattle.world.specs.calls.Refresh.{among}
 use Rattle.world.proofs.Below.{any_below-some}
-use Rattle.extents.specs.Extents.{columns_of, has_columns}
+use Rattle.extents.specs.Extents.{columns_of, has_columns, is_among}
 use Rattle.picture.specs.Damages.{AreEnds, Damages}
 use Rattle.picture.specs.Parts.{IsFrameWithin, frame_has_line, frame_holds}
 
@@ -54,3 +55,41 @@ damages-rectangle columns r old new height each ordered inside = search (rules, 
 
 pub part-right : (lines columns : ℕ) (part : Option Rect) → MatchOption part ⊤ (IsFrameWithin lines columns) → MatchOption part ⊤ (λ r. r.right < columns)
 part-right lines columns part h = grind arith
+
+-- a line was widened
+pub damages-widened : (columns y first last : ℕ) (old : List (Option Columns)) → y < length old → first ≤ last → last < columns
+    → Damages columns (frame_holds (record { top = y; left = first; bottom = y; right = last })) old (slice_set old y (joined_columns (columns_of old y) first last))
+damages-widened columns y first last old below ordered inside =
+    damages-rectangle columns (record { top = y; left = first; bottom = y; right = last }) old (slice_set old y (joined_columns (columns_of old y) first last))
+    (length-set old y (joined_columns (columns_of old y) first last))
+    (λ v. grind (arith, cases_eq, nat_tests, get_or-set_same, get_or-set_other)) ordered inside
+
+-- ---- columns of lines, added to others line after line
+
+abbrev pub AddedBefore : ℕ → List (Option Columns) → List (Option Columns) → ℕ → List (Option Columns) → Type 0
+AddedBefore columns added old n now = Damages columns (λ v u. nat_lt v n && is_among added v u) old now
+
+module _ (columns : ℕ) (added old : List (Option Columns)) where
+  bare : (v u : ℕ) → columns_of added v ≡ None → is_among added v u ≡ false
+  bare v u none = ap (λ o. among o u) none
+
+  pub added-none : (n : ℕ) → ((v : ℕ) → v < n → columns_of added v ≡ None) → AddedBefore columns added old n old
+  added-none n none = damages-none columns _ old (λ v u below on. grind (arith, nat_tests, (bare v u), (none v)))
+
+  pub added-to : (n to : ℕ) (now : List (Option Columns)) → AddedBefore columns added old n now → n ≤ to → ((v : ℕ) → n ≤ v → v < to → columns_of added v ≡ None)
+      → AddedBefore columns added old to now
+  added-to n to now h upto none = damages-as columns _ _ old now h
+      (λ v u below on is. grind (arith, nat_tests, (bare v u), (none v))) (λ v u on is. grind (arith, nat_tests))
+
+  pub added-more : (y : ℕ) (r : Columns) (now : List (Option Columns)) → AddedBefore columns added old y now → columns_of added y ≡ Some r → y < length now → r.first ≤ r.last → r.last < columns
+      → AddedBefore columns added old (y + 1) (slice_set now y (joined_columns (columns_of now y) r.first r.last))
+  added-more y r now h some below ordered inside =
+      let here : (u : ℕ) → is_among added y u ≡ among (Some r) u = λ u. ap (λ o. among o u) some in
+      damages-as columns (λ v u. (nat_lt v y && is_among added v u) || frame_holds (record { top = y; left = r.first; bottom = y; right = r.last }) v u)
+      (λ v u. nat_lt v (y + 1) && is_among added v u) old _
+      (damages-then columns _ _ old now _ h (damages-widened columns y r.first r.last now below ordered inside))
+      (λ v u above on is. grind (arith, nat_tests, (here u))) (λ v u on is. grind (arith, nat_tests, (here u)))
+
+  pub added-all : (n : ℕ) (now : List (Option Columns)) → AddedBefore columns added old n now → ((v : ℕ) → n ≤ v → columns_of added v ≡ None) → Damages columns (is_among added) old now
+  added-all n now h none = damages-as columns _ _ old now h
+      (λ v u below on is. grind (arith, nat_tests, (bare v u), (none v))) (λ v u on is. grind (arith, nat_tests))

@@ -6,8 +6,8 @@ ghost use Rattle.cell.specs.Shown.{shown};
 ghost use Rattle.world.specs.Panels.{found_from_top};
 ghost use Rattle.stack.specs.Tables.{panels};
 ghost use Rattle.picture.specs.Counts.{GrewBy};
-ghost use Rattle.extents.specs.Extents.{AddsChanges, columns_of};
-ghost use Rattle.picture.specs.Damages.{cells_above};
+ghost use Rattle.extents.specs.Extents.{AddsChanges, columns_of, is_among};
+ghost use Rattle.picture.specs.Damages.{Damages, cells_above};
 ghost use Rattle.picture.specs.Repairs.{IsRepairable};
 
 use crate::line::compose_columns;
@@ -41,6 +41,7 @@ pub fn show_damaged<'a, R: Rows<'a>>(
     ensures none { (y : ℕ) → columns_of damage.new y ≡ None }
     ensures read { result ≡ cells_above damage.old (R.windows rows.old).lines }
     ensures changes { AddsChanges changes.old picture.old changes.new picture.new }
+    ensures few { Damages (R.windows rows.old).columns (is_among damage.old) changes.old changes.new }
     ensures count { GrewBy result (R.cells_read rows.old) (R.cells_read rows.new) }
 {
     owners.start_over();

@@ -23,6 +23,8 @@ loop-y-init c =
     record {
       laid = first_of (search rules, grind (arith, common_steps));
       changes = changes-none a.picture.now.changes a.picture.now.cells;
+      few = above-none ws.columns (touched_cells ws.window a.win.0) a.picture.now.changes (a.top + 0)
+          (λ v before. bare-above ws a.win.0 (a.top, a.left) c.in-Ok.lines placed v (omega (arith, before)));
       height = c.requires.damage;
       damaged = above-none ws.columns (touched_cells ws.window a.win.0) a.damage.now (a.top + 0) (λ v before. bare-above ws a.win.0 (a.top, a.left) c.in-Ok.lines placed v (omega (arith, before)));
     }
@@ -56,6 +58,22 @@ loop-y-preserved c =
         | in-Some s ↦ rw s.picture-is (changes-then h.changes s.show_piece.ensures.changes)
         | in_default-touched_columns s ↦ rw s.picture-is h.changes
       ];
+      few = subst (λ n. DamagedAbove ws.columns f a.picture.now.changes n c.match-touched_columns.picture.changes) next (elim c.match-touched_columns.branch [
+        | in-Some s ↦
+            let first = s.in-Some.columns.first in
+            let last = s.in-Some.columns.last in
+            let inside = touched-inside ws w (a.top, a.left) c.in-Ok.lines placed y s.in-Some.columns (sym s.in-Some.ensures.columns) in
+            let ordered = inside.0 in
+            let right = inside.1 in
+            let r : Rect = record { top = a.top + y; left = a.left + first; bottom = a.top + y; right = a.left + first + (last - first + 1 - 1) } in
+            rw s.picture-is
+            (above-more ws.columns f a.picture.now.changes (a.top + y) (a.left + first) (last - first + 1) (λ u. cell_at ws.window w y (first + (u - (a.left + first))))
+            r c.loop-y.picture.changes s.show_piece.new.self.changes h.few
+            (piece-touched ws w (a.top, a.left) c.in-Ok.lines placed y s.in-Some.columns c.loop-y-test.true (sym s.in-Some.ensures.columns))
+            (omega arith) (omega (arith, ordered, right)) refl refl refl (omega (arith, ordered)) s.show_piece.ensures.few)
+        | in_default-touched_columns s ↦ rw s.picture-is (above-bare ws.columns f a.picture.now.changes (a.top + y) c.loop-y.picture.changes h.few
+            (bare-untouched ws w (a.top, a.left) c.in-Ok.lines placed y (sym s.in_default-touched_columns.ensures.columns)))
+      ]);
       height = elim c.match-touched_columns.branch [
         | in-Some s ↦ rw s.damage-is (s.rectangle.ensures.height ∙ h.height)
         | in_default-touched_columns s ↦ rw s.damage-is h.height
@@ -92,6 +110,8 @@ returns c =
       shown = laid-all a.pairs.now (touched_cells ws.window w) table.lines table.columns a.picture.now.cells (a.top + c.loop-y.y) c.loop-y.picture.cells h.laid
           (λ v from below. bare-below ws w (a.top, a.left) c.in-Ok.lines placed v (omega (arith, from, end)));
       changes = h.changes;
+      few = above-all ws.columns (touched_cells ws.window w) a.picture.now.changes (a.top + c.loop-y.y) c.loop-y.picture.changes h.few
+          (λ v from. bare-below ws w (a.top, a.left) c.in-Ok.lines placed v (omega (arith, from, end)));
       damaged = above-all ws.columns (touched_cells ws.window w) a.damage.now (a.top + c.loop-y.y) c.loop-y.damage h.damaged
           (λ v from. bare-below ws w (a.top, a.left) c.in-Ok.lines placed v (omega (arith, from, end)));
     }

@@ -12,10 +12,12 @@ use Rattle.extents.proofs.Changing.{changes-more, changes-none}
 use Rattle.picture.specs.Damages.{cells_above, cells_of_line}
 use Rattle.picture.specs.Spans.{HasPanelWindows}
 use Rattle.picture.specs.steps.Owners.{KnowsOwners}
+use Rattle.picture.proofs.DamageLaws.{AddedBefore, added-all, added-more, added-none, added-to}
 use Rattle.picture.proofs.Composing.{ComposedAbove, composed-bare, composed-more, composed-none, composed-to, fits-more, no-more-to}
 use Rattle.picture.proofs.Lines.{shown-all}
 use Rattle.picture.proofs.Standard.{sound-windows, standard-holds}
 use Rattle.std.proofs.Math.Nat.{mod-add-mod}
+use Rattle.std.proofs.lemmas.List.{get_or_past}
 use Rattle.picture.proofs.repair.show_damaged.Goals.{in-Some, in_default}
 use Rattle.picture.proofs.repair.show_damaged.Goals as goal
 
@@ -62,6 +64,7 @@ loop-y-init g c =
       known = c.start_over.ensures old.window (panels c.args.stack.now);
       read = sym (no-more-to before 0 c.next-y.result (omega arith) none);
       changes = changes-none c.args.changes.now c.args.picture.now;
+      few = added-none old.columns before c.args.changes.now c.next-y.result (λ v upto. none v (omega arith) upto);
       count = search rules;
       composed = composed-to f old.lines old.columns before c.args.picture.now c.requires.repairable.covered 0 c.next-y.result before c.args.picture.now
           (composed-none f old.lines old.columns before c.args.picture.now c.requires.repairable.covered c.requires.repairable.height c.requires.repairable.size)
@@ -106,6 +109,16 @@ loop-y-preserved g c =
           (λ u. shown c.args.pairs.now (found_from_top (g.R.Rows.windows c.loop-y.rows).window ps y u)) h.changes (let same = h.changes.height in omega (arith, same, c.requires.height, below)) s.compose_columns.ensures.shown r.last refl)
       | in_default s ↦ rw (s.changes-is, s.picture-is) h.changes
     ] in
+    let few : AddedBefore old.columns before c.args.changes.now (y + 1) c.match-line.changes = elim c.match-line.branch [
+      | in-Some s ↦
+          let r = s.in-Some.field-0 in
+          let some = sym (h.composed.left y (omega arith)) ∙ sym c.line.ensures ∙ s.in-Some.is in
+          let within : AreColumnsWithin old.columns (Some r) = subst (AreColumnsWithin old.columns) some (c.requires.repairable.within y) in
+          rw (s.changes-is, s.widen.ensures)
+          (added-more old.columns before c.args.changes.now y r c.loop-y.changes h.few some (let same = h.changes.height in omega (arith, same, c.requires.height, below)) within.0 within.1)
+      | in_default s ↦ rw s.changes-is (added-to old.columns before c.args.changes.now y (y + 1) c.loop-y.changes h.few (omega arith)
+          (λ v a b. subst (λ n. columns_of before n ≡ None) (let d = b in omega (arith, a, d)) (sym (h.composed.left y (omega arith)) ∙ sym c.line.ensures ∙ s.in_default.is)))
+    ] in
     let next = c.next-y-in-loop-y.result in
     let from : y + 1 ≤ next = c.next-y-in-loop-y.ensures.from in
     let none : (v : ℕ) → y + 1 ≤ v → v < next → columns_of c.match-line.damage v ≡ None = λ v a b. c.next-y-in-loop-y.ensures.none v a b in
@@ -117,6 +130,7 @@ loop-y-preserved g c =
       known = known;
       read = grind arith;
       changes = changes;
+      few = added-to old.columns before c.args.changes.now (y + 1) next c.match-line.changes few from (λ v a b. sym (composed.left v a) ∙ none v a b);
       count = grind (arith, mod-add-mod, add_assoc);
       composed = grind (arith, composed-to);
       inside = omega (arith, inside, height);
@@ -129,3 +143,10 @@ returns-clause-shown g c =
     let all = c.requires.lines in
     shown-all (λ v u. shown c.args.pairs.now (found_from_top old.window (panels c.args.stack.now) v u)) old.lines old.columns c.loop-y.y c.loop-y.picture
     (omega (arith, end, all)) c.loop-y.invariant.composed.above
+
+pub returns-clause-few : goal.returns-clause-few
+returns-clause-few g c =
+    let old = g.R.Rows.windows c.args.rows.now in
+    let end = c.loop-y-test.false in
+    added-all old.columns c.args.damage.now c.args.changes.now c.loop-y.y c.loop-y.changes c.loop-y.invariant.few
+    (λ v from. get_or_past c.args.damage.now v None (omega (arith, from, end, c.requires.lines, c.requires.repairable.height)))

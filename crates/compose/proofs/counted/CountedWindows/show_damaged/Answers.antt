@@ -5,6 +5,8 @@ use Rattle.cell.specs.Shown.{shown}
 use Rattle.world.specs.Panels.{found_from_top}
 use Rattle.world.specs.Windows.{Windows}
 use Rattle.stack.specs.Tables.{panels}
+use Rattle.extents.specs.Extents.{is_among}
+use Rattle.picture.specs.Damages.{Damages}
 use Rattle.picture.specs.Repairs.{IsRepairable}
 use Rattle.compose.proofs.counted.CountedWindows.show_damaged.Goals as goal
 
@@ -19,3 +21,8 @@ returns-clause-shown c =
     let a = c.args in
     c.show_damaged-cells.ensures.shown
     ∙ ap (λ (ws : Windows). picture_of ws.lines ws.columns (λ y x. shown a.pairs.now (found_from_top ws.window (panels a.stack.now) y x))) c.of-rows.ensures.windows
+
+pub returns-clause-few : goal.returns-clause-few
+returns-clause-few c =
+    let a = c.args in
+    subst (λ (ws : Windows). Damages ws.columns (is_among a.damage.now) a.picture.now.changes c.show_damaged-cells.new.changes) c.of-rows.ensures.windows c.show_damaged-cells.ensures.few

@@ -4,6 +4,7 @@ use Rattle.cell.specs.Shown.{shown}
 use Rattle.world.specs.Windows.{cell_at}
 use Rattle.extents.proofs.Changing.{changes-more, changes-none}
 use Rattle.grids.specs.Tables.{windows}
+use Rattle.picture.proofs.DamageLaws.{damages-widened}
 use Rattle.compose.proofs.virtual_picture.VirtualPicture.show_piece.Goals as goal
 
 pub returns-clause-changes : goal.returns-clause-changes
@@ -15,6 +16,13 @@ returns-clause-changes c =
     (changes-more changes cells changes cells c.show_piece.new.picture a.y a.x (a.x + a.n)
     (λ u. shown a.pairs.now (cell_at (windows a.table.now).window a.source.win.0 a.source.line (a.source.column + (u - a.x)))) (changes-none changes cells)
     (omega (arith, c.requires.line, c.requires.height)) c.show_piece.ensures.shown (a.x + (a.n - 1)) (omega (arith, c.requires.some)))
+
+pub returns-clause-few : goal.returns-clause-few
+returns-clause-few c =
+    let a = c.args in
+    rw c.widen.ensures
+    (damages-widened a.table.now.columns a.y a.x (a.x + (a.n - 1)) a.self.now.changes (omega (arith, c.requires.line, c.requires.height)) (omega arith)
+    (omega (arith, c.requires.some, c.requires.columns)))
 
 pub overflow_add-x : goal.overflow_add-x
 overflow_add-x c = let few = c.has_window.ensures.sound.few_columns in omega (arith, few, c.requires.columns)
