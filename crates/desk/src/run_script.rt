@@ -58,9 +58,10 @@ impl<W: Sink> Screen<W> {
                 return script_end(false, Some(ScriptFault::Text { line, fault }));
             }
         };
+        // Both do the same. Where it is known that a call writes, as most do, its word leads to its function by one jump.
         match word {
             Word::Writing(_) => self.run_word(number, word, taken, log),
-            _ => self.run_other(number, word, taken, log),
+            _ => self.run_word(number, word, taken, log),
         }
     }
 
@@ -91,23 +92,6 @@ impl<W: Sink> Screen<W> {
                 script_end(false, Some(ScriptFault::Write { line, fault }))
             }
         }
-    }
-
-    /// The same. It is not inlined, so that a call that writes, as most do, makes no room for what others need.
-    #[inline(never)]
-    fn run_other<L: Sink>(
-        &mut self,
-        number: u64,
-        word: Word,
-        arguments: &Arguments,
-        log: &mut L,
-    ) -> ScriptEnd
-        ensures line { LineEnds W.seen self.old self.new number (Ok (Some ((entry_of word).call arguments.now))) (L.seen log.old) (L.seen log.new) result }
-        ensures writer { (W.seen self.new.writer).failures ≡ count_after (is_some (write_fault result.fault)) (W.seen self.old.writer).failures }
-        ensures same { W.name self.new.writer ≡ W.name self.old.writer }
-        ensures reads { read_failed result.fault ≡ false }
-    {
-        self.run_word(number, word, arguments, log)
     }
 
     /// Makes the calls of the script's lines in order.
