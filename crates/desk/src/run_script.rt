@@ -58,11 +58,7 @@ impl<W: Sink> Screen<W> {
                 return script_end(false, Some(ScriptFault::Text { line, fault }));
             }
         };
-        // Both do the same. Where it is known that a call writes, as most do, its word leads to its function by one jump.
-        match word {
-            Word::Writing(_) => self.run_word(number, word, taken, log),
-            _ => self.run_word(number, word, taken, log),
-        }
+        self.run_word(number, word, taken, log)
     }
 
     /// Makes the call of a word with its arguments, and logs it.
