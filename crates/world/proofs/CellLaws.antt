@@ -5,8 +5,8 @@ use Rattle.std.specs.Option.{option_map}
 use Rattle.std.proofs.lemmas.Bool.{cases_eq, eqb-false, eqb-true, ne_eqb, or_parts}
 use Rattle.cell.specs.Glyphs.{Glyph, blank}
 use Rattle.cell.specs.Pictures.{Place}
-use Rattle.world.specs.Windows.{Drawing, GridPlace, HasPlace, IsWrite, Window, WindowMap, Windows, cell_at, cell_in_grid, cell_of, derives, own, put, put_from, put_windows, touched_by, unwritten}
-use Rattle.world.specs.Windows.{window_limit, with_window}
+use Rattle.world.specs.Windows.{Backing, own_grid, part_of, Drawing, GridPlace, HasPlace, IsWrite, Window, WindowMap, Windows, cell_at, cell_in_grid, cell_of, derives, laid_over, own, put, put_from, put_windows}
+use Rattle.world.specs.Windows.{touched_by, unwritten, window_limit, with_window}
 use Rattle.world.specs.Sound.{AreSoundWindows, IsSound}
 use Rattle.world.specs.World.{World}
 use Rattle.world.specs.Frames.{Covers, IsFrameOf}
@@ -52,8 +52,12 @@ module _ (windows : Windows) (sound : AreSoundWindows windows) where
   put-touches w u f (Some a) None is origin = let some : IsSome (own windows.window w 0 0) = has-origin w a is in grind arith
   put-touches w u f (Some a) (Some p) is origin = grind arith
 
+  blanked : (g : Drawing) (b : Backing) → laid_over (λ y x. Some blank) (laid_over g b) ≡ laid_over (λ y x. Some blank) b
+  blanked g (own_grid cells) = refl
+  blanked g (part_of parent line column) = refl
+
   put-leaves : (w u : ℕ) (f : Drawing) → option_map unwritten (put_windows windows.window w f u) ≡ option_map unwritten (windows.window u)
-  put-leaves w u f = grind arith
+  put-leaves w u f = grind (arith, blanked)
 
   edited-takes : (edit : Edit) (w y x : ℕ) (glyph : Glyph) (u v z : ℕ) → edit_window edit ≡ w → HasPlace windows.window w y x → edit_drawing windows edit y x ≡ Some glyph
       → own windows.window u v z ≡ own windows.window w y x → cell_at (after_edit windows edit).window u v z ≡ glyph

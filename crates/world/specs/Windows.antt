@@ -165,9 +165,9 @@ put_windows window w f = put_from window w (window w) (own window w 0 0) f
 abbrev pub put : Windows → ℕ → Drawing → Windows
 put windows w f = record windows { window = put_windows windows.window w f }
 
--- what a write leaves of a window as it is
+-- a window but for what a write may change of it: what is touched, and the cells of its own grid
 abbrev pub unwritten : Window → Window
-unwritten a = record a { touched = λ y. None; backing = own_grid (λ y x. blank) }
+unwritten a = record a { touched = λ y. None; backing = laid_over (λ y x. Some blank) a.backing }
 
 -- What a write through window w does, whatever windows share its cells, in a sound world: each place of any window that
 -- leads where a written place of w leads shows its cell, and each other place the cell that it showed. The written

@@ -1,6 +1,6 @@
 //! What holds of the definitions alone. Each function does nothing, and its contract is the law.
 
-ghost use Rattle.std.specs.Prelude.{◌≡◌, ◌<◌, ◌≤◌, ℕ, false, List, Option, Some, None, option_map, ◌⊎◌};
+ghost use Rattle.std.specs.Prelude.{◌≡◌, ◌<◌, ◌≤◌, ℕ, false, List, Option, Some, None, IsSome, option_map, ◌⊎◌};
 ghost use Rattle.cell.specs.declared.window.Rect.{Rect};
 ghost use Rattle.world.specs.Frames.{AreRectangle, Covers, IsFrameOf, frame_of, frame_of_two};
 ghost use Rattle.world.specs.Panels.{Panels, cursor_of_topmost, found_from_top, is_in_panel};
@@ -19,7 +19,7 @@ ghost use Rattle.world.specs.declared.call.Call.{Call};
 ghost use Rattle.world.specs.declared.call.Making.{Making};
 ghost use Rattle.world.specs.declared.call.Refresh.{Refresh};
 ghost use Rattle.world.specs.declared.call.Stacking.{Stacking};
-ghost use Rattle.world.specs.Windows.{Drawing, HasPlace, IsWrite, Window, WindowMap, Windows, cell_at, cell_in_grid, derives, onward, over, own, put, put_windows};
+ghost use Rattle.world.specs.Windows.{Drawing, GridPlace, HasPlace, IsWrite, Window, WindowMap, Windows, cell_at, cell_in_grid, derives, onward, over, own, put, put_windows};
 
 /// The places of a window lead to a rectangle of one grid: where one leads is where the first one leads, moved.
 pub fn own_is_moved()
@@ -39,6 +39,25 @@ pub fn joined_writes()
 /// What one write does, by where places lead.
 pub fn writes_are_shared()
     ensures { (windows : Windows) (w : ℕ) (f : Drawing) → AreSoundWindows windows → IsWrite windows.window (put windows w f).window w f }
+{}
+
+/// Whatever windows there are, sound or not, a write leaves where each place leads.
+pub fn own_after_write()
+    ensures { (window : WindowMap) (w : ℕ) (f : Drawing) (u y x : ℕ) → own (put_windows window w f) u y x ≡ own window u y x }
+{}
+
+/// A cell that was written through one of them is shown by each window at each place that leads where it was written.
+pub fn written_cell()
+    ensures { (window : WindowMap) (w : ℕ) (a : Window) (p : GridPlace) (f : Drawing) (y x : ℕ) (glyph : Glyph) (u v z : ℕ)
+        → window w ≡ Some a → own window w 0 0 ≡ Some p → y < a.lines → x < a.columns → f y x ≡ Some glyph
+        → own window u v z ≡ own window w y x → cell_at (put_windows window w f) u v z ≡ glyph }
+{}
+
+/// A place that leads to none of the places that were written shows the cell that it showed.
+pub fn kept_cell()
+    ensures { (window : WindowMap) (w : ℕ) (f : Drawing) (u v z : ℕ)
+        → ((y x : ℕ) → HasPlace window w y x → IsSome (f y x) → own window w y x ≡ own window u v z → ⊥)
+        → cell_at (put_windows window w f) u v z ≡ cell_at window u v z }
 {}
 
 /// What an edit leaves is one write of its drawing, but for settings: a text too, whose drawing has those of its
