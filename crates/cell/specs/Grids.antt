@@ -18,7 +18,8 @@ pub record IsWhole {A : Type 0} (Is : A → Type 0) (lines columns : ℕ) (cells
   pub whole : length cells ≡ lines * columns
   pub each : AllByRecursion Is cells
 
--- the cells of a grid, in memory for so many, are there up to a blank line, or all of them; those that aren't are blank
+-- The cells of the first lines are kept, in memory for all lines. Where lines are missing, these are blank, and so is the
+-- last line that is kept.
 pub record IsGrid {A : Type 0} (Is : A → Type 0) (blank : A) (lines columns : ℕ) (cells : List A) (capacity : ℕ) : Type 0 where
   pub all : IsWhole Is lines columns (with_blanks blank (lines * columns) cells)
   pub room : lines * columns ≤ capacity

@@ -193,7 +193,8 @@ said_of_name name =
 abbrev pub see_nearest : List ℕ → Option (List ℕ)
 see_nearest word = option_map (λ name. codes "see " ++ name) (nearest word)
 
--- what the table has of the word as it is; or else what is said of its name; or else the nearest call
+-- of what begins a comment elsewhere, that # does here; or else what the table has of the word as it is; or else what is
+-- said of its name; or else the nearest call
 unfoldable pub said_of : List ℕ → Option (List ℕ)
 said_of word = if begins_comment word then Some (codes "a comment begins with #")
     else or_else (advice_on word) (or_else (said_of_name (name_in word)) (see_nearest word))

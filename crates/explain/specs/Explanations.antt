@@ -15,12 +15,12 @@ use Rattle.explain.specs.Signatures.{names_of_arguments}
 abbrev pub byte_order_mark : List ℕ
 byte_order_mark = 239 ∷ 187 ∷ 191 ∷ []
 
--- those of UTF-16, with the lesser byte of a character first or last
-abbrev pub little_mark : List ℕ
-little_mark = 255 ∷ 254 ∷ []
+-- those of UTF-16, little-endian and big-endian
+abbrev pub little_endian_mark : List ℕ
+little_endian_mark = 255 ∷ 254 ∷ []
 
-abbrev pub big_mark : List ℕ
-big_mark = 254 ∷ 255 ∷ []
+abbrev pub big_endian_mark : List ℕ
+big_endian_mark = 254 ∷ 255 ∷ []
 
 -- `"`
 abbrev pub quotation_mark : ℕ
@@ -66,8 +66,8 @@ number_advice word (Some stray) = stray_text stray.1
 -- what is said of a line with a bad byte
 abbrev pub bad_line_text : List ℕ → List ℕ
 bad_line_text line = if begins_with byte_order_mark line then codes "bad byte ef: a script has no byte order mark"
-    else (if begins_with little_mark line then codes "bad byte ff: the script is in UTF-16, and has to be in ASCII"
-    else (if begins_with big_mark line then codes "bad byte fe: the script is in UTF-16, and has to be in ASCII"
+    else (if begins_with little_endian_mark line then codes "bad byte ff: the script is in UTF-16, and has to be in ASCII"
+    else (if begins_with big_endian_mark line then codes "bad byte fe: the script is in UTF-16, and has to be in ASCII"
     else bad_byte_text (slice_index line (bad_place line))))
 
 -- what is said of a fault

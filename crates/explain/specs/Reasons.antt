@@ -88,7 +88,7 @@ name_reason argument = if bytes_eq argument (codes "stdscr") then codes ": the s
     else (if is_one_of colour_names argument then codes ": 0 black, 1 red, 2 green, 3 yellow, 4 blue, 5 magenta, 6 cyan, 7 white"
     else (if begins_with (codes "COLOR_PAIR") argument then codes ": a pair is its number"
     else (if begins_with (codes "0x") argument then codes ": a number is decimal"
-    else codes ": windows, panels, lines and columns are numbers of digits alone")))
+    else codes ": numbers are written in digits")))
 
 -- of a number without a sign
 abbrev pub unsigned_reason : List ℕ → List ℕ

@@ -93,7 +93,7 @@ const CHARACTERS: &[u8] = b"see addch";
 
 const LINE_ERASED: &[u8] = b"see clrtoeol";
 
-/// The names of curses that scripts have under another name, or not at all, by their first letters.
+/// Names of curses, and words of other languages, that are no words of scripts, by their first bytes.
 #[rattlefmt::skip]
 const ADVICE: [(u8, &[Row]); 27] = [
     (b'%', &[

@@ -1,6 +1,6 @@
 //! What a person reads about a script's faulty line, or one whose call every screen refuses.
 //!
-//! - `advice`: the names of curses that are no calls
+//! - `advice`: names of curses, and words of other languages, that are no calls
 //! - `arguments`: the arguments of the line, and the first that lacks its form
 //! - `column`: where the fault is
 //! - `everywhere`: the calls that every screen refuses

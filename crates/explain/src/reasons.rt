@@ -132,7 +132,7 @@ fn name_reason(argument: &[u8]) -> &'static [u8]
     if argument.strip_prefix(b"0x").is_some() {
         return b": a number is decimal";
     }
-    b": windows, panels, lines and columns are numbers of digits alone"
+    b": numbers are written in digits"
 }
 
 /// Why an argument is no number without a sign.

@@ -4,7 +4,7 @@ ghost use Rattle.std.specs.Prelude.{◌≡◌, ◌≤◌, length};
 ghost use Rattle.explain.specs.Signatures.{names_of_arguments};
 ghost use Rattle.script.specs.declared.words.Word.TheVariants as words;
 
-use script::{CopyingWord, MakingWord, QueryWord, RefreshWord, StackingWord, Word, WritingWord};
+use script::{CopyingWord, MakingWord, RefreshWord, StackingWord, Word, WritingWord};
 
 /// What the arguments are of a call that makes, deletes or places a window or pad.
 fn making_arguments(word: MakingWord) -> &'static [u8]

@@ -1,7 +1,7 @@
 //! The `Painter`, which sends pictures to a terminal; the crate is named for what it does.
 //!
 //! - `changes`: a picture that is wanted over the one that is shown, and where they may differ
-//! - `counting`: how many bytes passes take
+//! - `counting`: how many bytes passes take, and a walk that erases nothing
 //! - `differences`: the columns in which a picture differs from the one that is shown
 //! - `frame`: a frame, in one walk or in passes
 //! - `gap`: what is printed again between changed cells

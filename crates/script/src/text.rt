@@ -1,7 +1,6 @@
 //! Texts as a script has them.
 
 ghost use Rattle.std.specs.Prelude.{◌≡◌, ◌≤◌, ◌<◌, ◌∷◌, length, Some, None, IfSome, option_and_then, option_map, if◌then◌else◌, ◌==◌};
-ghost use Rattle.std.specs.List.{list_any};
 ghost use Rattle.script.specs.Characters.{backslash};
 ghost use Rattle.script.specs.Texts.{after_x, escaped_character, text_of};
 
