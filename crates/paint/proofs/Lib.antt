@@ -12,7 +12,7 @@ pub mod Tails
 pub mod Shows
 -- The blank end of a page is erased; for `paint_picture`
 pub mod Pages
--- The strokes of a doupdate make a text of it; for `draw`, `show`
+-- The strokes of a doupdate make a text of it; for `draw_walk`, `draw_passes`, `send_changes`
 pub mod Holding
 -- What a text that was sent means for a painter; for `send_text`
 pub mod SentTexts
@@ -37,6 +37,8 @@ pub mod Copying
 pub mod Choices
 -- The order of the passes for renditions as they come; for `note_cells`, `note_part`, `order_of` and others
 pub mod PassOrders
+-- Renditions are noted line by line, only in the columns in which two pictures may differ; for `list`
+pub mod NotedLines
 -- The characters of cells, gathered piece by piece; for `append`, `append_characters`, `write_characters`
 pub mod Narrowing
 -- The runs of changed cells of a frame, one after another, and what is drawn of them; for `add_line`, `list`, `paint_pass`

@@ -1,5 +1,6 @@
 -- The runs of changed cells of a frame, one after another, and what is drawn of them.
 use Rattle.std.proofs.Common.{◌≡◌, ℕ, zero, suc, ◌+◌, ◌-◌, ◌<◌, ◌≤◌, Bool, true, false, List, [], ◌∷◌, ◌++◌, length, get_or, take, drop, inl, inr, refl, sym, ap, ◌∙◌, subst, arith, length-append}
+use Rattle.std.specs.Prelude.{◌⊎◌}
 use Rattle.std.proofs.lemmas.Bool.{cases_Bool, cases_lt}
 use Rattle.std.proofs.lemmas.Bool.Decides.{nat_tests}
 use Rattle.std.proofs.Math.ListN.{get_or-append}
@@ -14,12 +15,13 @@ use Rattle.paint.specs.declared.pen.Pen.{Pen}
 use Rattle.paint.specs.declared.runs.Run.{Run}
 use Rattle.paint.specs.steps.Listing.{AreRuns, AreSameBetween, IsListed, IsPaintedTo, end_of, is_before, no_run}
 use Rattle.paint.specs.steps.Counting.{AreInside}
-use Rattle.paint.specs.steps.Passes.{choose_lines}
+use Rattle.paint.specs.steps.Passes.{choose_lines, with_pass}
 use Rattle.paint.specs.steps.Strokes.{Strokes, picture_bytes, run_bytes, with_cells}
 use Rattle.paint.specs.steps.Walks.{cells_between, IsPicturePainted}
 use Rattle.paint.proofs.Alike.{drop-same, take-same}
 use Rattle.paint.proofs.CellRuns.{line-run, part-of}
 use Rattle.paint.proofs.Choices.{chosen-heights, get-alike, get-in, get-kept, get-out, high, length-choose, line-at, part-kept, same-cells}
+use Rattle.paint.proofs.PassOrders.{pass-kept, placed-kept}
 use Rattle.paint.proofs.Prefixes.{between}
 use Rattle.paint.proofs.Walks.{length-between, line-begun, line-painted, line-skipped, picture-begun, picture-drawn, picture-painted, picture-skipped}
 
@@ -124,7 +126,7 @@ run-added {order} {shown} {wanted} runs run h is = record {
         ap (end_of (runs ++ run ∷ [])) (sym last) ∙ end_of-append runs (run ∷ []) (length runs) (omega arith) in
         subst (λ (one : Run). IsListed order shown wanted (end_of (runs ++ run ∷ []) k) one) (sym new)
         (subst (λ (place : Place). IsListed order shown wanted place run) (sym from)
-        (record { line = is.line; before = h.rest; cells = is.cells; longest = is.longest; gap = is.gap; gap_same = is.gap_same; pass = is.pass }))
+        (record { line = is.line; before = h.rest; cells = is.cells; longest = is.longest; gap = is.gap; gap_same = is.gap_same; pass = is.pass; placed = is.placed }))
   ];
   rest =
       let long : length (runs ++ run ∷ []) ≡ suc (length runs) = omega (arith, length-append runs (run ∷ [])) in
@@ -132,6 +134,34 @@ run-added {order} {shown} {wanted} runs run h is = record {
       ap (end_of (runs ++ run ∷ [])) long ∙ ap (λ (one : Run). (one.line, one.end)) (get_or-append_seam runs run [] no_run) in
       subst (λ (place : Place). AreSameBetween shown wanted place (run.line, run.end)) (sym end) (same-nothing shown wanted (run.line, run.end));
 }
+
+-- a rendition more, which leaves the passes of all runs as they are
+pub runs-kept : {order : List Rendition} {shown wanted : Picture} {runs : List Run} {to : Place} (other : Rendition) → AreRuns order shown wanted runs to
+    → AreRuns (with_pass order other) shown wanted runs to
+runs-kept {order} {shown} {wanted} {runs} other h = record {
+  each = λ k few.
+      let is = h.each k few in
+      let rendition = (shown_at wanted ((get_or runs k no_run).line, (get_or runs k no_run).start)).rendition in
+      record {
+        line = is.line;
+        before = is.before;
+        cells = is.cells;
+        longest = is.longest;
+        gap = is.gap;
+        gap_same = is.gap_same;
+        pass = is.pass ∙ sym (pass-kept order rendition other is.placed);
+        placed = placed-kept order rendition other is.placed;
+      };
+  rest = h.rest;
+}
+
+-- the order that is answered is theirs, where it isn't empty
+pub runs-in_order : {order saved : List Rendition} {shown wanted : Picture} {runs : List Run} {to : Place} → (saved ≡ []) ⊎ (saved ≡ order) → 0 < length saved
+    → AreRuns order shown wanted runs to → AreRuns saved shown wanted runs to
+runs-in_order {shown} {wanted} {runs} {to} h some are = elim h [
+  | inl none ↦ absurd (omega (arith, some, ap length none))
+  | inr same ↦ subst (λ (o : List Rendition). AreRuns o shown wanted runs to) (sym same) are
+]
 
 -- ---- a pass draws it
 

@@ -1,9 +1,10 @@
 //! A frame over what is shown: drawn in one walk or in passes, whichever takes fewer bytes.
 
-ghost use Rattle.std.specs.Prelude.{◌≤◌, length};
+ghost use Rattle.std.specs.Prelude.{◌≡◌, ◌≤◌, length, true};
 ghost use Rattle.paint.specs.declared.passes.TheConstants.{MOST};
 ghost use Rattle.paint.specs.steps.Holding.{CanDraw, HoldsFrameUpdate};
 ghost use Rattle.paint.specs.steps.Listing.{AreRuns};
+ghost use Rattle.paint.specs.steps.Passes.{HasNoted, changed_renditions};
 ghost use Rattle.paint.specs.steps.Strokes.{SameTerminals};
 
 use crate::changes::Frame;
@@ -32,13 +33,12 @@ pub fn draw_frame<W: Sink>(
     ensures holds { HoldsFrameUpdate frame.now from to (W.seen sink.old) (W.seen sink.new) pen.new.outbox }
     ensures same { SameTerminals (W.name sink.old) (W.name sink.new) pen.old pen.new }
 {
-    let order = order_of(frame);
-    let order = order.renditions();
-    if order.is_empty() {
+    if !list_runs(runs, frame) {
         draw_walk(pen, sink, frame, from, to);
         return;
     }
-    if !runs.list(frame, order) {
+    let order = runs.order();
+    if order.is_empty() {
         draw_walk(pen, sink, frame, from, to);
         return;
     }
@@ -60,6 +60,20 @@ pub fn draw_frame<W: Sink>(
     } else if !pen.holds_all() {
         draw_walk(pen, sink, frame, from, to);
     }
+}
+
+/// Lists the runs of a frame, where their renditions may be drawn in passes. The frame after one that had an order
+/// mostly has one too, so its runs are listed at once, and their renditions noted with them. It answers whether all were
+/// listed.
+fn list_runs(runs: &mut Runs, frame: &Frame<'_>) -> bool
+    ensures runs { result ≡ true → AreRuns runs.new.noted.order frame.now.shown.now frame.now.wanted.now runs.new.runs (frame.now.lines, 0) }
+    ensures noted { result ≡ true → HasNoted runs.new.noted (changed_renditions frame.now.shown.now frame.now.wanted.now) }
+{
+    if runs.order().is_empty() && order_of(frame).renditions().is_empty() {
+        runs.clear();
+        return false;
+    }
+    runs.list(frame)
 }
 
 /// The same in one walk over all lines.

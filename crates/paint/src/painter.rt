@@ -1,6 +1,6 @@
 //! A painter: it sends pictures to terminals of one size.
 
-ghost use Rattle.std.specs.Prelude.{◌≡◌, ℕ, ◌≤◌, ◌↔◌, ⊤, MatchOption, length, ◌⊎◌, ◌||◌, Bool, IfOk, IfErr, IsErrOf, IsTrue, None, if◌then◌else◌};
+ghost use Rattle.std.specs.Prelude.{◌≡◌, ℕ, ◌<◌, ◌≤◌, ◌↔◌, ⊤, MatchOption, length, ◌⊎◌, ◌||◌, Bool, IfOk, IfErr, IsErrOf, IsTrue, None, if◌then◌else◌};
 ghost use Rattle.cell.specs.Pictures.{HasSize, blank_picture, origin};
 ghost use Rattle.cell.specs.Limits.{is_no_size};
 ghost use Rattle.cell.specs.declared.limits.TheConstants.{LARGEST_SCREEN};
@@ -131,33 +131,98 @@ impl Painter {
         let cursor = screen.wanted_cursor();
         let known = known_cursor(self.cursor, screen.clear_wanted());
         self.cursor = None;
-        match changes {
-            Some(changes) if known.is_some() => {
-                let columns = self.columns;
-                find_differences(&mut self.changes, changes, columns, &self.picture, picture);
+        let size = (self.lines, self.columns);
+        let (pen, runs, shown) = (&mut self.pen, &mut self.runs, &mut self.picture);
+        let sent = match changes {
+            Some(changes) if known.is_some() && !runs.order().is_empty() => {
+                show(
+                    pen, runs, sink, size, known, shown, picture, cursor, changes,
+                )?
             }
-            _ => self.changes.fill(self.columns),
-        }
-        let sent = show(
-            &mut self.pen,
-            &mut self.runs,
-            sink,
-            (self.lines, self.columns),
-            known,
-            &mut self.picture,
-            picture,
-            cursor,
-            &self.changes,
-        )?;
-        copy_changes(&mut self.picture, picture, self.columns, &self.changes);
+            _ => {
+                find_changes(&mut self.changes, changes, size.1, known, shown, picture);
+                show(
+                    pen,
+                    runs,
+                    sink,
+                    size,
+                    known,
+                    shown,
+                    picture,
+                    cursor,
+                    &self.changes,
+                )?
+            }
+        };
         self.cursor = Some(cursor);
         Ok(sent)
     }
 }
 
+/// The columns in which a picture differs from the one that is known to be shown, where it may differ in some columns
+/// only, and all columns where that isn't known.
+fn find_changes(
+    found: &mut Extents,
+    changes: Option<&Extents>,
+    columns: u16,
+    known: Option<(u16, u16)>,
+    shown: &Grid<Shown>,
+    wanted: &Grid<Shown>,
+)
+    requires lines { 0 < length found.old }
+    requires some { 0 < columns }
+    requires columns { columns ≤ LARGEST_SCREEN }
+    requires height { MatchOption changes ⊤ (λ changes. length changes.now ≡ length found.old) }
+    requires shown { HasSize (length found.old) columns shown.now }
+    requires wanted { HasSize (length found.old) columns wanted.now }
+    requires changes { MatchOption changes ⊤ (λ changes. MatchOption known ⊤ (λ _. DifferOnly changes.now shown.now wanted.now)) }
+    ensures height { length found.new ≡ length found.old }
+    ensures only { DifferOnly found.new (start_from (first_painter (length found.old) columns) (last_shown shown.now known)).picture wanted.now }
+{
+    match changes {
+        Some(changes) if known.is_some() => {
+            find_differences(found, changes, columns, shown, wanted);
+        }
+        _ => found.fill(columns),
+    }
+}
+
+/// Shows a picture over what is known to be shown, and takes it over where that succeeds.
+fn show<W: Sink>(
+    pen: &mut Pen,
+    runs: &mut Runs,
+    sink: &mut W,
+    size: (u16, u16),
+    known: Option<(u16, u16)>,
+    shown: &mut Grid<Shown>,
+    picture: &Grid<Shown>,
+    cursor: (u16, u16),
+    changes: &Extents,
+) -> Result<Sent, WriteFault>
+    requires can { CanDraw pen.old size.0 size.1 cursor }
+    requires lines { size.0 ≤ LARGEST_SCREEN }
+    requires columns { size.1 ≤ LARGEST_SCREEN }
+    requires shown { HasSize size.0 size.1 shown.old }
+    requires wanted { HasSize size.0 size.1 picture.now }
+    requires height { length changes.now ≡ size.0 }
+    requires changes { DifferOnly changes.now (start_from (first_painter size.0 size.1) (last_shown shown.old known)).picture picture.now }
+    ensures text { (painter : PainterState) (clear : Bool) → painter.lines ≡ size.0 → painter.columns ≡ size.1
+        → last_shown shown.old known ≡ known_picture painter clear
+        → UpdateEnds painter clear (W.seen sink.old) (W.seen sink.new) (record { picture = picture.now; cursor = cursor }) result }
+    ensures shown { IfOk result (λ _. shown.new ≡ picture.now) }
+    ensures size { HasSize size.0 size.1 shown.new }
+    ensures same { SameTerminals (W.name sink.old) (W.name sink.new) pen.old pen.new }
+{
+    let sent = send_changes(
+        pen, runs, sink, size, known, shown, picture, cursor, changes,
+    )?;
+    copy_changes(shown, picture, size.1, changes);
+    Ok(sent)
+}
+
 /// Sends what differs from what is known to be shown, or the opening and what differs from a blank picture. It may
 /// differ in some columns only.
-fn show<W: Sink>(
+fn send_changes<W: Sink>(
     pen: &mut Pen,
     runs: &mut Runs,
     sink: &mut W,

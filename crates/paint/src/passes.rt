@@ -1,7 +1,7 @@
 //! Drawing in passes: of a picture first the cells of one rendition, then those of another, where that takes fewer
 //! bytes.
 
-ghost use Rattle.std.specs.Prelude.{◌≡◌, ◌+◌, ◌<◌, ◌≤◌, ◌++◌, ◌∷◌, [], List, if◌then◌else◌, length, nat_lt};
+ghost use Rattle.std.specs.Prelude.{◌≡◌, ◌+◌, ◌<◌, ◌≤◌, ◌++◌, ◌∷◌, ◌⊎◌, [], List, if◌then◌else◌, length, nat_lt};
 ghost use Rattle.cell.specs.Shown.{Rendition as AnyRendition};
 ghost use Rattle.paint.specs.steps.Listing.{AreRuns};
 ghost use Rattle.paint.specs.steps.Passes.{HasNoted, changed_renditions, line_renditions, order_for, pass_of, picture_after, saturating_usize, selections, with_pass};
@@ -139,16 +139,18 @@ pub fn paint_passes<W: Sink>(
 
 /// The renditions of changed cells, as they come one after another, from none on.
 #[derive(Drop)]
-struct Renditions {
+pub struct Renditions {
     order: Order,
     last: Rendition,
+    // The pass of the last one.
+    pass: u16,
     // How often another came.
     switches: usize,
 }
 
 impl Renditions {
     /// None at first, which is drawn first too.
-    fn new() -> Renditions
+    pub fn new() -> Renditions
         ensures { HasNoted result [] }
     {
         let mut order = Order::new();
@@ -156,6 +158,7 @@ impl Renditions {
         Renditions {
             order,
             last: Rendition::NONE,
+            pass: 0,
             switches: 0,
         }
     }
@@ -164,14 +167,46 @@ impl Renditions {
     fn note(&mut self, rendition: Rendition)
         ensures order { self.new.order ≡ with_pass self.old.order rendition }
         ensures last { self.new.last ≡ rendition }
+        ensures pass { self.new.pass ≡ pass_of self.old.order rendition }
         ensures switches { self.new.switches ≡ saturating_usize (self.old.switches + 1) }
     {
         let order = self.order.renditions();
-        if pass_of(order, rendition) == order.len() {
+        let pass = pass_of(order, rendition);
+        if pass == order.len() {
             self.order.push(rendition);
         }
+        self.pass = pass as u16;
         self.switches = self.switches.saturating_add(1);
         self.last = rendition;
+    }
+
+    /// Takes note of that of a run of changed cells, and answers its pass.
+    #[inline(always)]
+    pub fn note_run(&mut self, rendition: Rendition) -> u16
+        ensures noted { (came : List AnyRendition) → HasNoted self.old came → HasNoted self.new (came ++ rendition ∷ []) }
+        ensures order { (came : List AnyRendition) → HasNoted self.old came → self.new.order ≡ with_pass self.old.order rendition }
+        ensures pass { (came : List AnyRendition) → HasNoted self.old came → result ≡ pass_of self.new.order rendition }
+        ensures last { self.new.last ≡ rendition }
+    {
+        if rendition == self.last {
+            return self.pass;
+        }
+        self.note(rendition);
+        self.pass
+    }
+
+    /// The order of the passes for those that were noted, where these select renditions less often than one walk over
+    /// all lines, and else none.
+    pub fn saved_order(&self) -> &[Rendition]
+        ensures value { (came : List AnyRendition) → HasNoted self.now came → result.now ≡ order_for came }
+        ensures order { (result.now ≡ []) ⊎ (result.now ≡ self.now.order) }
+        ensures few { length result.now ≤ MOST }
+    {
+        if self.are_saved() {
+            self.order.renditions()
+        } else {
+            &[]
+        }
     }
 
     /// Takes note of those of the changed ones among some cells.

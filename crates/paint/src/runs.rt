@@ -1,15 +1,16 @@
 //! The runs of changed cells of a frame, as a list.
 
-ghost use Rattle.std.specs.Prelude.{◌≡◌, ◌++◌, ◌∷◌, ◌<◌, ◌≤◌, IfOk, [], false, if◌then◌else◌, length, nat_lt, slice_index_or, true};
+ghost use Rattle.std.specs.Prelude.{◌≡◌, ◌++◌, ◌∷◌, ◌⊎◌, ◌<◌, ◌≤◌, IfOk, List, [], false, if◌then◌else◌, length, nat_lt, slice_index_or, take, true};
 ghost use Rattle.cell.specs.Differences.{same_shown};
-ghost use Rattle.cell.specs.Shown.{shown_blank};
+ghost use Rattle.cell.specs.Shown.{Rendition as AnyRendition, shown_blank};
 ghost use Rattle.cell.specs.Pictures.{Picture, line_of};
 ghost use Rattle.paint.specs.declared.passes.TheConstants.{MOST};
 ghost use Rattle.paint.specs.steps.Listing.{AreRuns, AreTooMany};
+ghost use Rattle.paint.specs.steps.Passes.{HasNoted, changed_renditions, line_renditions, order_for, pass_of, with_pass};
 
 use crate::changes::Frame;
 use crate::line::{Row, next_changed, run_end};
-use crate::passes::pass_of;
+use crate::passes::Renditions;
 use cell::{Rendition, Shown, first_diff};
 use std::alloc::{AllocError, Global};
 use std::marker::Model;
@@ -43,6 +44,8 @@ impl Run {
 pub struct Runs {
     room: Vec<Run>,
     count: usize,
+    // The renditions of those that were listed.
+    renditions: Renditions,
 }
 
 impl Model for Runs {
@@ -51,7 +54,7 @@ impl Model for Runs {
 
     ghost Value = { RunList };
 
-    ghost view = { λ list. record { runs = take list.count list.room.items; room = length list.room.items } };
+    ghost view = { λ list. record { runs = take list.count list.room.items; room = length list.room.items; noted = list.renditions } };
 
     ghost invariant = { λ list. list.count ≤ length list.room.items };
 }
@@ -60,11 +63,14 @@ impl Runs {
     /// None, and room for so many.
     pub fn new(alloc: Global, most: usize) -> Result<Runs, AllocError>
         requires { most ≤ 65536 }
-        ensures { IfOk result (λ list. list ≡ record { runs = []; room = most }) }
+        ensures none { IfOk result (λ list. list.runs ≡ []) }
+        ensures room { IfOk result (λ list. list.room ≡ most) }
+        ensures noted { IfOk result (λ list. HasNoted list.noted []) }
     {
         Ok(Runs {
             room: vec![in alloc; Run::NONE; most]?,
             count: 0,
+            renditions: Renditions::new(),
         })
     }
 
@@ -75,11 +81,36 @@ impl Runs {
         &self.room[..self.count]
     }
 
+    /// The order of the passes for their renditions, where passes select these less often than one walk over all lines,
+    /// and else none.
+    pub fn order(&self) -> &[Rendition]
+        ensures value { (came : List AnyRendition) → HasNoted self.now.noted came → result.now ≡ order_for came }
+        ensures order { (result.now ≡ []) ⊎ (result.now ≡ self.now.noted.order) }
+        ensures few { length result.now ≤ MOST }
+    {
+        self.renditions.saved_order()
+    }
+
     /// Leaves none of them.
-    fn clear(&mut self)
-        ensures { self.new ≡ record self.old { runs = [] } }
+    pub fn clear(&mut self)
+        ensures none { self.new.runs ≡ [] }
+        ensures room { self.new.room ≡ self.old.room }
+        ensures noted { HasNoted self.new.noted [] }
     {
         self.count = 0;
+        self.renditions = Renditions::new();
+    }
+
+    /// Takes note of the rendition of a run, and answers its pass.
+    #[inline(always)]
+    fn note(&mut self, rendition: Rendition) -> u16
+        ensures list { self.new ≡ record self.old { noted = self.new.noted } }
+        ensures noted { (came : List AnyRendition) → HasNoted self.old.noted came → HasNoted self.new.noted (came ++ rendition ∷ []) }
+        ensures order { (came : List AnyRendition) → HasNoted self.old.noted came → self.new.noted.order ≡ with_pass self.old.noted.order rendition }
+        ensures pass { (came : List AnyRendition) → HasNoted self.old.noted came → result ≡ pass_of self.new.noted.order rendition }
+        ensures last { self.new.noted.last ≡ rendition }
+    {
+        self.renditions.note_run(rendition)
     }
 
     /// Adds one, if there is room for it, and answers whether there was.
@@ -95,12 +126,12 @@ impl Runs {
         true
     }
 
-    /// Lists the runs of a frame, in the passes of an order, in place of those that were there. It answers whether
-    /// there was room for all.
-    pub fn list(&mut self, frame: &Frame<'_>, order: &[Rendition]) -> bool
-        requires { length order.now ≤ MOST }
-        ensures runs { result ≡ true → AreRuns order.now frame.now.shown.now frame.now.wanted.now self.new.runs (frame.now.lines, 0) }
-        ensures full { result ≡ false → AreTooMany order.now frame.now.shown.now frame.now.wanted.now self.new }
+    /// Lists the runs of a frame in place of those that were there, and takes note of their renditions, in whose order
+    /// their passes are. It answers whether there was room for all.
+    pub fn list(&mut self, frame: &Frame<'_>) -> bool
+        ensures runs { result ≡ true → AreRuns self.new.noted.order frame.now.shown.now frame.now.wanted.now self.new.runs (frame.now.lines, 0) }
+        ensures noted { result ≡ true → HasNoted self.new.noted (changed_renditions frame.now.shown.now frame.now.wanted.now) }
+        ensures full { result ≡ false → AreTooMany self.new.noted.order frame.now.shown.now frame.now.wanted.now self.new }
         ensures room { self.new.room ≡ self.old.room }
     {
         self.clear();
@@ -113,7 +144,7 @@ impl Runs {
                 shown: frame.shown.row(at),
                 wanted: frame.wanted.row(at),
             };
-            if !self.add_line(&row, start, stop, order) {
+            if !self.add_line(&row, start, stop) {
                 return false;
             }
             line = frame.changes.next(line + 1);
@@ -122,15 +153,18 @@ impl Runs {
     }
 
     /// Adds those of a line from a column up to another.
-    fn add_line(&mut self, row: &Row<'_>, start: usize, end: usize, order: &[Rendition]) -> bool
+    fn add_line(&mut self, row: &Row<'_>, start: usize, end: usize) -> bool
         requires ordered { start ≤ end }
         requires inside { end ≤ length row.now.wanted.now }
-        requires few { length order.now ≤ MOST }
         requires after { end < length row.now.wanted.now → same_shown (slice_index_or row.now.shown.now end shown_blank) (slice_index_or row.now.wanted.now end shown_blank) ≡ true }
-        ensures runs { result ≡ true → (shown wanted : Picture) → line_of shown row.now.line ≡ row.now.shown.now → line_of wanted row.now.line ≡ row.now.wanted.now
-            → AreRuns order.now shown wanted self.old.runs (row.now.line, start) → AreRuns order.now shown wanted self.new.runs (row.now.line, end) }
-        ensures full { result ≡ false → (shown wanted : Picture) → line_of shown row.now.line ≡ row.now.shown.now → line_of wanted row.now.line ≡ row.now.wanted.now
-            → AreRuns order.now shown wanted self.old.runs (row.now.line, start) → AreTooMany order.now shown wanted self.new }
+        ensures runs { result ≡ true → (came : List AnyRendition) → HasNoted self.old.noted (came ++ line_renditions (take start row.now.shown.now) (take start row.now.wanted.now))
+            → (shown wanted : Picture) → line_of shown row.now.line ≡ row.now.shown.now → line_of wanted row.now.line ≡ row.now.wanted.now
+            → AreRuns self.old.noted.order shown wanted self.old.runs (row.now.line, start) → AreRuns self.new.noted.order shown wanted self.new.runs (row.now.line, end) }
+        ensures noted { result ≡ true → (came : List AnyRendition) → HasNoted self.old.noted (came ++ line_renditions (take start row.now.shown.now) (take start row.now.wanted.now))
+            → HasNoted self.new.noted (came ++ line_renditions (take end row.now.shown.now) (take end row.now.wanted.now)) }
+        ensures full { result ≡ false → (came : List AnyRendition) → HasNoted self.old.noted (came ++ line_renditions (take start row.now.shown.now) (take start row.now.wanted.now))
+            → (shown wanted : Picture) → line_of shown row.now.line ≡ row.now.shown.now → line_of wanted row.now.line ≡ row.now.wanted.now
+            → AreRuns self.old.noted.order shown wanted self.old.runs (row.now.line, start) → AreTooMany self.new.noted.order shown wanted self.new }
         ensures room { self.new.room ≡ self.old.room }
     {
         let (shown, wanted) = (row.shown, row.wanted);
@@ -145,12 +179,13 @@ impl Runs {
                 continue;
             }
             let stop = run_end(shown, wanted, x, end);
+            let pass = self.note(wanted[x].rendition());
             let run = Run {
                 line: row.line,
                 gap: gap as u16,
                 start: x as u16,
                 end: stop as u16,
-                pass: pass_of(order, wanted[x].rendition()) as u16,
+                pass,
             };
             if !self.push(run) {
                 return false;

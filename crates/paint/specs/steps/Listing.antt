@@ -6,7 +6,8 @@ use Rattle.cell.specs.Pictures.{Picture, Place, line_of, origin, shown_at}
 use Rattle.streams.specs.Sinks.{Seen}
 use Rattle.paint.specs.declared.pen.Pen.{Pen}
 use Rattle.paint.specs.declared.runs.Run.{Run}
-use Rattle.paint.specs.steps.Passes.{pass_of}
+use Rattle.paint.specs.declared.passes.Renditions.{Renditions}
+use Rattle.paint.specs.steps.Passes.{pass_of, with_pass}
 use Rattle.paint.specs.steps.Walks.{IsLinePainted, IsOver, IsPicturePainted, IsRun}
 
 -- a place comes before another one, line by line
@@ -22,10 +23,11 @@ pub record AreSameBetween (shown wanted : Picture) (from to : Place) : Type 0 wh
 abbrev pub no_run : Run
 no_run = record { line = 0; gap = 0; start = 0; end = 0; pass = 0 }
 
--- runs, and for how many there is room
+-- runs, for how many there is room, and the renditions that were noted
 pub record RunList : Type 0 where
   pub runs : List Run
   pub room : ℕ
+  pub noted : Renditions
 
 -- where the first runs end, so many
 abbrev pub end_of : List Run → ℕ → Place
@@ -33,7 +35,7 @@ end_of runs zero = origin
 end_of runs (suc k) = let run = slice_index_or runs k no_run in (run.line, run.end)
 
 -- A run of changed cells: nothing differs between a place and it, nor in its gap, it doesn't go on where it ends, and it is drawn in the
--- pass of its rendition.
+-- pass of its rendition, which no longer changes as the order grows.
 pub record IsListed (order : List Rendition) (shown wanted : Picture) (from : Place) (run : Run) : Type 0 where
   pub line : run.line < length wanted
   pub before : AreSameBetween shown wanted from (run.line, run.start)
@@ -42,6 +44,7 @@ pub record IsListed (order : List Rendition) (shown wanted : Picture) (from : Pl
   pub gap : run.gap ≤ run.start
   pub gap_same : (x : ℕ) → run.gap ≤ x → x < run.start → shown_at shown (run.line, x) ≡ shown_at wanted (run.line, x)
   pub pass : run.pass ≡ pass_of order (shown_at wanted (run.line, run.start)).rendition
+  pub placed : with_pass order (shown_at wanted (run.line, run.start)).rendition ≡ order
 
 -- these are all runs of changed cells before a place
 pub record AreRuns (order : List Rendition) (shown wanted : Picture) (runs : List Run) (to : Place) : Type 0 where

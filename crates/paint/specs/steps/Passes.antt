@@ -52,12 +52,13 @@ abbrev pub saturating_usize : ℕ → ℕ
 saturating_usize n = min n (2 ^ 64 - 1)
 
 -- These came, and were taken note of: whatever comes after them, the order and the selections are those after them. The
--- last one needs no more note.
+-- last one needs no more note, and its pass is known.
 pub record HasNoted (renditions : Renditions) (came : List Rendition) : Type 0 where
   pub order : (coming : List Rendition) → order_after renditions.order coming ≡ order_after (no_rendition ∷ []) (came ++ coming)
   pub selected : (coming : List Rendition) → saturating_usize (renditions.switches + selections renditions.last coming)
       ≡ saturating_usize (selections no_rendition (came ++ coming))
   pub noted : with_pass renditions.order renditions.last ≡ renditions.order
+  pub pass : renditions.pass ≡ pass_of renditions.order renditions.last
 
 -- ---- what is drawn
 

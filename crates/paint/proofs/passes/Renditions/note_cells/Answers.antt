@@ -3,7 +3,7 @@ use Rattle.std.proofs.Common.{◌≡◌, ◌+◌, ◌<◌, ◌≤◌, ◌∙◌,
 use Rattle.std.proofs.lemmas.List.{get_or_default, take_all}
 use Rattle.cell.specs.Differences.{same_rendition}
 use Rattle.cell.specs.Shown.{Rendition, Shown, shown_blank}
-use Rattle.paint.specs.steps.Passes.{HasNoted, line_renditions, with_pass}
+use Rattle.paint.specs.steps.Passes.{HasNoted, line_renditions, pass_of, with_pass}
 use Rattle.paint.proofs.PassOrders.{noted-all, noted-cell, noted-shown, renditions-next}
 use Rattle.paint.proofs.CellRuns.{same_shown-at, not-other, not-same}
 use Rattle.paint.proofs.passes.Renditions.note_cells.Goals as goal
@@ -31,7 +31,7 @@ loop-x-preserved c = λ came h.
           let is : w.rendition-then-ne-2.result ≡ b.rendition =
           w.rendition-then-ne-2.ensures.value
           ∙ ap (λ (cell : Shown). cell.rendition) (w.index-wanted-x-then-ne-2.is ∙ get_or_default wanted x w.index-wanted-x-then-ne-2.result shown_blank inside) in
-          rw w.self-is (noted-cell a b so_far differs other (w.note.ensures.order ∙ ap (with_pass c.loop-x.self.order) is) (w.note.ensures.last ∙ is) w.note.ensures.switches)
+          rw w.self-is (noted-cell a b so_far differs other (w.note.ensures.order ∙ ap (with_pass c.loop-x.self.order) is) (w.note.ensures.last ∙ is) w.note.ensures.switches (w.note.ensures.pass ∙ ap (pass_of c.loop-x.self.order) is))
       | else-ne w ↦ elim w.else-ne.branch [
         | else-ne-via-then-ne+else-ne-2 v ↦
             let same = same_shown-at shown wanted x v.index-shown-x.is v.index-wanted-x-then-ne.is high inside (sym (not-other _ (sym v.ne-then-ne.ensures ∙ v.if-ne-2.false))) in

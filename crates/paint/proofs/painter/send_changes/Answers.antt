@@ -1,8 +1,8 @@
--- `show`: the strokes of a doupdate that clears make a text of it (`Holding`).
+-- `send_changes`: the strokes of a doupdate that clears make a text of it (`Holding`).
 use Rattle.cell.specs.Pictures.{HasSize}
 use Rattle.paint.specs.Updates.{ShownPicture}
 use Rattle.paint.proofs.Holding.{holds-from}
-use Rattle.paint.proofs.painter.show.Goals as goal
+use Rattle.paint.proofs.painter.send_changes.Goals as goal
 
 pub returns-in-Some-clause-text : goal.returns-in-Some-clause-text
 returns-in-Some-clause-text g c = λ painter clear lines columns known.
