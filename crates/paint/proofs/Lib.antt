@@ -41,3 +41,5 @@ pub mod PassOrders
 pub mod Narrowing
 -- The runs of changed cells of a frame, one after another, and what is drawn of them; for `add_line`, `list`, `paint_pass`
 pub mod Listing
+-- Runs linked by pass, and what a pass passes over; for `add_pass`, `new`, `paint_pass`
+pub mod Linking

@@ -1,14 +1,15 @@
 //! The runs of changed cells of a frame, as a list.
 
-ghost use Rattle.std.specs.Prelude.{◌≡◌, ◌++◌, ◌∷◌, ◌<◌, ◌≤◌, IfOk, [], false, if◌then◌else◌, length, nat_lt, slice_index_or, true};
+ghost use Rattle.std.specs.Prelude.{◌≡◌, ℕ, ◌++◌, ◌∷◌, ◌<◌, ◌≤◌, IfOk, [], false, if◌then◌else◌, length, nat_lt, slice_index_or, true};
 ghost use Rattle.cell.specs.Differences.{same_shown};
 ghost use Rattle.cell.specs.Shown.{shown_blank};
 ghost use Rattle.cell.specs.Pictures.{Picture, line_of};
 ghost use Rattle.paint.specs.declared.passes.TheConstants.{MOST};
-ghost use Rattle.paint.specs.steps.Listing.{AreRuns, AreTooMany};
+ghost use Rattle.paint.specs.steps.Listing.{AreRuns, AreTooMany, no_run};
 
 use crate::changes::Frame;
 use crate::line::{Row, next_changed, run_end};
+use crate::links::Passes;
 use crate::passes::pass_of;
 use cell::{Rendition, Shown, first_diff};
 use std::alloc::{AllocError, Global};
@@ -43,36 +44,41 @@ impl Run {
 pub struct Runs {
     room: Vec<Run>,
     count: usize,
+    // Room for a link of each.
+    links: Vec<u16>,
 }
 
 impl Model for Runs {
-    ghost use Rattle.std.specs.Prelude.{◌≤◌, length, take};
+    ghost use Rattle.std.specs.Prelude.{◌≡◌, ◌<◌, ◌≤◌, length, take};
     ghost use Rattle.paint.specs.steps.Listing.{RunList};
 
     ghost Value = { RunList };
 
     ghost view = { λ list. record { runs = take list.count list.room.items; room = length list.room.items } };
 
-    ghost invariant = { λ list. list.count ≤ length list.room.items };
+    ghost invariant = { λ list. (list.count ≤ length list.room.items) × (length list.links.items ≡ length list.room.items) × (length list.room.items < 65536) };
 }
 
 impl Runs {
     /// None, and room for so many.
     pub fn new(alloc: Global, most: usize) -> Result<Runs, AllocError>
-        requires { most ≤ 65536 }
+        requires { most < 65536 }
         ensures { IfOk result (λ list. list ≡ record { runs = []; room = most }) }
     {
         Ok(Runs {
             room: vec![in alloc; Run::NONE; most]?,
             count: 0,
+            links: vec![in alloc; 0; most]?,
         })
     }
 
-    /// The runs.
-    pub fn as_slice(&self) -> &[Run]
-        ensures { result.now ≡ self.now.runs }
+    /// The runs, linked by pass.
+    pub fn linked(&mut self) -> Passes<'_>
+        requires { (k : ℕ) → k < length self.old.runs → (slice_index_or self.old.runs k no_run).pass ≤ MOST }
+        ensures { result.runs.now ≡ self.old.runs }
     {
-        &self.room[..self.count]
+        let count = self.count;
+        Passes::new(&self.room[..count], &mut self.links)
     }
 
     /// Leaves none of them.
