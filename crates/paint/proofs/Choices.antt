@@ -123,7 +123,7 @@ line-choose p (suc y) (line ∷ shown) (other ∷ wanted) inside same = line-cho
 pub none-before : (order : List Rendition) (rendition : Rendition) → is_drawn order 0 rendition ≡ false
 none-before order rendition = grind (arith, le-ltb)
 
-pass-few : (order : List Rendition) (rendition : Rendition) → pass_of order rendition ≤ length order
+pub pass-few : (order : List Rendition) (rendition : Rendition) → pass_of order rendition ≤ length order
 pass-few [] rendition = omega arith
 pass-few (first ∷ order) rendition = grind (arith, cases_Bool, pass-few order rendition)
 

@@ -43,3 +43,5 @@ pub mod NotedLines
 pub mod Narrowing
 -- The runs of changed cells of a frame, one after another, and what is drawn of them; for `add_line`, `list`, `paint_pass`
 pub mod Listing
+-- Runs linked by pass, and what a pass passes over; for `add_pass`, `new`, `paint_pass`
+pub mod Linking

@@ -5,3 +5,4 @@ pub mod Holding
 pub mod Passes
 pub mod Listing
 pub mod Counting
+pub mod Linking

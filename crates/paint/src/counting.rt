@@ -9,6 +9,7 @@ ghost use Rattle.paint.specs.steps.Counting.{AreInside, AreWrittenAtEnds, IsInsi
 
 use crate::changes::Frame;
 use crate::gap::{approach_length, moved_length};
+use crate::links::Passes;
 use crate::pen::{PenState, state_after};
 use crate::runs::Run;
 use cell::{Rendition, Shown};
@@ -47,14 +48,14 @@ impl Count {
     }
 
     /// Counts the runs of a pass.
-    fn add_pass(&mut self, frame: &Frame<'_>, runs: &[Run], pass: u16)
-        requires { AreInside frame.now.lines frame.now.columns runs.now }
-        ensures { self.new ≡ with_pass frame.now.columns frame.now.wanted.now pass self.old runs.now }
+    fn add_pass(&mut self, frame: &Frame<'_>, passes: &Passes<'_>, pass: u16)
+        requires { AreInside frame.now.lines frame.now.columns passes.now.runs.now }
+        ensures { self.new ≡ with_pass frame.now.columns frame.now.wanted.now pass self.old passes.now.runs.now }
     {
-        for i in 0..runs.len() {
-            if runs[i].pass == pass {
-                self.add_run(frame, runs[i]);
-            }
+        let mut i = passes.first_of(pass);
+        while i < passes.runs.len() {
+            self.add_run(frame, passes.runs[i]);
+            i = passes.next_after(i);
         }
     }
 
@@ -83,38 +84,38 @@ impl Count {
 /// place.
 pub fn are_passes_shorter(
     frame: &Frame<'_>,
-    runs: &[Run],
-    passes: u16,
+    passes: &Passes<'_>,
+    count: u16,
     from: (u16, u16),
     to: (u16, u16),
     walk: usize,
 ) -> bool
-    requires runs { AreInside frame.now.lines frame.now.columns runs.now }
+    requires runs { AreInside frame.now.lines frame.now.columns passes.now.runs.now }
     requires line { to.0 < LARGEST_SCREEN }
     requires column { to.1 < LARGEST_SCREEN }
-    ensures { result ≡ nat_lt (passes_bytes frame.now.columns frame.now.wanted.now passes runs.now from to) walk }
+    ensures { result ≡ nat_lt (passes_bytes frame.now.columns frame.now.wanted.now count passes.now.runs.now from to) walk }
 {
-    passes_length(frame, runs, passes, from, to) < walk
+    passes_length(frame, passes, count, from, to) < walk
 }
 
 /// How many bytes it takes to draw runs in so many passes, from where the cursor is, and to go to a place.
 fn passes_length(
     frame: &Frame<'_>,
-    runs: &[Run],
-    passes: u16,
+    passes: &Passes<'_>,
+    count: u16,
     from: (u16, u16),
     to: (u16, u16),
 ) -> usize
-    requires runs { AreInside frame.now.lines frame.now.columns runs.now }
+    requires runs { AreInside frame.now.lines frame.now.columns passes.now.runs.now }
     requires line { to.0 < LARGEST_SCREEN }
     requires column { to.1 < LARGEST_SCREEN }
-    ensures { result ≡ passes_bytes frame.now.columns frame.now.wanted.now passes runs.now from to }
+    ensures { result ≡ passes_bytes frame.now.columns frame.now.wanted.now count passes.now.runs.now from to }
 {
-    let mut count = Count::new(from);
-    for pass in 0..passes {
-        count.add_pass(frame, runs, pass);
+    let mut drawn = Count::new(from);
+    for pass in 0..count {
+        drawn.add_pass(frame, passes, pass);
     }
-    count.ended(to)
+    drawn.ended(to)
 }
 
 /// The same in one walk over all lines that erases nothing.

@@ -9,10 +9,11 @@ ghost use Rattle.paint.specs.steps.Strokes.{SameTerminals};
 
 use crate::changes::Frame;
 use crate::counting::{are_passes_shorter, are_written_at_ends, walk_length};
+use crate::links::Passes;
 use crate::page::paint_picture;
 use crate::passes::{order_of, paint_passes};
 use crate::pen::Pen;
-use crate::runs::{Run, Runs};
+use crate::runs::Runs;
 use cell::Rendition;
 use streams::{Discard, Sink};
 
@@ -37,17 +38,16 @@ pub fn draw_frame<W: Sink>(
         draw_walk(pen, sink, frame, from, to);
         return;
     }
-    let order = runs.order();
-    if order.is_empty() {
+    if runs.order().is_empty() {
         draw_walk(pen, sink, frame, from, to);
         return;
     }
-    let runs = runs.as_slice();
-    let passes = order.len() as u16 + 1;
-    if are_written_at_ends(frame, runs) {
-        let walk = walk_length(frame, runs, from, to);
-        if are_passes_shorter(frame, runs, passes, from, to, walk) {
-            draw_passes(pen, sink, frame, runs, order, from, to);
+    let (order, passes) = runs.linked();
+    let count = order.len() as u16 + 1;
+    if are_written_at_ends(frame, passes.runs) {
+        let walk = walk_length(frame, passes.runs, from, to);
+        if are_passes_shorter(frame, &passes, count, from, to, walk) {
+            draw_passes(pen, sink, frame, &passes, order, from, to);
         } else {
             draw_walk(pen, sink, frame, from, to);
         }
@@ -55,8 +55,8 @@ pub fn draw_frame<W: Sink>(
     }
     let mut discard = Discard::new();
     draw_walk(pen, &mut discard, frame, from, to);
-    if are_passes_shorter(frame, runs, passes, from, to, pen.bytes() as usize) {
-        draw_passes(pen, sink, frame, runs, order, from, to);
+    if are_passes_shorter(frame, &passes, count, from, to, pen.bytes() as usize) {
+        draw_passes(pen, sink, frame, &passes, order, from, to);
     } else if !pen.holds_all() {
         draw_walk(pen, sink, frame, from, to);
     }
@@ -98,18 +98,18 @@ fn draw_passes<W: Sink>(
     pen: &mut Pen,
     sink: &mut W,
     frame: &Frame<'_>,
-    runs: &[Run],
+    passes: &Passes<'_>,
     order: &[Rendition],
     from: (u16, u16),
     to: (u16, u16),
 )
     requires can { CanDraw pen.old frame.now.lines frame.now.columns to }
     requires few { length order.now ≤ MOST }
-    requires runs { AreRuns order.now frame.now.shown.now frame.now.wanted.now runs.now (frame.now.lines, 0) }
+    requires runs { AreRuns order.now frame.now.shown.now frame.now.wanted.now passes.now.runs.now (frame.now.lines, 0) }
     ensures holds { HoldsFrameUpdate frame.now from to (W.seen sink.old) (W.seen sink.new) pen.new.outbox }
     ensures same { SameTerminals (W.name sink.old) (W.name sink.new) pen.old pen.new }
 {
     pen.begin(from);
-    paint_passes(pen, sink, frame, runs, order);
+    paint_passes(pen, sink, frame, passes, order);
     pen.end(sink, to);
 }

@@ -7,6 +7,7 @@
 //! - `gap`: what is printed again between changed cells
 //! - `laws`: laws of agreement
 //! - `line`: the walk over cells
+//! - `links`: the runs of a frame linked by pass
 //! - `outbox`: the bytes that are gathered on their way to the sink
 //! - `page`: the walk over lines
 //! - `painter`: the `Painter`
@@ -24,6 +25,7 @@ mod frame;
 mod gap;
 pub mod laws;
 mod line;
+mod links;
 mod outbox;
 mod page;
 mod painter;

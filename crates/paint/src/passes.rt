@@ -9,14 +9,14 @@ ghost use Rattle.paint.specs.steps.Strokes.{SameTerminals, Strokes, picture_byte
 
 use crate::changes::Frame;
 use crate::line::{Row, paint_run};
+use crate::links::Passes;
 use crate::pen::Pen;
-use crate::runs::Run;
 use cell::{BLOCK, LANES, Rendition, Shown, have_rendition};
 use std::marker::Model;
 use streams::Sink;
 
 /// The most renditions that have a pass of their own.
-const MOST: usize = 8;
+pub const MOST: usize = 8;
 
 /// The renditions that have a pass of their own, in the order of the passes. What has another is drawn in the last one.
 #[derive(Drop)]
@@ -87,23 +87,21 @@ fn paint_pass<W: Sink>(
     pen: &mut Pen,
     sink: &mut W,
     frame: &Frame<'_>,
-    runs: &[Run],
+    passes: &Passes<'_>,
     order: &[Rendition],
     pass: u16,
 )
     requires width { pen.old.columns ≡ frame.now.columns }
     requires some { 0 < frame.now.lines }
-    requires runs { AreRuns order.now frame.now.shown.now frame.now.wanted.now runs.now (frame.now.lines, 0) }
+    requires runs { AreRuns order.now frame.now.shown.now frame.now.wanted.now passes.now.runs.now (frame.now.lines, 0) }
     ensures strokes { let before = picture_after order.now pass frame.now.shown.now frame.now.wanted.now in
         let after = picture_after order.now (pass + 1) frame.now.shown.now frame.now.wanted.now in
         Strokes (picture_bytes before after) (W.seen sink.old) (W.seen sink.new) pen.old pen.new before after }
     ensures same { SameTerminals (W.name sink.old) (W.name sink.new) pen.old pen.new }
 {
-    for i in 0..runs.len() {
-        let run = runs[i];
-        if run.pass != pass {
-            continue;
-        }
+    let mut i = passes.first_of(pass);
+    while i < passes.runs.len() {
+        let run = passes.runs[i];
         let at = usize::from(run.line);
         let row = Row {
             line: run.line,
@@ -112,6 +110,7 @@ fn paint_pass<W: Sink>(
         };
         let (gap, start) = (usize::from(run.gap), usize::from(run.start));
         paint_run(pen, sink, &row, gap, start, usize::from(run.end));
+        i = passes.next_after(i);
     }
 }
 
@@ -120,20 +119,20 @@ pub fn paint_passes<W: Sink>(
     pen: &mut Pen,
     sink: &mut W,
     frame: &Frame<'_>,
-    runs: &[Run],
+    passes: &Passes<'_>,
     order: &[Rendition],
 )
     requires width { pen.old.columns ≡ frame.now.columns }
     requires some { 0 < frame.now.lines }
     requires few { length order.now ≤ MOST }
-    requires runs { AreRuns order.now frame.now.shown.now frame.now.wanted.now runs.now (frame.now.lines, 0) }
+    requires runs { AreRuns order.now frame.now.shown.now frame.now.wanted.now passes.now.runs.now (frame.now.lines, 0) }
     ensures strokes { Strokes (picture_bytes frame.now.shown.now frame.now.wanted.now) (W.seen sink.old) (W.seen sink.new) pen.old pen.new
         frame.now.shown.now frame.now.wanted.now }
     ensures same { SameTerminals (W.name sink.old) (W.name sink.new) pen.old pen.new }
 {
-    let passes = order.len() as u16 + 1;
-    for pass in 0..passes {
-        paint_pass(pen, sink, frame, runs, order, pass);
+    let count = order.len() as u16 + 1;
+    for pass in 0..count {
+        paint_pass(pen, sink, frame, passes, order, pass);
     }
 }
 

@@ -1,15 +1,16 @@
 //! The runs of changed cells of a frame, as a list.
 
-ghost use Rattle.std.specs.Prelude.{◌≡◌, ◌++◌, ◌∷◌, ◌⊎◌, ◌<◌, ◌≤◌, IfOk, List, [], false, if◌then◌else◌, length, nat_lt, slice_index_or, take, true};
+ghost use Rattle.std.specs.Prelude.{◌≡◌, ℕ, ◌++◌, ◌∷◌, ◌⊎◌, ◌<◌, ◌≤◌, IfOk, List, [], false, if◌then◌else◌, length, nat_lt, slice_index_or, take, true};
 ghost use Rattle.cell.specs.Differences.{same_shown};
 ghost use Rattle.cell.specs.Shown.{Rendition as AnyRendition, shown_blank};
 ghost use Rattle.cell.specs.Pictures.{Picture, line_of};
 ghost use Rattle.paint.specs.declared.passes.TheConstants.{MOST};
-ghost use Rattle.paint.specs.steps.Listing.{AreRuns, AreTooMany};
+ghost use Rattle.paint.specs.steps.Listing.{AreRuns, AreTooMany, no_run};
 ghost use Rattle.paint.specs.steps.Passes.{HasNoted, changed_renditions, line_renditions, order_for, pass_of, with_pass};
 
 use crate::changes::Frame;
 use crate::line::{Row, next_changed, run_end};
+use crate::links::Passes;
 use crate::passes::Renditions;
 use cell::{Rendition, Shown, first_diff};
 use std::alloc::{AllocError, Global};
@@ -46,23 +47,25 @@ pub struct Runs {
     count: usize,
     // The renditions of those that were listed.
     renditions: Renditions,
+    // Room for a link of each.
+    links: Vec<u16>,
 }
 
 impl Model for Runs {
-    ghost use Rattle.std.specs.Prelude.{◌≤◌, length, take};
+    ghost use Rattle.std.specs.Prelude.{◌≡◌, ◌<◌, ◌≤◌, length, take};
     ghost use Rattle.paint.specs.steps.Listing.{RunList};
 
     ghost Value = { RunList };
 
     ghost view = { λ list. record { runs = take list.count list.room.items; room = length list.room.items; noted = list.renditions } };
 
-    ghost invariant = { λ list. list.count ≤ length list.room.items };
+    ghost invariant = { λ list. (list.count ≤ length list.room.items) × (length list.links.items ≡ length list.room.items) × (length list.room.items < 65536) };
 }
 
 impl Runs {
     /// None, and room for so many.
     pub fn new(alloc: Global, most: usize) -> Result<Runs, AllocError>
-        requires { most ≤ 65536 }
+        requires { most < 65536 }
         ensures none { IfOk result (λ list. list.runs ≡ []) }
         ensures room { IfOk result (λ list. list.room ≡ most) }
         ensures noted { IfOk result (λ list. HasNoted list.noted []) }
@@ -71,14 +74,21 @@ impl Runs {
             room: vec![in alloc; Run::NONE; most]?,
             count: 0,
             renditions: Renditions::new(),
+            links: vec![in alloc; 0; most]?,
         })
     }
 
-    /// The runs.
-    pub fn as_slice(&self) -> &[Run]
-        ensures { result.now ≡ self.now.runs }
+    /// The order of the passes, as `order` answers it, and the runs, linked by pass.
+    pub fn linked(&mut self) -> (&[Rendition], Passes<'_>)
+        requires { (k : ℕ) → k < length self.old.runs → (slice_index_or self.old.runs k no_run).pass ≤ MOST }
+        ensures value { (came : List AnyRendition) → HasNoted self.old.noted came → result.0.now ≡ order_for came }
+        ensures order { (result.0.now ≡ []) ⊎ (result.0.now ≡ self.old.noted.order) }
+        ensures few { length result.0.now ≤ MOST }
+        ensures runs { result.1.runs.now ≡ self.old.runs }
     {
-        &self.room[..self.count]
+        let count = self.count;
+        let order = self.renditions.saved_order();
+        (order, Passes::new(&self.room[..count], &mut self.links))
     }
 
     /// The order of the passes for their renditions, where passes select these less often than one walk over all lines,

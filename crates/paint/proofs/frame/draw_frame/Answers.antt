@@ -1,29 +1,44 @@
 -- `draw_frame`: the text of the last one that was drawn; it may go to any sink where nothing of it went out (`Gathering`).
-use Rattle.std.proofs.Common.{◌<◌, ◌∙◌, List, length, arith, subst, sym}
+use Rattle.std.proofs.Common.{◌≡◌, ◌<◌, ◌∙◌, List, [], length, arith, subst, sym}
+use Rattle.std.specs.Prelude.{◌⊎◌}
 use Rattle.std.proofs.lemmas.Bool.Decides.{nat_tests}
+use Rattle.cell.specs.Pictures.{Picture, Place}
+use Rattle.cell.specs.Shown.{Rendition}
 use Rattle.paint.specs.declared.runs.Run.{Run}
 use Rattle.paint.specs.steps.Counting.{AreInside}
 use Rattle.paint.specs.steps.Listing.{AreRuns}
 use Rattle.paint.proofs.Gathering.{gathered-anew}
+use Rattle.paint.proofs.Linking.{passes-few}
 use Rattle.paint.proofs.Listing.{runs-in_order, runs-inside}
 use Rattle.paint.proofs.frame.draw_frame.Goals as goal
+
+pub linked-requires : goal.linked-requires
+linked-requires g c =
+    let some : 0 < length c.order.result.now = grind (arith, nat_tests, c.if-is_empty.ensures) in
+    passes-few (runs-in_order c.order.ensures.order some (c.list_runs.ensures.runs c.if-not-list_runs.false)) c.order.ensures.few
 
 pub are_passes_shorter-requires-clause-runs : goal.are_passes_shorter-requires-clause-runs
 are_passes_shorter-requires-clause-runs g c =
     let f = c.args.frame.now.sound in
-    subst (AreInside c.args.frame.now.lines c.args.frame.now.columns) (sym c.as_slice-runs.ensures) (runs-inside f.wanted (c.list_runs.ensures.runs c.if-not-list_runs.false))
+    subst (AreInside c.args.frame.now.lines c.args.frame.now.columns) (sym c.linked.ensures.runs) (runs-inside f.wanted (c.list_runs.ensures.runs c.if-not-list_runs.false))
+
+-- the order that comes with the links is the one that was asked for before
+linked-runs : {order asked again came : List Rendition} {shown wanted : Picture} {runs linked : List Run} {to : Place} → (asked ≡ came) → (again ≡ came) → 0 < length asked
+    → (again ≡ []) ⊎ (again ≡ order) → linked ≡ runs → AreRuns order shown wanted runs to → AreRuns again shown wanted linked to
+linked-runs {order} {shown = shown} {wanted = wanted} {to = to} one other some h same are =
+    runs-in_order h (subst (λ (l : List Rendition). 0 < length l) (one ∙ sym other) some) (subst (λ (r : List Run). AreRuns order shown wanted r to) (sym same) are)
 
 pub draw_passes-requires-clause-runs : goal.draw_passes-requires-clause-runs
 draw_passes-requires-clause-runs g c =
-    let some : 0 < length c.order-order.result.now = grind (arith, nat_tests, c.if-is_empty.ensures) in
-    subst (λ (runs : List Run). AreRuns c.order-order.result.now c.args.frame.now.shown.now c.args.frame.now.wanted.now runs (c.args.frame.now.lines, 0))
-    (sym c.as_slice-runs.ensures) (runs-in_order c.order-order.ensures.order some (c.list_runs.ensures.runs c.if-not-list_runs.false))
+    let noted = c.list_runs.ensures.noted c.if-not-list_runs.false in
+    linked-runs (c.order.ensures.value _ noted) (c.linked.ensures.value _ noted) (grind (arith, nat_tests, c.if-is_empty.ensures)) c.linked.ensures.order c.linked.ensures.runs
+    (c.list_runs.ensures.runs c.if-not-list_runs.false)
 
 pub draw_passes-requires-then-are_passes_shorter-2-clause-runs : goal.draw_passes-requires-then-are_passes_shorter-2-clause-runs
 draw_passes-requires-then-are_passes_shorter-2-clause-runs g c =
-    let some : 0 < length c.order-order.result.now = grind (arith, nat_tests, c.if-is_empty.ensures) in
-    subst (λ (runs : List Run). AreRuns c.order-order.result.now c.args.frame.now.shown.now c.args.frame.now.wanted.now runs (c.args.frame.now.lines, 0))
-    (sym c.as_slice-runs.ensures) (runs-in_order c.order-order.ensures.order some (c.list_runs.ensures.runs c.if-not-list_runs.false))
+    let noted = c.list_runs.ensures.noted c.if-not-list_runs.false in
+    linked-runs (c.order.ensures.value _ noted) (c.linked.ensures.value _ noted) (grind (arith, nat_tests, c.if-is_empty.ensures)) c.linked.ensures.order c.linked.ensures.runs
+    (c.list_runs.ensures.runs c.if-not-list_runs.false)
 
 pub returns-then-not-holds_all-clause-holds : goal.returns-then-not-holds_all-clause-holds
 returns-then-not-holds_all-clause-holds g c = c.draw_walk-then-not-holds_all.ensures.holds

@@ -1,48 +1,33 @@
--- `paint_pass`: the runs are drawn where they have the pass, and the cells between them are shown already (`Listing`).
+-- `paint_pass`: the runs of the pass are drawn, and what is between them is no change of it (`Listing`, `Linking`).
 use Rattle.std.proofs.Common.{◌≡◌, ℕ, ◌+◌, ◌<◌, ◌≤◌, ◌∙◌, length, get_or, refl, sym, ap, subst, arith, add-one}
-use Rattle.cell.specs.Pictures.{Place, line_of, shown_at}
+use Rattle.cell.specs.Pictures.{Place, line_of}
 use Rattle.cell.proofs.PictureLemmas.{length-line}
+use Rattle.paint.specs.steps.Linking.{IsNextOfPass}
 use Rattle.paint.specs.steps.Listing.{IsPaintedTo, end_of, no_run}
 use Rattle.paint.specs.steps.Passes.{is_drawn, picture_after, pass_of as pass_in}
-use Rattle.paint.proofs.Choices.{not-yet, now-drawn, other-pass}
-use Rattle.paint.proofs.Listing.{columns-kept, end-below, painted-further, painted-none, painted-whole, run-drawn, run-skipped}
+use Rattle.paint.proofs.Choices.{not-yet, now-drawn}
+use Rattle.paint.proofs.Linking.{painted-before, painted-to_next}
+use Rattle.paint.proofs.Listing.{columns-kept, end-below, painted-none, painted-whole, run-drawn, runs-inside}
 use Rattle.paint.proofs.Stretches.{run-cells}
 use Rattle.paint.proofs.passes.paint_pass.Goals as goal
 
 pub loop-i-init : goal.loop-i-init
-loop-i-init g c = record {
-  painted = painted-none _ _ (picture_after c.args.order.now c.args.pass c.args.frame.now.shown.now c.args.frame.now.wanted.now) _;
-  same = refl;
-}
-
-pub loop-i-preserved-then-run-pass : goal.loop-i-preserved-then-run-pass
-loop-i-preserved-then-run-pass g c =
+loop-i-init g c =
     let f = c.args.frame.now.sound in
     let order = c.args.order.now in
-    let pass = c.args.pass in
-    let wanted = c.args.frame.now.wanted.now in
-    let i = c.loop-i.i in
-    let run = get_or c.args.runs.now i no_run in
-    let is = c.requires.runs.each i c.loop-i-test.true in
-    let below : run.line < c.args.frame.now.lines = omega (arith, is.line, f.wanted.height) in
-    let inside : run.end ≤ c.args.frame.now.columns = omega (arith, is.cells.within, length-line run.line f.wanted below) in
-    let at = painted-further (is_drawn order pass) (is_drawn order (pass + 1)) f.shown f.wanted (end_of c.args.runs.now i) (run.line, run.start) c.loop-i.invariant.painted is.before
-    below (omega (arith, inside, is.cells.some)) in
-    let other = λ (v : ℕ) (from : run.start ≤ v) (to : v < run.end).
-    other-pass (pass_in order (shown_at wanted (run.line, v)).rendition) pass
-    (λ e. c.if-run-pass.true (is.pass ∙ sym (ap (pass_in order) (is.cells.rendition v from to)) ∙ e)) in
-    let next = run-skipped (is_drawn order pass) (is_drawn order (pass + 1)) f.shown f.wanted run.line run.start run.end at below (omega (arith, is.cells.some)) inside other in
+    let next = c.first_of-i.ensures in
     record {
-      painted = subst (λ (place : Place). IsPaintedTo (g.W.Sink.seen c.args.sink.now) (g.W.Sink.seen c.loop-i.sink) c.args.pen.now c.loop-i.pen place
-          (picture_after order pass c.args.frame.now.shown.now wanted) (picture_after order (pass + 1) c.args.frame.now.shown.now wanted))
-          (sym (ap (end_of c.args.runs.now) (add-one i))) next;
-      same = c.loop-i.invariant.same;
+      within = next.within;
+      own = next.own;
+      painted = painted-to_next order c.args.pass f.shown f.wanted c.requires.runs next
+          (painted-none _ _ (picture_after order c.args.pass c.args.frame.now.shown.now c.args.frame.now.wanted.now) _);
+      same = refl;
     }
 
 pub paint_run-requires-clause-width : goal.paint_run-requires-clause-width
 paint_run-requires-clause-width g c =
     let f = c.args.frame.now.sound in
-    let run = get_or c.args.runs.now c.loop-i.i no_run in
+    let run = get_or c.args.passes.now.runs.now c.loop-i.i no_run in
     let is = c.requires.runs.each c.loop-i.i c.loop-i-test.true in
     let below : run.line < c.args.frame.now.lines = omega (arith, is.line, f.wanted.height) in
     columns-kept c.loop-i.invariant.painted ∙ c.requires.width ∙ sym (length-line run.line f.wanted below)
@@ -59,22 +44,25 @@ loop-i-preserved g c =
     let order = c.args.order.now in
     let pass = c.args.pass in
     let wanted = c.args.frame.now.wanted.now in
+    let runs = c.args.passes.now.runs.now in
     let i = c.loop-i.i in
-    let run = get_or c.args.runs.now i no_run in
+    let run = get_or runs i no_run in
     let is = c.requires.runs.each i c.loop-i-test.true in
-    let below : run.line < c.args.frame.now.lines = omega (arith, is.line, f.wanted.height) in
-    let inside : run.end ≤ c.args.frame.now.columns = omega (arith, is.cells.within, length-line run.line f.wanted below) in
-    let at = painted-further (is_drawn order pass) (is_drawn order (pass + 1)) f.shown f.wanted (end_of c.args.runs.now i) (run.line, run.start) c.loop-i.invariant.painted is.before
-    below (omega (arith, inside, is.cells.some)) in
-    let own = λ (v : ℕ) (from : run.start ≤ v) (to : v < run.end). ap (pass_in order) (is.cells.rendition v from to) ∙ sym is.pass ∙ c.if-run-pass.false in
+    let inside = runs-inside f.wanted c.requires.runs i c.loop-i-test.true in
+    let at = painted-before order pass f.shown f.wanted c.requires.runs i c.loop-i-test.true c.loop-i.invariant.painted in
+    let own = λ (v : ℕ) (from : run.start ≤ v) (to : v < run.end). ap (pass_in order) (is.cells.rendition v from to) ∙ sym is.pass ∙ c.loop-i.invariant.own c.loop-i-test.true in
     let row : c.row-in-loop-i.result.now ≡ line_of wanted run.line = c.row-in-loop-i.ensures.row ∙ ap (line_of wanted) c.from-at.ensures in
     let strokes = rw (row, c.from-gap.ensures, c.from-start.ensures, c.from.ensures) at c.paint_run.ensures.strokes in
-    let next = run-drawn (is_drawn order pass) (is_drawn order (pass + 1)) f.shown f.wanted run.line run.gap run.start run.end at below is.gap is.cells.some inside is.cells.changed
+    let drawn = run-drawn (is_drawn order pass) (is_drawn order (pass + 1)) f.shown f.wanted run.line run.gap run.start run.end at inside.line is.gap is.cells.some inside.end is.cells.changed
     (λ v from to. not-yet _ pass (own v from to)) (λ v from to. now-drawn _ pass (own v from to)) is.gap_same c.requires.width strokes c.paint_run.ensures.same.columns in
+    let next = subst (λ n. IsNextOfPass runs n (i + 1) c.next_after-i.result) (c.loop-i.invariant.own c.loop-i-test.true) c.next_after-i.ensures in
     record {
-      painted = subst (λ (place : Place). IsPaintedTo (g.W.Sink.seen c.args.sink.now) (g.W.Sink.seen c.paint_run.new.sink) c.args.pen.now c.paint_run.new.pen place
+      within = next.within;
+      own = next.own;
+      painted = painted-to_next order pass f.shown f.wanted c.requires.runs next
+          (subst (λ (place : Place). IsPaintedTo (g.W.Sink.seen c.args.sink.now) (g.W.Sink.seen c.paint_run.new.sink) c.args.pen.now c.paint_run.new.pen place
           (picture_after order pass c.args.frame.now.shown.now wanted) (picture_after order (pass + 1) c.args.frame.now.shown.now wanted))
-          (sym (ap (end_of c.args.runs.now) (add-one i))) next;
+          (sym (ap (end_of runs) (add-one i))) drawn);
       same = c.paint_run.ensures.same.sink ∙ c.loop-i.invariant.same;
     }
 
@@ -82,8 +70,8 @@ pub returns-clause-strokes : goal.returns-clause-strokes
 returns-clause-strokes g c =
     let f = c.args.frame.now.sound in
     let order = c.args.order.now in
-    let runs = c.args.runs.now in
-    let last : c.loop-i.i ≡ length runs = omega (arith, c.loop-i-test.false, c.loop-i.auto.i-end) in
+    let runs = c.args.passes.now.runs.now in
+    let last : c.loop-i.i ≡ length runs = omega (arith, c.loop-i-test.false, c.loop-i.invariant.within) in
     let at = subst (λ (n : ℕ). IsPaintedTo (g.W.Sink.seen c.args.sink.now) (g.W.Sink.seen c.loop-i.sink) c.args.pen.now c.loop-i.pen (end_of runs n)
     (picture_after order c.args.pass c.args.frame.now.shown.now c.args.frame.now.wanted.now)
     (picture_after order (c.args.pass + 1) c.args.frame.now.shown.now c.args.frame.now.wanted.now)) last c.loop-i.invariant.painted in

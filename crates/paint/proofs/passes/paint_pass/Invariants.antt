@@ -1,11 +1,16 @@
-use Rattle.std.proofs.Common.{◌≡◌, ◌+◌}
-use Rattle.paint.specs.steps.Listing.{IsPaintedTo, end_of}
+use Rattle.std.proofs.Common.{◌≡◌, ◌+◌, ◌-◌, ◌<◌, ◌≤◌, get_or, length}
+use Rattle.paint.specs.steps.Listing.{IsPaintedTo, end_of, no_run}
 use Rattle.paint.specs.steps.Passes.{picture_after}
 use Rattle.paint.proofs.passes.paint_pass.Given as goal
 
 abbrev pub invariant-loop-i : goal.invariant-loop-i
 invariant-loop-i g l = record {
-  painted : IsPaintedTo (g.W.Sink.seen l.fn.sink) (g.W.Sink.seen l.sink) l.fn.pen l.pen (end_of l.runs l.i)
+  within : l.i ≤ length l.passes.runs.now;
+  own : l.i < length l.passes.runs.now → (get_or l.passes.runs.now l.i no_run).pass ≡ l.pass;
+  painted : IsPaintedTo (g.W.Sink.seen l.fn.sink) (g.W.Sink.seen l.sink) l.fn.pen l.pen (end_of l.passes.runs.now l.i)
       (picture_after l.order l.pass l.frame.shown.now l.frame.wanted.now) (picture_after l.order (l.pass + 1) l.frame.shown.now l.frame.wanted.now);
   same : g.W.Sink.name l.sink ≡ g.W.Sink.name l.fn.sink;
 }
+
+abbrev pub decreases-loop-i : goal.decreases-loop-i
+decreases-loop-i g l = length l.passes.runs.now - l.i
