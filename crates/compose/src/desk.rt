@@ -7,6 +7,7 @@ ghost use Rattle.cell.specs.Pictures.{AreShown, HasSize, line_of, picture_of, sh
 ghost use Rattle.cell.specs.Glyphs.{blank};
 ghost use Rattle.cell.specs.Shown.{shown};
 ghost use Rattle.world.specs.World.{first_world, picture};
+ghost use Rattle.world.specs.calls.Dispatch.{is_doupdate};
 ghost use Rattle.world.specs.Sound.{IsSound};
 ghost use Rattle.world.specs.calls.Making.{new_refusal};
 ghost use Rattle.world.specs.calls.Refresh.{among, colour_tests};
@@ -37,7 +38,7 @@ use stack::Stack;
 use std::alloc::{AllocError, Global};
 use std::marker::Model;
 use windows::Windows;
-use world::{Call, Columns, Composed, Reply};
+use world::{Call, Columns, Composed, Copying, Making, Query, Refresh, Reply, Stacking, Writing};
 
 /// A screen's windows and pads, its panels, its colour pairs, and its virtual screen: a picture, where the cursor is
 /// wanted, and whether the terminal is to be cleared first. Of each line it keeps the damaged columns: everywhere else
@@ -182,6 +183,74 @@ impl Desk {
         Ok(Reply::Nothing)
     }
 
+    /// Makes a call that makes, places or deletes a window or pad. Each group has a function of its own, so that a call
+    /// of another makes no room for what it takes and answers.
+    #[inline(always)]
+    fn make(&mut self, making: Making) -> Result<Reply, Refusal>
+        ensures { Called self.old (Call.Making making) result self.new }
+    {
+        make_damaging(
+            &mut self.windows.table,
+            &self.stack,
+            &mut self.damage,
+            making,
+        )
+    }
+
+    /// Makes a call that writes in a window, or sets how it is written in.
+    #[inline(always)]
+    fn write(&mut self, writing: Writing<'_>) -> Result<Reply, Refusal>
+        ensures { Called self.old (Call.Writing writing.entry) result self.new }
+    {
+        write_damaging(&mut self.windows, &self.stack, &mut self.damage, writing)
+    }
+
+    /// Makes a call that copies cells or touches places, or asks what is touched.
+    #[inline(always)]
+    fn copy_or_ask(&mut self, copying: Copying) -> Result<Reply, Refusal>
+        ensures { Called self.old (Call.Copying copying) result self.new }
+    {
+        if is_query(&Call::Copying(copying)) {
+            of_marks(&self.windows.table, copying)
+        } else {
+            copy_damaging(&mut self.windows, &self.stack, &mut self.damage, copying)
+        }
+    }
+
+    /// Answers a call that asks about a window or pad.
+    #[inline(always)]
+    fn ask_window(&self, asked: Query) -> Result<Reply, Refusal>
+        ensures { Called self.now (Call.Query asked) result self.now }
+    {
+        of_window(&self.windows, asked)
+    }
+
+    /// Makes a call that changes panels, or asks about them.
+    #[inline(always)]
+    fn arrange_or_ask(&mut self, stacking: Stacking) -> Result<Reply, Refusal>
+        ensures { Called self.old (Call.Stacking stacking) result self.new }
+    {
+        if is_query(&Call::Stacking(stacking)) {
+            of_panels(&self.stack, stacking)
+        } else {
+            arrange_damaging(
+                &mut self.windows.table,
+                &mut self.stack,
+                &mut self.damage,
+                stacking,
+            )
+        }
+    }
+
+    /// Makes a call that refreshes or sets the colours of a pair, which is any of them but `doupdate`.
+    #[inline(always)]
+    fn refresh_any(&mut self, asked: Refresh) -> Result<Reply, Refusal>
+        requires { is_doupdate (Call.Refresh asked) ≡ false }
+        ensures { Called self.old (Call.Refresh asked) result self.new }
+    {
+        refresh(self, asked)
+    }
+
     /// How many cells of windows the calls of `update_panels` have read since the desk was made, modulo 2^64.
     pub fn cells_read(&self) -> u64
         ensures { result ≡ self.now.cells_read }
@@ -288,39 +357,12 @@ impl Calls for Desk {
     #[inline(always)]
     fn call(&mut self, call: &Call<'_>) -> Result<Reply, Refusal> {
         match *call {
-            Call::Making(making) => make_damaging(
-                &mut self.windows.table,
-                &self.stack,
-                &mut self.damage,
-                making,
-            ),
-            Call::Writing(writing) => write_damaging(
-                &mut self.windows,
-                &self.stack,
-                &mut self.damage,
-                writing,
-            ),
-            Call::Copying(copying) => {
-                if is_query(call) {
-                    of_marks(&self.windows.table, copying)
-                } else {
-                    copy_damaging(&mut self.windows, &self.stack, &mut self.damage, copying)
-                }
-            }
-            Call::Query(asked) => of_window(&self.windows, asked),
-            Call::Stacking(stacking) => {
-                if is_query(call) {
-                    of_panels(&self.stack, stacking)
-                } else {
-                    arrange_damaging(
-                        &mut self.windows.table,
-                        &mut self.stack,
-                        &mut self.damage,
-                        stacking,
-                    )
-                }
-            }
-            Call::Refresh(asked) => refresh(self, asked),
+            Call::Making(making) => self.make(making),
+            Call::Writing(writing) => self.write(writing),
+            Call::Copying(copying) => self.copy_or_ask(copying),
+            Call::Query(asked) => self.ask_window(asked),
+            Call::Stacking(stacking) => self.arrange_or_ask(stacking),
+            Call::Refresh(asked) => self.refresh_any(asked),
         }
     }
 

@@ -16,5 +16,5 @@ pub mod FreeNumbers
 pub mod Derived
 -- that lines of which none is touched are found so, for TouchedLines
 pub mod Untouched
--- characters printed after others, for print_in
+-- characters printed after others, for print_by
 pub mod Prints

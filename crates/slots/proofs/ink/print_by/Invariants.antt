@@ -3,7 +3,7 @@ use Rattle.std.specs.Prelude.{slice_index_or}
 use Rattle.cell.specs.Glyphs.{IsCell, blank}
 use Rattle.cell.specs.Pictures.{EachCell, HasSize, cell_or}
 use Rattle.slots.specs.Inks.{printed_cell}
-use Rattle.slots.proofs.ink.print_in.Given as goal
+use Rattle.slots.proofs.ink.print_by.Given as goal
 
 -- the first characters are printed
 abbrev pub invariant-loop-done : goal.invariant-loop-done
