@@ -1,6 +1,6 @@
 -- What to write for a name of curses, or a word of another language, that is no word of scripts. The texts are Curspan's own.
 use Rattle.std.specs.Prelude.{◌==◌, ◌||◌, ℕ, Bool, List, [], ◌∷◌, ◌++◌, codes, drop, find, is_some, length, Option, option_map, Some, None, take, unwrap_or, if◌then◌else◌}
-use Rattle.std.specs.Char.{is_ascii_alphanumeric, to_ascii_lowercase}
+use Rattle.std.specs.Char.{is_ascii_alphanumeric, is_ascii_digit, to_ascii_lowercase}
 use Rattle.std.specs.List.{list_any, slice_split}
 use Rattle.std.specs.Str.{bytes_eq}
 use Rattle.script.specs.Characters.{is_space}
@@ -138,9 +138,18 @@ advised =
     ∷ (
       codes "a script has calls alone: no variables, loops or functions",
       codes "if then else elif fi for while until do done case esac switch break continue return int void char const"
-          ++ codes " static struct let local export set declare function def import from { }",
+          ++ codes " static struct let local export set declare function def import from { } begin repeat next try except"
+          ++ codes " pass with class fn var bool long unsigned enum typedef include using",
     )
     ∷ (codes "a comment begins with #", codes "; % -- rem")
+    ∷ (
+      codes "a script runs no programs: each line of it is a call",
+      codes "ls cat cd pwd cp rm mkdir grep sed awk sudo sh bash python test source eval alias",
+    )
+    ∷ (codes "this belongs on the command line: a script has calls alone", codes "curspan ./curspan run paint check version")
+    ∷ (codes "curspan --help and the manual page, man curspan, give help", codes "help ? man info usage")
+    ∷ (codes "see newwin, newpad, new_panel", codes "new create make")
+    ∷ (codes "see panel_above, panel_below", codes "panel_over panel_under panel_up panel_down above below")
     ∷ []
 
 -- the first row of a table that has the name
@@ -159,6 +168,13 @@ begins_with prefix text = bytes_eq (take (length prefix) text) prefix
 -- what begins a comment in other languages
 abbrev pub begins_comment : List ℕ → Bool
 begins_comment text = begins_with (codes "//") text || begins_with (codes "/*") text
+
+-- the text has the byte
+abbrev pub has_byte : ℕ → List ℕ → Bool
+has_byte byte text = list_any (λ b. b == byte) text
+
+abbrev pub is_quoted : List ℕ → Bool
+is_quoted text = begins_with (codes "\"") text || begins_with (codes "'") text
 
 abbrev pub is_name_byte : ℕ → Bool
 is_name_byte b = is_ascii_alphanumeric b || b == underscore
@@ -193,11 +209,30 @@ said_of_name name =
 abbrev pub see_nearest : List ℕ → Option (List ℕ)
 see_nearest word = option_map (λ name. codes "see " ++ name) (nearest word)
 
+-- `=`
+abbrev pub equals_sign : ℕ
+equals_sign = 61
+
+-- of a word that begins with no letter, or that gives a value to a name
+abbrev pub said_of_marks : List ℕ → Option (List ℕ)
+said_of_marks word = if begins_with (codes "-") word then Some (codes "an option belongs on the command line, and a comment begins with #")
+    else (if begins_with (codes "$") word || begins_with (codes ">") word
+    then Some (codes "a script has no variables, prompts or redirections: a line begins with a call")
+    else (if is_quoted word then Some (codes "a text is an argument of addstr, without quotes; a comment begins with #")
+    else (if has_byte equals_sign word then Some (codes "a script has no variables: windows are numbered from 1 as they are made")
+    else (if list_any is_ascii_digit (take 1 word) then Some (codes "a line begins with the name of its call, and numbers come after it")
+    else (if length (name_in word) == 0 then Some (codes "a line begins with the name of a call, and a comment with #")
+    else None)))))
+
 -- of what begins a comment elsewhere, that # does here; or else what the table has of the word as it is; or else what is
--- said of its name; or else the nearest call
+-- said of its name; or else the nearest call; or else what is said of its marks
 unfoldable pub said_of : List ℕ → Option (List ℕ)
 said_of word = if begins_comment word then Some (codes "a comment begins with #")
-    else or_else (advice_on word) (or_else (said_of_name (name_in word)) (see_nearest word))
+    else or_else (advice_on word) (or_else (said_of_name (name_in word)) (or_else (see_nearest word) (said_of_marks word)))
+
+-- what a line is, said where nothing else is
+unfoldable pub line_advice : List ℕ
+line_advice = codes "a line is the name of a call and its arguments, as in addstr 0 hi; man curspan lists the calls"
 
 abbrev pub call_advice : List ℕ → List ℕ
-call_advice word = codes ": " ++ unwrap_or (said_of word) (codes "curspan(1) lists the calls")
+call_advice word = codes ": " ++ unwrap_or (said_of word) line_advice

@@ -5,7 +5,7 @@ use Rattle.std.specs.List.{list_all, list_any, take_while}
 use Rattle.std.specs.Str.{bytes_eq}
 use Rattle.std.specs.Str.Parse.{digits_value}
 use Rattle.script.specs.Characters.{carriage_return, digit_0}
-use Rattle.explain.specs.Advice.{begins_with, names_in}
+use Rattle.explain.specs.Advice.{begins_with, has_byte, is_quoted, names_in}
 use Rattle.script.specs.declared.words.Form.{Form}
 use Rattle.script.specs.declared.words.Form.TheVariants.{Number, NumberOrNone, Signed, Attributes, Flag, Character, Text}
 
@@ -58,16 +58,9 @@ are_digits text = list_all is_ascii_digit text && not (length text == 0)
 abbrev pub digits_reason : List ℕ → List ℕ → List ℕ
 digits_reason said digits = if slice_index digits 0 == digit_0 then codes ": a number has no leading 0" else said
 
--- the text has the byte
-abbrev pub has_byte : ℕ → List ℕ → Bool
-has_byte byte text = list_any (λ b. b == byte) text
-
 -- one of some names, with a space between any two
 abbrev pub is_one_of : List ℕ → List ℕ → Bool
 is_one_of names text = list_any (bytes_eq text) (names_in names)
-
-abbrev pub is_quoted : List ℕ → Bool
-is_quoted text = begins_with (codes "\"") text || begins_with (codes "'") text
 
 -- the marks of other languages that an argument may not have; where it has none, this is said
 abbrev pub mark_reason : List ℕ → List ℕ → List ℕ

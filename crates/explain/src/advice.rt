@@ -93,17 +93,33 @@ const CHARACTERS: &[u8] = b"see addch";
 
 const LINE_ERASED: &[u8] = b"see clrtoeol";
 
+const PROGRAMS: &[u8] = b"a script runs no programs: each line of it is a call";
+
+const COMMAND_LINE: &[u8] = b"this belongs on the command line: a script has calls alone";
+
+const HELP: &[u8] = b"curspan --help and the manual page, man curspan, give help";
+
+const MADE: &[u8] = b"see newwin, newpad, new_panel";
+
+const PANELS_NEAR: &[u8] = b"see panel_above, panel_below";
+
 /// Names of curses, and words of other languages, that are no words of scripts, by their first bytes.
 #[rattlefmt::skip]
-const ADVICE: [(u8, &[Row]); 27] = [
+const ADVICE: [(u8, &[Row]); 29] = [
     (b'%', &[
         (COMMENT, b"%"),
     ]),
     (b'-', &[
         (COMMENT, b"--"),
     ]),
+    (b'.', &[
+        (COMMAND_LINE, b"./curspan"),
+    ]),
     (b';', &[
         (COMMENT, b";"),
+    ]),
+    (b'?', &[
+        (HELP, b"?"),
     ]),
     (b'a', &[
         (LINES, b"acs_hline acs_vline"),
@@ -118,6 +134,8 @@ const ADVICE: [(u8, &[Row]); 27] = [
         (ASCII, b"add_wch add_wchstr add_wchnstr addwstr addnwstr"),
         (CHARACTERS, b"addchar addc"),
         (PANELS, b"add_panel"),
+        (PROGRAMS, b"awk alias"),
+        (PANELS_NEAR, b"above"),
     ]),
     (b'b', &[
         (SCREEN, b"bye"),
@@ -128,7 +146,9 @@ const ADVICE: [(u8, &[Row]); 27] = [
         (TERMINAL, b"baudrate beep bell"),
         (RAISED, b"back bottom"),
         (COLOURED, b"bg"),
-        (CALLS_ALONE, b"break"),
+        (CALLS_ALONE, b"break begin bool"),
+        (PROGRAMS, b"bash"),
+        (PANELS_NEAR, b"below"),
     ]),
     (b'c', &[
         (KEYS, b"cbreak"),
@@ -152,7 +172,10 @@ const ADVICE: [(u8, &[Row]); 27] = [
         (BEGINNINGS,
             b"curscr cols color_black color_red color_green color_yellow color_blue color_magenta color_cyan \
             color_white curses"),
-        (CALLS_ALONE, b"case continue char const"),
+        (CALLS_ALONE, b"case continue char const class"),
+        (PROGRAMS, b"cat cd cp"),
+        (COMMAND_LINE, b"curspan check"),
+        (MADE, b"create"),
     ]),
     (b'd', &[
         (KEYS, b"define_key"),
@@ -178,7 +201,8 @@ const ADVICE: [(u8, &[Row]); 27] = [
         (LABELS, b"extended_slk_color"),
         (b"no call reads keys: to write, see addstr", b"echo"),
         (LINE_ERASED, b"erase_line"),
-        (CALLS_ALONE, b"else elif esac export"),
+        (CALLS_ALONE, b"else elif esac export except enum"),
+        (PROGRAMS, b"eval"),
     ]),
     (b'f', &[
         (KEYS, b"flushinp"),
@@ -191,7 +215,7 @@ const ADVICE: [(u8, &[Row]); 27] = [
         (COLOURED, b"fg foreground"),
         (MENUS, b"free_menu free_item form free_form form_driver free_field"),
         (BEGINNINGS, b"false"),
-        (CALLS_ALONE, b"fi for function from"),
+        (CALLS_ALONE, b"fi for function from fn"),
     ]),
     (b'g', &[
         (KEYS, b"getch getstr getnstr get_escdelay getkey get_key gets getc getchar getche"),
@@ -207,6 +231,7 @@ const ADVICE: [(u8, &[Row]); 27] = [
         (b"see panel_above, with none", b"ground_panel"),
         (ASCII, b"get_wch get_wstr getn_wstr getbkgrnd getcchar"),
         (SAVED, b"getwin"),
+        (PROGRAMS, b"grep"),
     ]),
     (b'h', &[
         (KEYS, b"halfdelay has_key"),
@@ -216,6 +241,7 @@ const ADVICE: [(u8, &[Row]); 27] = [
         (ASCII, b"hline_set"),
         (TERMINAL, b"has_ic has_il"),
         (SHOWN, b"hide hide_window"),
+        (HELP, b"help"),
     ]),
     (b'i', &[
         (KEYS, b"intrflush input"),
@@ -232,7 +258,8 @@ const ADVICE: [(u8, &[Row]); 27] = [
             is_scrollok is_subwin is_syncok"),
         (ASCII, b"in_wch in_wchstr in_wchnstr innwstr ins_nwstr ins_wch ins_wstr inwstr"),
         (b"see is_wintouched, is_linetouched", b"is_touched istouched"),
-        (CALLS_ALONE, b"if int import"),
+        (CALLS_ALONE, b"if int import include"),
+        (HELP, b"info"),
     ]),
     (b'k', &[
         (KEYS,
@@ -247,7 +274,8 @@ const ADVICE: [(u8, &[Row]); 27] = [
         (TERMINAL, b"longname"),
         (RAISED, b"lower lower_panel"),
         (BEGINNINGS, b"lines"),
-        (CALLS_ALONE, b"let local"),
+        (CALLS_ALONE, b"let local long"),
+        (PROGRAMS, b"ls"),
     ]),
     (b'm', &[
         (KEYS, b"meta"),
@@ -259,6 +287,9 @@ const ADVICE: [(u8, &[Row]); 27] = [
         (PANELS, b"make_panel"),
         (WAITS, b"msleep"),
         (MENUS, b"menu menu_driver"),
+        (PROGRAMS, b"mkdir"),
+        (HELP, b"man"),
+        (MADE, b"make"),
     ]),
     (b'n', &[
         (KEYS, b"nodelay notimeout nocbreak noecho noraw nl nonl noqiflush"),
@@ -268,6 +299,8 @@ const ADVICE: [(u8, &[Row]); 27] = [
         (WAITS, b"napms"),
         (MENUS, b"new_menu new_item new_form new_field"),
         (BEGINNINGS, b"newscr null"),
+        (CALLS_ALONE, b"next"),
+        (MADE, b"new"),
     ]),
     (b'o', &[
         (WINDOWS, b"openwin open_window"),
@@ -288,6 +321,10 @@ const ADVICE: [(u8, &[Row]); 27] = [
         (COLOURED, b"pair"),
         (WAITS, b"pause"),
         (MENUS, b"post_menu post_form"),
+        (CALLS_ALONE, b"pass"),
+        (PROGRAMS, b"pwd python"),
+        (COMMAND_LINE, b"paint"),
+        (PANELS_NEAR, b"panel_over panel_under panel_up panel_down"),
     ]),
     (b'q', &[
         (KEYS, b"qiflush"),
@@ -306,8 +343,10 @@ const ADVICE: [(u8, &[Row]); 27] = [
         (UPDATES, b"redraw render"),
         (DELETED, b"rmwin"),
         (RAISED, b"raise raise_panel"),
-        (CALLS_ALONE, b"return"),
+        (CALLS_ALONE, b"return repeat"),
         (COMMENT, b"rem"),
+        (PROGRAMS, b"rm"),
+        (COMMAND_LINE, b"run"),
     ]),
     (b's', &[
         (KEYS, b"scanw set_escdelay scanf"),
@@ -336,6 +375,7 @@ const ADVICE: [(u8, &[Row]); 27] = [
         (WAITS, b"sleep"),
         (BEGINNINGS, b"stdscr"),
         (CALLS_ALONE, b"switch static struct set"),
+        (PROGRAMS, b"sed sudo sh source"),
     ]),
     (b't', &[
         (KEYS, b"timeout typeahead"),
@@ -347,7 +387,8 @@ const ADVICE: [(u8, &[Row]); 27] = [
         (b"see touchwin", b"touch touchwindow touch_window"),
         (COLOURED, b"textcolor"),
         (BEGINNINGS, b"true"),
-        (CALLS_ALONE, b"then"),
+        (CALLS_ALONE, b"then try typedef"),
+        (PROGRAMS, b"test"),
     ]),
     (b'u', &[
         (KEYS, b"ungetch"),
@@ -360,7 +401,8 @@ const ADVICE: [(u8, &[Row]); 27] = [
         (UPDATES, b"update update_screen updatescreen"),
         (WAITS, b"usleep"),
         (MENUS, b"unpost_menu unpost_form"),
-        (CALLS_ALONE, b"until"),
+        (CALLS_ALONE, b"until unsigned using"),
+        (HELP, b"usage"),
     ]),
     (b'v', &[
         (KEYS, b"vwscanw vw_scanw"),
@@ -368,7 +410,8 @@ const ADVICE: [(u8, &[Row]); 27] = [
         (FORMATS, b"vwprintw vw_printw vsscanf"),
         (ASCII, b"vline_set"),
         (TERMINAL, b"vidattr vidputs vid_attr vid_puts"),
-        (CALLS_ALONE, b"void"),
+        (CALLS_ALONE, b"void var"),
+        (COMMAND_LINE, b"version"),
     ]),
     (b'w', &[
         (TEXTS, b"write writestr"),
@@ -376,7 +419,7 @@ const ADVICE: [(u8, &[Row]); 27] = [
         (ERASED, b"wipe"),
         (WINDOWS, b"window win"),
         (WAITS, b"wait"),
-        (CALLS_ALONE, b"while"),
+        (CALLS_ALONE, b"while with"),
     ]),
     (b'{', &[
         (CALLS_ALONE, b"{"),

@@ -1,7 +1,7 @@
 //! What a person reads about a faulty line: where its fault is, what is there, and what is wanted.
 
 ghost use Rattle.std.specs.Prelude.{◌≡◌, ◌≤◌, ◌+◌, ◌++◌, ◌<◌, codes, decimal, length, option_map};
-ghost use Rattle.explain.specs.Advice.{call_advice};
+ghost use Rattle.explain.specs.Advice.{call_advice, line_advice};
 ghost use Rattle.explain.specs.Faults.{IllFormed as Ill};
 ghost use Rattle.explain.specs.Explanations.{bad_byte_text, bad_line_text, count_text, explanation, finding, ill_formed_text, number_advice, number_text, quotation, signature_text, stray_text, unknown_text};
 
@@ -78,6 +78,15 @@ fn append_bad_byte(text: &mut Finding, byte: u8)
     append(text, byte_advice(byte));
 }
 
+/// What is said where nothing else is.
+#[tactic(auto, unfolding(crate::specs::Advice::line_advice))]
+fn line_advice() -> &'static [u8]
+    ensures text { result.now ≡ line_advice }
+    ensures short { length result.now ≤ 100 }
+{
+    b"a line is the name of a call and its arguments, as in addstr 0 hi; man curspan lists the calls"
+}
+
 /// Appends what to write for a word that is no call.
 fn append_advice(text: &mut Finding, word: &[u8])
     requires room { length text.old.items ≤ 600 }
@@ -92,7 +101,7 @@ fn append_advice(text: &mut Finding, word: &[u8])
             append(text, said.text);
             append(text, said.call);
         }
-        None => append(text, b"curspan(1) lists the calls"),
+        None => append(text, line_advice()),
     }
 }
 

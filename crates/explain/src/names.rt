@@ -1,7 +1,7 @@
-//! The name that a word begins with, and what begins a comment in other languages.
+//! The name that a word begins with, and the marks of other languages in it.
 
 ghost use Rattle.std.specs.Prelude.{◌≡◌, ◌≤◌, length};
-ghost use Rattle.explain.specs.Advice.{begins_comment, is_name_byte, name_in};
+ghost use Rattle.explain.specs.Advice.{begins_comment, has_byte, is_name_byte, is_quoted, name_in};
 
 use arrayvec::ArrayVec;
 use script::LONGEST_LINE;
@@ -14,6 +14,20 @@ pub fn begins_comment(text: &[u8]) -> bool
     ensures { result ≡ begins_comment text.now }
 {
     text.strip_prefix(b"//").is_some() || text.strip_prefix(b"/*").is_some()
+}
+
+/// Whether a text has a byte.
+pub fn has_byte(text: &[u8], byte: u8) -> bool
+    ensures { result ≡ has_byte byte text.now }
+{
+    text.iter().any(|b| *b == byte)
+}
+
+/// Whether a text begins with a quote.
+pub fn is_quoted(text: &[u8]) -> bool
+    ensures { result ≡ is_quoted text.now }
+{
+    text.strip_prefix(b"\"").is_some() || text.strip_prefix(b"'").is_some()
 }
 
 /// Whether a name may have a byte.

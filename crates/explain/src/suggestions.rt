@@ -1,11 +1,13 @@
 //! What to write for a word that is no call.
 
-ghost use Rattle.std.specs.Prelude.{◌≡◌, ◌≤◌, ◌+◌, IfSome, length};
-ghost use Rattle.explain.specs.Advice.{advice_on_rest, after_prefix, name_in, said_of, said_of_name, see_nearest};
+ghost use Rattle.std.specs.Prelude.{◌≡◌, ◌≤◌, ◌+◌, IfSome, length, option_map, take};
+ghost use Rattle.std.specs.Char.{is_ascii_digit};
+ghost use Rattle.std.specs.List.{list_any};
+ghost use Rattle.explain.specs.Advice.{advice_on_rest, after_prefix, name_in, said_of, said_of_marks, said_of_name, see_nearest};
 ghost use Rattle.explain.specs.steps.Suggestions.{said_now};
 
 use crate::advice::advice_on;
-use crate::names::begins_comment;
+use crate::names::{begins_comment, has_byte, is_quoted};
 use crate::nearest::nearest;
 use script::Word;
 
@@ -82,6 +84,45 @@ fn said_of_name<'a>(name: &'a [u8]) -> Option<Said<'a>>
     after_prefix(b"w", b"see ", name)
 }
 
+/// Whether a word begins with a digit.
+fn begins_with_digit(word: &[u8]) -> bool
+    ensures { result ≡ list_any is_ascii_digit (take 1 word.now) }
+{
+    match word.first() {
+        Some(first) => first.is_ascii_digit(),
+        None => false,
+    }
+}
+
+/// What is said of a word that begins with no letter, or that gives a value to a name.
+fn said_of_marks(word: &[u8], name: &[u8]) -> Option<&'static [u8]>
+    requires { name.now ≡ name_in word.now }
+    ensures said { option_map (λ text. text.now) result ≡ said_of_marks word.now }
+    ensures short { IfSome result (λ text. length text.now ≤ 80) }
+{
+    if word.strip_prefix(b"-").is_some() {
+        return Some(b"an option belongs on the command line, and a comment begins with #");
+    }
+    if word.strip_prefix(b"$").is_some() || word.strip_prefix(b">").is_some() {
+        return Some(
+            b"a script has no variables, prompts or redirections: a line begins with a call",
+        );
+    }
+    if is_quoted(word) {
+        return Some(b"a text is an argument of addstr, without quotes; a comment begins with #");
+    }
+    if has_byte(word, b'=') {
+        return Some(b"a script has no variables: windows are numbered from 1 as they are made");
+    }
+    if begins_with_digit(word) {
+        return Some(b"a line begins with the name of its call, and numbers come after it");
+    }
+    if name.is_empty() {
+        return Some(b"a line begins with the name of a call, and a comment with #");
+    }
+    None
+}
+
 /// What is said of a word that is no call, and that begins with a name.
 #[tactic(auto, unfolding(crate::specs::Advice::said_of))]
 pub fn said_of<'a>(word: &[u8], name: &'a [u8]) -> Option<Said<'a>>
@@ -102,5 +143,11 @@ pub fn said_of<'a>(word: &[u8], name: &'a [u8]) -> Option<Said<'a>>
     if let Some(said) = said_of_name(name) {
         return Some(said);
     }
-    see_nearest(word)
+    if let Some(said) = see_nearest(word) {
+        return Some(said);
+    }
+    match said_of_marks(word, name) {
+        Some(text) => Some(Said { text, call: b"" }),
+        None => None,
+    }
 }

@@ -11,7 +11,7 @@ use world::Call;
 static FINDINGS: [(TextFault, &[u8], &str); 10] = [
     (TextFault::LineTooLong, b"", "line 12, column 513: the line is longer than 512 bytes\n"),
     (TextFault::BadByte, b"addstr 0 hi\r", "line 12, column 12: bad byte 0d: a line ends with a newline alone\n"),
-    (TextFault::UnknownCall, b"fly 0", "line 12, column 1: unknown call \"fly\": curspan(1) lists the calls\n"),
+    (TextFault::UnknownCall, b"fly 0", "line 12, column 1: unknown call \"fly\": a line is the name of a call and its arguments, as in addstr 0 hi; man curspan lists the calls\n"),
     (TextFault::UnknownCall, b"wrefresh 1", "line 12, column 1: unknown call \"wrefresh\": see noutrefresh, doupdate\n"),
     (TextFault::UnknownCall, b"REFRESH();", "line 12, column 1: unknown call \"REFRESH();\": see noutrefresh, doupdate\n"),
     (TextFault::UnknownCall, b"mvwaddch 0 1 1 h", "line 12, column 1: unknown call \"mvwaddch\": see move, addch\n"),
