@@ -1,11 +1,11 @@
 -- What an argument of a form has to be, and why a byte or an argument is faulty. The texts are Curspan's own.
-use Rattle.std.specs.Prelude.{◌==◌, ◌&&◌, ◌||◌, ℕ, Bool, not, List, [], ◌++◌, codes, drop, length, slice_index, if◌then◌else◌}
+use Rattle.std.specs.Prelude.{◌==◌, ◌&&◌, ℕ, Bool, not, List, [], ◌++◌, codes, drop, length, slice_index, if◌then◌else◌}
 use Rattle.std.specs.Char.{is_ascii_digit, is_ascii_hexdigit, is_ascii_uppercase}
 use Rattle.std.specs.List.{list_all, list_any, take_while}
 use Rattle.std.specs.Str.{bytes_eq}
 use Rattle.std.specs.Str.Parse.{digits_value}
 use Rattle.script.specs.Characters.{carriage_return, digit_0}
-use Rattle.explain.specs.Advice.{begins_with, has_byte, is_quoted, names_in}
+use Rattle.explain.specs.Advice.{begins_with, is_quoted, names_in}
 use Rattle.script.specs.declared.words.Form.{Form}
 use Rattle.script.specs.declared.words.Form.TheVariants.{Number, NumberOrNone, Signed, Attributes, Flag, Character, Text}
 
@@ -57,6 +57,10 @@ are_digits text = list_all is_ascii_digit text && not (length text == 0)
 -- why digits are no number: but for a leading 0 this is said
 abbrev pub digits_reason : List ℕ → List ℕ → List ℕ
 digits_reason said digits = if slice_index digits 0 == digit_0 then codes ": a number has no leading 0" else said
+
+-- the text has the byte
+abbrev pub has_byte : ℕ → List ℕ → Bool
+has_byte byte text = list_any (λ b. b == byte) text
 
 -- one of some names, with a space between any two
 abbrev pub is_one_of : List ℕ → List ℕ → Bool

@@ -7,7 +7,7 @@ ghost use Rattle.explain.specs.Explanations.{bad_byte_text, bad_line_text, count
 
 use crate::arguments::{IllFormed, Stray, count, find_ill_formed, find_stray, forms_of};
 use crate::column::{bad_byte, column_of};
-use crate::names::{begins_comment, name_of};
+use crate::names::{after_dot, begins_comment, name_of};
 use crate::reasons::{byte_advice, reason, requirement_of};
 use crate::signatures::names_of_arguments;
 use crate::suggestions::said_of;
@@ -94,7 +94,7 @@ fn append_advice(text: &mut Finding, word: &[u8])
     ensures text { text.new.items ≡ text.old.items ++ call_advice word.now }
     ensures short { length text.new.items < FINDING_ROOM }
 {
-    let name = name_of(word);
+    let name = name_of(after_dot(after_dot(word)));
     append(text, b": ");
     match said_of(word, name.as_slice()) {
         Some(said) => {

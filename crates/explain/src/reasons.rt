@@ -3,10 +3,10 @@
 ghost use Rattle.std.specs.Prelude.{◌≡◌, ◌≤◌, length};
 ghost use Rattle.std.specs.Char.{is_ascii_hexdigit, is_ascii_uppercase};
 ghost use Rattle.std.specs.List.{list_all, list_any};
-ghost use Rattle.explain.specs.Reasons.{are_digits, are_two_digits, attributes_reason, byte_advice, character_reason, digits_reason, flag_reason, mark_reason, name_reason, reason, requirement, requirement_of, signed_reason, text_reason, unless_missing, unsigned_or_none_reason, unsigned_reason};
+ghost use Rattle.explain.specs.Reasons.{are_digits, are_two_digits, attributes_reason, byte_advice, character_reason, digits_reason, flag_reason, has_byte, mark_reason, name_reason, reason, requirement, requirement_of, signed_reason, text_reason, unless_missing, unsigned_or_none_reason, unsigned_reason};
 
 use crate::advice::is_among;
-use crate::names::{has_byte, is_quoted};
+use crate::names::is_quoted;
 use script::{Form, has_digits_alone};
 
 /// What is said of a bad byte: a carriage return, a tab, a backspace, an escape, a 0, or another.
@@ -74,6 +74,13 @@ fn are_digits(text: &[u8]) -> bool
     ensures { result ≡ are_digits text.now }
 {
     has_digits_alone(text) && !text.is_empty()
+}
+
+/// Whether a text has a byte.
+fn has_byte(text: &[u8], byte: u8) -> bool
+    ensures { result ≡ has_byte byte text.now }
+{
+    text.iter().any(|b| *b == byte)
 }
 
 /// The marks of other languages that an argument may not have; where it has none, this is said.
