@@ -1,12 +1,12 @@
--- Each word of a call is short, and each name of curses.
+-- Each word of a call is short, and each other name.
 use Rattle.std.proofs.Common.{◌≡◌, ◌≤◌, ℕ, Bool, true, List, [], ◌∷◌, Option, Some, length, refl, ap, arith, ◌∙◌}
 use Rattle.std.specs.Prelude.{IfSome, find, nat_le, option_map}
 use Rattle.std.specs.List.{list_all, slice_split}
 use Rattle.std.specs.Borrow.{Bor}
 use Rattle.std.proofs.lemmas.Bool.Decides.{nat_tests}
 use Rattle.script.specs.Characters.{is_space}
-use Rattle.explain.specs.Nearest.{call_words, is_near, letters_of, names_of_curses, nearest, nearest_of, nearest_of_curses}
-use Rattle.explain.specs.declared.nearest.TheConstants.{CALLS, NAMES_OF_CURSES}
+use Rattle.explain.specs.Nearest.{call_words, is_near, letters_of, other_names, nearest, nearest_of, nearest_other}
+use Rattle.explain.specs.declared.nearest.TheConstants.{CALLS, OTHER_NAMES}
 
 short-in : (names : List (List ℕ)) (test : List ℕ → Bool) (name : List ℕ) → list_all (λ n. nat_le (length n) 80) names ≡ true
     → find test names ≡ Some name → length name ≤ 80
@@ -26,18 +26,18 @@ pub nearest-is : (word : List ℕ) (o : Option (Bor (List ℕ))) → option_map 
     → option_map (λ name. name.now) o ≡ nearest word
 nearest-is word o is = is ∙ ap (find (λ name. is_near (letters_of word) (letters_of name))) names-are
 
--- ---- likewise for the names of curses
+-- ---- likewise for the other names
 
-of_curses-are : slice_split is_space NAMES_OF_CURSES.now ≡ names_of_curses
-of_curses-are = refl
+others-are : slice_split is_space OTHER_NAMES.now ≡ other_names
+others-are = refl
 
-of_curses-short : list_all (λ n. nat_le (length n) 80) names_of_curses ≡ true
-of_curses-short = refl
+others-short : list_all (λ n. nat_le (length n) 80) other_names ≡ true
+others-short = refl
 
-pub of_curses-is_short : (word : List ℕ) (o : Option (Bor (List ℕ))) → option_map (λ name. name.now) o ≡ nearest_of_curses word
+pub others-is_short : (word : List ℕ) (o : Option (Bor (List ℕ))) → option_map (λ name. name.now) o ≡ nearest_other word
     → IfSome o (λ name. length name.now ≤ 80)
-of_curses-is_short word o is = grind (arith, (short-in names_of_curses (λ name. is_near (letters_of word) (letters_of name))), of_curses-short)
+others-is_short word o is = grind (arith, (short-in other_names (λ name. is_near (letters_of word) (letters_of name))), others-short)
 
-pub of_curses-is : (word : List ℕ) (o : Option (Bor (List ℕ))) → option_map (λ name. name.now) o ≡ nearest_of (slice_split is_space NAMES_OF_CURSES.now) word
-    → option_map (λ name. name.now) o ≡ nearest_of_curses word
-of_curses-is word o is = is ∙ ap (λ names. nearest_of names word) of_curses-are
+pub others-is : (word : List ℕ) (o : Option (Bor (List ℕ))) → option_map (λ name. name.now) o ≡ nearest_of (slice_split is_space OTHER_NAMES.now) word
+    → option_map (λ name. name.now) o ≡ nearest_other word
+others-is word o is = is ∙ ap (λ names. nearest_of names word) others-are

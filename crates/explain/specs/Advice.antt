@@ -4,7 +4,7 @@ use Rattle.std.specs.Char.{is_ascii_alphanumeric, is_ascii_digit, to_ascii_lower
 use Rattle.std.specs.List.{list_any, slice_split}
 use Rattle.std.specs.Str.{bytes_eq}
 use Rattle.script.specs.Characters.{is_space}
-use Rattle.explain.specs.Nearest.{nearest, nearest_of_curses}
+use Rattle.explain.specs.Nearest.{nearest, nearest_other}
 use Rattle.script.specs.Words.{word_of}
 
 -- `_`
@@ -29,11 +29,11 @@ advised =
           ++ codes " getkey get_key key input gets getc getchar getche scanf kbhit key_up key_down key_left key_right"
           ++ codes " key_enter",
     )
-    ∷ (codes "no call reads the mouse", codes "getmouse ungetmouse mousemask mouseinterval has_mouse mouse_trafo enclose")
+    ∷ (codes "no call reads the mouse", codes "getmouse ungetmouse mousemask mouseinterval has_mouse mouse_trafo enclose mouse click")
     ∷ (
       codes "the screen is there from the first line on, and ends with the script",
       codes "initscr newterm new_prescr endwin isendwin delscreen set_term use_screen use_window exit_curses exit"
-          ++ codes " quit end bye stop close init initscreen init_screen",
+          ++ codes " quit end bye stop close init initscreen init_screen start wrapper",
     )
     ∷ (
       codes "lines are drawn by the characters of addstr",
@@ -43,7 +43,7 @@ advised =
     ∷ (
       codes "see addstr",
       codes "addnstr addchstr addchnstr print println puts putstr put write writestr text say string addstring"
-          ++ codes " addtext type print_at",
+          ++ codes " addtext type print_at add_string add_text title label",
     )
     ∷ (codes "see insch", codes "insstr insnstr insert inschar inserch insertch")
     ∷ (codes "see insertln, deleteln", codes "insdelln insertline insline deleteline delline")
@@ -57,7 +57,7 @@ advised =
     ∷ (
       codes "see attrset, attron, attroff, color_set",
       codes "attr_set attr_on attr_off chgat attr attribute attributes bold dim underline blink reverse inverse"
-          ++ codes " a_bold a_dim a_underline a_blink a_reverse a_invis a_standout a_normal",
+          ++ codes " a_bold a_dim a_underline a_blink a_reverse a_invis a_standout a_normal highlight italic normal",
     )
     ∷ (codes "see inch, which answers those of a cell", codes "attr_get getattrs termattrs term_attrs")
     ∷ (
@@ -128,7 +128,7 @@ advised =
     ∷ (
       codes "there are no menus or forms",
       codes "menu new_menu free_menu post_menu unpost_menu menu_driver new_item free_item form new_form free_form"
-          ++ codes " post_form unpost_form form_driver new_field free_field",
+          ++ codes " post_form unpost_form form_driver new_field free_field button dialog whiptail",
     )
     ∷ (
       codes "a line begins with a call",
@@ -144,7 +144,7 @@ advised =
     ∷ (codes "a comment begins with #", codes "; % -- rem")
     ∷ (
       codes "a script runs no programs: each line of it is a call",
-      codes "ls cat cd pwd cp rm mkdir grep sed awk sudo sh bash python test source eval alias",
+      codes "ls cat cd pwd cp rm mkdir grep sed awk sudo sh bash python test source eval alias trap",
     )
     ∷ (codes "this belongs on the command line: a script has calls alone", codes "curspan ./curspan run paint check version")
     ∷ (codes "curspan --help and the manual page, man curspan, give help", codes "help ? man info usage")
@@ -218,9 +218,9 @@ said_of_name name =
 abbrev pub see_nearest : List ℕ → Option (List ℕ)
 see_nearest word = option_map (λ name. codes "see " ++ name) (nearest word)
 
--- the call that is near a text; or else what is said of the name of curses that is near it
+-- the call that is near a text; or else what is said of the other name that is near it
 unfoldable pub said_of_near : List ℕ → Option (List ℕ)
-said_of_near text = or_else (see_nearest text) (option_and_then said_of_name (nearest_of_curses text))
+said_of_near text = or_else (see_nearest text) (option_and_then said_of_name (nearest_other text))
 
 -- of the name of what a word calls, where that isn't all of the word
 abbrev pub said_near_name : List ℕ → Option (List ℕ)

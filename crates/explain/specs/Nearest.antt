@@ -33,12 +33,12 @@ is_near (a ∷ letters) (b ∷ others) = if a == b then is_near letters others
 abbrev pub call_words : List (List ℕ)
 call_words = map (λ w. (entry_of w).word) words
 
--- the names of curses that are written most, of those that scripts lack
-abbrev pub names_of_curses : List (List ℕ)
-names_of_curses = slice_split is_space (
+-- the names that are written most, of those that scripts lack: of curses, and of other languages
+abbrev pub other_names : List (List ℕ)
+other_names = slice_split is_space (
     codes "refresh wrefresh prefresh printw wprintw mvprintw mvwprintw waddstr mvaddstr mvwaddstr mvaddch mvwaddch"
     ++ codes " initscr endwin getch wgetch getstr noecho cbreak keypad start_color color_pair has_colors curs_set border"
-    ++ codes " wborder hline vline insstr resize standout standend timeout nodelay wattron wattroff")
+    ++ codes " wborder hline vline insstr resize standout standend timeout nodelay wattron wattroff print write window colour")
 
 -- the first of some names that is near a word
 abbrev pub nearest_of : List (List ℕ) → List ℕ → Option (List ℕ)
@@ -47,5 +47,5 @@ nearest_of names word = find (λ name. is_near (letters_of word) (letters_of nam
 abbrev pub nearest : List ℕ → Option (List ℕ)
 nearest word = nearest_of call_words word
 
-abbrev pub nearest_of_curses : List ℕ → Option (List ℕ)
-nearest_of_curses word = nearest_of names_of_curses word
+abbrev pub nearest_other : List ℕ → Option (List ℕ)
+nearest_other word = nearest_of other_names word

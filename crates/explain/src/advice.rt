@@ -123,7 +123,7 @@ const ADVICE: [(u8, &[Row]); 29] = [
     ]),
     (b'a', &[
         (LINES, b"acs_hline acs_vline"),
-        (TEXTS, b"addnstr addchstr addchnstr addstring addtext"),
+        (TEXTS, b"addnstr addchstr addchnstr addstring addtext add_string add_text"),
         (ATTRIBUTES,
             b"attr_set attr_on attr_off attr attribute attributes a_bold a_dim a_underline a_blink a_reverse \
             a_invis a_standout a_normal"),
@@ -146,12 +146,14 @@ const ADVICE: [(u8, &[Row]); 29] = [
         (TERMINAL, b"baudrate beep bell"),
         (RAISED, b"back bottom"),
         (COLOURED, b"bg"),
+        (MENUS, b"button"),
         (CALLS_ALONE, b"break begin bool"),
         (PROGRAMS, b"bash"),
         (PANELS_NEAR, b"below"),
     ]),
     (b'c', &[
         (KEYS, b"cbreak"),
+        (MOUSE, b"click"),
         (SCREEN, b"close"),
         (ATTRIBUTES, b"chgat"),
         (COLOURS, b"can_change_color"),
@@ -190,6 +192,7 @@ const ADVICE: [(u8, &[Row]); 29] = [
         (UPDATES, b"draw display"),
         (DELETED, b"delwindow delete_window del_window destroy_window destroy delete"),
         (WAITS, b"delay delay_output"),
+        (MENUS, b"dialog"),
         (CALLS_ALONE, b"do done declare def"),
     ]),
     (b'e', &[
@@ -238,6 +241,7 @@ const ADVICE: [(u8, &[Row]); 29] = [
         (KEYS, b"halfdelay has_key"),
         (MOUSE, b"has_mouse"),
         (LINES, b"hline"),
+        (ATTRIBUTES, b"highlight"),
         (COLOURS, b"has_colors"),
         (ASCII, b"hline_set"),
         (TERMINAL, b"has_ic has_il"),
@@ -251,7 +255,7 @@ const ADVICE: [(u8, &[Row]); 29] = [
         (LINES_INSERTED, b"insdelln insertline insline"),
         (b"see inch", b"instr innstr inchstr inchnstr inchar"),
         (SIZE, b"is_term_resized"),
-        (ATTRIBUTES, b"inverse"),
+        (ATTRIBUTES, b"inverse italic"),
         (COLOURS, b"init_color init_extended_color init_extended_pair"),
         (FLAGS, b"immedok idlok idcok"),
         (SETTINGS,
@@ -270,6 +274,7 @@ const ADVICE: [(u8, &[Row]); 29] = [
     ]),
     (b'l', &[
         (LINES, b"line"),
+        (TEXTS, b"label"),
         (CURSOR, b"locate left"),
         (FLAGS, b"leaveok"),
         (TERMINAL, b"longname"),
@@ -281,7 +286,7 @@ const ADVICE: [(u8, &[Row]); 29] = [
     ]),
     (b'm', &[
         (KEYS, b"meta"),
-        (MOUSE, b"mousemask mouseinterval mouse_trafo"),
+        (MOUSE, b"mousemask mouseinterval mouse_trafo mouse"),
         (CURSOR, b"move_cursor movecursor mv moveto"),
         (TERMINAL, b"mcprint mvcur"),
         (WINDOWS, b"makewin mkwin"),
@@ -297,6 +302,7 @@ const ADVICE: [(u8, &[Row]); 29] = [
     (b'n', &[
         (KEYS, b"nodelay notimeout nocbreak noecho noraw nl nonl noqiflush"),
         (SCREEN, b"newterm new_prescr"),
+        (ATTRIBUTES, b"normal"),
         (TERMINAL, b"nofilter"),
         (WINDOWS, b"newwindow new_window"),
         (WAITS, b"napms"),
@@ -356,7 +362,7 @@ const ADVICE: [(u8, &[Row]); 29] = [
     ]),
     (b's', &[
         (KEYS, b"scanw set_escdelay scanf"),
-        (SCREEN, b"set_term stop"),
+        (SCREEN, b"set_term stop start"),
         (FORMATS, b"sprintf"),
         (TEXTS, b"say string"),
         (BACKGROUND, b"setbkgd"),
@@ -385,7 +391,7 @@ const ADVICE: [(u8, &[Row]); 29] = [
     ]),
     (b't', &[
         (KEYS, b"timeout typeahead"),
-        (TEXTS, b"text type"),
+        (TEXTS, b"text type title"),
         (RENDITION, b"termattrs term_attrs"),
         (TERMINAL, b"termname tigetflag tigetnum tigetstr tiparm tparm tput"),
         (TRACES, b"trace"),
@@ -394,7 +400,7 @@ const ADVICE: [(u8, &[Row]); 29] = [
         (COLOURED, b"textcolor"),
         (BEGINNINGS, b"true"),
         (CALLS_ALONE, b"then try typedef"),
-        (PROGRAMS, b"test"),
+        (PROGRAMS, b"test trap"),
     ]),
     (b'u', &[
         (KEYS, b"ungetch"),
@@ -421,11 +427,13 @@ const ADVICE: [(u8, &[Row]); 29] = [
         (COMMAND_LINE, b"version"),
     ]),
     (b'w', &[
+        (SCREEN, b"wrapper"),
         (TEXTS, b"write writestr"),
         (ASCII, b"wunctrl"),
         (ERASED, b"wipe"),
         (WINDOWS, b"window win"),
         (WAITS, b"wait"),
+        (MENUS, b"whiptail"),
         (CALLS_ALONE, b"while with"),
     ]),
     (b'{', &[

@@ -1,10 +1,10 @@
-//! The call, or the name of curses, that a word was meant to be, where one letter of it is wrong, or two changed places,
-//! or its case, or what else is no letter.
+//! The call, or another name, that a word was meant to be, where one letter of it is wrong, or two changed places, or its
+//! case, or what else is no letter.
 
 ghost use Rattle.std.specs.Prelude.{◌≡◌, ◌≤◌, ◌<◌, ◌∷◌, [], IfSome, MatchOption, length, option_map};
 ghost use Rattle.std.specs.Str.{bytes_eq};
 ghost use Rattle.script.specs.Pieces.{pieces_of};
-ghost use Rattle.explain.specs.Nearest.{is_first_wrong, is_near, letters_of, nearest, nearest_of, nearest_of_curses};
+ghost use Rattle.explain.specs.Nearest.{is_first_wrong, is_near, letters_of, nearest, nearest_of, nearest_other};
 
 use script::split_at_space;
 
@@ -22,11 +22,12 @@ pub const CALLS: &[u8] =
 
 // End of what tools/calls wrote
 
-/// The names of curses that are written most, of those that scripts lack, with a space between any two.
-pub const NAMES_OF_CURSES: &[u8] =
+/// The names that are written most, of those that scripts lack, with a space between any two.
+pub const OTHER_NAMES: &[u8] =
     b"refresh wrefresh prefresh printw wprintw mvprintw mvwprintw waddstr mvaddstr mvwaddstr mvaddch mvwaddch \
     initscr endwin getch wgetch getstr noecho cbreak keypad start_color color_pair has_colors curs_set border \
-    wborder hline vline insstr resize standout standend timeout nodelay wattron wattroff";
+    wborder hline vline insstr resize standout standend timeout nodelay wattron wattroff print write window \
+    colour";
 
 /// The first letter of a text, in lower case, and what follows it.
 fn first_letter(text: &[u8]) -> Option<(u8, &[u8])>
@@ -114,10 +115,10 @@ pub fn nearest(word: &[u8]) -> Option<&'static [u8]>
     nearest_in(word, Some(CALLS))
 }
 
-/// The first of the names of curses that is near a word.
-pub fn nearest_of_curses(word: &[u8]) -> Option<&'static [u8]>
-    ensures name { option_map (λ name. name.now) result ≡ nearest_of_curses word.now }
+/// The first of the other names that is near a word.
+pub fn nearest_other(word: &[u8]) -> Option<&'static [u8]>
+    ensures name { option_map (λ name. name.now) result ≡ nearest_other word.now }
     ensures short { IfSome result (λ name. length name.now ≤ 80) }
 {
-    nearest_in(word, Some(NAMES_OF_CURSES))
+    nearest_in(word, Some(OTHER_NAMES))
 }

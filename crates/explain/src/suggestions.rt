@@ -8,7 +8,7 @@ ghost use Rattle.explain.specs.steps.Suggestions.{said_now};
 
 use crate::advice::advice_on;
 use crate::names::{after_name, begins_comment, is_name_byte, is_quoted};
-use crate::nearest::{nearest, nearest_of_curses};
+use crate::nearest::{nearest, nearest_other};
 use script::Word;
 
 /// What is said of a word, and a call that ends it, if it names one.
@@ -84,7 +84,7 @@ fn said_of_name<'a>(name: &'a [u8]) -> Option<Said<'a>>
     after_prefix(b"w", b"see ", name)
 }
 
-/// What is said of the call that is near a text, or else of the name of curses that is.
+/// What is said of the call that is near a text, or else of the other name that is.
 #[tactic(auto, unfolding(crate::specs::Advice::said_of_near))]
 fn said_of_near<'a>(text: &[u8]) -> Option<Said<'a>>
     ensures said { said_now result ≡ said_of_near text.now }
@@ -94,7 +94,7 @@ fn said_of_near<'a>(text: &[u8]) -> Option<Said<'a>>
     if let Some(said) = see_nearest(text) {
         return Some(said);
     }
-    match nearest_of_curses(text) {
+    match nearest_other(text) {
         Some(name) => said_of_name(name),
         None => None,
     }
