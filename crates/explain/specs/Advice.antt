@@ -1,10 +1,10 @@
 -- What to write for a name of curses, or a word of another language, that is no word of scripts. The texts are Curspan's own.
-use Rattle.std.specs.Prelude.{◌==◌, ◌||◌, ℕ, Bool, List, [], ◌∷◌, ◌++◌, codes, drop, find, is_some, length, Option, option_map, Some, None, take, unwrap_or, if◌then◌else◌}
-use Rattle.std.specs.Char.{is_ascii_alphanumeric, to_ascii_lowercase}
+use Rattle.std.specs.Prelude.{◌==◌, ◌||◌, ℕ, Bool, not, List, [], ◌∷◌, ◌++◌, codes, drop, find, is_some, length, Option, option_and_then, option_map, Some, None, take, unwrap_or, if◌then◌else◌}
+use Rattle.std.specs.Char.{is_ascii_alphanumeric, is_ascii_digit, to_ascii_lowercase}
 use Rattle.std.specs.List.{list_any, slice_split}
 use Rattle.std.specs.Str.{bytes_eq}
 use Rattle.script.specs.Characters.{is_space}
-use Rattle.explain.specs.Nearest.{nearest}
+use Rattle.explain.specs.Nearest.{nearest, nearest_other}
 use Rattle.script.specs.Words.{word_of}
 
 -- `_`
@@ -29,11 +29,11 @@ advised =
           ++ codes " getkey get_key key input gets getc getchar getche scanf kbhit key_up key_down key_left key_right"
           ++ codes " key_enter",
     )
-    ∷ (codes "no call reads the mouse", codes "getmouse ungetmouse mousemask mouseinterval has_mouse mouse_trafo enclose")
+    ∷ (codes "no call reads the mouse", codes "getmouse ungetmouse mousemask mouseinterval has_mouse mouse_trafo enclose mouse click")
     ∷ (
       codes "the screen is there from the first line on, and ends with the script",
       codes "initscr newterm new_prescr endwin isendwin delscreen set_term use_screen use_window exit_curses exit"
-          ++ codes " quit end bye stop close",
+          ++ codes " quit end bye stop close init initscreen init_screen start wrapper",
     )
     ∷ (
       codes "lines are drawn by the characters of addstr",
@@ -43,7 +43,7 @@ advised =
     ∷ (
       codes "see addstr",
       codes "addnstr addchstr addchnstr print println puts putstr put write writestr text say string addstring"
-          ++ codes " addtext",
+          ++ codes " addtext type print_at add_string add_text title label",
     )
     ∷ (codes "see insch", codes "insstr insnstr insert inschar inserch insertch")
     ∷ (codes "see insertln, deleteln", codes "insdelln insertline insline deleteline delline")
@@ -57,7 +57,7 @@ advised =
     ∷ (
       codes "see attrset, attron, attroff, color_set",
       codes "attr_set attr_on attr_off chgat attr attribute attributes bold dim underline blink reverse inverse"
-          ++ codes " a_bold a_dim a_underline a_blink a_reverse a_invis a_standout a_normal",
+          ++ codes " a_bold a_dim a_underline a_blink a_reverse a_invis a_standout a_normal highlight italic normal",
     )
     ∷ (codes "see inch, which answers those of a cell", codes "attr_get getattrs termattrs term_attrs")
     ∷ (
@@ -69,7 +69,7 @@ advised =
     ∷ (codes "a pair is its number: see init_pair, color_set", codes "alloc_pair find_pair free_pair color_pair pair_number")
     ∷ (codes "see scrl", codes "scroll scroll_up scroll_down scrollup scrolldown")
     ∷ (codes "see clearok, touchwin", codes "redrawwin redrawln")
-    ∷ (codes "see move", codes "cursyncup goto gotoxy cursor move_cursor movecursor setcursor set_cursor locate at mv moveto")
+    ∷ (codes "see move", codes "cursyncup goto gotoxy cursor move_cursor movecursor setcursor set_cursor locate at mv moveto up down left right")
     ∷ (codes "see getyx", codes "getcurx getcury getsyx getcursor get_cursor getpos")
     ∷ (codes "see getbegyx", codes "getbegx getbegy")
     ∷ (codes "see getparyx", codes "getparx getpary")
@@ -101,7 +101,7 @@ advised =
           ++ codes " vidattr vidputs vid_attr vid_puts ripoffline set_tabsize setsyx use_env use_tioctl filter nofilter"
           ++ codes " use_extended_names use_legacy_coding bell tput stty",
     )
-    ∷ (codes "nothing is saved or loaded", codes "scr_dump scr_init scr_restore scr_set getwin putwin")
+    ∷ (codes "nothing is saved or loaded", codes "scr_dump scr_init scr_restore scr_set getwin putwin save load")
     ∷ (codes "no call traces or names a version", codes "trace curses_trace curses_version")
     ∷ (codes "no call reads keys: to write, see addstr", codes "echo")
     ∷ (codes "see addch", codes "addchar addc putch putc putchar")
@@ -109,12 +109,12 @@ advised =
     ∷ (codes "see clear, erase", codes "cls clr clrscr clearscreen clear_screen clear_window wipe reset")
     ∷ (codes "see clrtobot", codes "clrtobottom clrtoeos")
     ∷ (codes "see clrtoeol", codes "clear_line clearline erase_line")
-    ∷ (codes "see update_panels, doupdate", codes "update update_screen updatescreen flush draw redraw render display show_screen sync")
+    ∷ (codes "see update_panels, doupdate", codes "update update_screen updatescreen flush draw redraw render display show_screen sync refresh_screen")
     ∷ (codes "see newwin", codes "window win newwindow new_window create_window createwin makewin mkwin openwin open_window")
     ∷ (codes "see delwin", codes "delwindow delete_window del_window destroy_window rmwin closewin close_window destroy delete")
     ∷ (codes "see mvwin, move_panel", codes "move_window move_win movewin movewindow")
     ∷ (codes "see new_panel", codes "panel create_panel add_panel make_panel")
-    ∷ (codes "see show_panel, hide_panel", codes "show hide show_window hide_window")
+    ∷ (codes "see show_panel, hide_panel", codes "show hide show_window hide_window panel_show panel_hide")
     ∷ (codes "see top_panel, bottom_panel", codes "raise lower front back raise_panel lower_panel focus top bottom")
     ∷ (codes "see setscrreg", codes "setscroll setscrollreg set_scroll_region scroll_region")
     ∷ (codes "see copywin, overwrite, overlay", codes "copy copywindow copy_window")
@@ -128,7 +128,7 @@ advised =
     ∷ (
       codes "there are no menus or forms",
       codes "menu new_menu free_menu post_menu unpost_menu menu_driver new_item free_item form new_form free_form"
-          ++ codes " post_form unpost_form form_driver new_field free_field",
+          ++ codes " post_form unpost_form form_driver new_field free_field button dialog whiptail",
     )
     ∷ (
       codes "a line begins with a call",
@@ -138,9 +138,18 @@ advised =
     ∷ (
       codes "a script has calls alone: no variables, loops or functions",
       codes "if then else elif fi for while until do done case esac switch break continue return int void char const"
-          ++ codes " static struct let local export set declare function def import from { }",
+          ++ codes " static struct let local export set declare function def import from { } begin repeat next try except"
+          ++ codes " pass with class fn var bool long unsigned enum typedef include using use my loop require",
     )
     ∷ (codes "a comment begins with #", codes "; % -- rem")
+    ∷ (
+      codes "a script runs no programs: each line of it is a call",
+      codes "ls cat cd pwd cp rm mkdir grep sed awk sudo sh bash python test source eval alias trap",
+    )
+    ∷ (codes "this belongs on the command line: a script has calls alone", codes "curspan ./curspan run paint check version")
+    ∷ (codes "curspan --help and the manual page, man curspan, give help", codes "help ? man info usage")
+    ∷ (codes "see newwin, newpad, new_panel", codes "new create make open")
+    ∷ (codes "see panel_above, panel_below", codes "panel_over panel_under panel_up panel_down above below")
     ∷ []
 
 -- the first row of a table that has the name
@@ -160,6 +169,9 @@ begins_with prefix text = bytes_eq (take (length prefix) text) prefix
 abbrev pub begins_comment : List ℕ → Bool
 begins_comment text = begins_with (codes "//") text || begins_with (codes "/*") text
 
+abbrev pub is_quoted : List ℕ → Bool
+is_quoted text = begins_with (codes "\"") text || begins_with (codes "'") text
+
 abbrev pub is_name_byte : ℕ → Bool
 is_name_byte b = is_ascii_alphanumeric b || b == underscore
 
@@ -167,6 +179,19 @@ is_name_byte b = is_ascii_alphanumeric b || b == underscore
 abbrev pub name_in : List ℕ → List ℕ
 name_in [] = []
 name_in (b ∷ bs) = if is_name_byte b then to_ascii_lowercase b ∷ name_in bs else []
+
+-- what follows a name
+abbrev pub after_name : List ℕ → List ℕ
+after_name [] = []
+after_name (b ∷ bs) = if is_name_byte b then after_name bs else b ∷ bs
+
+-- what follows a name and a dot; or else the word
+abbrev pub after_dot : List ℕ → List ℕ
+after_dot word = if begins_with (codes ".") (after_name word) then drop 1 (after_name word) else word
+
+-- the name of what a word calls: `win.refresh()`, `self.win.refresh()` and `refresh()` have the same
+abbrev pub called_name : List ℕ → List ℕ
+called_name word = name_in (after_dot (after_dot word))
 
 -- what is said of a name without its prefix: this, before it, if it is a call; else what the table has
 abbrev pub advice_on_rest : List ℕ → List ℕ → Option (List ℕ)
@@ -193,11 +218,39 @@ said_of_name name =
 abbrev pub see_nearest : List ℕ → Option (List ℕ)
 see_nearest word = option_map (λ name. codes "see " ++ name) (nearest word)
 
+-- the call that is near a text; or else what is said of the other name that is near it
+unfoldable pub said_of_near : List ℕ → Option (List ℕ)
+said_of_near text = or_else (see_nearest text) (option_and_then said_of_name (nearest_other text))
+
+-- of the name of what a word calls, where that isn't all of the word
+abbrev pub said_near_name : List ℕ → Option (List ℕ)
+said_near_name word = if length (called_name word) == length word then None else said_of_near (called_name word)
+
+-- of a word that begins with no letter, or that gives a value to a name
+abbrev pub said_of_marks : List ℕ → Option (List ℕ)
+said_of_marks word = if begins_with (codes "-") word then Some (codes "an option belongs on the command line, and a comment begins with #")
+    else (if begins_with (codes "$") word || begins_with (codes ">") word
+    then Some (codes "a script has no variables, prompts or redirections: a line begins with a call")
+    else (if is_quoted word then Some (codes "a text is an argument of addstr, without quotes; a comment begins with #")
+    else (if begins_with (codes "/") word || begins_with (codes "./") word then Some (codes "a script runs no programs: each line of it is a call")
+    else (if list_any is_ascii_digit (take 1 word) then Some (codes "a line begins with the name of its call, and numbers come after it")
+    else (if not (list_any is_name_byte (take 1 word)) then Some (codes "a line begins with the name of a call, and a comment with #")
+    else (if begins_with (codes "=") (after_name word) then Some (codes "a script has no variables: windows are numbered from 1 as they are made")
+    else None))))))
+
 -- of what begins a comment elsewhere, that # does here; or else what the table has of the word as it is; or else what is
--- said of its name; or else the nearest call
+-- said of the name of what it calls; or else of what the word is near, of its marks, or of what that name is near
 unfoldable pub said_of : List ℕ → Option (List ℕ)
 said_of word = if begins_comment word then Some (codes "a comment begins with #")
-    else or_else (advice_on word) (or_else (said_of_name (name_in word)) (see_nearest word))
+    else or_else (advice_on word)
+    (or_else (said_of_name (called_name word))
+    (or_else (said_of_near word)
+    (or_else (said_of_marks word)
+    (said_near_name word))))
+
+-- what a line is, said where nothing else is
+unfoldable pub line_advice : List ℕ
+line_advice = codes "a line is the name of a call and its arguments, as in addstr 0 hi; man curspan lists the calls"
 
 abbrev pub call_advice : List ℕ → List ℕ
-call_advice word = codes ": " ++ unwrap_or (said_of word) (codes "curspan(1) lists the calls")
+call_advice word = codes ": " ++ unwrap_or (said_of word) line_advice

@@ -1,8 +1,9 @@
--- The call that a word was meant to be: the first whose letters are the word's but for one, or two that changed places.
-use Rattle.std.specs.Prelude.{◌==◌, ◌&&◌, ◌||◌, ℕ, Bool, false, List, [], ◌∷◌, find, length, map, nat_le, Option, if◌then◌else◌}
+-- What a word was meant to be: the first name whose letters are the word's but for one, or two that changed places.
+use Rattle.std.specs.Prelude.{◌==◌, ◌&&◌, ◌||◌, ℕ, Bool, false, List, [], ◌∷◌, ◌++◌, codes, find, length, map, nat_le, Option, if◌then◌else◌}
 use Rattle.std.specs.Char.{is_ascii_alphabetic, to_ascii_lowercase}
-use Rattle.std.specs.List.{flat_map}
+use Rattle.std.specs.List.{flat_map, slice_split}
 use Rattle.std.specs.Str.{bytes_eq}
+use Rattle.script.specs.Characters.{is_space}
 use Rattle.script.specs.Words.{entry_of, words}
 
 -- the letters of a text, in lower case: `new_win`, `Newwin` and `newwin()` have the same
@@ -14,18 +15,37 @@ abbrev pub are_swapped : List ℕ → List ℕ → Bool
 are_swapped (a ∷ b ∷ letters) (c ∷ d ∷ others) = a == d && b == c && bytes_eq letters others
 are_swapped letters others = false
 
+-- one of the first two letters is dropped, added or changed, or it changes places with the next; the others are the same
+abbrev pub is_first_wrong : List ℕ → List ℕ → Bool
+is_first_wrong (a ∷ letters) (b ∷ others) =
+    bytes_eq letters others || bytes_eq letters (b ∷ others) || bytes_eq (a ∷ letters) others || are_swapped (a ∷ letters) (b ∷ others)
+is_first_wrong letters others = false
+
 -- Letters become others where at most one is dropped, added or changed, or it changes places with the next: where the
 -- first two differ, it is one of them.
 abbrev pub is_near : List ℕ → List ℕ → Bool
 is_near [] others = nat_le (length others) 1
 is_near (a ∷ letters) [] = length letters == 0
 is_near (a ∷ letters) (b ∷ others) = if a == b then is_near letters others
-    else bytes_eq letters others || bytes_eq letters (b ∷ others) || bytes_eq (a ∷ letters) others || are_swapped (a ∷ letters) (b ∷ others)
+    else is_first_wrong (a ∷ letters) (b ∷ others)
 
 -- the words of the calls
 abbrev pub call_words : List (List ℕ)
 call_words = map (λ w. (entry_of w).word) words
 
--- the first of them that is near a word
+-- the names that are written most, of those that scripts lack: of curses, and of other languages
+abbrev pub other_names : List (List ℕ)
+other_names = slice_split is_space (
+    codes "refresh wrefresh prefresh printw wprintw mvprintw mvwprintw waddstr mvaddstr mvwaddstr mvaddch mvwaddch"
+    ++ codes " initscr endwin getch wgetch getstr noecho cbreak keypad start_color color_pair has_colors curs_set border"
+    ++ codes " wborder hline vline insstr resize standout standend timeout nodelay wattron wattroff print write window colour")
+
+-- the first of some names that is near a word
+abbrev pub nearest_of : List (List ℕ) → List ℕ → Option (List ℕ)
+nearest_of names word = find (λ name. is_near (letters_of word) (letters_of name)) names
+
 abbrev pub nearest : List ℕ → Option (List ℕ)
-nearest word = find (λ name. is_near (letters_of word) (letters_of name)) call_words
+nearest word = nearest_of call_words word
+
+abbrev pub nearest_other : List ℕ → Option (List ℕ)
+nearest_other word = nearest_of other_names word

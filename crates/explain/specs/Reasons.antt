@@ -1,11 +1,11 @@
 -- What an argument of a form has to be, and why a byte or an argument is faulty. The texts are Curspan's own.
-use Rattle.std.specs.Prelude.{◌==◌, ◌&&◌, ◌||◌, ℕ, Bool, not, List, [], ◌++◌, codes, drop, length, slice_index, if◌then◌else◌}
+use Rattle.std.specs.Prelude.{◌==◌, ◌&&◌, ℕ, Bool, not, List, [], ◌++◌, codes, drop, length, slice_index, if◌then◌else◌}
 use Rattle.std.specs.Char.{is_ascii_digit, is_ascii_hexdigit, is_ascii_uppercase}
 use Rattle.std.specs.List.{list_all, list_any, take_while}
 use Rattle.std.specs.Str.{bytes_eq}
 use Rattle.std.specs.Str.Parse.{digits_value}
 use Rattle.script.specs.Characters.{carriage_return, digit_0}
-use Rattle.explain.specs.Advice.{begins_with, names_in}
+use Rattle.explain.specs.Advice.{begins_with, is_quoted, names_in}
 use Rattle.script.specs.declared.words.Form.{Form}
 use Rattle.script.specs.declared.words.Form.TheVariants.{Number, NumberOrNone, Signed, Attributes, Flag, Character, Text}
 
@@ -65,9 +65,6 @@ has_byte byte text = list_any (λ b. b == byte) text
 -- one of some names, with a space between any two
 abbrev pub is_one_of : List ℕ → List ℕ → Bool
 is_one_of names text = list_any (bytes_eq text) (names_in names)
-
-abbrev pub is_quoted : List ℕ → Bool
-is_quoted text = begins_with (codes "\"") text || begins_with (codes "'") text
 
 -- the marks of other languages that an argument may not have; where it has none, this is said
 abbrev pub mark_reason : List ℕ → List ℕ → List ℕ

@@ -93,21 +93,37 @@ const CHARACTERS: &[u8] = b"see addch";
 
 const LINE_ERASED: &[u8] = b"see clrtoeol";
 
+const PROGRAMS: &[u8] = b"a script runs no programs: each line of it is a call";
+
+const COMMAND_LINE: &[u8] = b"this belongs on the command line: a script has calls alone";
+
+const HELP: &[u8] = b"curspan --help and the manual page, man curspan, give help";
+
+const MADE: &[u8] = b"see newwin, newpad, new_panel";
+
+const PANELS_NEAR: &[u8] = b"see panel_above, panel_below";
+
 /// Names of curses, and words of other languages, that are no words of scripts, by their first bytes.
 #[rattlefmt::skip]
-const ADVICE: [(u8, &[Row]); 27] = [
+const ADVICE: [(u8, &[Row]); 29] = [
     (b'%', &[
         (COMMENT, b"%"),
     ]),
     (b'-', &[
         (COMMENT, b"--"),
     ]),
+    (b'.', &[
+        (COMMAND_LINE, b"./curspan"),
+    ]),
     (b';', &[
         (COMMENT, b";"),
     ]),
+    (b'?', &[
+        (HELP, b"?"),
+    ]),
     (b'a', &[
         (LINES, b"acs_hline acs_vline"),
-        (TEXTS, b"addnstr addchstr addchnstr addstring addtext"),
+        (TEXTS, b"addnstr addchstr addchnstr addstring addtext add_string add_text"),
         (ATTRIBUTES,
             b"attr_set attr_on attr_off attr attribute attributes a_bold a_dim a_underline a_blink a_reverse \
             a_invis a_standout a_normal"),
@@ -118,6 +134,8 @@ const ADVICE: [(u8, &[Row]); 27] = [
         (ASCII, b"add_wch add_wchstr add_wchnstr addwstr addnwstr"),
         (CHARACTERS, b"addchar addc"),
         (PANELS, b"add_panel"),
+        (PROGRAMS, b"awk alias"),
+        (PANELS_NEAR, b"above"),
     ]),
     (b'b', &[
         (SCREEN, b"bye"),
@@ -128,10 +146,14 @@ const ADVICE: [(u8, &[Row]); 27] = [
         (TERMINAL, b"baudrate beep bell"),
         (RAISED, b"back bottom"),
         (COLOURED, b"bg"),
-        (CALLS_ALONE, b"break"),
+        (MENUS, b"button"),
+        (CALLS_ALONE, b"break begin bool"),
+        (PROGRAMS, b"bash"),
+        (PANELS_NEAR, b"below"),
     ]),
     (b'c', &[
         (KEYS, b"cbreak"),
+        (MOUSE, b"click"),
         (SCREEN, b"close"),
         (ATTRIBUTES, b"chgat"),
         (COLOURS, b"can_change_color"),
@@ -152,7 +174,10 @@ const ADVICE: [(u8, &[Row]); 27] = [
         (BEGINNINGS,
             b"curscr cols color_black color_red color_green color_yellow color_blue color_magenta color_cyan \
             color_white curses"),
-        (CALLS_ALONE, b"case continue char const"),
+        (CALLS_ALONE, b"case continue char const class"),
+        (PROGRAMS, b"cat cd cp"),
+        (COMMAND_LINE, b"curspan check"),
+        (MADE, b"create"),
     ]),
     (b'd', &[
         (KEYS, b"define_key"),
@@ -161,11 +186,13 @@ const ADVICE: [(u8, &[Row]); 27] = [
         (LINES_INSERTED, b"deleteline delline"),
         (b"see newwin, overwrite", b"dupwin"),
         (ATTRIBUTES, b"dim"),
+        (CURSOR, b"down"),
         (TERMINAL, b"def_prog_mode def_shell_mode"),
         (b"see delch", b"delchar deletech deletechar"),
         (UPDATES, b"draw display"),
         (DELETED, b"delwindow delete_window del_window destroy_window destroy delete"),
         (WAITS, b"delay delay_output"),
+        (MENUS, b"dialog"),
         (CALLS_ALONE, b"do done declare def"),
     ]),
     (b'e', &[
@@ -178,7 +205,8 @@ const ADVICE: [(u8, &[Row]); 27] = [
         (LABELS, b"extended_slk_color"),
         (b"no call reads keys: to write, see addstr", b"echo"),
         (LINE_ERASED, b"erase_line"),
-        (CALLS_ALONE, b"else elif esac export"),
+        (CALLS_ALONE, b"else elif esac export except enum"),
+        (PROGRAMS, b"eval"),
     ]),
     (b'f', &[
         (KEYS, b"flushinp"),
@@ -191,7 +219,7 @@ const ADVICE: [(u8, &[Row]); 27] = [
         (COLOURED, b"fg foreground"),
         (MENUS, b"free_menu free_item form free_form form_driver free_field"),
         (BEGINNINGS, b"false"),
-        (CALLS_ALONE, b"fi for function from"),
+        (CALLS_ALONE, b"fi for function from fn"),
     ]),
     (b'g', &[
         (KEYS, b"getch getstr getnstr get_escdelay getkey get_key gets getc getchar getche"),
@@ -207,24 +235,27 @@ const ADVICE: [(u8, &[Row]); 27] = [
         (b"see panel_above, with none", b"ground_panel"),
         (ASCII, b"get_wch get_wstr getn_wstr getbkgrnd getcchar"),
         (SAVED, b"getwin"),
+        (PROGRAMS, b"grep"),
     ]),
     (b'h', &[
         (KEYS, b"halfdelay has_key"),
         (MOUSE, b"has_mouse"),
         (LINES, b"hline"),
+        (ATTRIBUTES, b"highlight"),
         (COLOURS, b"has_colors"),
         (ASCII, b"hline_set"),
         (TERMINAL, b"has_ic has_il"),
         (SHOWN, b"hide hide_window"),
+        (HELP, b"help"),
     ]),
     (b'i', &[
         (KEYS, b"intrflush input"),
-        (SCREEN, b"initscr isendwin"),
+        (SCREEN, b"initscr isendwin init initscreen init_screen"),
         (b"see insch", b"insstr insnstr insert inschar inserch insertch"),
         (LINES_INSERTED, b"insdelln insertline insline"),
         (b"see inch", b"instr innstr inchstr inchnstr inchar"),
         (SIZE, b"is_term_resized"),
-        (ATTRIBUTES, b"inverse"),
+        (ATTRIBUTES, b"inverse italic"),
         (COLOURS, b"init_color init_extended_color init_extended_pair"),
         (FLAGS, b"immedok idlok idcok"),
         (SETTINGS,
@@ -232,7 +263,8 @@ const ADVICE: [(u8, &[Row]); 27] = [
             is_scrollok is_subwin is_syncok"),
         (ASCII, b"in_wch in_wchstr in_wchnstr innwstr ins_nwstr ins_wch ins_wstr inwstr"),
         (b"see is_wintouched, is_linetouched", b"is_touched istouched"),
-        (CALLS_ALONE, b"if int import"),
+        (CALLS_ALONE, b"if int import include"),
+        (HELP, b"info"),
     ]),
     (b'k', &[
         (KEYS,
@@ -242,16 +274,19 @@ const ADVICE: [(u8, &[Row]); 27] = [
     ]),
     (b'l', &[
         (LINES, b"line"),
-        (CURSOR, b"locate"),
+        (TEXTS, b"label"),
+        (CURSOR, b"locate left"),
         (FLAGS, b"leaveok"),
         (TERMINAL, b"longname"),
+        (SAVED, b"load"),
         (RAISED, b"lower lower_panel"),
         (BEGINNINGS, b"lines"),
-        (CALLS_ALONE, b"let local"),
+        (CALLS_ALONE, b"let local long loop"),
+        (PROGRAMS, b"ls"),
     ]),
     (b'm', &[
         (KEYS, b"meta"),
-        (MOUSE, b"mousemask mouseinterval mouse_trafo"),
+        (MOUSE, b"mousemask mouseinterval mouse_trafo mouse"),
         (CURSOR, b"move_cursor movecursor mv moveto"),
         (TERMINAL, b"mcprint mvcur"),
         (WINDOWS, b"makewin mkwin"),
@@ -259,24 +294,32 @@ const ADVICE: [(u8, &[Row]); 27] = [
         (PANELS, b"make_panel"),
         (WAITS, b"msleep"),
         (MENUS, b"menu menu_driver"),
+        (CALLS_ALONE, b"my"),
+        (PROGRAMS, b"mkdir"),
+        (HELP, b"man"),
+        (MADE, b"make"),
     ]),
     (b'n', &[
         (KEYS, b"nodelay notimeout nocbreak noecho noraw nl nonl noqiflush"),
         (SCREEN, b"newterm new_prescr"),
+        (ATTRIBUTES, b"normal"),
         (TERMINAL, b"nofilter"),
         (WINDOWS, b"newwindow new_window"),
         (WAITS, b"napms"),
         (MENUS, b"new_menu new_item new_form new_field"),
         (BEGINNINGS, b"newscr null"),
+        (CALLS_ALONE, b"next"),
+        (MADE, b"new"),
     ]),
     (b'o', &[
         (WINDOWS, b"openwin open_window"),
+        (MADE, b"open"),
     ]),
     (b'p', &[
         (b"see pnoutrefresh, doupdate", b"prefresh"),
         (ECHOED, b"pechochar"),
         (FORMATS, b"printw printf"),
-        (TEXTS, b"print println puts putstr put"),
+        (TEXTS, b"print println puts putstr put print_at"),
         (CONTENTS, b"pair_content"),
         (PAIRS, b"pair_number"),
         (POINTERS, b"panel_userptr"),
@@ -285,9 +328,14 @@ const ADVICE: [(u8, &[Row]); 27] = [
         (SAVED, b"putwin"),
         (CHARACTERS, b"putch putc putchar"),
         (PANELS, b"panel"),
+        (SHOWN, b"panel_show panel_hide"),
         (COLOURED, b"pair"),
         (WAITS, b"pause"),
         (MENUS, b"post_menu post_form"),
+        (CALLS_ALONE, b"pass"),
+        (PROGRAMS, b"pwd python"),
+        (COMMAND_LINE, b"paint"),
+        (PANELS_NEAR, b"panel_over panel_under panel_up panel_down"),
     ]),
     (b'q', &[
         (KEYS, b"qiflush"),
@@ -301,17 +349,20 @@ const ADVICE: [(u8, &[Row]); 27] = [
         (ATTRIBUTES, b"reverse"),
         (COLOURS, b"reset_color_pairs"),
         (b"see clearok, touchwin", b"redrawwin redrawln"),
+        (CURSOR, b"right"),
         (TERMINAL, b"reset_prog_mode reset_shell_mode resetty ripoffline"),
         (ERASED, b"reset"),
-        (UPDATES, b"redraw render"),
+        (UPDATES, b"redraw render refresh_screen"),
         (DELETED, b"rmwin"),
         (RAISED, b"raise raise_panel"),
-        (CALLS_ALONE, b"return"),
+        (CALLS_ALONE, b"return repeat require"),
         (COMMENT, b"rem"),
+        (PROGRAMS, b"rm"),
+        (COMMAND_LINE, b"run"),
     ]),
     (b's', &[
         (KEYS, b"scanw set_escdelay scanf"),
-        (SCREEN, b"set_term stop"),
+        (SCREEN, b"set_term stop start"),
         (FORMATS, b"sprintf"),
         (TEXTS, b"say string"),
         (BACKGROUND, b"setbkgd"),
@@ -328,7 +379,7 @@ const ADVICE: [(u8, &[Row]); 27] = [
             b"slk_attr slk_attr_off slk_attr_on slk_attr_set slk_attroff slk_attron slk_attrset slk_clear \
             slk_color slk_init slk_label slk_noutrefresh slk_refresh slk_restore slk_set slk_touch slk_wset"),
         (TERMINAL, b"savetty set_tabsize setsyx stty"),
-        (SAVED, b"scr_dump scr_init scr_restore scr_set"),
+        (SAVED, b"scr_dump scr_init scr_restore scr_set save"),
         (UPDATES, b"show_screen sync"),
         (SHOWN, b"show show_window"),
         (b"see setscrreg", b"setscroll setscrollreg set_scroll_region scroll_region"),
@@ -336,10 +387,11 @@ const ADVICE: [(u8, &[Row]); 27] = [
         (WAITS, b"sleep"),
         (BEGINNINGS, b"stdscr"),
         (CALLS_ALONE, b"switch static struct set"),
+        (PROGRAMS, b"sed sudo sh source"),
     ]),
     (b't', &[
         (KEYS, b"timeout typeahead"),
-        (TEXTS, b"text"),
+        (TEXTS, b"text type title"),
         (RENDITION, b"termattrs term_attrs"),
         (TERMINAL, b"termname tigetflag tigetnum tigetstr tiparm tparm tput"),
         (TRACES, b"trace"),
@@ -347,7 +399,8 @@ const ADVICE: [(u8, &[Row]); 27] = [
         (b"see touchwin", b"touch touchwindow touch_window"),
         (COLOURED, b"textcolor"),
         (BEGINNINGS, b"true"),
-        (CALLS_ALONE, b"then"),
+        (CALLS_ALONE, b"then try typedef"),
+        (PROGRAMS, b"test trap"),
     ]),
     (b'u', &[
         (KEYS, b"ungetch"),
@@ -355,12 +408,14 @@ const ADVICE: [(u8, &[Row]); 27] = [
         (SCREEN, b"use_screen use_window"),
         (ATTRIBUTES, b"underline"),
         (COLOURS, b"use_default_colors"),
+        (CURSOR, b"up"),
         (ASCII, b"unget_wch"),
         (TERMINAL, b"use_env use_tioctl use_extended_names use_legacy_coding"),
         (UPDATES, b"update update_screen updatescreen"),
         (WAITS, b"usleep"),
         (MENUS, b"unpost_menu unpost_form"),
-        (CALLS_ALONE, b"until"),
+        (CALLS_ALONE, b"until unsigned using use"),
+        (HELP, b"usage"),
     ]),
     (b'v', &[
         (KEYS, b"vwscanw vw_scanw"),
@@ -368,15 +423,18 @@ const ADVICE: [(u8, &[Row]); 27] = [
         (FORMATS, b"vwprintw vw_printw vsscanf"),
         (ASCII, b"vline_set"),
         (TERMINAL, b"vidattr vidputs vid_attr vid_puts"),
-        (CALLS_ALONE, b"void"),
+        (CALLS_ALONE, b"void var"),
+        (COMMAND_LINE, b"version"),
     ]),
     (b'w', &[
+        (SCREEN, b"wrapper"),
         (TEXTS, b"write writestr"),
         (ASCII, b"wunctrl"),
         (ERASED, b"wipe"),
         (WINDOWS, b"window win"),
         (WAITS, b"wait"),
-        (CALLS_ALONE, b"while"),
+        (MENUS, b"whiptail"),
+        (CALLS_ALONE, b"while with"),
     ]),
     (b'{', &[
         (CALLS_ALONE, b"{"),

@@ -1,13 +1,13 @@
 //! What a person reads about a faulty line: where its fault is, what is there, and what is wanted.
 
 ghost use Rattle.std.specs.Prelude.{◌≡◌, ◌≤◌, ◌+◌, ◌++◌, ◌<◌, codes, decimal, length, option_map};
-ghost use Rattle.explain.specs.Advice.{call_advice};
+ghost use Rattle.explain.specs.Advice.{call_advice, line_advice};
 ghost use Rattle.explain.specs.Faults.{IllFormed as Ill};
 ghost use Rattle.explain.specs.Explanations.{bad_byte_text, bad_line_text, count_text, explanation, finding, ill_formed_text, number_advice, number_text, quotation, signature_text, stray_text, unknown_text};
 
 use crate::arguments::{IllFormed, Stray, count, find_ill_formed, find_stray, forms_of};
 use crate::column::{bad_byte, column_of};
-use crate::names::{begins_comment, name_of};
+use crate::names::{after_dot, begins_comment, name_of};
 use crate::reasons::{byte_advice, reason, requirement_of};
 use crate::signatures::names_of_arguments;
 use crate::suggestions::said_of;
@@ -78,6 +78,15 @@ fn append_bad_byte(text: &mut Finding, byte: u8)
     append(text, byte_advice(byte));
 }
 
+/// What is said where nothing else is.
+#[tactic(auto, unfolding(crate::specs::Advice::line_advice))]
+fn line_advice() -> &'static [u8]
+    ensures text { result.now ≡ line_advice }
+    ensures short { length result.now ≤ 100 }
+{
+    b"a line is the name of a call and its arguments, as in addstr 0 hi; man curspan lists the calls"
+}
+
 /// Appends what to write for a word that is no call.
 fn append_advice(text: &mut Finding, word: &[u8])
     requires room { length text.old.items ≤ 600 }
@@ -85,14 +94,14 @@ fn append_advice(text: &mut Finding, word: &[u8])
     ensures text { text.new.items ≡ text.old.items ++ call_advice word.now }
     ensures short { length text.new.items < FINDING_ROOM }
 {
-    let name = name_of(word);
+    let name = name_of(after_dot(after_dot(word)));
     append(text, b": ");
     match said_of(word, name.as_slice()) {
         Some(said) => {
             append(text, said.text);
             append(text, said.call);
         }
-        None => append(text, b"curspan(1) lists the calls"),
+        None => append(text, line_advice()),
     }
 }
 

@@ -1,7 +1,7 @@
-//! The name that a word begins with, and what begins a comment in other languages.
+//! The name that a word begins with, and the marks of other languages in it.
 
 ghost use Rattle.std.specs.Prelude.{◌≡◌, ◌≤◌, length};
-ghost use Rattle.explain.specs.Advice.{begins_comment, is_name_byte, name_in};
+ghost use Rattle.explain.specs.Advice.{after_dot, after_name, begins_comment, is_name_byte, is_quoted, name_in};
 
 use arrayvec::ArrayVec;
 use script::LONGEST_LINE;
@@ -16,8 +16,15 @@ pub fn begins_comment(text: &[u8]) -> bool
     text.strip_prefix(b"//").is_some() || text.strip_prefix(b"/*").is_some()
 }
 
+/// Whether a text begins with a quote.
+pub fn is_quoted(text: &[u8]) -> bool
+    ensures { result ≡ is_quoted text.now }
+{
+    text.strip_prefix(b"\"").is_some() || text.strip_prefix(b"'").is_some()
+}
+
 /// Whether a name may have a byte.
-fn is_name_byte(byte: u8) -> bool
+pub fn is_name_byte(byte: u8) -> bool
     ensures { result ≡ is_name_byte byte }
 {
     byte.is_ascii_alphanumeric() || byte == b'_'
@@ -39,4 +46,30 @@ pub fn name_of(word: &[u8]) -> Name
         left = rest;
     }
     name
+}
+
+/// What follows the name that a word begins with.
+pub fn after_name(word: &[u8]) -> &[u8]
+    ensures text { result.now ≡ after_name word.now }
+    ensures short { length result.now ≤ length word.now }
+{
+    let mut left = word;
+    while let Some((first, rest)) = left.split_first() {
+        if !is_name_byte(*first) {
+            return left;
+        }
+        left = rest;
+    }
+    left
+}
+
+/// What follows a name and a dot; or else the word.
+pub fn after_dot(word: &[u8]) -> &[u8]
+    ensures text { result.now ≡ after_dot word.now }
+    ensures short { length result.now ≤ length word.now }
+{
+    match after_name(word).strip_prefix(b".") {
+        Some(rest) => rest,
+        None => word,
+    }
 }

@@ -1,10 +1,10 @@
-//! The call that a word was meant to be, where one letter of it is wrong, or two changed places, or its case, or what
-//! else is no letter.
+//! The call, or another name, that a word was meant to be, where one letter of it is wrong, or two changed places, or its
+//! case, or what else is no letter.
 
-ghost use Rattle.std.specs.Prelude.{◌≡◌, ◌≤◌, ◌<◌, ◌∷◌, [], IfSome, MatchOption, find, length, option_map};
+ghost use Rattle.std.specs.Prelude.{◌≡◌, ◌≤◌, ◌<◌, ◌∷◌, [], IfSome, MatchOption, length, option_map};
 ghost use Rattle.std.specs.Str.{bytes_eq};
 ghost use Rattle.script.specs.Pieces.{pieces_of};
-ghost use Rattle.explain.specs.Nearest.{are_swapped, is_near, letters_of, nearest};
+ghost use Rattle.explain.specs.Nearest.{is_first_wrong, is_near, letters_of, nearest, nearest_of, nearest_other};
 
 use script::split_at_space;
 
@@ -21,6 +21,13 @@ pub const CALLS: &[u8] =
     touchline touchln top_panel untouchwin update_panels";
 
 // End of what tools/calls wrote
+
+/// The names that are written most, of those that scripts lack, with a space between any two.
+pub const OTHER_NAMES: &[u8] =
+    b"refresh wrefresh prefresh printw wprintw mvprintw mvwprintw waddstr mvaddstr mvwaddstr mvaddch mvwaddch \
+    initscr endwin getch wgetch getstr noecho cbreak keypad start_color color_pair has_colors curs_set border \
+    wborder hline vline insstr resize standout standend timeout nodelay wattron wattroff print write window \
+    colour";
 
 /// The first letter of a text, in lower case, and what follows it.
 fn first_letter(text: &[u8]) -> Option<(u8, &[u8])>
@@ -50,23 +57,24 @@ fn has_letters_of(text: &[u8], other: &[u8]) -> bool
     }
 }
 
-/// Whether two texts have the same letters but for the first two, which change places.
-fn are_swapped(text: &[u8], other: &[u8]) -> bool
-    ensures { result ≡ are_swapped (letters_of text.now) (letters_of other.now) }
+/// Whether texts have the same letters where the first letter of one, which is given with what follows it, is dropped,
+/// added or changed, or changes places with the next.
+fn is_first_wrong(letter: u8, rest: &[u8], other_letter: u8, others: &[u8]) -> bool
+    ensures { result ≡ is_first_wrong (letter ∷ letters_of rest.now) (other_letter ∷ letters_of others.now) }
 {
-    let Some((first, rest)) = first_letter(text) else {
-        return false;
-    };
-    let Some((other_first, others)) = first_letter(other) else {
-        return false;
-    };
-    let Some((second, rest)) = first_letter(rest) else {
-        return false;
-    };
-    let Some((other_second, others)) = first_letter(others) else {
-        return false;
-    };
-    first == other_second && second == other_first && has_letters_of(rest, others)
+    match (first_letter(rest), first_letter(others)) {
+        (None, None) => true,
+        (Some((second, after)), None) => { second == other_letter && first_letter(after).is_none() }
+        (None, Some((other_second, afters))) => {
+            letter == other_second && first_letter(afters).is_none()
+        }
+        (Some((second, after)), Some((other_second, afters))) => {
+            second == other_second && has_letters_of(after, afters)
+                || second == other_letter && has_letters_of(after, others)
+                || letter == other_second && has_letters_of(rest, afters)
+                || letter == other_second && second == other_letter && has_letters_of(after, afters)
+        }
+    }
 }
 
 /// Whether the letters of two texts are the same, but for one at most that is dropped, added or changed, or changes
@@ -82,10 +90,7 @@ fn is_near(text: &[u8], other: &[u8]) -> bool
             if letter == other_letter {
                 is_near(rest, others)
             } else {
-                has_letters_of(rest, others)
-                    || has_letters_of(rest, other)
-                    || has_letters_of(text, others)
-                    || are_swapped(text, other)
+                is_first_wrong(letter, rest, other_letter, others)
             }
         }
     }
@@ -93,7 +98,7 @@ fn is_near(text: &[u8], other: &[u8]) -> bool
 
 /// The first of some names that is near a word.
 fn nearest_in(word: &[u8], names: Option<&'static [u8]>) -> Option<&'static [u8]>
-    ensures { option_map (λ name. name.now) result ≡ find (λ name. is_near (letters_of word.now) (letters_of name)) (pieces_of names.entry) }
+    ensures { option_map (λ name. name.now) result ≡ nearest_of (pieces_of names.entry) word.now }
 {
     let (first, rest) = split_at_space(names?);
     if is_near(word, first) {
@@ -108,4 +113,12 @@ pub fn nearest(word: &[u8]) -> Option<&'static [u8]>
     ensures short { IfSome result (λ name. length name.now ≤ 80) }
 {
     nearest_in(word, Some(CALLS))
+}
+
+/// The first of the other names that is near a word.
+pub fn nearest_other(word: &[u8]) -> Option<&'static [u8]>
+    ensures name { option_map (λ name. name.now) result ≡ nearest_other word.now }
+    ensures short { IfSome result (λ name. length name.now ≤ 80) }
+{
+    nearest_in(word, Some(OTHER_NAMES))
 }

@@ -3,9 +3,10 @@
 ghost use Rattle.std.specs.Prelude.{◌≡◌, ◌≤◌, length};
 ghost use Rattle.std.specs.Char.{is_ascii_hexdigit, is_ascii_uppercase};
 ghost use Rattle.std.specs.List.{list_all, list_any};
-ghost use Rattle.explain.specs.Reasons.{are_digits, are_two_digits, attributes_reason, byte_advice, character_reason, digits_reason, flag_reason, has_byte, is_quoted, mark_reason, name_reason, reason, requirement, requirement_of, signed_reason, text_reason, unless_missing, unsigned_or_none_reason, unsigned_reason};
+ghost use Rattle.explain.specs.Reasons.{are_digits, are_two_digits, attributes_reason, byte_advice, character_reason, digits_reason, flag_reason, has_byte, mark_reason, name_reason, reason, requirement, requirement_of, signed_reason, text_reason, unless_missing, unsigned_or_none_reason, unsigned_reason};
 
 use crate::advice::is_among;
+use crate::names::is_quoted;
 use script::{Form, has_digits_alone};
 
 /// What is said of a bad byte: a carriage return, a tab, a backspace, an escape, a 0, or another.
@@ -80,13 +81,6 @@ fn has_byte(text: &[u8], byte: u8) -> bool
     ensures { result ≡ has_byte byte text.now }
 {
     text.iter().any(|b| *b == byte)
-}
-
-/// Whether a text begins with a quote.
-fn is_quoted(text: &[u8]) -> bool
-    ensures { result ≡ is_quoted text.now }
-{
-    text.strip_prefix(b"\"").is_some() || text.strip_prefix(b"'").is_some()
 }
 
 /// The marks of other languages that an argument may not have; where it has none, this is said.

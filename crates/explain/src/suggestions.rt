@@ -1,12 +1,14 @@
 //! What to write for a word that is no call.
 
-ghost use Rattle.std.specs.Prelude.{◌≡◌, ◌≤◌, ◌+◌, IfSome, length};
-ghost use Rattle.explain.specs.Advice.{advice_on_rest, after_prefix, name_in, said_of, said_of_name, see_nearest};
+ghost use Rattle.std.specs.Prelude.{◌≡◌, ◌≤◌, ◌+◌, IfSome, length, option_map, take};
+ghost use Rattle.std.specs.Char.{is_ascii_digit};
+ghost use Rattle.std.specs.List.{list_any};
+ghost use Rattle.explain.specs.Advice.{advice_on_rest, after_prefix, called_name, is_name_byte, said_near_name, said_of, said_of_marks, said_of_name, said_of_near, see_nearest};
 ghost use Rattle.explain.specs.steps.Suggestions.{said_now};
 
 use crate::advice::advice_on;
-use crate::names::begins_comment;
-use crate::nearest::nearest;
+use crate::names::{after_name, begins_comment, is_name_byte, is_quoted};
+use crate::nearest::{nearest, nearest_other};
 use script::Word;
 
 /// What is said of a word, and a call that ends it, if it names one.
@@ -82,10 +84,90 @@ fn said_of_name<'a>(name: &'a [u8]) -> Option<Said<'a>>
     after_prefix(b"w", b"see ", name)
 }
 
-/// What is said of a word that is no call, and that begins with a name.
+/// What is said of the call that is near a text, or else of the other name that is.
+#[tactic(auto, unfolding(crate::specs::Advice::said_of_near))]
+fn said_of_near<'a>(text: &[u8]) -> Option<Said<'a>>
+    ensures said { said_now result ≡ said_of_near text.now }
+    ensures short { IfSome result (λ s. length s.text.now ≤ 80) }
+    ensures call { IfSome result (λ s. length s.call.now ≤ 80) }
+{
+    if let Some(said) = see_nearest(text) {
+        return Some(said);
+    }
+    match nearest_other(text) {
+        Some(name) => said_of_name(name),
+        None => None,
+    }
+}
+
+/// What is said of what the name of a word's call is near, where that isn't all of the word.
+fn said_near_name<'a>(word: &[u8], name: &[u8]) -> Option<Said<'a>>
+    requires { name.now ≡ called_name word.now }
+    ensures said { said_now result ≡ said_near_name word.now }
+    ensures short { IfSome result (λ s. length s.text.now ≤ 80) }
+    ensures call { IfSome result (λ s. length s.call.now ≤ 80) }
+{
+    if name.len() == word.len() {
+        return None;
+    }
+    said_of_near(name)
+}
+
+/// Whether a word begins with a digit.
+fn begins_with_digit(word: &[u8]) -> bool
+    ensures { result ≡ list_any is_ascii_digit (take 1 word.now) }
+{
+    match word.first() {
+        Some(first) => first.is_ascii_digit(),
+        None => false,
+    }
+}
+
+/// Whether a word begins with what a name may have.
+fn begins_with_name(word: &[u8]) -> bool
+    ensures { result ≡ list_any is_name_byte (take 1 word.now) }
+{
+    match word.first() {
+        Some(first) => is_name_byte(*first),
+        None => false,
+    }
+}
+
+/// What is said of a word that begins with no letter, or that gives a value to a name.
+fn said_of_marks(word: &[u8]) -> Option<&'static [u8]>
+    ensures said { option_map (λ text. text.now) result ≡ said_of_marks word.now }
+    ensures short { IfSome result (λ text. length text.now ≤ 80) }
+{
+    if word.strip_prefix(b"-").is_some() {
+        return Some(b"an option belongs on the command line, and a comment begins with #");
+    }
+    if word.strip_prefix(b"$").is_some() || word.strip_prefix(b">").is_some() {
+        return Some(
+            b"a script has no variables, prompts or redirections: a line begins with a call",
+        );
+    }
+    if is_quoted(word) {
+        return Some(b"a text is an argument of addstr, without quotes; a comment begins with #");
+    }
+    if word.strip_prefix(b"/").is_some() || word.strip_prefix(b"./").is_some() {
+        return Some(b"a script runs no programs: each line of it is a call");
+    }
+    if begins_with_digit(word) {
+        return Some(b"a line begins with the name of its call, and numbers come after it");
+    }
+    if !begins_with_name(word) {
+        return Some(b"a line begins with the name of a call, and a comment with #");
+    }
+    if after_name(word).strip_prefix(b"=").is_some() {
+        return Some(b"a script has no variables: windows are numbered from 1 as they are made");
+    }
+    None
+}
+
+/// What is said of a word that is no call, with the name of what it calls.
 #[tactic(auto, unfolding(crate::specs::Advice::said_of))]
 pub fn said_of<'a>(word: &[u8], name: &'a [u8]) -> Option<Said<'a>>
-    requires { name.now ≡ name_in word.now }
+    requires { name.now ≡ called_name word.now }
     ensures said { said_now result ≡ said_of word.now }
     ensures short { IfSome result (λ s. length s.text.now ≤ 80) }
     ensures call { IfSome result (λ s. length s.call.now ≤ length name.now + 80) }
@@ -102,5 +184,11 @@ pub fn said_of<'a>(word: &[u8], name: &'a [u8]) -> Option<Said<'a>>
     if let Some(said) = said_of_name(name) {
         return Some(said);
     }
-    see_nearest(word)
+    if let Some(said) = said_of_near(word) {
+        return Some(said);
+    }
+    if let Some(text) = said_of_marks(word) {
+        return Some(Said { text, call: b"" });
+    }
+    said_near_name(word, name)
 }

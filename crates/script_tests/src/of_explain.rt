@@ -8,13 +8,21 @@ use world::Call;
 
 /// Faulty lines, and what is said of each.
 #[rattlefmt::skip]
-static FINDINGS: [(TextFault, &[u8], &str); 10] = [
+static FINDINGS: [(TextFault, &[u8], &str); 14] = [
     (TextFault::LineTooLong, b"", "line 12, column 513: the line is longer than 512 bytes\n"),
     (TextFault::BadByte, b"addstr 0 hi\r", "line 12, column 12: bad byte 0d: a line ends with a newline alone\n"),
-    (TextFault::UnknownCall, b"fly 0", "line 12, column 1: unknown call \"fly\": curspan(1) lists the calls\n"),
+    (TextFault::UnknownCall, b"fly 0", "line 12, column 1: unknown call \"fly\": a line is the name of a call and its arguments, as in addstr 0 hi; man curspan lists the calls\n"),
     (TextFault::UnknownCall, b"wrefresh 1", "line 12, column 1: unknown call \"wrefresh\": see noutrefresh, doupdate\n"),
     (TextFault::UnknownCall, b"REFRESH();", "line 12, column 1: unknown call \"REFRESH();\": see noutrefresh, doupdate\n"),
     (TextFault::UnknownCall, b"mvwaddch 0 1 1 h", "line 12, column 1: unknown call \"mvwaddch\": see move, addch\n"),
+    (TextFault::UnknownCall, b"prinw(\"hi\")", "line 12, column 1: unknown call \"prinw(\"hi\")\": no call formats: see addstr\n"),
+    (TextFault::UnknownCall, b"self.win.adstr(1)", "line 12, column 1: unknown call \"self.win.adstr(1)\": see addstr\n"),
+    (TextFault::UnknownCall, b"* note", "line 12, column 1: unknown call \"*\": a line begins with the name of a call, and a comment with #\n"),
+    (
+        TextFault::UnknownCall,
+        b"w=1",
+        "line 12, column 1: unknown call \"w=1\": a script has no variables: windows are numbered from 1 as they are made\n",
+    ),
     (TextFault::UnknownCall, b" move 0 0 0", "line 12, column 1: the line begins with a space, and not with a call\n"),
     (TextFault::WrongNumberOfArguments, b"addch 0", "line 12, column 9: addch takes 2 arguments, 1 given: window, character\n"),
     (TextFault::WrongNumberOfArguments, b"erase 0 $", "line 12, column 9: erase takes 1 argument, 2 given: window\n"),
