@@ -80,9 +80,10 @@ impl Extents {
         ensures none { (y : ℕ) → from ≤ y → y < result → columns_of self.now y ≡ None }
         ensures found { result < length self.now → has_columns self.now result ≡ true }
     {
-        match self.some.next(from) {
+        let height = self.height();
+        match self.some.next_below(from, height) {
             Some(y) => y,
-            None => from.max(self.height()),
+            None => from.max(height),
         }
     }
 

@@ -34,6 +34,7 @@ impl Count {
     }
 
     /// Counts a run.
+    #[inline(always)]
     fn add_run(&mut self, frame: &Frame<'_>, run: Run)
         requires { IsInside frame.now.lines frame.now.columns run }
         ensures { self.new ≡ with_run frame.now.columns frame.now.wanted.now self.old run }

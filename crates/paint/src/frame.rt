@@ -1,6 +1,7 @@
 //! A frame over what is shown: drawn in one walk or in passes, whichever takes fewer bytes.
 
-ghost use Rattle.std.specs.Prelude.{◌≡◌, ◌≤◌, length, true};
+ghost use Rattle.std.specs.Prelude.{◌≡◌, ◌≤◌, List, length, true};
+ghost use Rattle.cell.specs.Shown.{Rendition as AnyRendition};
 ghost use Rattle.paint.specs.declared.passes.TheConstants.{MOST};
 ghost use Rattle.paint.specs.steps.Holding.{CanDraw, HoldsFrameUpdate};
 ghost use Rattle.paint.specs.steps.Listing.{AreRuns};
@@ -11,9 +12,9 @@ use crate::changes::Frame;
 use crate::counting::{are_passes_shorter, are_written_at_ends, walk_length};
 use crate::links::Passes;
 use crate::page::paint_picture;
-use crate::passes::{order_of, paint_passes};
+use crate::passes::{order_of, paint_passes, paint_runs};
 use crate::pen::Pen;
-use crate::runs::Runs;
+use crate::runs::{Run, Runs};
 use cell::Rendition;
 use streams::{Discard, Sink};
 
@@ -49,7 +50,7 @@ pub fn draw_frame<W: Sink>(
         if are_passes_shorter(frame, &passes, count, from, to, walk) {
             draw_passes(pen, sink, frame, &passes, order, from, to);
         } else {
-            draw_walk(pen, sink, frame, from, to);
+            draw_runs(pen, sink, frame, passes.runs, from, to);
         }
         return;
     }
@@ -90,6 +91,25 @@ fn draw_walk<W: Sink>(
 {
     pen.begin(from);
     paint_picture(pen, sink, frame);
+    pen.end(sink, to);
+}
+
+/// The same in one walk that erases nothing, by the runs of the frame.
+fn draw_runs<W: Sink>(
+    pen: &mut Pen,
+    sink: &mut W,
+    frame: &Frame<'_>,
+    runs: &[Run],
+    from: (u16, u16),
+    to: (u16, u16),
+)
+    requires can { CanDraw pen.old frame.now.lines frame.now.columns to }
+    requires runs { (order : List AnyRendition) × AreRuns order frame.now.shown.now frame.now.wanted.now runs.now (frame.now.lines, 0) }
+    ensures holds { HoldsFrameUpdate frame.now from to (W.seen sink.old) (W.seen sink.new) pen.new.outbox }
+    ensures same { SameTerminals (W.name sink.old) (W.name sink.new) pen.old pen.new }
+{
+    pen.begin(from);
+    paint_runs(pen, sink, frame, runs);
     pen.end(sink, to);
 }
 

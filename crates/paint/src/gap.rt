@@ -45,7 +45,9 @@ pub fn approach<W: Sink>(
     pen.select(sink, rendition);
 }
 
-/// How many bytes an approach takes.
+/// How many bytes an approach takes. What is in a gap is looked at only where it begins at the pen. This is inlined, as
+/// it is counted twice for each run.
+#[inline(always)]
 pub fn approach_length(
     pen: &PenState,
     line: u16,
@@ -58,6 +60,9 @@ pub fn approach_length(
     ensures exact { result ≡ approach_bytes pen.now.cursor pen.now.rendition (line, start) gap.now rendition }
     ensures short { result ≤ 300 }
 {
+    if gap.is_empty() || !pen.is_at(line, start) {
+        return moved_length(pen, line, start + gap.len() as u16, rendition);
+    }
     if is_printed_again(pen, line, start, gap, rendition) {
         again_length(gap, pen.rendition, rendition)
     } else {

@@ -5,12 +5,16 @@ ghost use Rattle.std.specs.Prelude.{◌≡◌, ◌+◌, ◌<◌, ◌≤◌, ◌+
 ghost use Rattle.cell.specs.Shown.{Rendition as AnyRendition};
 ghost use Rattle.paint.specs.steps.Listing.{AreRuns};
 ghost use Rattle.paint.specs.steps.Passes.{HasNoted, changed_renditions, line_renditions, order_for, pass_of, picture_after, saturating_usize, selections, with_pass};
-ghost use Rattle.paint.specs.steps.Strokes.{SameTerminals, Strokes, picture_bytes};
+ghost use Rattle.cell.specs.Pictures.{Picture, line_of};
+ghost use Rattle.paint.specs.steps.Counting.{IsInside};
+ghost use Rattle.paint.specs.steps.Strokes.{SameTerminals, Strokes, picture_bytes, run_bytes, with_cells};
+ghost use Rattle.paint.specs.steps.Walks.{HaveOneRendition, cells_between};
 
 use crate::changes::Frame;
 use crate::line::{Row, paint_run};
 use crate::links::Passes;
 use crate::pen::Pen;
+use crate::runs::Run;
 use cell::{BLOCK, LANES, Rendition, Shown, have_rendition};
 use std::marker::Model;
 use streams::Sink;
@@ -82,6 +86,43 @@ pub fn pass_of(order: &[Rendition], rendition: Rendition) -> usize
     pass
 }
 
+/// Draws a run of a frame.
+#[inline(always)]
+fn draw_run<W: Sink>(pen: &mut Pen, sink: &mut W, frame: &Frame<'_>, run: Run)
+    requires width { pen.old.columns ≡ frame.now.columns }
+    requires inside { IsInside frame.now.lines frame.now.columns run }
+    requires run { HaveOneRendition (line_of frame.now.wanted.now run.line) run.start run.end }
+    ensures strokes { let wanted = line_of frame.now.wanted.now run.line in
+        (picture : Picture) → length (line_of picture run.line) ≡ pen.old.columns
+        → cells_between run.gap run.start (line_of picture run.line) ≡ cells_between run.gap run.start wanted
+        → Strokes (run_bytes (cells_between run.start run.end wanted)) (W.seen sink.old) (W.seen sink.new) pen.old pen.new picture
+        (with_cells picture (run.line, run.start) (cells_between run.start run.end wanted)) }
+    ensures same { SameTerminals (W.name sink.old) (W.name sink.new) pen.old pen.new }
+{
+    let at = usize::from(run.line);
+    let row = Row {
+        line: run.line,
+        shown: frame.shown.row(at),
+        wanted: frame.wanted.row(at),
+    };
+    let (gap, start) = (usize::from(run.gap), usize::from(run.start));
+    paint_run(pen, sink, &row, gap, start, usize::from(run.end));
+}
+
+/// Draws all runs of a frame one after another: one walk that erases nothing.
+pub fn paint_runs<W: Sink>(pen: &mut Pen, sink: &mut W, frame: &Frame<'_>, runs: &[Run])
+    requires width { pen.old.columns ≡ frame.now.columns }
+    requires some { 0 < frame.now.lines }
+    requires runs { (order : List AnyRendition) × AreRuns order frame.now.shown.now frame.now.wanted.now runs.now (frame.now.lines, 0) }
+    ensures strokes { Strokes (picture_bytes frame.now.shown.now frame.now.wanted.now) (W.seen sink.old) (W.seen sink.new) pen.old pen.new
+        frame.now.shown.now frame.now.wanted.now }
+    ensures same { SameTerminals (W.name sink.old) (W.name sink.new) pen.old pen.new }
+{
+    for i in 0..runs.len() {
+        draw_run(pen, sink, frame, runs[i]);
+    }
+}
+
 /// Draws the runs of a pass, over what the passes before it left.
 fn paint_pass<W: Sink>(
     pen: &mut Pen,
@@ -101,15 +142,7 @@ fn paint_pass<W: Sink>(
 {
     let mut i = passes.first_of(pass);
     while i < passes.runs.len() {
-        let run = passes.runs[i];
-        let at = usize::from(run.line);
-        let row = Row {
-            line: run.line,
-            shown: frame.shown.row(at),
-            wanted: frame.wanted.row(at),
-        };
-        let (gap, start) = (usize::from(run.gap), usize::from(run.start));
-        paint_run(pen, sink, &row, gap, start, usize::from(run.end));
+        draw_run(pen, sink, frame, passes.runs[i]);
         i = passes.next_after(i);
     }
 }

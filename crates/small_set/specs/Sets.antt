@@ -6,10 +6,17 @@ use Rattle.std.specs.Int.{bit_at}
 abbrev pub contains : List ℕ → ℕ → Bool
 contains words n = bit_at (slice_index words (n / 64)) (n % 64) == 1
 
+-- a number of the set from one on, and none between
+abbrev pub IsFound : List ℕ → ℕ → ℕ → Type 0
+IsFound words from found = (from ≤ found) × (contains words found ≡ true) × ((n : ℕ) → from ≤ n → n < found → contains words n ≡ false)
+
 -- what the least number of the set from one on is, if there is one
 abbrev pub IsNext : List ℕ → ℕ → Option ℕ → Type 0
-IsNext words from next = MatchOption next ((n : ℕ) → from ≤ n → contains words n ≡ false)
-    (λ found. (from ≤ found) × (contains words found ≡ true) × ((n : ℕ) → from ≤ n → n < found → contains words n ≡ false))
+IsNext words from next = MatchOption next ((n : ℕ) → from ≤ n → contains words n ≡ false) (IsFound words from)
+
+-- the same, where none may be said if there is none below an end
+abbrev pub IsNextBelow : ℕ → List ℕ → ℕ → Option ℕ → Type 0
+IsNextBelow end words from next = MatchOption next ((n : ℕ) → from ≤ n → n < end → contains words n ≡ false) (IsFound words from)
 
 -- what the greatest number of the set is, if it has any
 abbrev pub IsLast : List ℕ → Option ℕ → Type 0

@@ -1,7 +1,7 @@
 //! A set of numbers below 1,024.
 
 ghost use Rattle.std.specs.Prelude.{◌≡◌, ◌<◌, ◌==◌, ◌||◌, ℕ, true, false, if◌then◌else◌};
-ghost use Rattle.small_set.specs.Sets.{IsLast, IsNext, contains};
+ghost use Rattle.small_set.specs.Sets.{IsLast, IsNext, IsNextBelow, contains};
 
 use crate::bits::{WIDTH, bits_from, highest_bit, lowest_bit};
 use std::marker::Model;
@@ -69,6 +69,14 @@ impl SmallSet {
     pub fn next(&self, from: u16) -> Option<u16>
         ensures { IsNext self.now from result }
     {
+        let _ = &self.words;
+        self.next_below(from, CAPACITY)
+    }
+
+    /// The same, where it is below an end: what is from there on need not be looked at.
+    pub fn next_below(&self, from: u16, end: u16) -> Option<u16>
+        ensures { IsNextBelow end self.now from result }
+    {
         let mut at = from / WIDTH;
         let mut word = match self.words.as_slice().get(usize::from(at)) {
             Some(word) => bits_from(*word, from % WIDTH),
@@ -76,7 +84,7 @@ impl SmallSet {
         };
         while word == 0 {
             at += 1;
-            if at == WORDS {
+            if at == WORDS || at * WIDTH >= end {
                 return None;
             }
             word = self.words[usize::from(at)];

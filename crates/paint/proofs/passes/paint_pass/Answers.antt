@@ -24,19 +24,14 @@ loop-i-init g c =
       same = refl;
     }
 
-pub paint_run-requires-clause-width : goal.paint_run-requires-clause-width
-paint_run-requires-clause-width g c =
-    let f = c.args.frame.now.sound in
-    let run = get_or c.args.passes.now.runs.now c.loop-i.i no_run in
-    let is = c.requires.runs.each c.loop-i.i c.loop-i-test.true in
-    let below : run.line < c.args.frame.now.lines = omega (arith, is.line, f.wanted.height) in
-    columns-kept c.loop-i.invariant.painted ∙ c.requires.width ∙ sym (length-line run.line f.wanted below)
-    ∙ ap length (sym (c.row-in-loop-i.ensures.row ∙ ap (line_of c.args.frame.now.wanted.now) c.from-at.ensures))
+pub draw_run-requires-clause-width : goal.draw_run-requires-clause-width
+draw_run-requires-clause-width g c = columns-kept c.loop-i.invariant.painted ∙ c.requires.width
 
-pub paint_run-requires-clause-run : goal.paint_run-requires-clause-run
-paint_run-requires-clause-run g c =
-    let is = c.requires.runs.each c.loop-i.i c.loop-i-test.true in
-    rw (c.row-in-loop-i.ensures.row, c.from-at.ensures, c.from-start.ensures, c.from.ensures) (run-cells is.cells (omega arith))
+pub draw_run-requires-clause-inside : goal.draw_run-requires-clause-inside
+draw_run-requires-clause-inside g c = runs-inside c.args.frame.now.sound.wanted c.requires.runs c.loop-i.i c.loop-i-test.true
+
+pub draw_run-requires-clause-run : goal.draw_run-requires-clause-run
+draw_run-requires-clause-run g c = run-cells (c.requires.runs.each c.loop-i.i c.loop-i-test.true).cells (omega arith)
 
 pub loop-i-preserved : goal.loop-i-preserved
 loop-i-preserved g c =
@@ -51,19 +46,17 @@ loop-i-preserved g c =
     let inside = runs-inside f.wanted c.requires.runs i c.loop-i-test.true in
     let at = painted-before order pass f.shown f.wanted c.requires.runs i c.loop-i-test.true c.loop-i.invariant.painted in
     let own = λ (v : ℕ) (from : run.start ≤ v) (to : v < run.end). ap (pass_in order) (is.cells.rendition v from to) ∙ sym is.pass ∙ c.loop-i.invariant.own c.loop-i-test.true in
-    let row : c.row-in-loop-i.result.now ≡ line_of wanted run.line = c.row-in-loop-i.ensures.row ∙ ap (line_of wanted) c.from-at.ensures in
-    let strokes = rw (row, c.from-gap.ensures, c.from-start.ensures, c.from.ensures) at c.paint_run.ensures.strokes in
     let drawn = run-drawn (is_drawn order pass) (is_drawn order (pass + 1)) f.shown f.wanted run.line run.gap run.start run.end at inside.line is.gap is.cells.some inside.end is.cells.changed
-    (λ v from to. not-yet _ pass (own v from to)) (λ v from to. now-drawn _ pass (own v from to)) is.gap_same c.requires.width strokes c.paint_run.ensures.same.columns in
+    (λ v from to. not-yet _ pass (own v from to)) (λ v from to. now-drawn _ pass (own v from to)) is.gap_same c.requires.width c.draw_run.ensures.strokes c.draw_run.ensures.same.columns in
     let next = subst (λ n. IsNextOfPass runs n (i + 1) c.next_after-i.result) (c.loop-i.invariant.own c.loop-i-test.true) c.next_after-i.ensures in
     record {
       within = next.within;
       own = next.own;
       painted = painted-to_next order pass f.shown f.wanted c.requires.runs next
-          (subst (λ (place : Place). IsPaintedTo (g.W.Sink.seen c.args.sink.now) (g.W.Sink.seen c.paint_run.new.sink) c.args.pen.now c.paint_run.new.pen place
+          (subst (λ (place : Place). IsPaintedTo (g.W.Sink.seen c.args.sink.now) (g.W.Sink.seen c.draw_run.new.sink) c.args.pen.now c.draw_run.new.pen place
           (picture_after order pass c.args.frame.now.shown.now wanted) (picture_after order (pass + 1) c.args.frame.now.shown.now wanted))
           (sym (ap (end_of runs) (add-one i))) drawn);
-      same = c.paint_run.ensures.same.sink ∙ c.loop-i.invariant.same;
+      same = c.draw_run.ensures.same.sink ∙ c.loop-i.invariant.same;
     }
 
 pub returns-clause-strokes : goal.returns-clause-strokes

@@ -1,7 +1,7 @@
--- Word by word, to the first that has a number from the given one on.
-use Rattle.std.proofs.Common.{arith}
-use Rattle.small_set.proofs.Words.{looked-at-next}
+-- `next`: no number is past the last word (`Words`).
+use Rattle.std.proofs.Common.{◌∙◌, sym, ap, length}
+use Rattle.small_set.proofs.Words.{next-of_all}
 use Rattle.small_set.proofs.set.SmallSet.next.Goals as goal
 
-pub loop-word-preserved : goal.loop-word-preserved
-loop-word-preserved c = grind (arith, looked-at-next)
+pub returns : goal.returns
+returns c = next-of_all c.args.self.now c.args.from c.next_below.result (ap length (sym c.self.view_is) ∙ c.self.invariant) c.next_below.ensures
