@@ -23,9 +23,6 @@ length-codes : (codes : List ℕ) → AllByRecursion (λ code. code < 10) codes 
 length-codes [] h = omega arith
 length-codes (code ∷ codes) h = grind (arith, length-append, length-decimal-le, (length-codes codes h.1))
 
-pub two_digits : (first number : ℕ) (text : List ℕ) → first ≤ 40 → number ≤ LAST_COLOUR → text ≡ decimal (first + number) → length text ≤ 2
-two_digits first number text few small is = grind (arith, length-decimal-le)
-
 pub three_digits : (n : ℕ) (text : List ℕ) → n < LARGEST_SCREEN → text ≡ decimal (n + 1) → length text ≤ 3
 three_digits n text few is = grind (arith, length-decimal-le)
 
@@ -59,10 +56,8 @@ module _ (n : ℕ) where
   pub decimal-one : n < 10 → decimal n ≡ (48 + n) ∷ []
   decimal-one few = decimal_digit n few
 
-  pub decimal-two : 10 ≤ n → n < 100 → decimal n ≡ (48 + n / 10 % 10) ∷ (48 + n % 10) ∷ []
-  decimal-two many few =
-      let first : n / 10 % 10 ≡ n / 10 = omega arith in
-      rw (decimal_step n many (omega arith), decimal_digit (n / 10) (omega arith), first) refl
+  pub decimal-two : 10 ≤ n → n < 100 → decimal n ≡ (48 + n / 10) ∷ (48 + n % 10) ∷ []
+  decimal-two many few = rw (decimal_step n many (omega arith), decimal_digit (n / 10) (omega arith)) refl
 
   pub decimal-three : 100 ≤ n → n < 1000 → decimal n ≡ (48 + n / 100) ∷ (48 + n / 10 % 10) ∷ (48 + n % 10) ∷ []
   decimal-three many few =
@@ -74,6 +69,13 @@ module _ (n : ℕ) where
   one-digit few = (λ i. (48 + same i) ∷ []) ∙ sym (decimal-one few) where
     same : n % 10 ≡ n
     same = omega arith
+
+-- the code of a colour after a separator, where the first one ends in 0
+pub colour-code : (first number : ℕ) → 10 ≤ first → first ≤ 90 → first % 10 ≡ 0 → number ≤ LAST_COLOUR → 59 ∷ (48 + first / 10) ∷ (48 + number) ∷ [] ≡ selection ((first + number) ∷ [])
+colour-code first number digits few last small =
+    let tens : (first + number) / 10 ≡ first / 10 = omega arith in
+    let ones : (first + number) % 10 ≡ number = omega arith in
+    sym (rw (decimal-two (first + number) (omega arith) (omega arith), tens, ones) refl)
 
 -- a separator and a digit for each code
 length-codes_exact : (codes : List ℕ) → AllByRecursion (λ code. code < 10) codes → length (selection codes) ≡ 2 * length codes

@@ -1,6 +1,6 @@
 //! The spelling of tokens.
 
-ghost use Rattle.std.specs.Prelude.{◌≡◌, ◌+◌, ◌*◌, ◌<◌, ◌≤◌, [], ◌∷◌, ◌++◌, decimal, length, take};
+ghost use Rattle.std.specs.Prelude.{◌≡◌, ◌+◌, ◌*◌, ◌%◌, ◌<◌, ◌≤◌, [], ◌∷◌, ◌++◌, decimal, length, take};
 ghost use Rattle.cell.specs.Attributes.{bits_of};
 ghost use Rattle.cell.specs.Shown.{IsRendition};
 ghost use Rattle.cell.specs.declared.limits.TheConstants.{LARGEST_SCREEN};
@@ -55,11 +55,12 @@ fn append_number(out: &mut [u8; LONGEST_SPELLING], at: usize, number: u16) -> us
     if number < 10 {
         return append(out, at, &[ones]);
     }
-    let tens = b'0' + (number / 10 % 10) as u8;
+    let tens = number / 10;
     if number < 100 {
-        return append(out, at, &[tens, ones]);
+        return append(out, at, &[b'0' + tens as u8, ones]);
     }
-    append(out, at, &[b'0' + (number / 100) as u8, tens, ones])
+    let (hundreds, tens) = (number / 100, tens % 10);
+    append(out, at, &[b'0' + hundreds as u8, b'0' + tens as u8, ones])
 }
 
 /// How many digits a number below 1,000 has.
@@ -189,7 +190,8 @@ fn append_codes(out: &mut [u8; LONGEST_SPELLING], at: usize, attr: Attr) -> usiz
     end
 }
 
-/// Appends the code of a colour, where black has the first one, after a separator. The default has none.
+/// Appends the code of a colour, where black has the first one, after a separator. The default has none. The first one
+/// ends in 0, so that the number of the colour is the last digit.
 fn append_colour(
     out: &mut [u8; LONGEST_SPELLING],
     at: usize,
@@ -197,16 +199,15 @@ fn append_colour(
     colour: Option<Colour>,
 ) -> usize
     requires room { at + 3 ≤ LONGEST_SPELLING }
-    requires first { first ≤ 40 }
+    requires digits { 10 ≤ first }
+    requires few { first ≤ 90 }
+    requires last { first % 10 ≡ 0 }
     ensures end { result ≡ at + length (selection (code_of_colour first colour)) }
     ensures room { result ≤ at + 3 }
     ensures text { take result out.new ≡ take at out.old ++ selection (code_of_colour first colour) }
 {
     match colour {
-        Some(colour) => {
-            let at = append(out, at, b";");
-            append_number(out, at, u16::from(first + colour.number()))
-        }
+        Some(colour) => append(out, at, &[b';', b'0' + first / 10, b'0' + colour.number()]),
         None => at,
     }
 }
