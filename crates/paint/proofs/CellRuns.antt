@@ -67,14 +67,18 @@ prints-run old new line column cells picture sound same some room known wide gat
 
 -- ---- a run after an approach
 
-pub run-strokes : {a b c : Seen} {x y z : Pen} {picture drawn : Picture} {n : ℕ} (cells : List Shown) → IsRendition (get_or cells 0 shown_blank).rendition → 0 < length cells
-    → n ≤ most_approach (get_or cells 0 shown_blank).rendition → Strokes n a b x y picture picture
-    → Draws (characters cells) b c y z picture drawn → Strokes (run_bytes cells) a c x z picture drawn
-run-strokes cells is some few h k = record {
+pub run-strokes : {a b c : Seen} {x y z : Pen} {picture drawn : Picture} {n : ℕ} (cells : List Shown) → Strokes n a b x y picture picture
+    → Draws (characters cells) b c y z picture drawn → Strokes (n + length cells) a c x z picture drawn
+run-strokes cells h k = record {
   piece = h.piece ++ characters cells;
   draws = Draws-then h.draws k;
-  short = omega (arith, h.short, few, length-append h.piece (characters cells), length-map cells (λ (cell : Shown). cell.character), length-selection (get_or cells 0 shown_blank).rendition is);
+  short = omega (arith, h.short, length-append h.piece (characters cells), length-map cells (λ (cell : Shown). cell.character));
 }
+
+-- which is no more than it may have
+pub drawn-short : (n : ℕ) (cells : List Shown) → IsRendition (get_or cells 0 shown_blank).rendition → 0 < length cells → n ≤ most_approach (get_or cells 0 shown_blank).rendition
+    → n + length cells ≤ run_bytes cells
+drawn-short n cells is some few = omega (arith, few, some, length-selection (get_or cells 0 shown_blank).rendition is)
 
 -- ---- a run that begins with cells that are shown already
 
@@ -111,15 +115,15 @@ with_cells-append picture line x (cell ∷ some) more =
     with_cells-append (with_shown picture (line, x) cell) line (x + 1) some more
     ∙ ap (λ n. with_cells (with_cells (with_shown picture (line, x) cell) (line, x + 1) some) (line, n) more) (omega arith)
 
-pub run-after : {a b : Seen} {x y : Pen} {picture : Picture} (line column : ℕ) (gap cells all : List Shown) → all ≡ gap ++ cells → length gap ≤ 10 → 0 < length cells
+pub run-after : {a b : Seen} {x y : Pen} {picture : Picture} (line column : ℕ) (gap cells all : List Shown) → all ≡ gap ++ cells
     → column + length gap ≤ length (line_of picture line)
     → ((k : ℕ) → k < length gap → get_or gap k shown_blank ≡ get_or (line_of picture line) (column + k) shown_blank)
     → Draws (characters all) a b x y picture (with_cells picture (line, column) all)
-    → Strokes (run_bytes cells) a b x y picture (with_cells picture (line, column + length gap) cells)
-run-after {a} {b} {x} {y} {picture} line column gap cells all is few some room are h = record {
+    → Strokes (length gap + length cells) a b x y picture (with_cells picture (line, column + length gap) cells)
+run-after {a} {b} {x} {y} {picture} line column gap cells all is room are h = record {
   piece = characters all;
   draws = subst (Draws (characters all) a b x y picture) shows h;
-  short = omega (arith, few, some, length-map all (λ (cell : Shown). cell.character), ap (length {A = Shown}) is, length-append gap cells);
+  short = omega (arith, length-map all (λ (cell : Shown). cell.character), ap (length {A = Shown}) is, length-append gap cells);
 } where
   shows : with_cells picture (line, column) all ≡ with_cells picture (line, column + length gap) cells
   shows =

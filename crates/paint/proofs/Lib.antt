@@ -37,6 +37,8 @@ pub mod Copying
 pub mod Choices
 -- The order of the passes for renditions as they come; for `note_cells`, `note_part`, `order_of` and others
 pub mod PassOrders
+-- What runs draw has at most as many bytes as are counted for them; for `draw_run`, `paint_runs`, `paint_pass` and others
+pub mod CountedRuns
 -- Renditions are noted line by line, only in the columns in which two pictures may differ; for `list`
 pub mod NotedLines
 -- The characters of cells, gathered piece by piece; for `append`, `append_characters`, `write_characters`

@@ -245,7 +245,7 @@ change-through a b c = elim (cases_Bool (same_rendition c b)) [
   | inr other ↦ omega (arith, length-change a c, ap (length {A = ℕ}) (change-other b c other))
 ]
 
-again-least : (rendition : Rendition) (gap : List Shown) (wanted : Rendition) → length gap + length (change rendition wanted) ≤ again_bytes rendition gap wanted
+pub again-least : (rendition : Rendition) (gap : List Shown) (wanted : Rendition) → length gap + length (change rendition wanted) ≤ again_bytes rendition gap wanted
 again-least rendition [] wanted = omega arith
 again-least rendition (cell ∷ gap) wanted = grind (arith, change-through, again-least cell.rendition gap wanted)
 

@@ -1,8 +1,9 @@
 //! A frame over what is shown: drawn in one walk or in passes, whichever takes fewer bytes.
 
-ghost use Rattle.std.specs.Prelude.{◌≡◌, ◌≤◌, List, length, true};
+ghost use Rattle.std.specs.Prelude.{◌≡◌, ◌+◌, ◌≤◌, List, length, min, true};
 ghost use Rattle.cell.specs.Shown.{Rendition as AnyRendition};
 ghost use Rattle.paint.specs.declared.passes.TheConstants.{MOST};
+ghost use Rattle.paint.specs.steps.Counting.{HasAtMost, passes_bytes, walk_bytes};
 ghost use Rattle.paint.specs.steps.Holding.{CanDraw, HoldsFrameUpdate};
 ghost use Rattle.paint.specs.steps.Listing.{AreRuns};
 ghost use Rattle.paint.specs.steps.Passes.{HasNoted, changed_renditions};
@@ -44,18 +45,13 @@ pub fn draw_frame<W: Sink>(
         return;
     }
     let (order, passes) = runs.linked();
-    let count = order.len() as u16 + 1;
     if are_written_at_ends(frame, passes.runs) {
-        let walk = walk_length(frame, passes.runs, from, to);
-        if are_passes_shorter(frame, &passes, count, from, to, walk) {
-            draw_passes(pen, sink, frame, &passes, order, from, to);
-        } else {
-            draw_runs(pen, sink, frame, passes.runs, from, to);
-        }
+        draw_shorter(pen, sink, frame, &passes, order, from, to);
         return;
     }
     let mut discard = Discard::new();
     draw_walk(pen, &mut discard, frame, from, to);
+    let count = order.len() as u16 + 1;
     if are_passes_shorter(frame, &passes, count, from, to, pen.bytes() as usize) {
         draw_passes(pen, sink, frame, &passes, order, from, to);
     } else if !pen.holds_all() {
@@ -94,6 +90,33 @@ fn draw_walk<W: Sink>(
     pen.end(sink, to);
 }
 
+/// The same in passes or in one walk that erases nothing, by the runs of the frame: in whichever takes fewer bytes.
+fn draw_shorter<W: Sink>(
+    pen: &mut Pen,
+    sink: &mut W,
+    frame: &Frame<'_>,
+    passes: &Passes<'_>,
+    order: &[Rendition],
+    from: (u16, u16),
+    to: (u16, u16),
+)
+    requires can { CanDraw pen.old frame.now.lines frame.now.columns to }
+    requires few { length order.now ≤ MOST }
+    requires runs { AreRuns order.now frame.now.shown.now frame.now.wanted.now passes.now.runs.now (frame.now.lines, 0) }
+    ensures holds { HoldsFrameUpdate frame.now from to (W.seen sink.old) (W.seen sink.new) pen.new.outbox }
+    ensures shorter { HasAtMost (min (walk_bytes frame.now.columns frame.now.wanted.now passes.now.runs.now from to)
+        (passes_bytes frame.now.columns frame.now.wanted.now (length order.now + 1) passes.now.runs.now from to)) (W.seen sink.old) (W.seen sink.new) pen.new }
+    ensures same { SameTerminals (W.name sink.old) (W.name sink.new) pen.old pen.new }
+{
+    let count = order.len() as u16 + 1;
+    let walk = walk_length(frame, passes.runs, from, to);
+    if are_passes_shorter(frame, passes, count, from, to, walk) {
+        draw_passes(pen, sink, frame, passes, order, from, to);
+    } else {
+        draw_runs(pen, sink, frame, passes.runs, from, to);
+    }
+}
+
 /// The same in one walk that erases nothing, by the runs of the frame.
 fn draw_runs<W: Sink>(
     pen: &mut Pen,
@@ -106,6 +129,7 @@ fn draw_runs<W: Sink>(
     requires can { CanDraw pen.old frame.now.lines frame.now.columns to }
     requires runs { (order : List AnyRendition) × AreRuns order frame.now.shown.now frame.now.wanted.now runs.now (frame.now.lines, 0) }
     ensures holds { HoldsFrameUpdate frame.now from to (W.seen sink.old) (W.seen sink.new) pen.new.outbox }
+    ensures short { HasAtMost (walk_bytes frame.now.columns frame.now.wanted.now runs.now from to) (W.seen sink.old) (W.seen sink.new) pen.new }
     ensures same { SameTerminals (W.name sink.old) (W.name sink.new) pen.old pen.new }
 {
     pen.begin(from);
@@ -127,6 +151,8 @@ fn draw_passes<W: Sink>(
     requires few { length order.now ≤ MOST }
     requires runs { AreRuns order.now frame.now.shown.now frame.now.wanted.now passes.now.runs.now (frame.now.lines, 0) }
     ensures holds { HoldsFrameUpdate frame.now from to (W.seen sink.old) (W.seen sink.new) pen.new.outbox }
+    ensures short { HasAtMost (passes_bytes frame.now.columns frame.now.wanted.now (length order.now + 1) passes.now.runs.now from to)
+        (W.seen sink.old) (W.seen sink.new) pen.new }
     ensures same { SameTerminals (W.name sink.old) (W.name sink.new) pen.old pen.new }
 {
     pen.begin(from);

@@ -8,7 +8,7 @@ ghost use Rattle.cell.specs.declared.limits.TheConstants.{LARGEST_SCREEN};
 ghost use Rattle.cell.specs.declared.lanes.TheConstants.{LANES};
 ghost use Rattle.streams.specs.Sinks.{Seen};
 ghost use Rattle.paint.specs.Updates.{place_bytes};
-ghost use Rattle.paint.specs.steps.Strokes.{IsPlainAt, SameTerminals, Strokes, line_bytes, reach_bytes, run_bytes, with_cells};
+ghost use Rattle.paint.specs.steps.Strokes.{IsPlainAt, SameTerminals, Strokes, drawn_bytes, line_bytes, reach_bytes, run_bytes, with_cells, within};
 ghost use Rattle.paint.specs.steps.Walks.{AreEnds, AreOfRun, DifferWithin, IsLinePainted, IsOver, IsReadyToErase, IsRun, IsStretch, StrokesLine, HaveOneRendition, cells_between, is_over};
 
 use crate::gap::{approach, is_plain_gap};
@@ -312,8 +312,13 @@ pub fn paint_run<W: Sink>(
     requires run { HaveOneRendition row.now.wanted.now start end }
     ensures strokes { (picture : Picture) → length (line_of picture row.now.line) ≡ pen.old.columns
         → cells_between gap start (line_of picture row.now.line) ≡ cells_between gap start row.now.wanted.now
-        → Strokes (run_bytes (cells_between start end row.now.wanted.now)) (W.seen sink.old) (W.seen sink.new) pen.old pen.new picture
+        → Strokes (drawn_bytes pen.old.cursor pen.old.rendition (row.now.line, gap) (cells_between gap start row.now.wanted.now)
+        (cells_between start end row.now.wanted.now)) (W.seen sink.old) (W.seen sink.new) pen.old pen.new picture
         (with_cells picture (row.now.line, start) (cells_between start end row.now.wanted.now)) }
+    ensures short { drawn_bytes pen.old.cursor pen.old.rendition (row.now.line, gap) (cells_between gap start row.now.wanted.now)
+        (cells_between start end row.now.wanted.now) ≤ run_bytes (cells_between start end row.now.wanted.now) }
+    ensures cursor { pen.new.cursor ≡ within pen.old.columns (row.now.line, end) }
+    ensures rendition { pen.new.rendition ≡ (slice_index_or row.now.wanted.now start shown_blank).rendition }
     ensures same { SameTerminals (W.name sink.old) (W.name sink.new) pen.old pen.new }
 {
     let wanted = row.wanted;

@@ -6,7 +6,10 @@ ghost use Rattle.cell.specs.Shown.{Rendition as AnyRendition};
 ghost use Rattle.paint.specs.steps.Listing.{AreRuns};
 ghost use Rattle.paint.specs.steps.Passes.{HasNoted, changed_renditions, line_renditions, order_for, pass_of, picture_after, saturating_usize, selections, with_pass};
 ghost use Rattle.cell.specs.Pictures.{Picture, line_of};
-ghost use Rattle.paint.specs.steps.Counting.{IsInside};
+ghost use Rattle.streams.specs.Sinks.{Seen};
+ghost use Rattle.paint.specs.declared.counting.Count.{Count as AnyCount};
+ghost use Rattle.paint.specs.declared.pen.Pen.{Pen as AnyPen};
+ghost use Rattle.paint.specs.steps.Counting.{IsCounted, IsInside, with_pass as with_pass_of, with_passes, with_run, with_runs};
 ghost use Rattle.paint.specs.steps.Strokes.{SameTerminals, Strokes, picture_bytes, run_bytes, with_cells};
 ghost use Rattle.paint.specs.steps.Walks.{HaveOneRendition, cells_between};
 
@@ -97,6 +100,8 @@ fn draw_run<W: Sink>(pen: &mut Pen, sink: &mut W, frame: &Frame<'_>, run: Run)
         → cells_between run.gap run.start (line_of picture run.line) ≡ cells_between run.gap run.start wanted
         → Strokes (run_bytes (cells_between run.start run.end wanted)) (W.seen sink.old) (W.seen sink.new) pen.old pen.new picture
         (with_cells picture (run.line, run.start) (cells_between run.start run.end wanted)) }
+    ensures counted { (count : AnyCount) (start : Seen) (begun : AnyPen) → IsCounted count start (W.seen sink.old) begun pen.old
+        → IsCounted (with_run frame.now.columns frame.now.wanted.now count run) start (W.seen sink.new) begun pen.new }
     ensures same { SameTerminals (W.name sink.old) (W.name sink.new) pen.old pen.new }
 {
     let at = usize::from(run.line);
@@ -116,6 +121,8 @@ pub fn paint_runs<W: Sink>(pen: &mut Pen, sink: &mut W, frame: &Frame<'_>, runs:
     requires runs { (order : List AnyRendition) × AreRuns order frame.now.shown.now frame.now.wanted.now runs.now (frame.now.lines, 0) }
     ensures strokes { Strokes (picture_bytes frame.now.shown.now frame.now.wanted.now) (W.seen sink.old) (W.seen sink.new) pen.old pen.new
         frame.now.shown.now frame.now.wanted.now }
+    ensures counted { (count : AnyCount) (start : Seen) (begun : AnyPen) → IsCounted count start (W.seen sink.old) begun pen.old
+        → IsCounted (with_runs frame.now.columns frame.now.wanted.now count runs.now) start (W.seen sink.new) begun pen.new }
     ensures same { SameTerminals (W.name sink.old) (W.name sink.new) pen.old pen.new }
 {
     for i in 0..runs.len() {
@@ -138,6 +145,8 @@ fn paint_pass<W: Sink>(
     ensures strokes { let before = picture_after order.now pass frame.now.shown.now frame.now.wanted.now in
         let after = picture_after order.now (pass + 1) frame.now.shown.now frame.now.wanted.now in
         Strokes (picture_bytes before after) (W.seen sink.old) (W.seen sink.new) pen.old pen.new before after }
+    ensures counted { (count : AnyCount) (start : Seen) (begun : AnyPen) → IsCounted count start (W.seen sink.old) begun pen.old
+        → IsCounted (with_pass_of frame.now.columns frame.now.wanted.now pass count passes.now.runs.now) start (W.seen sink.new) begun pen.new }
     ensures same { SameTerminals (W.name sink.old) (W.name sink.new) pen.old pen.new }
 {
     let mut i = passes.first_of(pass);
@@ -161,6 +170,8 @@ pub fn paint_passes<W: Sink>(
     requires runs { AreRuns order.now frame.now.shown.now frame.now.wanted.now passes.now.runs.now (frame.now.lines, 0) }
     ensures strokes { Strokes (picture_bytes frame.now.shown.now frame.now.wanted.now) (W.seen sink.old) (W.seen sink.new) pen.old pen.new
         frame.now.shown.now frame.now.wanted.now }
+    ensures counted { (count : AnyCount) (start : Seen) (begun : AnyPen) → IsCounted count start (W.seen sink.old) begun pen.old
+        → IsCounted (with_passes frame.now.columns frame.now.wanted.now (length order.now + 1) count passes.now.runs.now) start (W.seen sink.new) begun pen.new }
     ensures same { SameTerminals (W.name sink.old) (W.name sink.new) pen.old pen.new }
 {
     let count = order.len() as u16 + 1;

@@ -11,7 +11,7 @@ ghost use Rattle.ecma.specs.declared.token.Token.TheVariants.{Ed, El};
 ghost use Rattle.streams.specs.Sending.{Sends};
 ghost use Rattle.streams.specs.Sinks.{Seen};
 ghost use Rattle.paint.specs.Updates.{opening};
-ghost use Rattle.paint.specs.steps.Gathering.{Gathers, IsGathered, gathered_bytes, holds_all};
+ghost use Rattle.paint.specs.steps.Gathering.{Gathers, IsGathered, empty_outbox, gathered_bytes, holds_all};
 ghost use Rattle.paint.specs.steps.Strokes.{cursor_after, change, characters, first_pen, is_at, move_from, with_cells, within, ArePrinted, Draws, Erases, IsPlainAt, SameTerminals};
 
 use crate::outbox::Outbox;
@@ -87,6 +87,7 @@ impl Pen {
     /// Begins a text, at a cursor and with the empty rendition.
     pub fn begin(&mut self, cursor: (u16, u16))
         ensures nothing { (seen : Seen) → IsGathered seen seen self.new.outbox [] }
+        ensures empty { self.new.outbox ≡ empty_outbox }
         ensures columns { self.new.columns ≡ self.old.columns }
         ensures plain { IsPlainAt self.new cursor }
     {
@@ -261,6 +262,8 @@ impl Pen {
         ensures draws { (picture : Picture) → length (line_of picture line) ≡ self.old.columns
             → Draws (characters (take count cells.now)) (W.seen sink.old) (W.seen sink.new) self.old self.new picture
             (with_cells picture (line, column) (take count cells.now)) }
+        ensures cursor { self.new.cursor ≡ within self.old.columns (line, column + count) }
+        ensures rendition { self.new.rendition ≡ self.old.rendition }
         ensures same { SameTerminals (W.name sink.old) (W.name sink.new) self.old self.new }
     {
         self.outbox.put_characters(sink, cells, count);

@@ -1,9 +1,12 @@
 -- How many bytes it takes to draw runs: in passes, and in one walk.
-use Rattle.std.specs.Prelude.{◌≡◌, ◌≢◌, ℕ, zero, suc, ◌+◌, ◌-◌, ◌<◌, ◌≤◌, ◌==◌, ◌||◌, not, nat_le, Bool, true, if◌then◌else◌, List, [], ◌∷◌, length, Some, slice_index_or}
+use Rattle.std.specs.Prelude.{◌≡◌, ◌≢◌, ℕ, zero, suc, ◌+◌, ◌-◌, ◌^◌, ◌<◌, ◌≤◌, ◌==◌, ◌||◌, not, nat_le, Bool, true, if◌then◌else◌, List, [], ◌∷◌, drop, length, Some, slice_index_or}
 use Rattle.cell.specs.Shown.{no_rendition, shown_blank}
 use Rattle.cell.specs.Pictures.{Picture, Place, line_of, shown_at}
 use Rattle.paint.specs.declared.counting.Count.{Count}
+use Rattle.streams.specs.Sinks.{Seen}
+use Rattle.paint.specs.declared.pen.Pen.{Pen}
 use Rattle.paint.specs.declared.runs.Run.{Run}
+use Rattle.paint.specs.steps.Gathering.{GathersAtMost, empty_outbox}
 use Rattle.paint.specs.steps.Listing.{no_run}
 use Rattle.paint.specs.steps.Passes.{saturating_usize}
 use Rattle.paint.specs.steps.Strokes.{approach_bytes, moved_bytes, within}
@@ -59,6 +62,25 @@ passes_bytes columns wanted passes runs from to = ended_bytes (with_passes colum
 
 abbrev pub walk_bytes : ℕ → Picture → List Run → Place → Place → ℕ
 walk_bytes columns wanted runs from to = ended_bytes (with_runs columns wanted (count_from from) runs) to
+
+-- ---- what was drawn, as it was counted
+
+-- So many bytes at most were gathered since a pen began, if they are so few that 64 bits count them, and the pen is
+-- where it was counted to be.
+pub record IsCounted (count : Count) (before now : Seen) (begun pen : Pen) : Type 0 where
+  pub bytes : count.bytes < 2 ^ 64 - 1 → GathersAtMost count.bytes before now begun.outbox pen.outbox
+  pub cursor : pen.cursor ≡ count.pen.cursor
+  pub rendition : pen.rendition ≡ count.pen.rendition
+
+-- The same after the first runs, so many: what counts the others counts all of them.
+pub record IsCountedTo (counts : Count → List Run → Count) (runs : List Run) (i : ℕ) (count : Count) (before now : Seen) (begun pen : Pen) : Type 0 where
+  pub drawn : Count
+  pub is : IsCounted drawn before now begun pen
+  pub left : counts drawn (drop i runs) ≡ counts count runs
+
+-- a text that a pen began with nothing has at most so many bytes
+abbrev pub HasAtMost : ℕ → Seen → Seen → Pen → Type 0
+HasAtMost most before now pen = most < 2 ^ 64 - 1 → GathersAtMost most before now empty_outbox pen.outbox
 
 -- the run after one is in another line, or there is none
 abbrev pub is_last_of_line : List Run → ℕ → Bool

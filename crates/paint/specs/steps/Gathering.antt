@@ -1,5 +1,5 @@
 -- A text that is gathered in an outbox and goes out in pieces, until a write fails.
-use Rattle.std.specs.Prelude.{◌≡◌, ℕ, ◌+◌, ◌-◌, ◌^◌, ◌==◌, ◌&&◌, min, not, Bool, true, false, List, [], ◌++◌, length, Ok, Err}
+use Rattle.std.specs.Prelude.{◌≡◌, ℕ, ◌+◌, ◌-◌, ◌≤◌, ◌^◌, ◌==◌, ◌&&◌, min, not, Bool, true, false, List, [], ◌++◌, length, Ok, Err}
 use Rattle.streams.specs.Sinks.{Seen}
 use Rattle.streams.specs.Sending.{Sends}
 
@@ -38,3 +38,9 @@ holds_all outbox = not outbox.failed && outbox.sent == 0
 -- the piece was put after what was gathered
 abbrev pub Gathers : Seen → Seen → Outbox → Outbox → List ℕ → Type 0
 Gathers before after old new piece = (start : Seen) (text : List ℕ) → IsGathered start before old text → IsGathered start after new (text ++ piece)
+
+-- some piece of at most so many bytes was
+pub record GathersAtMost (most : ℕ) (before after : Seen) (old new : Outbox) : Type 0 where
+  pub piece : List ℕ
+  pub gathers : Gathers before after old new piece
+  pub short : length piece ≤ most

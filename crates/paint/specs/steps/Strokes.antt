@@ -108,6 +108,10 @@ approach_bytes cursor rendition start gap wanted =
     let moved = moved_bytes cursor rendition (start.0, start.1 + length gap) wanted in
     if is_at cursor start then min (again_bytes rendition gap wanted) moved else moved
 
+-- to draw cells after a gap: the approach, and a byte for each
+abbrev pub drawn_bytes : Option Place → Rendition → Place → List Shown → List Shown → ℕ
+drawn_bytes cursor rendition start gap cells = approach_bytes cursor rendition start gap (slice_index_or cells 0 shown_blank).rendition + length cells
+
 -- Whether the gap is printed again: where that takes fewer bytes than a move, or as many, if all its cells have the
 -- rendition in force, or all the wanted one.
 abbrev pub is_printed_again : Option Place → Rendition → Place → List Shown → Rendition → Bool

@@ -34,8 +34,8 @@ draw_passes-requires-clause-runs g c =
     linked-runs (c.order.ensures.value _ noted) (c.linked.ensures.value _ noted) (grind (arith, nat_tests, c.if-is_empty.ensures)) c.linked.ensures.order c.linked.ensures.runs
     (c.list_runs.ensures.runs c.if-not-list_runs.false)
 
-pub draw_passes-requires-then-are_passes_shorter-2-clause-runs : goal.draw_passes-requires-then-are_passes_shorter-2-clause-runs
-draw_passes-requires-then-are_passes_shorter-2-clause-runs g c =
+pub draw_shorter-requires-clause-runs : goal.draw_shorter-requires-clause-runs
+draw_shorter-requires-clause-runs g c =
     let noted = c.list_runs.ensures.noted c.if-not-list_runs.false in
     linked-runs (c.order.ensures.value _ noted) (c.linked.ensures.value _ noted) (grind (arith, nat_tests, c.if-is_empty.ensures)) c.linked.ensures.order c.linked.ensures.runs
     (c.list_runs.ensures.runs c.if-not-list_runs.false)

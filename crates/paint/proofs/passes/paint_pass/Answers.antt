@@ -1,12 +1,13 @@
 -- `paint_pass`: the runs of the pass are drawn, and what is between them is no change of it (`Listing`, `Linking`).
-use Rattle.std.proofs.Common.{◌≡◌, ℕ, ◌+◌, ◌<◌, ◌≤◌, ◌∙◌, length, get_or, refl, sym, ap, subst, arith, add-one}
-use Rattle.cell.specs.Pictures.{Place, line_of}
-use Rattle.cell.proofs.PictureLemmas.{length-line}
+use Rattle.std.proofs.Common.{◌≡◌, ℕ, ◌+◌, ◌<◌, ◌≤◌, ◌∙◌, drop, length, get_or, refl, sym, ap, subst, arith, add-one}
+use Rattle.cell.specs.Pictures.{Place}
+use Rattle.paint.specs.steps.Counting.{with_pass, with_run}
 use Rattle.paint.specs.steps.Linking.{IsNextOfPass}
 use Rattle.paint.specs.steps.Listing.{IsPaintedTo, end_of, no_run}
 use Rattle.paint.specs.steps.Passes.{is_drawn, picture_after, pass_of as pass_in}
 use Rattle.paint.proofs.Choices.{not-yet, now-drawn}
-use Rattle.paint.proofs.Linking.{painted-before, painted-to_next}
+use Rattle.paint.proofs.CountedRuns.{counted-end}
+use Rattle.paint.proofs.Linking.{counted-own, counted-to_next, painted-before, painted-to_next}
 use Rattle.paint.proofs.Listing.{columns-kept, end-below, painted-none, painted-whole, run-drawn, runs-inside}
 use Rattle.paint.proofs.Stretches.{run-cells}
 use Rattle.paint.proofs.passes.paint_pass.Goals as goal
@@ -21,6 +22,11 @@ loop-i-init g c =
       own = next.own;
       painted = painted-to_next order c.args.pass f.shown f.wanted c.requires.runs next
           (painted-none _ _ (picture_after order c.args.pass c.args.frame.now.shown.now c.args.frame.now.wanted.now) _);
+      counted = λ count start begun h. record {
+        drawn = count;
+        is = h;
+        left = sym (counted-to_next c.args.frame.now.columns c.args.frame.now.wanted.now c.args.pass c.args.passes.now.runs.now count next);
+      };
       same = refl;
     }
 
@@ -56,8 +62,22 @@ loop-i-preserved g c =
           (subst (λ (place : Place). IsPaintedTo (g.W.Sink.seen c.args.sink.now) (g.W.Sink.seen c.draw_run.new.sink) c.args.pen.now c.draw_run.new.pen place
           (picture_after order pass c.args.frame.now.shown.now wanted) (picture_after order (pass + 1) c.args.frame.now.shown.now wanted))
           (sym (ap (end_of runs) (add-one i))) drawn);
+      counted = λ count start begun h.
+          let so_far = c.loop-i.invariant.counted count start begun h in
+          let more = with_run c.args.frame.now.columns wanted so_far.drawn run in
+          record {
+            drawn = more;
+            is = c.draw_run.ensures.counted so_far.drawn start begun so_far.is;
+            left = sym (counted-to_next c.args.frame.now.columns wanted pass runs more next)
+                ∙ ap (λ n. with_pass c.args.frame.now.columns wanted pass more (drop n runs)) (add-one i)
+                ∙ sym (counted-own c.args.frame.now.columns wanted pass runs so_far.drawn i c.loop-i-test.true (c.loop-i.invariant.own c.loop-i-test.true)) ∙ so_far.left;
+          };
       same = c.draw_run.ensures.same.sink ∙ c.loop-i.invariant.same;
     }
+
+pub returns-clause-counted : goal.returns-clause-counted
+returns-clause-counted g c = λ count start begun h.
+    counted-end (λ d. refl) (omega (arith, c.loop-i-test.false)) (c.loop-i.invariant.counted count start begun h)
 
 pub returns-clause-strokes : goal.returns-clause-strokes
 returns-clause-strokes g c =

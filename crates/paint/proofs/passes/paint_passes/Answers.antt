@@ -1,6 +1,7 @@
 -- `paint_passes`: each pass takes from what is left, and the last leaves nothing (`Choices`).
-use Rattle.std.proofs.Common.{◌≡◌, ◌+◌, ◌∙◌, length, refl, sym, ap, subst, arith}
+use Rattle.std.proofs.Common.{◌≡◌, ◌+◌, ◌∙◌, length, refl, sym, ap, subst, arith, add-one}
 use Rattle.cell.specs.Pictures.{Picture}
+use Rattle.paint.specs.steps.Counting.{IsCounted, with_passes}
 use Rattle.paint.specs.steps.Passes.{is_drawn, picture_after}
 use Rattle.paint.specs.steps.Strokes.{Strokes, picture_bytes}
 use Rattle.paint.proofs.Choices.{all-after, lines-all, lines-left, lines-none, none-before, once-drawn}
@@ -20,6 +21,7 @@ loop-pass-init g c =
         strokes = subst (Strokes 0 _ _ c.args.pen.now c.args.pen.now shown) (sym begun) (Strokes-nothing _ c.args.pen.now shown);
         columns = refl;
       };
+      counted = λ count start begun h. h;
       same = refl;
     }
 
@@ -37,8 +39,17 @@ loop-pass-preserved g c =
         strokes = Strokes-then passed.strokes c.paint_pass.ensures.strokes;
         columns = c.paint_pass.ensures.same.columns ∙ passed.columns;
       };
+      counted = λ count start begun h.
+          subst (λ n. IsCounted (with_passes c.args.frame.now.columns c.args.frame.now.wanted.now n count c.args.passes.now.runs.now) start (g.W.Sink.seen c.paint_pass.new.sink) begun c.paint_pass.new.pen)
+          (sym (add-one c.loop-pass.pass)) (c.paint_pass.ensures.counted _ start begun (c.loop-pass.invariant.counted count start begun h));
       same = c.paint_pass.ensures.same.sink ∙ c.loop-pass.invariant.same;
     }
+
+pub returns-clause-counted : goal.returns-clause-counted
+returns-clause-counted g c = λ count start begun h.
+    let last : c.loop-pass.pass ≡ length c.args.order.now + 1 = omega arith in
+    subst (λ n. IsCounted (with_passes c.args.frame.now.columns c.args.frame.now.wanted.now n count c.args.passes.now.runs.now) start (g.W.Sink.seen c.loop-pass.sink) begun c.loop-pass.pen)
+    last (c.loop-pass.invariant.counted count start begun h)
 
 pub returns-clause-strokes : goal.returns-clause-strokes
 returns-clause-strokes g c =

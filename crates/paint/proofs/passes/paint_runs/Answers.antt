@@ -1,10 +1,12 @@
 -- `paint_runs`: one run after another, and what is between them is shown already (`Listing`).
-use Rattle.std.proofs.Common.{◌≡◌, ℕ, ◌+◌, ◌<◌, ◌≤◌, ◌∙◌, [], length, get_or, refl, sym, ap, subst, arith, add-one}
+use Rattle.std.proofs.Common.{◌≡◌, ℕ, ◌∙◌, [], drop, length, get_or, refl, sym, ap, subst, arith, add-one, drop-cons}
 use Rattle.cell.specs.Pictures.{Picture, Place, shown_at}
+use Rattle.paint.specs.steps.Counting.{with_run, with_runs}
 use Rattle.paint.specs.steps.Listing.{IsPaintedTo, end_of, no_run}
 use Rattle.paint.specs.steps.Passes.{is_drawn, picture_after}
 use Rattle.paint.specs.steps.Strokes.{Strokes, picture_bytes}
 use Rattle.paint.proofs.Choices.{all-after, lines-all, lines-none, none-before}
+use Rattle.paint.proofs.CountedRuns.{counted-end, counted-start}
 use Rattle.paint.proofs.Listing.{columns-kept, end-below, painted-further, painted-none, painted-whole, run-drawn, runs-inside}
 use Rattle.paint.proofs.Stretches.{run-cells}
 use Rattle.paint.proofs.passes.paint_runs.Goals as goal
@@ -12,6 +14,7 @@ use Rattle.paint.proofs.passes.paint_runs.Goals as goal
 pub loop-i-init : goal.loop-i-init
 loop-i-init g c = record {
   painted = painted-none _ _ (picture_after [] 0 c.args.frame.now.shown.now c.args.frame.now.wanted.now) _;
+  counted = λ count start begun h. counted-start (with_runs c.args.frame.now.columns c.args.frame.now.wanted.now) c.args.runs.now h;
   same = refl;
 }
 
@@ -42,8 +45,20 @@ loop-i-preserved g c =
       painted = subst (λ (place : Place). IsPaintedTo (g.W.Sink.seen c.args.sink.now) (g.W.Sink.seen c.draw_run.new.sink) c.args.pen.now c.draw_run.new.pen place
           (picture_after [] 0 shown wanted) (picture_after [] 1 shown wanted))
           (sym (ap (end_of runs) (add-one i))) drawn;
+      counted = λ count start begun h.
+          let so_far = c.loop-i.invariant.counted count start begun h in
+          record {
+            drawn = with_run c.args.frame.now.columns wanted so_far.drawn run;
+            is = c.draw_run.ensures.counted so_far.drawn start begun so_far.is;
+            left = ap (λ n. with_runs c.args.frame.now.columns wanted (with_run c.args.frame.now.columns wanted so_far.drawn run) (drop n runs)) (add-one i)
+                ∙ sym (ap (with_runs c.args.frame.now.columns wanted so_far.drawn) (drop-cons runs i no_run c.loop-i-test.true)) ∙ so_far.left;
+          };
       same = c.draw_run.ensures.same.sink ∙ c.loop-i.invariant.same;
     }
+
+pub returns-clause-counted : goal.returns-clause-counted
+returns-clause-counted g c = λ count start begun h.
+    counted-end (λ d. refl) (omega (arith, c.loop-i-test.false, c.loop-i.auto.i-end)) (c.loop-i.invariant.counted count start begun h)
 
 pub returns-clause-strokes : goal.returns-clause-strokes
 returns-clause-strokes g c =
