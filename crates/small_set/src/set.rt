@@ -77,6 +77,7 @@ impl SmallSet {
     pub fn next_below(&self, from: u16, end: u16) -> Option<u16>
         ensures { IsNextBelow end self.now from result }
     {
+        let words = WORDS.min(end / WIDTH + 1);
         let mut at = from / WIDTH;
         let mut word = match self.words.as_slice().get(usize::from(at)) {
             Some(word) => bits_from(*word, from % WIDTH),
@@ -84,7 +85,7 @@ impl SmallSet {
         };
         while word == 0 {
             at += 1;
-            if at == WORDS || at * WIDTH >= end {
+            if at >= words {
                 return None;
             }
             word = self.words[usize::from(at)];
