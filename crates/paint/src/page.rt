@@ -23,6 +23,9 @@ pub fn paint_picture<W: Sink>(pen: &mut Pen, sink: &mut W, frame: &Frame<'_>)
     ensures same { SameTerminals (W.name sink.old) (W.name sink.new) pen.old pen.new }
 {
     let changed = changed_lines(frame);
+    if changed == 0 {
+        return;
+    }
     let blank = page_end(frame.wanted, frame.lines, changed, frame.changes);
     let mut line = next_line(pen, frame.changes, blank, 0);
     while line < changed {

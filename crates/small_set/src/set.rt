@@ -77,9 +77,9 @@ impl SmallSet {
     pub fn next_below(&self, from: u16, end: u16) -> Option<u16>
         ensures { IsNextBelow end self.now from result }
     {
-        let words = WORDS.min(end / WIDTH + 1);
-        let mut at = from / WIDTH;
-        let mut word = match self.words.as_slice().get(usize::from(at)) {
+        let words = usize::from(WORDS.min(end / WIDTH + 1));
+        let mut at = usize::from(from / WIDTH);
+        let mut word = match self.words.as_slice().get(at) {
             Some(word) => bits_from(*word, from % WIDTH),
             None => return None,
         };
@@ -88,9 +88,9 @@ impl SmallSet {
             if at >= words {
                 return None;
             }
-            word = self.words[usize::from(at)];
+            word = self.words[at];
         }
-        Some(at * WIDTH + lowest_bit(word))
+        Some(at as u16 * WIDTH + lowest_bit(word))
     }
 
     /// The greatest number.
