@@ -80,10 +80,9 @@ impl Extents {
         ensures none { (y : ℕ) → from ≤ y → y < result → columns_of self.now y ≡ None }
         ensures found { result < length self.now → has_columns self.now result ≡ true }
     {
-        let height = self.height();
-        match self.some.next_below(from, height) {
+        match self.some.next(from) {
             Some(y) => y,
-            None => from.max(height),
+            None => from.max(self.height()),
         }
     }
 

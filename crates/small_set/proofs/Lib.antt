@@ -1,2 +1,2 @@
--- A set after a number was added, and the least number from one on; for `insert`, `next`
+-- A set after a number was added or removed, and the least number from one on; for `insert`, `remove`, `next`
 pub mod Words

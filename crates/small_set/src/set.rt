@@ -1,7 +1,7 @@
 //! A set of numbers below 1,024.
 
 ghost use Rattle.std.specs.Prelude.{◌≡◌, ◌<◌, ◌==◌, ◌||◌, ℕ, true, false, if◌then◌else◌};
-ghost use Rattle.small_set.specs.Sets.{IsLast, IsNext, IsNextBelow, contains};
+ghost use Rattle.small_set.specs.Sets.{IsLast, IsNext, contains};
 
 use crate::bits::{WIDTH, bits_from, highest_bit, lowest_bit};
 use std::marker::Model;
@@ -15,16 +15,19 @@ pub const CAPACITY: u16 = WORDS * WIDTH;
 #[derive(Drop)]
 pub struct SmallSet {
     words: [u64; 16],
+    // Which words have a number, a bit for each.
+    some: u64,
 }
 
 impl Model for SmallSet {
     ghost use Rattle.std.specs.Prelude.{List, ℕ, ◌≡◌, length};
+    ghost use Rattle.small_set.specs.Sets.{HaveNumbers};
 
     ghost Value = { List ℕ };
 
     ghost view = { λ set. set.words };
 
-    ghost invariant = { λ set. length set.words ≡ 16 };
+    ghost invariant = { λ set. (length set.words ≡ 16) × HaveNumbers set.words set.some };
 }
 
 impl SmallSet {
@@ -32,7 +35,10 @@ impl SmallSet {
     pub fn new() -> SmallSet
         ensures { (n : ℕ) → contains result n ≡ false }
     {
-        SmallSet { words: [0; 16] }
+        SmallSet {
+            words: [0; 16],
+            some: 0,
+        }
     }
 
     /// Adds a number.
@@ -40,7 +46,9 @@ impl SmallSet {
         requires { number < CAPACITY }
         ensures { (n : ℕ) → contains self.new n ≡ (n == number || contains self.old n) }
     {
-        self.words[usize::from(number / WIDTH)] |= 1 << (number % WIDTH);
+        let at = number / WIDTH;
+        self.words[usize::from(at)] |= 1 << (number % WIDTH);
+        self.some |= 1 << at;
     }
 
     /// Removes a number.
@@ -48,7 +56,12 @@ impl SmallSet {
         requires { number < CAPACITY }
         ensures { (n : ℕ) → contains self.new n ≡ (if n == number then false else contains self.old n) }
     {
-        self.words[usize::from(number / WIDTH)] &= !(1 << (number % WIDTH));
+        let at = number / WIDTH;
+        let word = self.words[usize::from(at)] & !(1 << (number % WIDTH));
+        if word == 0 {
+            self.some &= !(1 << at);
+        }
+        self.words[usize::from(at)] = word;
     }
 
     /// The least number that isn't in it.
@@ -69,43 +82,31 @@ impl SmallSet {
     pub fn next(&self, from: u16) -> Option<u16>
         ensures { IsNext self.now from result }
     {
-        let _ = &self.words;
-        self.next_below(from, CAPACITY)
-    }
-
-    /// The same, where it is below an end: what is from there on need not be looked at.
-    pub fn next_below(&self, from: u16, end: u16) -> Option<u16>
-        ensures { IsNextBelow end self.now from result }
-    {
-        let words = usize::from(WORDS.min(end / WIDTH + 1));
-        let mut at = usize::from(from / WIDTH);
-        let mut word = match self.words.as_slice().get(at) {
-            Some(word) => bits_from(*word, from % WIDTH),
-            None => return None,
+        let at = from / WIDTH;
+        let Some(word) = self.words.as_slice().get(usize::from(at)) else {
+            return None;
         };
-        while word == 0 {
-            at += 1;
-            if at >= words {
-                return None;
-            }
-            word = self.words[at];
+        let word = bits_from(*word, from % WIDTH);
+        if word != 0 {
+            return Some(at * WIDTH + lowest_bit(word));
         }
-        Some(at as u16 * WIDTH + lowest_bit(word))
+        let later = bits_from(self.some, at + 1);
+        if later == 0 {
+            return None;
+        }
+        let at = lowest_bit(later);
+        Some(at * WIDTH + lowest_bit(self.words[usize::from(at)]))
     }
 
     /// The greatest number.
     pub fn last(&self) -> Option<u16>
         ensures { IsLast self.now result }
     {
-        let mut at = WORDS;
-        while at > 0 {
-            at -= 1;
-            let word = self.words[usize::from(at)];
-            if word != 0 {
-                return Some(at * WIDTH + highest_bit(word));
-            }
+        if self.some == 0 {
+            return None;
         }
-        None
+        let at = highest_bit(self.some);
+        Some(at * WIDTH + highest_bit(self.words[usize::from(at)]))
     }
 
     /// Removes all numbers.
@@ -113,5 +114,6 @@ impl SmallSet {
         ensures { (n : ℕ) → contains self.new n ≡ false }
     {
         self.words = [0; 16];
+        self.some = 0;
     }
 }
