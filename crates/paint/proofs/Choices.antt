@@ -1,13 +1,13 @@
 -- A picture is drawn in passes, and what each may cost.
-use Rattle.std.proofs.Common.{◌≡◌, Bool, ℕ, zero, suc, ◌+◌, ◌-◌, ◌<◌, ◌≤◌, true, false, List, [], ◌∷◌, length, get_or, take, drop, inl, inr, refl, sym, ◌∙◌, arith}
-use Rattle.std.specs.Prelude.{◌==◌, if◌then◌else◌, nat_lt}
-use Rattle.std.proofs.lemmas.Bool.{cases_Bool, cases_lt, le-ltb, lt-ltb, ltb-true, ne_eqb}
+use Rattle.std.proofs.Common.{◌≡◌, Bool, ℕ, zero, suc, ◌+◌, ◌-◌, ◌<◌, ◌≤◌, true, false, List, [], ◌∷◌, length, get_or, take, drop, refl, sym, ◌∙◌, arith}
+use Rattle.std.specs.Prelude.{if◌then◌else◌, nat_lt}
+use Rattle.std.proofs.lemmas.Bool.{cases_Bool, cases_lt, le-ltb, lt-ltb, ltb-true}
 use Rattle.std.proofs.lemmas.List.{ext_get_or, get_or-drop, length-drop}
 use Rattle.paint.proofs.Alike.{take-same}
 use Rattle.paint.proofs.Walks.{line_bytes-other, line_bytes-same}
 use Rattle.cell.specs.EqualityLaws.{same_shown-self}
 use Rattle.cell.specs.Shown.{Rendition, Shown, shown_blank}
-use Rattle.cell.specs.Differences.{same_rendition, same_shown}
+use Rattle.cell.specs.Differences.{same_shown}
 use Rattle.cell.specs.Pictures.{HasSize, Picture, line_of}
 use Rattle.cell.proofs.PictureLemmas.{length-line}
 use Rattle.paint.specs.steps.Strokes.{cell_bytes, line_bytes, picture_bytes}
@@ -28,10 +28,6 @@ get-choose p zero (a ∷ shown) (b ∷ wanted) same inside = refl
 get-choose p (suc x) (a ∷ shown) (b ∷ wanted) same inside = get-choose p x shown wanted (omega arith) (omega arith)
 
 -- a line of which all is shown already
-pub choose-same : (p : Rendition → Bool) (line : List Shown) → choose p line line ≡ line
-choose-same p [] = refl
-choose-same p (a ∷ line) = grind (arith, cases_Bool, choose-same p line)
-
 pub choose-all : (p : Rendition → Bool) → ((r : Rendition) → p r ≡ true) → (shown wanted : List Shown) → length shown ≡ length wanted → choose p shown wanted ≡ wanted
 choose-all p all [] [] same = refl
 choose-all p all [] (b ∷ wanted) same = absurd (omega arith)
@@ -42,32 +38,6 @@ pub choose-none : (p : Rendition → Bool) → ((r : Rendition) → p r ≡ fals
 choose-none p none [] wanted same = refl
 choose-none p none (a ∷ shown) [] same = absurd (omega arith)
 choose-none p none (a ∷ shown) (b ∷ wanted) same = grind (arith, choose-none p none shown wanted (omega arith))
-
-pub take-choose : (p : Rendition → Bool) (x : ℕ) (shown wanted : List Shown) → take x (choose p shown wanted) ≡ choose p (take x shown) (take x wanted)
-take-choose p zero shown wanted = refl
-take-choose p (suc x) [] wanted = refl
-take-choose p (suc x) (a ∷ shown) [] = refl
-take-choose p (suc x) (a ∷ shown) (b ∷ wanted) = grind (arith, take-choose p x shown wanted)
-
-choose-nil : (p : Rendition → Bool) (shown : List Shown) → choose p shown [] ≡ []
-choose-nil p [] = refl
-choose-nil p (a ∷ shown) = refl
-
-pub drop-choose : (p : Rendition → Bool) (x : ℕ) (shown wanted : List Shown) → drop x (choose p shown wanted) ≡ choose p (drop x shown) (drop x wanted)
-drop-choose p zero shown wanted = refl
-drop-choose p (suc x) [] wanted = refl
-drop-choose p (suc x) (a ∷ shown) [] = grind (arith, choose-nil)
-drop-choose p (suc x) (a ∷ shown) (b ∷ wanted) = drop-choose p x shown wanted
-
--- two choices are the same before a column, and from another on, where the lines are
-pub choices-prefix : (p q : Rendition → Bool) (x : ℕ) (shown wanted : List Shown) → take x shown ≡ take x wanted → take x (choose p shown wanted) ≡ take x (choose q shown wanted)
-choices-prefix p q x shown wanted e = grind (arith, take-choose, choose-same)
-
-pub choices-back : (p q : Rendition → Bool) (x : ℕ) (shown wanted : List Shown) → drop x shown ≡ drop x wanted → drop x (choose p shown wanted) ≡ drop x (choose q shown wanted)
-choices-back p q x shown wanted e = grind (arith, drop-choose, choose-same)
-
-pub choices-alike : (p q : Rendition → Bool) (shown wanted : List Shown) → shown ≡ wanted → choose p shown wanted ≡ choose q shown wanted
-choices-alike p q shown wanted e = grind (arith, choose-same)
 
 -- ---- a cell of a line
 
@@ -127,21 +97,6 @@ pub pass-few : (order : List Rendition) (rendition : Rendition) → pass_of orde
 pass-few [] rendition = omega arith
 pass-few (first ∷ order) rendition = grind (arith, cases_Bool, pass-few order rendition)
 
--- what a pass with a rendition of its own draws has that
-own-pass : (none : Rendition) (order : List Rendition) (rendition : Rendition) (pass : ℕ) → pass < length order → pass_of order rendition ≡ pass
-    → same_rendition (get_or order pass none) rendition ≡ true
-own-pass none [] rendition pass few is = absurd (omega arith)
-own-pass none (first ∷ order) rendition zero few is = grind (arith, cases_Bool)
-own-pass none (first ∷ order) rendition (suc pass) few is = elim (cases_Bool (same_rendition first rendition)) [
-  | inl h ↦ let here = rw h at is in absurd (omega (arith, here))
-  | inr h ↦ let later = rw h at is in own-pass none order rendition pass (omega arith) (omega (arith, later))
-]
-
--- what has another rendition isn't drawn by it
-pub not-drawn : (none : Rendition) (pass : ℕ) (order : List Rendition) (rendition : Rendition) → pass < length order → same_rendition (get_or order pass none) rendition ≡ false
-    → false ≡ (pass_of order rendition == pass)
-not-drawn none pass order rendition few other = grind (arith, ne_eqb, own-pass)
-
 -- what another pass draws
 pub other-pass : (n pass : ℕ) → (n ≡ pass → ⊥) → nat_lt n pass ≡ nat_lt n (pass + 1)
 other-pass n pass other = grind (arith, cases_lt, lt-ltb, le-ltb)
@@ -185,11 +140,6 @@ module _ (p : Rendition → Bool) {lines columns : ℕ} {shown wanted : Picture}
 module _ (p q : Rendition → Bool) {lines columns : ℕ} {shown wanted : Picture} (old_size : HasSize lines columns shown) (new_size : HasSize lines columns wanted) where
   pub chosen-heights : length (choose_lines p shown wanted) ≡ length (choose_lines q shown wanted)
   chosen-heights = grind (arith, high)
-
-  -- a line that is the same in both pictures is the same after each
-  pub chosen-alike : (y : ℕ) → y < lines → line_of shown y ≡ line_of wanted y → line_of (choose_lines p shown wanted) y ≡ line_of (choose_lines q shown wanted) y
-  chosen-alike y below same =
-      line-at p old_size new_size y below ∙ choices-alike p q (line_of shown y) (line_of wanted y) same ∙ sym (line-at q old_size new_size y below)
 
 -- ---- what a pass may cost is no longer left after it
 

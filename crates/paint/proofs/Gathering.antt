@@ -1,5 +1,5 @@
 -- A text that is gathered, appended to, and passed on.
-use Rattle.std.proofs.Common.{◌≡◌, ℕ, ◌+◌, ◌-◌, ◌^◌, ◌==◌, ◌&&◌, Bool, true, false, List, [], ◌++◌, length, Ok, Err, sym, ap, ◌∙◌, subst, arith, append-nil, length-append}
+use Rattle.std.proofs.Common.{◌≡◌, ℕ, ◌+◌, ◌-◌, ◌^◌, ◌==◌, ◌&&◌, Bool, true, false, List, [], ◌++◌, length, Err, ap, ◌∙◌, arith, append-nil}
 use Rattle.std.specs.Prelude.{min, not}
 use Rattle.std.proofs.lemmas.Bool.{eqb-true}
 use Rattle.std.proofs.lemmas.List.{nil_from_length}
@@ -15,19 +15,9 @@ goes_out-failed start now sent text h = rw append-nil h
 
 -- ---- the room is sent
 
-Sends-after : {before after : Seen} {piece : List ℕ} {n : ℕ} (sent : ℕ) → Sends before after 0 piece (Ok n) → Sends before after sent piece (Ok (sent + n))
-Sends-after sent h = grind arith
-
 Sends-after_fault : {before after : Seen} {piece : List ℕ} {fault : WriteFault} (sent : ℕ) → Sends before after 0 piece (Err fault)
     → Sends before after sent piece (Err (record { sent = sent + fault.sent }))
 Sends-after_fault sent h = grind arith
-
-pub goes_out-sent : (start mid now : Seen) (room : List ℕ) (sent n total : ℕ) (text : List ℕ) → GoesOut false start mid room sent text → Sends mid now 0 room (Ok n)
-    → total ≡ min (sent + n) (2 ^ 32 - 1) → GoesOut false start now [] total (text ++ [])
-goes_out-sent start mid now room sent n total text h k e =
-    let long : length (h.0 ++ room) ≡ length h.0 + n = length-append h.0 room ∙ omega (arith, k.ends.0) in
-    let whole = Sends-then h.3 (Sends-after (length h.0) k) in
-    (h.0 ++ room, ap (λ bytes. bytes ++ []) h.1, omega (arith, h.2, long), subst (λ m. Sends start now 0 (h.0 ++ room) (Ok m)) (sym long) whole)
 
 pub goes_out-faulted : (start mid now : Seen) (room : List ℕ) (sent total : ℕ) (fault : WriteFault) (text : List ℕ) → GoesOut false start mid room sent text → Sends mid now 0 room (Err fault)
     → total ≡ min (sent + fault.sent) (2 ^ 32 - 1) → GoesOut true start now [] total (text ++ [])

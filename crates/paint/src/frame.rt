@@ -1,12 +1,12 @@
 //! A frame over what is shown: drawn in one walk or in passes, whichever takes fewer bytes.
 
-ghost use Rattle.std.specs.Prelude.{◌≡◌, ◌+◌, ◌≤◌, List, length, min, true};
+ghost use Rattle.std.specs.Prelude.{◌≡◌, ◌+◌, ◌≤◌, ◌⊎◌, [], List, false, length, min, true};
 ghost use Rattle.cell.specs.Shown.{Rendition as AnyRendition};
 ghost use Rattle.paint.specs.declared.passes.TheConstants.{MOST};
 ghost use Rattle.paint.specs.steps.Counting.{HasAtMost, passes_bytes, walk_bytes};
 ghost use Rattle.paint.specs.steps.Holding.{CanDraw, HoldsFrameUpdate};
-ghost use Rattle.paint.specs.steps.Listing.{AreRuns};
-ghost use Rattle.paint.specs.steps.Passes.{HasNoted, changed_renditions};
+ghost use Rattle.paint.specs.steps.Listing.{AreRuns, AreTooMany};
+ghost use Rattle.paint.specs.steps.Passes.{HasNoted, changed_renditions, order_for};
 ghost use Rattle.paint.specs.steps.Strokes.{SameTerminals};
 
 use crate::changes::Frame;
@@ -61,13 +61,14 @@ pub fn draw_frame<W: Sink>(
 
 /// Lists the runs of a frame, where their renditions may be drawn in passes. The frame after one that had an order
 /// mostly has one too, so its runs are listed at once, and their renditions noted with them. It answers whether all were
-/// listed.
+/// listed: they aren't where passes would save nothing, or where there are more runs than room.
 fn list_runs(runs: &mut Runs, frame: &Frame<'_>) -> bool
+    ensures none { result ≡ false → (order_for (changed_renditions frame.now.shown.now frame.now.wanted.now) ≡ [])
+        ⊎ AreTooMany runs.new.noted.order frame.now.shown.now frame.now.wanted.now runs.new }
     ensures runs { result ≡ true → AreRuns runs.new.noted.order frame.now.shown.now frame.now.wanted.now runs.new.runs (frame.now.lines, 0) }
     ensures noted { result ≡ true → HasNoted runs.new.noted (changed_renditions frame.now.shown.now frame.now.wanted.now) }
 {
     if runs.order().is_empty() && order_of(frame).renditions().is_empty() {
-        runs.clear();
         return false;
     }
     runs.list(frame)

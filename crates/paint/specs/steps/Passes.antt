@@ -78,10 +78,7 @@ choose_lines is_chosen (line ∷ shown) (other ∷ wanted) = choose is_chosen li
 abbrev pub is_drawn : List Rendition → ℕ → Rendition → Bool
 is_drawn order passes rendition = nat_lt (pass_of order rendition) passes
 
--- a line, and a picture, after the first passes
-abbrev pub line_after : List Rendition → ℕ → List Shown → List Shown → List Shown
-line_after order passes shown wanted = choose (is_drawn order passes) shown wanted
-
+-- a picture after the first passes
 abbrev pub picture_after : List Rendition → ℕ → Picture → Picture → Picture
 picture_after order passes shown wanted = choose_lines (is_drawn order passes) shown wanted
 
