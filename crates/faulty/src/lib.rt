@@ -1,6 +1,8 @@
 //! Faulty readers and writers for tests: they give or take pieces, fail, are interrupted or closed, and count.
 #![tactic(auto)]
 
+ghost use Rattle.std.specs.Prelude.{◌≡◌, None, Some, [], false, true};
+
 use std::alloc::Global;
 use std::io;
 use std::io::{ErrorKind, Read, Write};
@@ -42,7 +44,10 @@ pub struct Halting {
 
 impl Halting {
     /// A writer that takes all, at most so many bytes a call.
-    pub fn in_pieces(alloc: Global, step: usize, is_stuck: bool) -> Halting {
+    pub fn in_pieces(alloc: Global, step: usize, is_stuck: bool) -> Halting
+        ensures taken { result.taken.items ≡ [] }
+        ensures rest { result ≡ record { taken = result.taken; writes = 0; step = step; stop = None; again = None; fails = false; is_stuck = is_stuck } }
+    {
         Halting {
             taken: Vec::new(alloc),
             writes: 0,
@@ -55,7 +60,11 @@ impl Halting {
     }
 
     /// A writer that stops once, where it has taken so many bytes.
-    pub fn until(alloc: Global, stop: usize, fails: bool) -> Halting {
+    pub fn until(alloc: Global, stop: usize, fails: bool) -> Halting
+        ensures taken { result.taken.items ≡ [] }
+        ensures writes { result.writes ≡ 0 }
+        ensures stops { (result.stop ≡ Some stop) × (result.again ≡ None) × (result.fails ≡ fails) }
+    {
         Halting {
             taken: Vec::new(alloc),
             writes: 0,
@@ -68,7 +77,11 @@ impl Halting {
     }
 
     /// A writer that fails where it has taken so many bytes, and once more so many after that.
-    pub fn twice(alloc: Global, stop: usize, again: usize) -> Halting {
+    pub fn twice(alloc: Global, stop: usize, again: usize) -> Halting
+        ensures taken { result.taken.items ≡ [] }
+        ensures writes { result.writes ≡ 0 }
+        ensures stops { (result.stop ≡ Some stop) × (result.again ≡ Some again) × (result.fails ≡ true) }
+    {
         let mut writer = Halting::until(alloc, stop, true);
         writer.again = Some(again);
         writer
