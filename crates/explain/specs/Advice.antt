@@ -1,5 +1,5 @@
 -- What to write for a name of curses, or a word of another language, that is no word of scripts. The texts are Curspan's own.
-use Rattle.std.specs.Prelude.{◌==◌, ◌||◌, ℕ, Bool, not, List, [], ◌∷◌, ◌++◌, codes, drop, find, is_some, length, Option, option_and_then, option_map, Some, None, take, unwrap_or, if◌then◌else◌}
+use Rattle.std.specs.Prelude.{◌==◌, ◌||◌, ℕ, Bool, not, List, [], ◌∷◌, ◌++◌, codes, drop, find, is_some, length, nat_lt, Option, option_and_then, option_map, Some, None, take, unwrap_or, if◌then◌else◌}
 use Rattle.std.specs.Char.{is_ascii_alphanumeric, is_ascii_digit, to_ascii_lowercase}
 use Rattle.std.specs.List.{list_any, slice_split}
 use Rattle.std.specs.Str.{bytes_eq}
@@ -238,15 +238,30 @@ said_of_marks word = if begins_with (codes "-") word then Some (codes "an option
     else (if begins_with (codes "=") (after_name word) then Some (codes "a script has no variables: windows are numbered from 1 as they are made")
     else None))))))
 
--- of what begins a comment elsewhere, that # does here; or else what the table has of the word as it is; or else what is
--- said of the name of what it calls; or else of what the word is near, of its marks, or of what that name is near
+-- the call that is near the word, if its name is longer than what the word calls
+abbrev pub see_longer : List ℕ → Option (List ℕ)
+see_longer word = option_and_then (λ name. if nat_lt (length (called_name word)) (length name) then Some (codes "see " ++ name) else None) (nearest word)
+
+-- this, and a name, if that is a call
+abbrev pub say_call : List ℕ → List ℕ → Option (List ℕ)
+say_call said name = if is_some (word_of name) then Some (said ++ name) else None
+
+-- Of a word that has the name of a call in it: how that is written. Of `move-panel` it is the longer name.
+unfoldable pub said_of_written : List ℕ → Option (List ℕ)
+said_of_written word = if length (called_name word) == length word then say_call (codes "calls are in lower case: see ") (called_name word)
+    else or_else (see_longer word) (say_call (codes "a call's name stands alone, with a space before each argument: see ") (called_name word))
+
+-- of what begins a comment elsewhere, that # does here; or else what the table has of the word as it is; or else how the
+-- call in it is written; or else what is said of the name of what it calls; or else of what the word is near, of its
+-- marks, or of what that name is near
 unfoldable pub said_of : List ℕ → Option (List ℕ)
 said_of word = if begins_comment word then Some (codes "a comment begins with #")
     else or_else (advice_on word)
+    (or_else (said_of_written word)
     (or_else (said_of_name (called_name word))
     (or_else (said_of_near word)
     (or_else (said_of_marks word)
-    (said_near_name word))))
+    (said_near_name word)))))
 
 -- what a line is, said where nothing else is
 unfoldable pub line_advice : List ℕ

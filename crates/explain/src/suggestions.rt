@@ -1,9 +1,9 @@
 //! What to write for a word that is no call.
 
-ghost use Rattle.std.specs.Prelude.{◌≡◌, ◌≤◌, ◌+◌, IfSome, length, option_map, take};
+ghost use Rattle.std.specs.Prelude.{◌≡◌, ◌≤◌, ◌+◌, ◌++◌, IfSome, codes, length, option_map, take};
 ghost use Rattle.std.specs.Char.{is_ascii_digit};
 ghost use Rattle.std.specs.List.{list_any};
-ghost use Rattle.explain.specs.Advice.{advice_on_rest, after_prefix, called_name, is_name_byte, said_near_name, said_of, said_of_marks, said_of_name, said_of_near, see_nearest};
+ghost use Rattle.explain.specs.Advice.{advice_on_rest, after_prefix, called_name, is_name_byte, said_near_name, said_of, said_of_marks, said_of_name, said_of_near, said_of_written, say_call, see_longer, see_nearest};
 ghost use Rattle.explain.specs.steps.Suggestions.{said_now};
 
 use crate::advice::advice_on;
@@ -50,6 +50,18 @@ fn after_prefix<'a>(prefix: &[u8], said: &'static [u8], word: &'a [u8]) -> Optio
     }
 }
 
+/// That a call is to be seen.
+fn see<'a>(call: &'a [u8]) -> Said<'a>
+    ensures said { result.text.now ++ result.call.now ≡ codes "see " ++ call.now }
+    ensures short { length result.text.now ≤ 80 }
+    ensures call { result.call.now ≡ call.now }
+{
+    Said {
+        text: b"see ",
+        call,
+    }
+}
+
 /// The call that is nearest to a word.
 fn see_nearest<'a>(word: &[u8]) -> Option<Said<'a>>
     ensures said { said_now result ≡ see_nearest word.now }
@@ -57,10 +69,7 @@ fn see_nearest<'a>(word: &[u8]) -> Option<Said<'a>>
     ensures call { IfSome result (λ s. length s.call.now ≤ 80) }
 {
     match nearest(word) {
-        Some(call) => Some(Said {
-            text: b"see ",
-            call,
-        }),
+        Some(call) => Some(see(call)),
         None => None,
     }
 }
@@ -164,6 +173,55 @@ fn said_of_marks(word: &[u8]) -> Option<&'static [u8]>
     None
 }
 
+/// The call that is near a word, if its name is longer than that of what the word calls.
+fn see_longer<'a>(word: &[u8], name: &[u8]) -> Option<Said<'a>>
+    requires { name.now ≡ called_name word.now }
+    ensures said { said_now result ≡ see_longer word.now }
+    ensures short { IfSome result (λ s. length s.text.now ≤ 80) }
+    ensures call { IfSome result (λ s. length s.call.now ≤ 80) }
+{
+    match nearest(word) {
+        Some(call) if name.len() < call.len() => Some(see(call)),
+        _ => None,
+    }
+}
+
+/// This, and a name, if that is a call.
+fn say_call<'a>(said: &'static [u8], name: &'a [u8]) -> Option<Said<'a>>
+    requires { length said.now ≤ 80 }
+    ensures said { said_now result ≡ say_call said.now name.now }
+    ensures short { IfSome result (λ s. length s.text.now ≤ 80) }
+    ensures call { IfSome result (λ s. length s.call.now ≤ length name.now) }
+{
+    if Word::of(name).is_some() {
+        return Some(Said {
+            text: said,
+            call: name,
+        });
+    }
+    None
+}
+
+/// How the call is written whose name is in a word, among marks or in upper case.
+#[tactic(auto, unfolding(crate::specs::Advice::said_of_written))]
+fn said_of_written<'a>(word: &[u8], name: &'a [u8]) -> Option<Said<'a>>
+    requires { name.now ≡ called_name word.now }
+    ensures said { said_now result ≡ said_of_written word.now }
+    ensures short { IfSome result (λ s. length s.text.now ≤ 80) }
+    ensures call { IfSome result (λ s. length s.call.now ≤ length name.now + 80) }
+{
+    if word.len() == name.len() {
+        return say_call(b"calls are in lower case: see ", name);
+    }
+    if let Some(said) = see_longer(word, name) {
+        return Some(said);
+    }
+    say_call(
+        b"a call's name stands alone, with a space before each argument: see ",
+        name,
+    )
+}
+
 /// What is said of a word that is no call, with the name of what it calls.
 #[tactic(auto, unfolding(crate::specs::Advice::said_of))]
 pub fn said_of<'a>(word: &[u8], name: &'a [u8]) -> Option<Said<'a>>
@@ -180,6 +238,9 @@ pub fn said_of<'a>(word: &[u8], name: &'a [u8]) -> Option<Said<'a>>
     }
     if let Some(text) = advice_on(word) {
         return Some(Said { text, call: b"" });
+    }
+    if let Some(said) = said_of_written(word, name) {
+        return Some(said);
     }
     if let Some(said) = said_of_name(name) {
         return Some(said);
