@@ -1,5 +1,9 @@
 //! What the environment says of the size of the screen.
 
+ghost use Rattle.std.specs.Prelude.{◌≡◌, IfErr};
+ghost use Rattle.std.specs.IoError.{error_kind};
+ghost use Rattle.std.specs.declared.io.ErrorKind.TheVariants.{OutOfMemory};
+
 use std::env::VarError;
 use std::io::ErrorKind;
 use std::{env, io};
@@ -8,7 +12,9 @@ use std::{env, io};
 const UNREADABLE: &str = "\u{fffd}";
 
 /// The text of a variable, if it is set. An error says that there is no memory for it.
-pub fn variable(rt: &HostRuntime, name: &str) -> io::Result<Option<String>> {
+pub fn variable(rt: &HostRuntime, name: &str) -> io::Result<Option<String>>
+    ensures { IfErr result (λ error. error_kind error ≡ OutOfMemory) }
+{
     match env::var(rt, name) {
         Ok(text) => Ok(Some(text)),
         Err(VarError::NotPresent) => Ok(None),

@@ -74,6 +74,7 @@ advised =
     ∷ (codes "see getbegyx", codes "getbegx getbegy")
     ∷ (codes "see getparyx", codes "getparx getpary")
     ∷ (codes "see getmaxyx", codes "getmaxx getmaxy size getsize get_size getmax")
+    ∷ (codes "the command line gives the size, by --lines and --cols; see getmaxyx", codes "lines cols columns")
     ∷ (codes "no window has this flag", codes "leaveok immedok syncok idlok idcok")
     ∷ (
       codes "no call answers this",
@@ -87,7 +88,7 @@ advised =
       codes "characters are those of ASCII",
       codes "add_wch add_wchstr add_wchnstr addwstr addnwstr bkgrnd bkgrndset border_set box_set echo_wchar"
           ++ codes " erasewchar get_wch get_wstr getn_wstr getbkgrnd getcchar hline_set in_wch in_wchstr in_wchnstr innwstr"
-          ++ codes " ins_nwstr ins_wch ins_wstr inwstr key_name killwchar pecho_wchar setcchar unget_wch vline_set wunctrl",
+          ++ codes " ins_nwstr ins_wch ins_wstr inwstr key_name killwchar pecho_wchar setcchar unget_wch vline_set wunctrl unctrl",
     )
     ∷ (
       codes "there are no soft labels",
@@ -99,7 +100,8 @@ advised =
       codes "baudrate beep flash curs_set def_prog_mode def_shell_mode reset_prog_mode reset_shell_mode resetty"
           ++ codes " savetty has_ic has_il longname termname mcprint mvcur putp tigetflag tigetnum tigetstr tiparm tparm"
           ++ codes " vidattr vidputs vid_attr vid_puts ripoffline set_tabsize setsyx use_env use_tioctl filter nofilter"
-          ++ codes " use_extended_names use_legacy_coding bell tput stty",
+          ++ codes " use_extended_names use_legacy_coding bell tput stty setupterm restartterm cur_term set_curterm del_curterm"
+          ++ codes " tputs tgetent tgetflag tgetnum tgetstr tgoto",
     )
     ∷ (codes "nothing is saved or loaded", codes "scr_dump scr_init scr_restore scr_set getwin putwin save load")
     ∷ (codes "no call traces or names a version", codes "trace curses_trace curses_version")
@@ -110,7 +112,7 @@ advised =
     ∷ (codes "see clrtobot", codes "clrtobottom clrtoeos")
     ∷ (codes "see clrtoeol", codes "clear_line clearline erase_line")
     ∷ (codes "see update_panels, doupdate", codes "update update_screen updatescreen flush draw redraw render display show_screen sync refresh_screen")
-    ∷ (codes "see newwin", codes "window win newwindow new_window create_window createwin makewin mkwin openwin open_window")
+    ∷ (codes "windows are numbered from 1 as they are made: see newwin", codes "window win newwindow new_window create_window createwin makewin mkwin openwin open_window")
     ∷ (codes "see delwin", codes "delwindow delete_window del_window destroy_window rmwin closewin close_window destroy delete")
     ∷ (codes "see mvwin, move_panel", codes "move_window move_win movewin movewindow")
     ∷ (codes "see new_panel", codes "panel create_panel add_panel make_panel")
@@ -132,7 +134,7 @@ advised =
     )
     ∷ (
       codes "a line begins with a call",
-      codes "stdscr curscr newscr lines cols null true false color_black color_red color_green color_yellow"
+      codes "stdscr curscr newscr null true false color_black color_red color_green color_yellow"
           ++ codes " color_blue color_magenta color_cyan color_white curses",
     )
     ∷ (

@@ -1,11 +1,11 @@
 -- What an argument of a form has to be, and why a byte or an argument is faulty. The texts are Curspan's own.
-use Rattle.std.specs.Prelude.{◌==◌, ◌&&◌, ℕ, Bool, not, List, [], ◌++◌, codes, drop, length, slice_index, if◌then◌else◌}
+use Rattle.std.specs.Prelude.{◌==◌, ◌&&◌, ◌||◌, ℕ, Bool, not, List, [], ◌∷◌, ◌++◌, codes, drop, length, slice_index, if◌then◌else◌}
 use Rattle.std.specs.Char.{is_ascii_digit, is_ascii_hexdigit, is_ascii_uppercase}
 use Rattle.std.specs.List.{list_all, list_any, take_while}
 use Rattle.std.specs.Str.{bytes_eq}
 use Rattle.std.specs.Str.Parse.{digits_value}
-use Rattle.script.specs.Characters.{carriage_return, digit_0}
-use Rattle.explain.specs.Advice.{begins_with, is_quoted, names_in}
+use Rattle.script.specs.Characters.{backslash, carriage_return, digit_0}
+use Rattle.explain.specs.Advice.{begins_comment, begins_with, is_quoted, names_in}
 use Rattle.script.specs.declared.words.Form.{Form}
 use Rattle.script.specs.declared.words.Form.TheVariants.{Number, NumberOrNone, Signed, Attributes, Flag, Character, Text}
 
@@ -40,7 +40,7 @@ abbrev pub pair_and_colours : List ℕ
 pair_and_colours = codes "a pair from 1 to 63, and two colours from 0 to 7"
 
 abbrev pub window_and_pair : List ℕ
-window_and_pair = codes "a window, and a pair from 0 to 63"
+window_and_pair = codes "a window, and a pair from 0 to 63 as init_pair set it"
 
 -- what an argument of that form has to be, after this word
 abbrev pub requirement_of : List ℕ → Form → List ℕ
@@ -71,8 +71,10 @@ abbrev pub mark_reason : List ℕ → List ℕ → List ℕ
 mark_reason said argument = if is_quoted argument then codes ": it has no quotes"
     else (if has_byte comma argument then codes ": spaces separate arguments, and no commas"
     else (if has_byte semicolon argument then codes ": a line has no semicolon"
-    else (if begins_with (codes "$") argument then codes ": a script has no variables"
-    else said)))
+    else (if begins_with (codes "$") argument || begins_with (codes "`") argument
+    then codes ": a script has no variables, and runs no programs"
+    else (if bytes_eq argument (codes "#") || begins_comment argument then codes ": a comment has a line of its own"
+    else said))))
 
 abbrev pub colour_names : List ℕ
 colour_names =
@@ -120,13 +122,22 @@ flag_reason argument = if is_one_of (codes "ON On TRUE True true YES Yes yes 1")
     else (if is_one_of (codes "OFF Off FALSE False false NO No no 0") argument then codes ": write off"
     else mark_reason [] argument)
 
--- a text with a backslash that begins no escape
-abbrev pub text_reason : List ℕ
-text_reason = codes ": a backslash itself is written as two"
+-- what is after the first backslash of a text
+abbrev pub after_backslash : List ℕ → List ℕ
+after_backslash [] = []
+after_backslash (b ∷ bs) = if b == backslash then bs else after_backslash bs
+
+-- of a text with a backslash that begins no escape, by what is after the first one
+abbrev pub text_reason : List ℕ → List ℕ
+text_reason text = if begins_with (codes "t") (after_backslash text) then codes ": a tab is written as spaces, a backslash itself as two"
+    else (if begins_with (codes "e") (after_backslash text) then codes ": it has no control sequences: see attrset, color_set, move"
+    else (if begins_with (codes "u") (after_backslash text) then codes ": characters are those of ASCII"
+    else (if begins_with (codes "x") (after_backslash text) then codes ": two digits in lower case come after \\x"
+    else codes ": a backslash itself is written as two")))
 
 abbrev pub character_reason : List ℕ → List ℕ
 character_reason argument = if length argument == 0 then []
-    else (if begins_with (codes "\\") argument then text_reason
+    else (if begins_with (codes "\\") argument then text_reason argument
     else (if begins_with (codes "ACS_") argument then codes ": lines are drawn by characters such as + - and |"
     else (if is_quoted argument then codes ": it has no quotes"
     else codes ": it is more than one")))
@@ -142,7 +153,7 @@ reason Signed argument = unless_missing (signed_reason argument) argument
 reason Attributes argument = unless_missing (attributes_reason argument) argument
 reason Flag argument = unless_missing (flag_reason argument) argument
 reason Character argument = character_reason argument
-reason Text argument = text_reason
+reason Text argument = text_reason argument
 
 -- the number that a text has after so many bytes
 abbrev pub numeral_in : ℕ → List ℕ → ℕ

@@ -67,7 +67,7 @@ const UPDATES: &[u8] = b"see update_panels, doupdate";
 
 const ERASED: &[u8] = b"see clear, erase";
 
-const WINDOWS: &[u8] = b"see newwin";
+const WINDOWS: &[u8] = b"windows are numbered from 1 as they are made: see newwin";
 
 const DELETED: &[u8] = b"see delwin";
 
@@ -82,6 +82,8 @@ const CURSOR: &[u8] = b"see move";
 const WAITS: &[u8] = b"no call waits";
 
 const SIZES: &[u8] = b"see getmaxyx";
+
+const SCREEN_SIZE: &[u8] = b"the command line gives the size, by --lines and --cols; see getmaxyx";
 
 const LINES_INSERTED: &[u8] = b"see insertln, deleteln";
 
@@ -160,8 +162,9 @@ const ADVICE: [(u8, &[Row]); 29] = [
         (CONTENTS, b"color_content"),
         (PAIRS, b"color_pair"),
         (CURSOR, b"cursyncup cursor"),
+        (SCREEN_SIZE, b"cols columns"),
         (b"see panel_below, with none", b"ceiling_panel"),
-        (TERMINAL, b"curs_set"),
+        (TERMINAL, b"curs_set cur_term"),
         (TRACES, b"curses_trace curses_version"),
         (ERASED, b"cls clr clrscr clearscreen clear_screen clear_window"),
         (b"see clrtobot", b"clrtobottom clrtoeos"),
@@ -172,7 +175,7 @@ const ADVICE: [(u8, &[Row]); 29] = [
         (b"see copywin, overwrite, overlay", b"copy copywindow copy_window"),
         (COLOURED, b"color colour colors colours"),
         (BEGINNINGS,
-            b"curscr cols color_black color_red color_green color_yellow color_blue color_magenta color_cyan \
+            b"curscr color_black color_red color_green color_yellow color_blue color_magenta color_cyan \
             color_white curses"),
         (CALLS_ALONE, b"case continue char const class"),
         (PROGRAMS, b"cat cd cp"),
@@ -187,7 +190,7 @@ const ADVICE: [(u8, &[Row]); 29] = [
         (b"see newwin, overwrite", b"dupwin"),
         (ATTRIBUTES, b"dim"),
         (CURSOR, b"down"),
-        (TERMINAL, b"def_prog_mode def_shell_mode"),
+        (TERMINAL, b"def_prog_mode def_shell_mode del_curterm"),
         (b"see delch", b"delchar deletech deletechar"),
         (UPDATES, b"draw display"),
         (DELETED, b"delwindow delete_window del_window destroy_window destroy delete"),
@@ -276,11 +279,11 @@ const ADVICE: [(u8, &[Row]); 29] = [
         (LINES, b"line"),
         (TEXTS, b"label"),
         (CURSOR, b"locate left"),
+        (SCREEN_SIZE, b"lines"),
         (FLAGS, b"leaveok"),
         (TERMINAL, b"longname"),
         (SAVED, b"load"),
         (RAISED, b"lower lower_panel"),
-        (BEGINNINGS, b"lines"),
         (CALLS_ALONE, b"let local long loop"),
         (PROGRAMS, b"ls"),
     ]),
@@ -350,7 +353,7 @@ const ADVICE: [(u8, &[Row]); 29] = [
         (COLOURS, b"reset_color_pairs"),
         (b"see clearok, touchwin", b"redrawwin redrawln"),
         (CURSOR, b"right"),
-        (TERMINAL, b"reset_prog_mode reset_shell_mode resetty ripoffline"),
+        (TERMINAL, b"reset_prog_mode reset_shell_mode resetty ripoffline restartterm"),
         (ERASED, b"reset"),
         (UPDATES, b"redraw render refresh_screen"),
         (DELETED, b"rmwin"),
@@ -378,7 +381,7 @@ const ADVICE: [(u8, &[Row]); 29] = [
         (LABELS,
             b"slk_attr slk_attr_off slk_attr_on slk_attr_set slk_attroff slk_attron slk_attrset slk_clear \
             slk_color slk_init slk_label slk_noutrefresh slk_refresh slk_restore slk_set slk_touch slk_wset"),
-        (TERMINAL, b"savetty set_tabsize setsyx stty"),
+        (TERMINAL, b"savetty set_tabsize setsyx stty setupterm set_curterm"),
         (SAVED, b"scr_dump scr_init scr_restore scr_set save"),
         (UPDATES, b"show_screen sync"),
         (SHOWN, b"show show_window"),
@@ -393,7 +396,7 @@ const ADVICE: [(u8, &[Row]); 29] = [
         (KEYS, b"timeout typeahead"),
         (TEXTS, b"text type title"),
         (RENDITION, b"termattrs term_attrs"),
-        (TERMINAL, b"termname tigetflag tigetnum tigetstr tiparm tparm tput"),
+        (TERMINAL, b"termname tigetflag tigetnum tigetstr tiparm tparm tput tputs tgetent tgetflag tgetnum tgetstr tgoto"),
         (TRACES, b"trace"),
         (RAISED, b"top"),
         (b"see touchwin", b"touch touchwindow touch_window"),
@@ -409,7 +412,7 @@ const ADVICE: [(u8, &[Row]); 29] = [
         (ATTRIBUTES, b"underline"),
         (COLOURS, b"use_default_colors"),
         (CURSOR, b"up"),
-        (ASCII, b"unget_wch"),
+        (ASCII, b"unget_wch unctrl"),
         (TERMINAL, b"use_env use_tioctl use_extended_names use_legacy_coding"),
         (UPDATES, b"update update_screen updatescreen"),
         (WAITS, b"usleep"),

@@ -3,10 +3,10 @@
 ghost use Rattle.std.specs.Prelude.{◌≡◌, ◌≤◌, length};
 ghost use Rattle.std.specs.Char.{is_ascii_hexdigit, is_ascii_uppercase};
 ghost use Rattle.std.specs.List.{list_all, list_any};
-ghost use Rattle.explain.specs.Reasons.{are_digits, are_two_digits, attributes_reason, byte_advice, character_reason, digits_reason, flag_reason, has_byte, mark_reason, name_reason, reason, requirement, requirement_of, signed_reason, text_reason, unless_missing, unsigned_or_none_reason, unsigned_reason};
+ghost use Rattle.explain.specs.Reasons.{after_backslash, are_digits, are_two_digits, attributes_reason, byte_advice, character_reason, digits_reason, flag_reason, has_byte, mark_reason, name_reason, reason, requirement, requirement_of, signed_reason, text_reason, unless_missing, unsigned_or_none_reason, unsigned_reason};
 
 use crate::advice::is_among;
-use crate::names::is_quoted;
+use crate::names::{begins_comment, is_quoted};
 use script::{Form, has_digits_alone};
 
 /// What is said of a bad byte: a carriage return, a tab, a backspace, an escape, a 0, or another.
@@ -49,9 +49,9 @@ pub fn requirement_of(word: &[u8], form: Form) -> &'static [u8]
     if word == b"init_pair".as_slice() {
         b"a pair from 1 to 63, and two colours from 0 to 7"
     } else if word == b"color_set".as_slice() {
-        b"a window, and a pair from 0 to 63"
+        b"a window, and a pair from 0 to 63 as init_pair set it"
     } else if word == b"bkgdpair".as_slice() {
-        b"a window, and a pair from 0 to 63"
+        b"a window, and a pair from 0 to 63 as init_pair set it"
     } else {
         requirement(form)
     }
@@ -98,8 +98,11 @@ fn mark_reason(said: &'static [u8], argument: &[u8]) -> &'static [u8]
     if has_byte(argument, b';') {
         return b": a line has no semicolon";
     }
-    if argument.strip_prefix(b"$").is_some() {
-        return b": a script has no variables";
+    if argument.strip_prefix(b"$").is_some() || argument.strip_prefix(b"`").is_some() {
+        return b": a script has no variables, and runs no programs";
+    }
+    if argument == b"#".as_slice() || begins_comment(argument) {
+        return b": a comment has a line of its own";
     }
     said
 }
@@ -221,12 +224,37 @@ fn flag_reason(argument: &[u8]) -> &'static [u8]
     }
 }
 
+/// What is after the first backslash of a text.
+fn after_backslash(text: &[u8]) -> &[u8]
+    ensures { result.now ≡ after_backslash text.now }
+{
+    let mut left = text;
+    while let Some((first, rest)) = left.split_first() {
+        if *first == b'\\' {
+            return rest;
+        }
+        left = rest;
+    }
+    left
+}
+
 /// What is said of a text with a backslash that begins no escape.
-fn text_reason() -> &'static [u8]
-    ensures text { result.now ≡ text_reason }
+fn text_reason(text: &[u8]) -> &'static [u8]
+    ensures text { result.now ≡ text_reason text.now }
     ensures short { length result.now ≤ 80 }
 {
-    b": a backslash itself is written as two"
+    let rest = after_backslash(text);
+    if rest.strip_prefix(b"t").is_some() {
+        b": a tab is written as spaces, a backslash itself as two"
+    } else if rest.strip_prefix(b"e").is_some() {
+        b": it has no control sequences: see attrset, color_set, move"
+    } else if rest.strip_prefix(b"u").is_some() {
+        b": characters are those of ASCII"
+    } else if rest.strip_prefix(b"x").is_some() {
+        b": two digits in lower case come after \\x"
+    } else {
+        b": a backslash itself is written as two"
+    }
 }
 
 /// Why an argument is no character.
@@ -237,7 +265,7 @@ fn character_reason(argument: &[u8]) -> &'static [u8]
     if argument.is_empty() {
         b""
     } else if argument.strip_prefix(b"\\").is_some() {
-        text_reason()
+        text_reason(argument)
     } else if argument.strip_prefix(b"ACS_").is_some() {
         b": lines are drawn by characters such as + - and |"
     } else if is_quoted(argument) {
@@ -272,6 +300,6 @@ pub fn reason(form: Form, argument: &[u8]) -> &'static [u8]
         Form::Attributes => unless_missing(attributes_reason(argument), argument),
         Form::Flag => unless_missing(flag_reason(argument), argument),
         Form::Character => character_reason(argument),
-        Form::Text => text_reason(),
+        Form::Text => text_reason(argument),
     }
 }

@@ -27,22 +27,24 @@ fn writing_arguments(word: WritingWord) -> &'static [u8]
     ensures short { length result.now ≤ 96 }
 {
     match word {
-        WritingWord::Move => b"window, line, column",
-        WritingWord::Addch | WritingWord::Insch => b"window, character",
-        WritingWord::Addstr => b"window, text",
+        WritingWord::Move => b"window (0 is the standard screen), line, column",
+        WritingWord::Addch | WritingWord::Insch => b"window (0 is the standard screen), character",
+        WritingWord::Addstr => b"window (0 is the standard screen), text",
         WritingWord::Delch
         | WritingWord::Insertln
         | WritingWord::Deleteln
         | WritingWord::Erase
         | WritingWord::Clear
         | WritingWord::Clrtoeol
-        | WritingWord::Clrtobot => b"window",
-        WritingWord::Scrl => b"window, how many lines",
-        WritingWord::Setscrreg => b"window, first line, last line",
-        WritingWord::Scrollok | WritingWord::Clearok => b"window, on or off",
-        WritingWord::Attrset | WritingWord::Attron | WritingWord::Attroff => b"window, attributes",
-        WritingWord::Bkgdset => b"window, attributes, character",
-        WritingWord::ColorSet | WritingWord::Bkgdpair => b"window, pair",
+        | WritingWord::Clrtobot => b"window (0 is the standard screen)",
+        WritingWord::Scrl => b"window (0 is the standard screen), how many lines",
+        WritingWord::Setscrreg => b"window (0 is the standard screen), first line, last line",
+        WritingWord::Scrollok | WritingWord::Clearok =>
+            b"window (0 is the standard screen), on or off",
+        WritingWord::Attrset | WritingWord::Attron | WritingWord::Attroff =>
+            b"window (0 is the standard screen), attributes",
+        WritingWord::Bkgdset => b"window (0 is the standard screen), attributes, character",
+        WritingWord::ColorSet | WritingWord::Bkgdpair => b"window (0 is the standard screen), pair",
     }
 }
 
@@ -92,7 +94,7 @@ fn refresh_arguments(word: RefreshWord) -> &'static [u8]
     ensures short { length result.now ≤ 96 }
 {
     match word {
-        RefreshWord::Noutrefresh => b"window",
+        RefreshWord::Noutrefresh => b"window (0 is the standard screen)",
         RefreshWord::Pnoutrefresh =>
             b"pad, its line, its column, then top, left, bottom and right of the screen",
         RefreshWord::UpdatePanels | RefreshWord::Doupdate => b"",
@@ -109,7 +111,7 @@ pub fn names_of_arguments(word: Word) -> &'static [u8]
         Word::Making(word) => making_arguments(word),
         Word::Writing(word) => writing_arguments(word),
         Word::Copying(word) => copying_arguments(word),
-        Word::Query(_) => b"window",
+        Word::Query(_) => b"window (0 is the standard screen)",
         Word::Stacking(word) => stacking_arguments(word),
         Word::Refresh(word) => refresh_arguments(word),
     }

@@ -1,7 +1,7 @@
 //! Faulty readers and writers for tests: they give or take pieces, fail, are interrupted or closed, and count.
 #![tactic(auto)]
 
-ghost use Rattle.std.specs.Prelude.{◌≡◌, None, Some, [], false, true};
+ghost use Rattle.std.specs.Prelude.{◌≡◌, ◌-◌, ◌^◌, None, Some, [], false, true};
 
 use std::alloc::Global;
 use std::io;
@@ -62,8 +62,7 @@ impl Halting {
     /// A writer that stops once, where it has taken so many bytes.
     pub fn until(alloc: Global, stop: usize, fails: bool) -> Halting
         ensures taken { result.taken.items ≡ [] }
-        ensures writes { result.writes ≡ 0 }
-        ensures stops { (result.stop ≡ Some stop) × (result.again ≡ None) × (result.fails ≡ fails) }
+        ensures rest { result ≡ record { taken = result.taken; writes = 0; step = 2 ^ 64 - 1; stop = Some stop; again = None; fails = fails; is_stuck = false } }
     {
         Halting {
             taken: Vec::new(alloc),
@@ -79,8 +78,7 @@ impl Halting {
     /// A writer that fails where it has taken so many bytes, and once more so many after that.
     pub fn twice(alloc: Global, stop: usize, again: usize) -> Halting
         ensures taken { result.taken.items ≡ [] }
-        ensures writes { result.writes ≡ 0 }
-        ensures stops { (result.stop ≡ Some stop) × (result.again ≡ Some again) × (result.fails ≡ true) }
+        ensures rest { result ≡ record { taken = result.taken; writes = 0; step = 2 ^ 64 - 1; stop = Some stop; again = Some again; fails = true; is_stuck = false } }
     {
         let mut writer = Halting::until(alloc, stop, true);
         writer.again = Some(again);

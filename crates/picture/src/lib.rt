@@ -20,8 +20,6 @@ mod rows;
 mod search;
 mod span;
 mod spans;
-#[cfg(test)]
-mod tests;
 
 pub use extents::Extents;
 pub use line::compose_row;

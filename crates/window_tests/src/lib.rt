@@ -1,5 +1,5 @@
-//! The tests of `extents`, `grids`, `windows`, `stack` and `compose`, by public calls alone: what a call does is tried
-//! by scripts.
+//! The tests of `extents`, `grids`, `windows`, `stack`, `picture`, `compose` and `desk`, by public calls alone: what a call does is
+//! tried by scripts; and of screens over writers that fail, by runs and histories of calls.
 //! `docs/DECISIONS.md` says why tests have crates of their own.
 #![tactic(auto)]
 
@@ -10,10 +10,20 @@ mod of_extents;
 #[cfg(test)]
 mod of_grids;
 #[cfg(test)]
+mod of_histories;
+#[cfg(test)]
 mod of_panels;
+#[cfg(test)]
+mod of_picture;
+#[cfg(test)]
+mod of_runs;
+#[cfg(test)]
+mod of_scripts;
 #[cfg(test)]
 mod of_stack;
 #[cfg(test)]
 mod of_windows;
+#[cfg(test)]
+mod screens;
 #[cfg(test)]
 mod scripts;

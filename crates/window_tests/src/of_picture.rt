@@ -6,10 +6,9 @@ ghost use Rattle.world.specs.Sound.{AreSoundPanels};
 ghost use Rattle.grids.specs.Tables.{windows as windows_of};
 ghost use Rattle.stack.specs.Tables.{panels};
 
-use crate::rows::TableRows;
-use crate::{Rows, compose_row, show_piece};
-use cell::{Attr, Cell, Grid, Pairs, Rect, Shown, WinId};
+use cell::{Attr, Cell, Grid, Pairs, Shown, WinId};
 use grids::{Grids, Place};
+use picture::{TableRows, compose_row, show_piece};
 use stack::Stack;
 use std::alloc::Global;
 use std::test::Fail;
@@ -18,58 +17,6 @@ use std::test::Fail;
 const IN_PANEL: WinId = WinId(1);
 
 const DASHES: WinId = WinId(2);
-
-/// A piece of a line of a window, from a first to a last column.
-#[derive(Clone, Copy, PartialEq, Eq, Debug)]
-struct Piece {
-    win: WinId,
-    line: u16,
-    first: u16,
-    last: u16,
-}
-
-impl Piece {
-    /// Part of the first line of a window.
-    const fn new(win: WinId, first: u16, last: u16) -> Piece {
-        Piece {
-            win,
-            line: 0,
-            first,
-            last,
-        }
-    }
-}
-
-/// The lines of a table. It notes the pieces that were read, up to three.
-#[derive(Drop)]
-struct Noted<'a> {
-    rows: TableRows<'a>,
-    pieces: [Option<Piece>; 3],
-    noted: usize,
-}
-
-impl<'a> Rows<'a> for Noted<'a> {
-    ghost windows = { λ rows. windows_of rows.rows.table.now };
-
-    ghost cells_read = { λ rows. rows.rows.cells };
-
-    fn rect(&self, win: WinId) -> Rect {
-        self.rows.rect(win)
-    }
-
-    fn read(&mut self, win: WinId, y: u16, left: u16, right: u16) -> &'a [Cell] {
-        if self.noted < 3 {
-            self.pieces[self.noted] = Some(Piece {
-                win,
-                line: y,
-                first: left,
-                last: right,
-            });
-            self.noted += 1;
-        }
-        self.rows.read(win, y, left, right)
-    }
-}
 
 /// Sets the cell of a column of a window's first line to a character.
 fn put(table: &mut Grids, win: WinId, x: u16, character: u8) -> Result<(), Fail> {
@@ -123,14 +70,14 @@ fn dashes(alloc: Global, table: &Grids) -> Result<Grid<Shown>, Fail>
     Ok(picture)
 }
 
-/// Composes the columns from `left` to `right` over dashes: the characters of the picture, and what was read.
-fn composed<'a>(
+/// Composes the columns from `left` to `right` over dashes: the characters of the picture, and how many cells were read.
+fn composed(
     alloc: Global,
-    table: &'a Grids,
+    table: &Grids,
     stack: &Stack,
     left: u16,
     right: u16,
-) -> Result<(Vec<u8>, Noted<'a>), Fail>
+) -> Result<(Vec<u8>, u64), Fail>
     requires { AreSoundPanels (windows_of table.now).window (panels stack.now) }
 {
     let mut picture = dashes(alloc, table)?;
@@ -138,11 +85,7 @@ fn composed<'a>(
     if lines == 0 || columns <= right || right < left {
         return Err("no such columns".into());
     }
-    let mut rows = Noted {
-        rows: TableRows::of(table, 0),
-        pieces: [None; 3],
-        noted: 0,
-    };
+    let mut rows = TableRows::of(table, 0);
     compose_row(
         &mut rows,
         stack,
@@ -156,22 +99,16 @@ fn composed<'a>(
     for cell in picture.row(0) {
         shown.push(cell.ch())?;
     }
-    Ok((shown, rows))
+    Ok((shown, rows.cells_read()))
 }
 
 #[test]
 fn a_line_is_composed_of_pieces(rt: HostRuntime) -> Result<(), Fail> {
     let table = windows(rt.alloc())?;
     let stack = one_panel(rt.alloc(), &table)?;
-    let (shown, rows) = composed(rt.alloc(), &table, &stack, 0, 3)?;
+    let (shown, read) = composed(rt.alloc(), &table, &stack, 0, 3)?;
     assert_eq!(rt; shown.as_slice(), b"aXYd".as_slice());
-    assert_eq!(rt; rows.rows.cells_read(), 4);
-    let pieces = [
-        Some(Piece::new(WinId::STANDARD, 0, 0)),
-        Some(Piece::new(IN_PANEL, 0, 1)),
-        Some(Piece::new(WinId::STANDARD, 3, 3)),
-    ];
-    assert_eq!(rt; rows.pieces, pieces);
+    assert_eq!(rt; read, 4);
     Ok(())
 }
 
@@ -179,9 +116,8 @@ fn a_line_is_composed_of_pieces(rt: HostRuntime) -> Result<(), Fail> {
 fn other_columns_are_left(rt: HostRuntime) -> Result<(), Fail> {
     let table = windows(rt.alloc())?;
     let stack = one_panel(rt.alloc(), &table)?;
-    let (shown, rows) = composed(rt.alloc(), &table, &stack, 2, 2)?;
+    let (shown, read) = composed(rt.alloc(), &table, &stack, 2, 2)?;
     assert_eq!(rt; shown.as_slice(), b"--Y-".as_slice());
-    assert_eq!(rt; rows.rows.cells_read(), 1);
-    assert_eq!(rt; rows.pieces, [Some(Piece::new(IN_PANEL, 1, 1)), None, None]);
+    assert_eq!(rt; read, 1);
     Ok(())
 }

@@ -10,7 +10,7 @@ use Rattle.grids.specs.Tables.{windows as windows_of}
 use Rattle.stack.specs.Tables.{panels}
 use Rattle.picture.specs.Spans.{HasPanelWindows}
 use Rattle.picture.proofs.Standard.{sound-windows, standard-holds}
-use Rattle.picture.proofs.tests.composed.Goals as goal
+use Rattle.window_tests.proofs.of_picture.composed.Goals as goal
 
 width : (ws : Windows) (o : Option Window) (lines columns : ℕ) → IsSomeAnd o (IsStandardScreen ws) → option_map {U = ℕ × ℕ} (λ (a : Window). (a.lines, a.columns)) o ≡ Some (lines, columns)
     → columns ≡ ws.columns

@@ -24,8 +24,8 @@ static FINDINGS: [(TextFault, &[u8], &str); 14] = [
         "line 12, column 1: unknown call \"w=1\": a script has no variables: windows are numbered from 1 as they are made\n",
     ),
     (TextFault::UnknownCall, b" move 0 0 0", "line 12, column 1: the line begins with a space, and not with a call\n"),
-    (TextFault::WrongNumberOfArguments, b"addch 0", "line 12, column 9: addch takes 2 arguments, 1 given: window, character\n"),
-    (TextFault::WrongNumberOfArguments, b"erase 0 $", "line 12, column 9: erase takes 1 argument, 2 given: window\n"),
+    (TextFault::WrongNumberOfArguments, b"addch 0", "line 12, column 9: addch takes 2 arguments, 1 given: window (0 is the standard screen), character\n"),
+    (TextFault::WrongNumberOfArguments, b"erase 0 $", "line 12, column 9: erase takes 1 argument, 2 given: window (0 is the standard screen)\n"),
     (
         TextFault::BadArgument,
         b"move 0 65536 0",

@@ -8,7 +8,7 @@ use Rattle.world.specs.Effects.{with_panel}
 use Rattle.world.specs.calls.Stacking.{IsSoundOrder, next_panel}
 use Rattle.grids.specs.Tables.{windows}
 use Rattle.stack.specs.Tables.{panels}
-use Rattle.picture.proofs.tests.one_panel.Goals as goal
+use Rattle.window_tests.proofs.of_picture.one_panel.Goals as goal
 
 -- panels of which one has a window, and none another
 one-sound : (window : WindowMap) (ps : Panels) (w p : ℕ) → IsSoundOrder ps → ps ≡ with_panel first_panels p w → IsSomeAnd (window w) (λ a. IsSome a.place) → w ≢ standard_screen
