@@ -2,10 +2,11 @@
 use Rattle.std.proofs.Common.{◌≡◌, ◌≤◌, ℕ, Bool, true, List, [], ◌∷◌, Option, Some, length, refl, ap, arith, ◌∙◌}
 use Rattle.std.specs.Prelude.{IfSome, find, nat_le, option_map}
 use Rattle.std.specs.List.{list_all, slice_split}
+use Rattle.std.specs.Str.{bytes_eq}
 use Rattle.std.specs.Borrow.{Bor}
 use Rattle.std.proofs.lemmas.Bool.Decides.{nat_tests}
 use Rattle.script.specs.Characters.{is_space}
-use Rattle.explain.specs.Nearest.{call_words, is_near, letters_of, other_names, nearest, nearest_of, nearest_other}
+use Rattle.explain.specs.Nearest.{call_words, is_near, letters_of, near_call, other_names, nearest_of, nearest_other, same_call, same_of}
 use Rattle.explain.specs.declared.nearest.TheConstants.{CALLS, OTHER_NAMES}
 
 short-in : (names : List (List ℕ)) (test : List ℕ → Bool) (name : List ℕ) → list_all (λ n. nat_le (length n) 80) names ≡ true
@@ -19,12 +20,21 @@ names-are = refl
 all-short : list_all (λ n. nat_le (length n) 80) call_words ≡ true
 all-short = refl
 
-pub nearest-short : (word : List ℕ) (o : Option (Bor (List ℕ))) → option_map (λ name. name.now) o ≡ nearest word → IfSome o (λ name. length name.now ≤ 80)
-nearest-short word o is = grind (arith, (short-in call_words (λ name. is_near (letters_of word) (letters_of name))), all-short)
+pub near-short : (word : List ℕ) (o : Option (Bor (List ℕ))) → option_map (λ name. name.now) o ≡ near_call word → IfSome o (λ name. length name.now ≤ 80)
+near-short word o is = grind (arith, (short-in call_words (λ name. is_near (letters_of word) (letters_of name))), all-short)
 
-pub nearest-is : (word : List ℕ) (o : Option (Bor (List ℕ))) → option_map (λ name. name.now) o ≡ find (λ name. is_near (letters_of word) (letters_of name)) (slice_split is_space CALLS.now)
-    → option_map (λ name. name.now) o ≡ nearest word
-nearest-is word o is = is ∙ ap (find (λ name. is_near (letters_of word) (letters_of name))) names-are
+pub near-is : (word : List ℕ) (o : Option (Bor (List ℕ))) → option_map (λ name. name.now) o ≡ find (λ name. is_near (letters_of word) (letters_of name)) (slice_split is_space CALLS.now)
+    → option_map (λ name. name.now) o ≡ near_call word
+near-is word o is = is ∙ ap (find (λ name. is_near (letters_of word) (letters_of name))) names-are
+
+-- ---- likewise for the call with the same letters
+
+pub same-short : (word : List ℕ) (o : Option (Bor (List ℕ))) → option_map (λ name. name.now) o ≡ same_call word → IfSome o (λ name. length name.now ≤ 80)
+same-short word o is = grind (arith, (short-in call_words (λ name. bytes_eq (letters_of word) (letters_of name))), all-short)
+
+pub same-is : (word : List ℕ) (o : Option (Bor (List ℕ))) → option_map (λ name. name.now) o ≡ same_of (slice_split is_space CALLS.now) word
+    → option_map (λ name. name.now) o ≡ same_call word
+same-is word o is = is ∙ ap (λ names. same_of names word) names-are
 
 -- ---- likewise for the other names
 

@@ -1,10 +1,10 @@
 -- What to write for a name of curses, or a word of another language, that is no word of scripts. The texts are Curspan's own.
-use Rattle.std.specs.Prelude.{◌==◌, ◌||◌, ℕ, Bool, not, List, [], ◌∷◌, ◌++◌, codes, drop, find, is_some, length, nat_lt, Option, option_and_then, option_map, Some, None, take, unwrap_or, if◌then◌else◌}
+use Rattle.std.specs.Prelude.{◌==◌, ◌||◌, ℕ, Bool, false, not, List, [], ◌∷◌, ◌++◌, codes, drop, find, is_some, length, nat_lt, Option, option_and_then, option_map, Some, None, take, unwrap_or, if◌then◌else◌}
 use Rattle.std.specs.Char.{is_ascii_alphanumeric, is_ascii_digit, to_ascii_lowercase}
 use Rattle.std.specs.List.{list_any, slice_split}
 use Rattle.std.specs.Str.{bytes_eq}
 use Rattle.script.specs.Characters.{is_space}
-use Rattle.explain.specs.Nearest.{nearest, nearest_other}
+use Rattle.explain.specs.Nearest.{nearest, nearest_other, or_else}
 use Rattle.script.specs.Words.{word_of}
 
 -- `_`
@@ -27,7 +27,7 @@ advised =
           ++ codes " nocbreak noecho raw noraw nl nonl flushinp intrflush meta qiflush noqiflush typeahead has_key keyname"
           ++ codes " keyok keybound key_defined define_key erasechar killchar set_escdelay get_escdelay read readkey read_key"
           ++ codes " getkey get_key key input gets getc getchar getche scanf kbhit key_up key_down key_left key_right"
-          ++ codes " key_enter",
+          ++ codes " key_enter get_wch get_wstr getn_wstr unget_wch",
     )
     ∷ (codes "no call reads the mouse", codes "getmouse ungetmouse mousemask mouseinterval has_mouse mouse_trafo enclose mouse click")
     ∷ (
@@ -37,27 +37,30 @@ advised =
     )
     ∷ (
       codes "lines are drawn by the characters of addstr",
-      codes "box border hline vline line rect rectangle frame draw_box drawbox acs_hline acs_vline",
+      codes "box border hline vline line rect rectangle frame draw_box drawbox acs_hline acs_vline border_set"
+          ++ codes " box_set hline_set vline_set",
     )
     ∷ (codes "no call formats: see addstr", codes "printw vwprintw vw_printw vsscanf printf sprintf fprintf format")
     ∷ (
       codes "see addstr",
       codes "addnstr addchstr addchnstr print println puts putstr put write writestr text say string addstring"
-          ++ codes " addtext type print_at add_string add_text title label",
+          ++ codes " addtext type print_at add_string add_text title label cout writeln fputs",
     )
     ∷ (codes "see insch", codes "insstr insnstr insert inschar inserch insertch")
-    ∷ (codes "see insertln, deleteln", codes "insdelln insertline insline deleteline delline")
+    ∷ (codes "see insertln, deleteln", codes "insdelln insertline insline deleteline delete_line delline")
     ∷ (codes "see inch", codes "instr innstr inchstr inchnstr inchar")
     ∷ (codes "see bkgdset, erase", codes "bkgd background setbkgd")
     ∷ (codes "no call answers a background: see inch", codes "getbkgd")
-    ∷ (codes "a window keeps its size", codes "resize resizeterm resize_term is_term_resized")
+    ∷ (codes "a window keeps its size: see newwin, overwrite", codes "resize")
+    ∷ (codes "the screen keeps its size, which the command line gives", codes "resizeterm resize_term is_term_resized")
     ∷ (codes "see newwin, overwrite", codes "dupwin")
     ∷ (codes "see attron, with 10", codes "standout")
-    ∷ (codes "see attrset, with 00", codes "standend")
+    ∷ (codes "see attrset, with 00", codes "standend sgr0")
     ∷ (
       codes "see attrset, attron, attroff, color_set",
       codes "attr_set attr_on attr_off chgat attr attribute attributes bold dim underline blink reverse inverse"
-          ++ codes " a_bold a_dim a_underline a_blink a_reverse a_invis a_standout a_normal highlight italic normal",
+          ++ codes " a_bold a_dim a_underline a_blink a_reverse a_invis a_standout a_normal highlight italic normal"
+          ++ codes " setattr set_attr",
     )
     ∷ (codes "see inch, which answers those of a cell", codes "attr_get getattrs termattrs term_attrs")
     ∷ (
@@ -69,7 +72,7 @@ advised =
     ∷ (codes "a pair is its number: see init_pair, color_set", codes "alloc_pair find_pair free_pair color_pair pair_number")
     ∷ (codes "see scrl", codes "scroll scroll_up scroll_down scrollup scrolldown")
     ∷ (codes "see clearok, touchwin", codes "redrawwin redrawln")
-    ∷ (codes "see move", codes "cursyncup goto gotoxy cursor move_cursor movecursor setcursor set_cursor locate at mv moveto up down left right")
+    ∷ (codes "see move", codes "cursyncup goto gotoxy cursor move_cursor movecursor setcursor set_cursor locate at mv moveto up down left right setsyx cup pos")
     ∷ (codes "see getyx", codes "getcurx getcury getsyx getcursor get_cursor getpos")
     ∷ (codes "see getbegyx", codes "getbegx getbegy")
     ∷ (codes "see getparyx", codes "getparx getpary")
@@ -78,7 +81,7 @@ advised =
     ∷ (codes "no window has this flag", codes "leaveok immedok syncok idlok idcok")
     ∷ (
       codes "no call answers this",
-      codes "is_cleared is_idcok is_idlok is_immedok is_keypad is_leaveok is_nodelay is_notimeout is_pad is_scrollok"
+      codes "is_cleared is_cbreak is_echo is_nl is_raw is_idcok is_idlok is_immedok is_keypad is_leaveok is_nodelay is_notimeout is_pad is_scrollok"
           ++ codes " is_subwin is_syncok getparent getdelay getscrreg",
     )
     ∷ (codes "see panel_above, with none", codes "ground_panel")
@@ -86,9 +89,9 @@ advised =
     ∷ (codes "a panel has no pointer", codes "panel_userptr set_panel_userptr")
     ∷ (
       codes "characters are those of ASCII",
-      codes "add_wch add_wchstr add_wchnstr addwstr addnwstr bkgrnd bkgrndset border_set box_set echo_wchar"
-          ++ codes " erasewchar get_wch get_wstr getn_wstr getbkgrnd getcchar hline_set in_wch in_wchstr in_wchnstr innwstr"
-          ++ codes " ins_nwstr ins_wch ins_wstr inwstr key_name killwchar pecho_wchar setcchar unget_wch vline_set wunctrl unctrl",
+      codes "add_wch add_wchstr add_wchnstr addwstr addnwstr bkgrnd bkgrndset echo_wchar"
+          ++ codes " erasewchar getbkgrnd getcchar in_wch in_wchstr in_wchnstr innwstr"
+          ++ codes " ins_nwstr ins_wch ins_wstr inwstr key_name killwchar pecho_wchar setcchar wunctrl unctrl",
     )
     ∷ (
       codes "there are no soft labels",
@@ -99,32 +102,32 @@ advised =
       codes "nothing is asked of the terminal, nor set there",
       codes "baudrate beep flash curs_set def_prog_mode def_shell_mode reset_prog_mode reset_shell_mode resetty"
           ++ codes " savetty has_ic has_il longname termname mcprint mvcur putp tigetflag tigetnum tigetstr tiparm tparm"
-          ++ codes " vidattr vidputs vid_attr vid_puts ripoffline set_tabsize setsyx use_env use_tioctl filter nofilter"
+          ++ codes " vidattr vidputs vid_attr vid_puts ripoffline set_tabsize use_env use_tioctl filter nofilter"
           ++ codes " use_extended_names use_legacy_coding bell tput stty setupterm restartterm cur_term set_curterm del_curterm"
-          ++ codes " tputs tgetent tgetflag tgetnum tgetstr tgoto",
+          ++ codes " tputs tgetent tgetflag tgetnum tgetstr tgoto civis cnorm smcup rmcup",
     )
     ∷ (codes "nothing is saved or loaded", codes "scr_dump scr_init scr_restore scr_set getwin putwin save load")
-    ∷ (codes "no call traces or names a version", codes "trace curses_trace curses_version")
-    ∷ (codes "no call reads keys: to write, see addstr", codes "echo")
-    ∷ (codes "see addch", codes "addchar addc putch putc putchar")
+    ∷ (codes "no call traces or names a version", codes "trace curses_trace curses_version ncurses_version")
+    ∷ (codes "to write, see addstr; no call reads keys", codes "echo")
+    ∷ (codes "see addch", codes "addchar add_char addc putch putc putchar")
     ∷ (codes "see delch", codes "delchar deletech deletechar")
-    ∷ (codes "see clear, erase", codes "cls clr clrscr clearscreen clear_screen clear_window wipe reset")
+    ∷ (codes "see clear, erase", codes "cls clr clrscr clearscreen clear_screen clear_window clearscr wipe reset")
     ∷ (codes "see clrtobot", codes "clrtobottom clrtoeos")
-    ∷ (codes "see clrtoeol", codes "clear_line clearline erase_line")
-    ∷ (codes "see update_panels, doupdate", codes "update update_screen updatescreen flush draw redraw render display show_screen sync refresh_screen")
+    ∷ (codes "see clrtoeol", codes "clear_line clearline erase_line clreol")
+    ∷ (codes "see update_panels, doupdate", codes "update update_screen updatescreen flush draw redraw render display show_screen sync refresh_screen repaint fflush")
     ∷ (codes "windows are numbered from 1 as they are made: see newwin", codes "window win newwindow new_window create_window createwin makewin mkwin openwin open_window")
-    ∷ (codes "see delwin", codes "delwindow delete_window del_window destroy_window rmwin closewin close_window destroy delete")
-    ∷ (codes "see mvwin, move_panel", codes "move_window move_win movewin movewindow")
-    ∷ (codes "see new_panel", codes "panel create_panel add_panel make_panel")
+    ∷ (codes "see delwin", codes "delwindow delete_window del_window destroy_window rmwin closewin close_window destroy delete deletewin killwin destroy_win")
+    ∷ (codes "see mvwin, move_panel", codes "move_window move_win movewin movewindow panel_move")
+    ∷ (codes "see new_panel", codes "panel create_panel add_panel make_panel panel_new")
     ∷ (codes "see show_panel, hide_panel", codes "show hide show_window hide_window panel_show panel_hide")
-    ∷ (codes "see top_panel, bottom_panel", codes "raise lower front back raise_panel lower_panel focus top bottom")
+    ∷ (codes "see top_panel, bottom_panel", codes "raise lower front back raise_panel lower_panel focus top bottom panel_top")
     ∷ (codes "see setscrreg", codes "setscroll setscrollreg set_scroll_region scroll_region")
     ∷ (codes "see copywin, overwrite, overlay", codes "copy copywindow copy_window")
     ∷ (codes "see touchwin", codes "touch touchwindow touch_window")
     ∷ (codes "see is_wintouched, is_linetouched", codes "is_touched istouched")
     ∷ (
       codes "see init_pair, color_set",
-      codes "color colour colors colours setcolor set_color textcolor fg bg foreground pair setpair set_pair",
+      codes "color colour colors colours setcolor set_color textcolor fg bg foreground pair setpair set_pair setaf setab",
     )
     ∷ (codes "no call waits", codes "sleep usleep msleep wait pause delay napms delay_output")
     ∷ (
@@ -149,6 +152,8 @@ advised =
       codes "ls cat cd pwd cp rm mkdir grep sed awk sudo sh bash python test source eval alias trap",
     )
     ∷ (codes "this belongs on the command line: a script has calls alone", codes "curspan ./curspan run paint check version")
+    ∷ (codes "the end of a here-document stands alone in the shell, and is no call", codes "eof eot")
+    ∷ (codes "see subwin, derwin", codes "subwindow")
     ∷ (codes "curspan --help and the manual page, man curspan, give help", codes "help ? man info usage")
     ∷ (codes "see newwin, newpad, new_panel", codes "new create make open")
     ∷ (codes "see panel_above, panel_below", codes "panel_over panel_under panel_up panel_down above below")
@@ -187,13 +192,25 @@ abbrev pub after_name : List ℕ → List ℕ
 after_name [] = []
 after_name (b ∷ bs) = if is_name_byte b then after_name bs else b ∷ bs
 
--- what follows a name and a dot; or else the word
+-- what follows a name and a dot, an arrow or two colons; or else the word
 abbrev pub after_dot : List ℕ → List ℕ
-after_dot word = if begins_with (codes ".") (after_name word) then drop 1 (after_name word) else word
+after_dot word = if begins_with (codes ".") (after_name word) then drop 1 (after_name word)
+    else (if begins_with (codes "->") (after_name word) then drop 2 (after_name word)
+    else (if begins_with (codes "::") (after_name word) then drop 2 (after_name word)
+    else word))
 
--- the name of what a word calls: `win.refresh()`, `self.win.refresh()` and `refresh()` have the same
+-- the name of what a word calls: `win.refresh()`, `win->refresh()`, `self.ui.win.refresh()` and `refresh()` have the same
 abbrev pub called_name : List ℕ → List ℕ
-called_name word = name_in (after_dot (after_dot word))
+called_name word = name_in (after_dot (after_dot (after_dot word)))
+
+-- the text has the part in it
+abbrev pub has_part : List ℕ → List ℕ → Bool
+has_part part [] = false
+has_part part (b ∷ bs) = begins_with part (b ∷ bs) || has_part part bs
+
+-- a name of menus or forms
+abbrev pub is_of_menus : List ℕ → Bool
+is_of_menus name = has_part (codes "menu") name || has_part (codes "item") name || has_part (codes "form") name || has_part (codes "field") name
 
 -- what is said of a name without its prefix: this, before it, if it is a call; else what the table has
 abbrev pub advice_on_rest : List ℕ → List ℕ → Option (List ℕ)
@@ -203,10 +220,6 @@ abbrev pub after_prefix : List ℕ → List ℕ → List ℕ → Option (List �
 after_prefix prefix said word = if begins_with prefix word then advice_on_rest said (drop (length prefix) word) else None
 
 -- ---- what is said of a word that is no call
-
-abbrev pub or_else : Option (List ℕ) → Option (List ℕ) → Option (List ℕ)
-or_else None other = other
-or_else (Some said) other = Some said
 
 -- of a name: what is said of it without a prefix; or else, where it begins with `mvw`, `mv` or `w`, of the rest
 unfoldable pub said_of_name : List ℕ → Option (List ℕ)
@@ -228,17 +241,26 @@ said_of_near text = or_else (see_nearest text) (option_and_then said_of_name (ne
 abbrev pub said_near_name : List ℕ → Option (List ℕ)
 said_near_name word = if length (called_name word) == length word then None else said_of_near (called_name word)
 
+-- what a script has in place of variables
+abbrev pub no_variables : List ℕ
+no_variables = codes "a script has no variables: windows and panels are numbered from 1"
+
 -- of a word that begins with no letter, or that gives a value to a name
 abbrev pub said_of_marks : List ℕ → Option (List ℕ)
-said_of_marks word = if begins_with (codes "-") word then Some (codes "an option belongs on the command line, and a comment begins with #")
+said_of_marks word = if begins_with (codes "\\") word then Some (codes "a script has no control sequences: see attrset, color_set, move, clear")
+    else (if begins_with (codes "-") word then Some (codes "an option belongs on the command line, and a comment begins with #")
     else (if begins_with (codes "$") word || begins_with (codes ">") word
     then Some (codes "a script has no variables, prompts or redirections: a line begins with a call")
     else (if is_quoted word then Some (codes "a text is an argument of addstr, without quotes; a comment begins with #")
     else (if begins_with (codes "/") word || begins_with (codes "./") word then Some (codes "a script runs no programs: each line of it is a call")
     else (if list_any is_ascii_digit (take 1 word) then Some (codes "a line begins with the name of its call, and numbers come after it")
     else (if not (list_any is_name_byte (take 1 word)) then Some (codes "a line begins with the name of a call, and a comment with #")
-    else (if begins_with (codes "=") (after_name word) then Some (codes "a script has no variables: windows are numbered from 1 as they are made")
-    else None))))))
+    else (if begins_with (codes "=") (after_name word) then Some no_variables
+    else None)))))))
+
+-- of a name of menus or forms
+abbrev pub said_of_menus : List ℕ → Option (List ℕ)
+said_of_menus name = if is_of_menus name then Some (codes "there are no menus or forms") else None
 
 -- the call that is near the word, if its name is longer than what the word calls
 abbrev pub see_longer : List ℕ → Option (List ℕ)
@@ -251,23 +273,25 @@ say_call said name = if is_some (word_of name) then Some (said ++ name) else Non
 -- Of a word that has the name of a call in it: how that is written. Of `move-panel` it is the longer name.
 unfoldable pub said_of_written : List ℕ → Option (List ℕ)
 said_of_written word = if length (called_name word) == length word then say_call (codes "calls are in lower case: see ") (called_name word)
-    else or_else (see_longer word) (say_call (codes "a call's name stands alone, with a space before each argument: see ") (called_name word))
+    else or_else (see_longer word) (say_call (codes "a call's name stands alone in its line, or before a space and arguments: see ") (called_name word))
 
 -- of what begins a comment elsewhere, that # does here; or else what the table has of the word as it is; or else how the
--- call in it is written; or else what is said of the name of what it calls; or else of what the word is near, of its
--- marks, or of what that name is near
+-- call in it is written; or else what is said of the name of what it calls, also where that is of menus or forms; or else
+-- of what the word is near, of its marks, or of what that name is near
 unfoldable pub said_of : List ℕ → Option (List ℕ)
 said_of word = if begins_comment word then Some (codes "a comment begins with #")
     else or_else (advice_on word)
     (or_else (said_of_written word)
     (or_else (said_of_name (called_name word))
+    (or_else (said_of_menus (called_name word))
     (or_else (said_of_near word)
     (or_else (said_of_marks word)
-    (said_near_name word)))))
+    (said_near_name word))))))
 
 -- what a line is, said where nothing else is
 unfoldable pub line_advice : List ℕ
 line_advice = codes "a line is the name of a call and its arguments, as in addstr 0 hi; man curspan lists the calls"
 
-abbrev pub call_advice : List ℕ → List ℕ
-call_advice word = codes ": " ++ unwrap_or (said_of word) line_advice
+-- of a word that is no call, and the argument after it: an equals sign there would give the word a value
+abbrev pub call_advice : List ℕ → List ℕ → List ℕ
+call_advice word argument = codes ": " ++ (if begins_with (codes "=") argument then no_variables else unwrap_or (said_of word) line_advice)

@@ -99,6 +99,22 @@ refusal_everywhere call = None
 
 -- ---- what is said of it
 
+-- what a refusal by the arguments alone means
+abbrev pub meaning : Refusal → List ℕ
+meaning NoSuchPanel = codes ": panels are numbered from 1 to 1000"
+meaning OffScreen = codes ": a screen has at most 999 lines and 999 columns"
+meaning OutsideParent = codes ": a screen has at most 999 lines and 999 columns"
+meaning OutsideWindow = codes ": a screen has at most 999 lines and 999 columns"
+meaning NotPad = codes ": window 0 is the standard screen, and no pad"
+meaning NotDerived = codes ": window 0 is the standard screen, and derives from no window"
+meaning BadSize = codes ": a pad has 1 to 1000 lines and 1 to 1000 columns"
+meaning BadRegion = codes ": the first line is after the last, or the last is past 998"
+meaning BadCharacter = codes ": characters are the space to the tilde; addch and addstr take \\n, \\r and \\b too"
+meaning StandardScreen = codes ": window 0 is the standard screen, which stays, and is in no panel"
+meaning BadPair = codes ": pairs are 0 to 63, of which 0 isn't set, and colours are 0 to 7"
+meaning why = []
+
 -- the line about such a call, in a script's line with its number
 abbrev pub refused_line : ℕ → Refusal → List ℕ
-refused_line number why = codes "line " ++ decimal number ++ codes ", column 1: every screen refuses this call: " ++ refusal_text why ++ newline ∷ []
+refused_line number why =
+    codes "line " ++ decimal number ++ codes ", column 1: every screen refuses this call: " ++ refusal_text why ++ meaning why ++ newline ∷ []

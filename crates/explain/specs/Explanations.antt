@@ -1,6 +1,6 @@
 -- What a person reads about a faulty line. The texts are Curspan's own.
-use Rattle.std.specs.Prelude.{◌==◌, ℕ, List, [], ◌∷◌, ◌++◌, codes, decimal, length, slice_index, Option, Some, None, if◌then◌else◌}
-use Rattle.std.specs.List.{slice_split}
+use Rattle.std.specs.Prelude.{◌==◌, ◌&&◌, ℕ, Bool, is_some, nat_lt, List, [], ◌∷◌, ◌++◌, codes, decimal, drop, length, slice_index, Option, Some, None, if◌then◌else◌}
+use Rattle.std.specs.List.{list_any, slice_split}
 use Rattle.std.specs.Option.{option_map_or}
 use Rattle.cell.specs.Attributes.{hex_digits}
 use Rattle.script.specs.Characters.{is_space, newline}
@@ -9,7 +9,7 @@ use Rattle.script.specs.declared.fault.TextFault.TheVariants.{LineTooLong, BadBy
 use Rattle.script.specs.Words.{word_of}
 use Rattle.explain.specs.Advice.{begins_comment, begins_with, call_advice}
 use Rattle.explain.specs.Faults.{IllFormed, arguments_in, bad_place, column_of, find_ill_formed_in, find_stray_in, forms_of, word_in}
-use Rattle.explain.specs.Reasons.{byte_advice, reason, requirement_of}
+use Rattle.explain.specs.Reasons.{byte_advice, has_byte, comma, reason_after, requirement_of}
 use Rattle.explain.specs.Signatures.{names_of_arguments}
 
 abbrev pub byte_order_mark : List ℕ
@@ -34,16 +34,16 @@ count_text n = decimal n ++ (if n == 1 then codes " argument" else codes " argum
 
 -- what a word wants in place of an argument
 abbrev pub ill_formed_text : List ℕ → IllFormed → List ℕ
-ill_formed_text word ill = word ++ codes " wants " ++ requirement_of word ill.form ++ codes ", not " ++ quotation ill.argument ++ reason ill.form ill.argument
+ill_formed_text word ill = word ++ codes " wants " ++ requirement_of word ill.form ++ codes ", not " ++ quotation ill.argument ++ reason_after word ill.form ill.argument
 
 -- what is said of a bad byte, of a word that is no call (of no word, since the line begins with a space), and of a
 -- wrong number of arguments
 abbrev pub bad_byte_text : ℕ → List ℕ
 bad_byte_text byte = codes "bad byte " ++ hex_digits byte ++ codes ": " ++ byte_advice byte
 
-abbrev pub unknown_text : List ℕ → List ℕ
-unknown_text word = if length word == 0 then codes "the line begins with a space, and not with a call"
-    else codes "unknown call " ++ quotation word ++ call_advice word
+abbrev pub unknown_text : List ℕ → List ℕ → List ℕ
+unknown_text word argument = if length word == 0 then codes "the line begins with a space, and not with a call; an empty line has no spaces"
+    else codes "unknown call " ++ quotation word ++ call_advice word argument
 
 abbrev pub number_text : List ℕ → ℕ → ℕ → List ℕ
 number_text word taken given = word ++ codes " takes " ++ count_text taken ++ codes ", " ++ decimal given ++ codes " given"
@@ -58,10 +58,17 @@ stray_text argument = if length argument == 0 then codes ": single spaces separa
 abbrev pub signature_text : List ℕ → List ℕ
 signature_text names = if length names == 0 then [] else codes ": " ++ names
 
--- what is said after the number of arguments: of the stray one, or else what they are
-abbrev pub number_advice : List ℕ → Option (ℕ × List ℕ) → List ℕ
-number_advice word None = signature_text (option_map_or names_of_arguments (word_of word) [])
-number_advice word (Some stray) = stray_text stray.1
+-- some of the words is a call
+abbrev pub has_call : List (List ℕ) → Bool
+has_call pieces = list_any (λ piece. is_some (word_of piece)) pieces
+
+-- What is said after the number of arguments, which may be too many: of the stray one; or else of another call, or of a comma; or else
+-- what they are.
+abbrev pub number_advice : List ℕ → List ℕ → Bool → Option (ℕ × List ℕ) → List ℕ
+number_advice word line many None = if many && has_call (drop 1 (slice_split is_space line)) then codes ": a line has one call"
+    else (if has_byte comma line then codes ": spaces separate arguments, and no commas"
+    else signature_text (option_map_or names_of_arguments (word_of word) []))
+number_advice word line many (Some stray) = stray_text stray.1
 
 -- what is said of a line with a bad byte
 abbrev pub bad_line_text : List ℕ → List ℕ
@@ -74,10 +81,13 @@ bad_line_text line = if begins_with byte_order_mark line then codes "bad byte ef
 abbrev pub explanation : TextFault → List ℕ → List ℕ
 explanation LineTooLong line = codes "the line is longer than 512 bytes"
 explanation BadByte line = bad_line_text line
-explanation UnknownCall line = unknown_text (word_in (slice_split is_space line))
+explanation UnknownCall line =
+    let pieces = slice_split is_space line in
+    unknown_text (word_in pieces) (word_in (drop 1 pieces))
 explanation WrongNumberOfArguments line =
     let pieces = slice_split is_space line in
-    number_text (word_in pieces) (length (forms_of (word_in pieces))) (length (arguments_in pieces)) ++ number_advice (word_in pieces) (find_stray_in pieces)
+    number_text (word_in pieces) (length (forms_of (word_in pieces))) (length (arguments_in pieces))
+    ++ number_advice (word_in pieces) line (nat_lt (length (forms_of (word_in pieces))) (length (arguments_in pieces))) (find_stray_in pieces)
 explanation BadArgument line =
     let pieces = slice_split is_space line in
     option_map_or (ill_formed_text (word_in pieces)) (find_ill_formed_in pieces) []

@@ -1,5 +1,5 @@
 -- What a word was meant to be: the first name whose letters are the word's but for one, or two that changed places.
-use Rattle.std.specs.Prelude.{◌==◌, ◌&&◌, ◌||◌, ℕ, Bool, false, List, [], ◌∷◌, ◌++◌, codes, find, length, map, nat_le, Option, if◌then◌else◌}
+use Rattle.std.specs.Prelude.{◌==◌, ◌&&◌, ◌||◌, ℕ, Bool, false, List, [], ◌∷◌, ◌++◌, codes, find, length, map, nat_le, Option, None, Some, if◌then◌else◌}
 use Rattle.std.specs.Char.{is_ascii_alphabetic, to_ascii_lowercase}
 use Rattle.std.specs.List.{flat_map, slice_split}
 use Rattle.std.specs.Str.{bytes_eq}
@@ -44,8 +44,23 @@ other_names = slice_split is_space (
 abbrev pub nearest_of : List (List ℕ) → List ℕ → Option (List ℕ)
 nearest_of names word = find (λ name. is_near (letters_of word) (letters_of name)) names
 
+-- the first with its letters
+abbrev pub same_of : List (List ℕ) → List ℕ → Option (List ℕ)
+same_of names word = find (λ name. bytes_eq (letters_of word) (letters_of name)) names
+
+abbrev pub or_else : Option (List ℕ) → Option (List ℕ) → Option (List ℕ)
+or_else None other = other
+or_else (Some said) other = Some said
+
+abbrev pub same_call : List ℕ → Option (List ℕ)
+same_call word = same_of call_words word
+
+abbrev pub near_call : List ℕ → Option (List ℕ)
+near_call word = nearest_of call_words word
+
+-- the call with a word's letters, or else the first that is near it
 abbrev pub nearest : List ℕ → Option (List ℕ)
-nearest word = nearest_of call_words word
+nearest word = or_else (same_call word) (near_call word)
 
 abbrev pub nearest_other : List ℕ → Option (List ℕ)
 nearest_other word = nearest_of other_names word

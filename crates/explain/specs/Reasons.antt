@@ -5,6 +5,7 @@ use Rattle.std.specs.List.{list_all, list_any, take_while}
 use Rattle.std.specs.Str.{bytes_eq}
 use Rattle.std.specs.Str.Parse.{digits_value}
 use Rattle.script.specs.Characters.{backslash, carriage_return, digit_0}
+use Rattle.explain.specs.Faults.{has_form}
 use Rattle.explain.specs.Advice.{begins_comment, begins_with, is_quoted, names_in}
 use Rattle.script.specs.declared.words.Form.{Form}
 use Rattle.script.specs.declared.words.Form.TheVariants.{Number, NumberOrNone, Signed, Attributes, Flag, Character, Text}
@@ -12,7 +13,7 @@ use Rattle.script.specs.declared.words.Form.TheVariants.{Number, NumberOrNone, S
 -- what is said of a bad byte: a carriage return, a tab, a backspace, an escape, a 0, or another
 abbrev pub byte_advice : ℕ → List ℕ
 byte_advice b = if b == carriage_return then codes "a line ends with a newline alone"
-    else (if b == 9 then codes "words are separated by single spaces"
+    else (if b == 9 then codes "a tab is written as spaces, and one space separates words"
     else (if b == 8 then codes "a text has it as a backslash and b"
     else (if b == 27 then codes "a text has no control sequences: see attrset, color_set, move"
     else (if b == 0 then codes "a character is one byte, and not two as in UTF-16"
@@ -78,7 +79,7 @@ mark_reason said argument = if is_quoted argument then codes ": it has no quotes
 
 abbrev pub colour_names : List ℕ
 colour_names =
-    codes "black red green yellow blue magenta cyan white"
+    codes "black red green yellow blue magenta cyan white BLACK RED GREEN YELLOW BLUE MAGENTA CYAN WHITE"
     ++ codes " COLOR_BLACK COLOR_RED COLOR_GREEN COLOR_YELLOW COLOR_BLUE COLOR_MAGENTA COLOR_CYAN COLOR_WHITE"
 
 -- of what may stand for a number elsewhere
@@ -86,8 +87,8 @@ abbrev pub name_reason : List ℕ → List ℕ
 name_reason argument = if bytes_eq argument (codes "stdscr") then codes ": the standard screen is 0"
     else (if is_one_of colour_names argument then codes ": 0 black, 1 red, 2 green, 3 yellow, 4 blue, 5 magenta, 6 cyan, 7 white"
     else (if begins_with (codes "COLOR_PAIR") argument then codes ": a pair is its number"
-    else (if begins_with (codes "0x") argument then codes ": a number is decimal"
-    else codes ": numbers are written in digits")))
+    else (if begins_with (codes "0x") argument || begins_with (codes "0X") argument then codes ": a number is decimal"
+    else codes ": numbers are written in digits, and windows and panels have numbers")))
 
 -- of a number without a sign
 abbrev pub unsigned_reason : List ℕ → List ℕ
@@ -113,13 +114,14 @@ abbrev pub are_two_digits : List ℕ → Bool
 are_two_digits text = length text == 2 && list_all is_ascii_hexdigit text
 
 abbrev pub attributes_reason : List ℕ → List ℕ
-attributes_reason argument = if not (are_two_digits argument) then codes ": a sum of 01 bold, 02 dim, 04 underline, 08 blink, 10 reverse, 20 invisible"
+attributes_reason argument = if is_one_of colour_names argument || begins_with (codes "COLOR_") argument then codes ": a colour is set by color_set"
+    else (if not (are_two_digits argument) then codes ": a sum of 01 bold, 02 dim, 04 underline, 08 blink, 10 reverse, 20 invisible"
     else (if list_any is_ascii_uppercase argument then codes ": the digits are in lower case"
-    else codes ": it is too great")
+    else codes ": it is too great"))
 
 abbrev pub flag_reason : List ℕ → List ℕ
-flag_reason argument = if is_one_of (codes "ON On TRUE True true YES Yes yes 1") argument then codes ": write on"
-    else (if is_one_of (codes "OFF Off FALSE False false NO No no 0") argument then codes ": write off"
+flag_reason argument = if is_one_of (codes "ON On TRUE True true YES Yes yes enable enabled t y 1") argument then codes ": write on"
+    else (if is_one_of (codes "OFF Off FALSE False false NO No no disable disabled f n 0") argument then codes ": write off"
     else mark_reason [] argument)
 
 -- what is after the first backslash of a text
@@ -127,17 +129,22 @@ abbrev pub after_backslash : List ℕ → List ℕ
 after_backslash [] = []
 after_backslash (b ∷ bs) = if b == backslash then bs else after_backslash bs
 
+-- what is after a backslash begins a control sequence in other languages
+abbrev pub begins_sequence : List ℕ → Bool
+begins_sequence rest = begins_with (codes "e") rest || begins_with (codes "E") rest || begins_with (codes "033") rest
+    || begins_with (codes "x1b") rest || begins_with (codes "x1B") rest
+
 -- of a text with a backslash that begins no escape, by what is after the first one
 abbrev pub text_reason : List ℕ → List ℕ
 text_reason text = if begins_with (codes "t") (after_backslash text) then codes ": a tab is written as spaces, a backslash itself as two"
-    else (if begins_with (codes "e") (after_backslash text) then codes ": it has no control sequences: see attrset, color_set, move"
+    else (if begins_sequence (after_backslash text) then codes ": it has no control sequences: see attrset, color_set, move"
     else (if begins_with (codes "u") (after_backslash text) then codes ": characters are those of ASCII"
     else (if begins_with (codes "x") (after_backslash text) then codes ": two digits in lower case come after \\x"
     else codes ": a backslash itself is written as two")))
 
 abbrev pub character_reason : List ℕ → List ℕ
-character_reason argument = if length argument == 0 then []
-    else (if begins_with (codes "\\") argument then text_reason argument
+character_reason argument = if length argument == 0 then codes ": it is empty, and a space is \\x20, or one space more"
+    else (if not (has_form Text argument) then text_reason argument
     else (if begins_with (codes "ACS_") argument then codes ": lines are drawn by characters such as + - and |"
     else (if is_quoted argument then codes ": it has no quotes"
     else codes ": it is more than one")))
@@ -154,6 +161,14 @@ reason Attributes argument = unless_missing (attributes_reason argument) argumen
 reason Flag argument = unless_missing (flag_reason argument) argument
 reason Character argument = character_reason argument
 reason Text argument = text_reason argument
+
+-- the same after a word: of pairs and colours more is said
+abbrev pub reason_after : List ℕ → Form → List ℕ → List ℕ
+reason_after word form argument = if is_one_of (codes "color_set bkgdpair") word && is_one_of colour_names argument
+    then codes ": a pair has its colours by init_pair, as init_pair 1 1 0 for red on black"
+    else (if bytes_eq word (codes "init_pair") && is_one_of (codes "-1 default") argument
+    then codes ": only pair 0 has the colours of the terminal itself"
+    else reason form argument)
 
 -- the number that a text has after so many bytes
 abbrev pub numeral_in : ℕ → List ℕ → ℕ

@@ -41,7 +41,7 @@ pub fn count(forms: &[Form], text: Option<&[u8]>) -> usize
 }
 
 /// Whether an argument has its form.
-fn has_form(form: Form, argument: &[u8]) -> bool
+pub fn has_form(form: Form, argument: &[u8]) -> bool
     requires { length argument.now ≤ LONGEST_LINE }
     ensures { result ≡ has_form form argument.now }
 {

@@ -1,10 +1,10 @@
 //! The calls that every screen refuses, whatever its size, and whatever was called on it before.
 
-ghost use Rattle.std.specs.Prelude.{◌≡◌, ◌==◌, ◌&&◌, ◌||◌, IfSome};
+ghost use Rattle.std.specs.Prelude.{◌≡◌, ◌≤◌, ◌==◌, ◌&&◌, ◌||◌, IfSome, length};
 ghost use Rattle.std.specs.List.{list_any};
 ghost use Rattle.cell.specs.Refusals.{first_of};
 ghost use Rattle.cell.specs.declared.limits.TheConstants.{MOST_PANELS};
-ghost use Rattle.explain.specs.Everywhere.{IsRefusedEverywhere, is_past, is_too_great, making_everywhere, no_panel, on_standard, only_if, refusal_everywhere, refused_line, stacking_everywhere, writing_everywhere};
+ghost use Rattle.explain.specs.Everywhere.{IsRefusedEverywhere, is_past, is_too_great, making_everywhere, no_panel, on_standard, only_if, refusal_everywhere, refused_line, stacking_everywhere, writing_everywhere, meaning};
 ghost use Rattle.world.specs.calls.Making.{is_inside};
 ghost use Rattle.world.specs.calls.Refresh.{colour_tests, is_no_colour};
 ghost use Rattle.world.specs.calls.Writing.{is_bad_character, is_no_pair};
@@ -210,6 +210,28 @@ pub fn refusal_everywhere(call: &Call<'_>) -> Option<Refusal>
     by_arguments(call)
 }
 
+/// What a refusal by the arguments alone means.
+fn meaning(why: Refusal) -> &'static [u8]
+    ensures text { result.now ≡ meaning why }
+    ensures short { length result.now ≤ 80 }
+{
+    match why {
+        Refusal::NoSuchPanel => b": panels are numbered from 1 to 1000",
+        Refusal::OffScreen | Refusal::OutsideParent | Refusal::OutsideWindow =>
+            b": a screen has at most 999 lines and 999 columns",
+        Refusal::NotPad => b": window 0 is the standard screen, and no pad",
+        Refusal::NotDerived => b": window 0 is the standard screen, and derives from no window",
+        Refusal::BadSize => b": a pad has 1 to 1000 lines and 1 to 1000 columns",
+        Refusal::BadRegion => b": the first line is after the last, or the last is past 998",
+        Refusal::BadCharacter =>
+            b": characters are the space to the tilde; addch and addstr take \\n, \\r and \\b too",
+        Refusal::StandardScreen =>
+            b": window 0 is the standard screen, which stays, and is in no panel",
+        Refusal::BadPair => b": pairs are 0 to 63, of which 0 isn't set, and colours are 0 to 7",
+        _ => b"",
+    }
+}
+
 /// The line about a call that every screen refuses, in a script's line with its number.
 pub fn refused_line(number: u64, why: Refusal) -> Finding
     ensures { result.items ≡ refused_line number why }
@@ -219,6 +241,7 @@ pub fn refused_line(number: u64, why: Refusal) -> Finding
     append_decimal(&mut text, number);
     append(&mut text, b", column 1: every screen refuses this call: ");
     append(&mut text, why.text().as_bytes());
+    append(&mut text, meaning(why));
     append(&mut text, b"\n");
     text
 }

@@ -1,16 +1,17 @@
 //! What a person reads about a faulty line: where its fault is, what is there, and what is wanted.
 
-ghost use Rattle.std.specs.Prelude.{◌≡◌, ◌≤◌, ◌+◌, ◌++◌, ◌<◌, codes, decimal, length, option_map};
-ghost use Rattle.explain.specs.Advice.{call_advice, line_advice};
-ghost use Rattle.explain.specs.Faults.{IllFormed as Ill};
-ghost use Rattle.explain.specs.Explanations.{bad_byte_text, bad_line_text, count_text, explanation, finding, ill_formed_text, number_advice, number_text, quotation, signature_text, stray_text, unknown_text};
+ghost use Rattle.std.specs.Prelude.{◌≡◌, ◌≤◌, ◌+◌, ◌++◌, ◌<◌, codes, decimal, length, option_map, unwrap_or};
+ghost use Rattle.explain.specs.Advice.{call_advice, line_advice, said_of};
+ghost use Rattle.script.specs.Pieces.{pieces_of};
+ghost use Rattle.explain.specs.Faults.{IllFormed as Ill, word_in};
+ghost use Rattle.explain.specs.Explanations.{bad_byte_text, bad_line_text, count_text, explanation, finding, has_call, ill_formed_text, number_advice, number_text, quotation, signature_text, stray_text, unknown_text};
 
 use crate::arguments::{IllFormed, Stray, count, find_ill_formed, find_stray, forms_of};
 use crate::column::{bad_byte, column_of};
 use crate::names::{after_dot, begins_comment, name_of};
-use crate::reasons::{byte_advice, reason, requirement_of};
+use crate::reasons::{byte_advice, has_byte, reason_after, requirement_of};
 use crate::signatures::names_of_arguments;
-use crate::suggestions::said_of;
+use crate::suggestions::{no_variables, said_of};
 use arrayvec::ArrayVec;
 use cell::hex_digits;
 use script::{LONGEST_LINE, TextFault, Word, split_at_space};
@@ -63,7 +64,7 @@ fn append_ill_formed(text: &mut Finding, word: &[u8], ill: IllFormed<'_>)
     append(text, requirement_of(word, ill.form));
     append(text, b", not ");
     append_quoted(text, ill.argument);
-    append(text, reason(ill.form, ill.argument));
+    append(text, reason_after(word, ill.form, ill.argument));
 }
 
 /// Appends what is said of a bad byte.
@@ -88,14 +89,13 @@ fn line_advice() -> &'static [u8]
 }
 
 /// Appends what to write for a word that is no call.
-fn append_advice(text: &mut Finding, word: &[u8])
-    requires room { length text.old.items ≤ 600 }
+fn append_said(text: &mut Finding, word: &[u8])
+    requires room { length text.old.items ≤ 602 }
     requires word { length word.now ≤ LONGEST_LINE }
-    ensures text { text.new.items ≡ text.old.items ++ call_advice word.now }
+    ensures text { text.new.items ≡ text.old.items ++ unwrap_or (said_of word.now) line_advice }
     ensures short { length text.new.items < FINDING_ROOM }
 {
-    let name = name_of(after_dot(after_dot(word)));
-    append(text, b": ");
+    let name = name_of(after_dot(after_dot(after_dot(word))));
     match said_of(word, name.as_slice()) {
         Some(said) => {
             append(text, said.text);
@@ -105,19 +105,48 @@ fn append_advice(text: &mut Finding, word: &[u8])
     }
 }
 
-/// Appends what is said of a word that is no call. It is empty where a line begins with a space.
-fn append_unknown(text: &mut Finding, word: &[u8])
+/// Appends that, or what stands in place of variables where this argument after the word would give it a value.
+fn append_advice(text: &mut Finding, word: &[u8], argument: &[u8])
+    requires room { length text.old.items ≤ 600 }
+    requires word { length word.now ≤ LONGEST_LINE }
+    ensures text { text.new.items ≡ text.old.items ++ call_advice word.now argument.now }
+    ensures short { length text.new.items < FINDING_ROOM }
+{
+    append(text, b": ");
+    if argument.strip_prefix(b"=").is_some() {
+        append(text, no_variables());
+    } else {
+        append_said(text, word);
+    }
+}
+
+/// The first argument of some, and none where there is none.
+fn first_of(arguments: Option<&[u8]>) -> &[u8]
+    ensures { result.now ≡ word_in (pieces_of arguments.entry) }
+{
+    match arguments {
+        Some(arguments) => split_at_space(arguments).0,
+        None => b"",
+    }
+}
+
+/// Appends what is said of a word that is no call, and has this argument after it. It is empty where a line begins with
+/// a space.
+fn append_unknown(text: &mut Finding, word: &[u8], argument: &[u8])
     requires room { length text.old.items ≤ 64 }
     requires word { length word.now ≤ LONGEST_LINE }
-    ensures text { text.new.items ≡ text.old.items ++ unknown_text word.now }
+    ensures text { text.new.items ≡ text.old.items ++ unknown_text word.now argument.now }
     ensures short { length text.new.items < FINDING_ROOM }
 {
     if word.is_empty() {
-        return append(text, b"the line begins with a space, and not with a call");
+        return append(
+            text,
+            b"the line begins with a space, and not with a call; an empty line has no spaces",
+        );
     }
     append(text, b"unknown call ");
     append_quoted(text, word);
-    append_advice(text, word);
+    append_advice(text, word, argument);
 }
 
 /// Appends what is said of the number of a word's arguments.
@@ -162,18 +191,41 @@ fn append_signature(text: &mut Finding, names: &[u8])
     }
 }
 
-/// Appends what is said after the number of a word's arguments.
-fn append_number_advice(text: &mut Finding, word: &[u8], stray: Option<Stray<'_>>)
+/// Whether some of the words in a text is a call.
+fn has_call(text: Option<&[u8]>) -> bool
+    ensures { result ≡ has_call (pieces_of text.entry) }
+{
+    let Some(text) = text else { return false };
+    let (first, rest) = split_at_space(text);
+    if Word::of(first).is_some() {
+        return true;
+    }
+    has_call(rest)
+}
+
+/// Appends what is said after the number of a word's arguments, which may be too many.
+fn append_number_advice(
+    text: &mut Finding,
+    word: &[u8],
+    line: &[u8],
+    many: bool,
+    stray: Option<Stray<'_>>,
+)
     requires { length text.old.items ≤ 1024 }
-    ensures text { text.new.items ≡ text.old.items ++ number_advice word.now (option_map (λ s. (s.column, s.argument.now)) stray.entry) }
+    ensures text { text.new.items ≡ text.old.items ++ number_advice word.now line.now many (option_map (λ s. (s.column, s.argument.now)) stray.entry) }
     ensures short { length text.new.items < FINDING_ROOM }
 {
-    match stray {
-        Some(stray) => append(text, stray_text(stray.argument)),
-        None => match Word::of(word) {
-            Some(word) => append_signature(text, names_of_arguments(word)),
-            None => {}
-        },
+    if let Some(stray) = stray {
+        return append(text, stray_text(stray.argument));
+    }
+    if many && has_call(split_at_space(line).1) {
+        return append(text, b": a line has one call");
+    }
+    if has_byte(line, b',') {
+        return append(text, b": spaces separate arguments, and no commas");
+    }
+    if let Some(word) = Word::of(word) {
+        append_signature(text, names_of_arguments(word));
     }
 }
 
@@ -212,12 +264,13 @@ fn append_explanation(text: &mut Finding, fault: TextFault, line: &[u8])
     match fault {
         TextFault::LineTooLong => append(text, b"the line is longer than 512 bytes"),
         TextFault::BadByte => append_bad_line(text, line),
-        TextFault::UnknownCall => append_unknown(text, word),
+        TextFault::UnknownCall => append_unknown(text, word, first_of(arguments)),
         TextFault::WrongNumberOfArguments => {
             let forms = forms_of(word);
-            append_number(text, word, forms.len(), count(forms, arguments));
+            let given = count(forms, arguments);
+            append_number(text, word, forms.len(), given);
             let stray = find_stray(word.len() + 2, forms, arguments);
-            append_number_advice(text, word, stray);
+            append_number_advice(text, word, line, forms.len() < given, stray);
         }
         TextFault::BadArgument => {
             if let Some(ill) = find_ill_formed(word.len() + 2, forms_of(word), arguments) {

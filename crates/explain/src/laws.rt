@@ -1,11 +1,13 @@
 //! What holds of the definitions alone. The function does nothing, and its contract is the law.
 
-ghost use Rattle.std.specs.Prelude.{[], ◌≡◌, ◌++◌, codes};
+ghost use Rattle.std.specs.Prelude.{[], ◌≡◌, ◌+◌, ◌++◌, codes};
 ghost use Rattle.cell.specs.Attributes.{hex_digits};
-ghost use Rattle.cell.specs.declared.limits.TheConstants.{LAST_COLOUR, LAST_PAIR};
+ghost use Rattle.cell.specs.declared.limits.TheConstants.{LARGEST_PAD, LARGEST_SCREEN, LAST_COLOUR, LAST_PAIR, MOST_PANELS};
+ghost use Rattle.cell.specs.declared.refusal.Refusal.TheVariants.{BadPair, BadRegion, BadSize, NoSuchPanel, OffScreen};
 ghost use Rattle.script.specs.declared.fault.TextFault.TheVariants.{LineTooLong};
 ghost use Rattle.script.specs.declared.limits.TheConstants.{ALL_ATTRIBUTES, GREATEST_NUMBER, GREATEST_SIGNED, LONGEST_LINE};
 ghost use Rattle.script.specs.declared.words.Form.TheVariants.{Attributes, Number, NumberOrNone, Signed};
+ghost use Rattle.explain.specs.Everywhere.{meaning};
 ghost use Rattle.explain.specs.Explanations.{explanation};
 ghost use Rattle.explain.specs.Reasons.{numeral_in, pair_and_colours, requirement, window_and_pair};
 
@@ -19,5 +21,10 @@ pub fn limits_in_texts()
         ≡ codes "two hexadecimal digits in lower case from " ++ hex_digits 0 ++ codes " to " ++ hex_digits ALL_ATTRIBUTES }
     ensures colours { (numeral_in 17 pair_and_colours ≡ LAST_PAIR) × (numeral_in 47 pair_and_colours ≡ LAST_COLOUR) }
     ensures pairs { numeral_in 31 window_and_pair ≡ LAST_PAIR }
+    ensures panels { numeral_in 32 (meaning NoSuchPanel) ≡ MOST_PANELS }
+    ensures screens { (numeral_in 23 (meaning OffScreen) ≡ LARGEST_SCREEN) × (numeral_in 37 (meaning OffScreen) ≡ LARGEST_SCREEN) }
+    ensures pads { (numeral_in 17 (meaning BadSize) ≡ LARGEST_PAD) × (numeral_in 37 (meaning BadSize) ≡ LARGEST_PAD) }
+    ensures regions { numeral_in 56 (meaning BadRegion) + 1 ≡ LARGEST_SCREEN }
+    ensures sets { (numeral_in 17 (meaning BadPair) ≡ LAST_PAIR) × (numeral_in 64 (meaning BadPair) ≡ LAST_COLOUR) }
     ensures line { numeral_in 24 (explanation LineTooLong []) ≡ LONGEST_LINE }
 {}

@@ -1,7 +1,7 @@
 //! The name that a word begins with, and the marks of other languages in it.
 
 ghost use Rattle.std.specs.Prelude.{◌≡◌, ◌≤◌, length};
-ghost use Rattle.explain.specs.Advice.{after_dot, after_name, begins_comment, is_name_byte, is_quoted, name_in};
+ghost use Rattle.explain.specs.Advice.{after_dot, after_name, begins_comment, has_part, is_name_byte, is_of_menus, is_quoted, name_in};
 
 use arrayvec::ArrayVec;
 use script::LONGEST_LINE;
@@ -21,6 +21,30 @@ pub fn is_quoted(text: &[u8]) -> bool
     ensures { result ≡ is_quoted text.now }
 {
     text.strip_prefix(b"\"").is_some() || text.strip_prefix(b"'").is_some()
+}
+
+/// Whether a text has another in it.
+fn has_part(text: &[u8], part: &[u8]) -> bool
+    ensures { result ≡ has_part part.now text.now }
+{
+    let mut left = text;
+    while let Some((_, rest)) = left.split_first() {
+        if left.strip_prefix(part).is_some() {
+            return true;
+        }
+        left = rest;
+    }
+    false
+}
+
+/// Whether a name is one of menus or forms.
+pub fn is_of_menus(name: &[u8]) -> bool
+    ensures { result ≡ is_of_menus name.now }
+{
+    has_part(name, b"menu")
+        || has_part(name, b"item")
+        || has_part(name, b"form")
+        || has_part(name, b"field")
 }
 
 /// Whether a name may have a byte.
@@ -63,13 +87,20 @@ pub fn after_name(word: &[u8]) -> &[u8]
     left
 }
 
-/// What follows a name and a dot; or else the word.
+/// What follows a name and a dot, an arrow or two colons; or else the word.
 pub fn after_dot(word: &[u8]) -> &[u8]
     ensures text { result.now ≡ after_dot word.now }
     ensures short { length result.now ≤ length word.now }
 {
-    match after_name(word).strip_prefix(b".") {
-        Some(rest) => rest,
+    let rest = after_name(word);
+    if let Some(name) = rest.strip_prefix(b".") {
+        return name;
+    }
+    if let Some(name) = rest.strip_prefix(b"->") {
+        return name;
+    }
+    match rest.strip_prefix(b"::") {
+        Some(name) => name,
         None => word,
     }
 }

@@ -4,7 +4,7 @@
 ghost use Rattle.std.specs.Prelude.{◌≡◌, ◌≤◌, ◌<◌, ◌∷◌, [], IfSome, MatchOption, length, option_map};
 ghost use Rattle.std.specs.Str.{bytes_eq};
 ghost use Rattle.script.specs.Pieces.{pieces_of};
-ghost use Rattle.explain.specs.Nearest.{is_first_wrong, is_near, letters_of, nearest, nearest_of, nearest_other};
+ghost use Rattle.explain.specs.Nearest.{is_first_wrong, is_near, letters_of, near_call, nearest, nearest_of, nearest_other, same_call, same_of};
 
 use script::split_at_space;
 
@@ -107,12 +107,42 @@ fn nearest_in(word: &[u8], names: Option<&'static [u8]>) -> Option<&'static [u8]
     nearest_in(word, rest)
 }
 
+/// The first of some names with a word's letters.
+fn same_in(word: &[u8], names: Option<&'static [u8]>) -> Option<&'static [u8]>
+    ensures { option_map (λ name. name.now) result ≡ same_of (pieces_of names.entry) word.now }
+{
+    let (first, rest) = split_at_space(names?);
+    if has_letters_of(word, first) {
+        return Some(first);
+    }
+    same_in(word, rest)
+}
+
+/// The call with a word's letters.
+fn same_call(word: &[u8]) -> Option<&'static [u8]>
+    ensures name { option_map (λ name. name.now) result ≡ same_call word.now }
+    ensures short { IfSome result (λ name. length name.now ≤ 80) }
+{
+    same_in(word, Some(CALLS))
+}
+
 /// The first call that is near a word.
+fn near_call(word: &[u8]) -> Option<&'static [u8]>
+    ensures name { option_map (λ name. name.now) result ≡ near_call word.now }
+    ensures short { IfSome result (λ name. length name.now ≤ 80) }
+{
+    nearest_in(word, Some(CALLS))
+}
+
+/// The call that is nearest to a word: the one with its letters, or else the first that is near it.
 pub fn nearest(word: &[u8]) -> Option<&'static [u8]>
     ensures name { option_map (λ name. name.now) result ≡ nearest word.now }
     ensures short { IfSome result (λ name. length name.now ≤ 80) }
 {
-    nearest_in(word, Some(CALLS))
+    match same_call(word) {
+        Some(call) => Some(call),
+        None => near_call(word),
+    }
 }
 
 /// The first of the other names that is near a word.

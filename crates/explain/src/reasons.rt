@@ -3,11 +3,12 @@
 ghost use Rattle.std.specs.Prelude.{◌≡◌, ◌≤◌, length};
 ghost use Rattle.std.specs.Char.{is_ascii_hexdigit, is_ascii_uppercase};
 ghost use Rattle.std.specs.List.{list_all, list_any};
-ghost use Rattle.explain.specs.Reasons.{after_backslash, are_digits, are_two_digits, attributes_reason, byte_advice, character_reason, digits_reason, flag_reason, has_byte, mark_reason, name_reason, reason, requirement, requirement_of, signed_reason, text_reason, unless_missing, unsigned_or_none_reason, unsigned_reason};
+ghost use Rattle.explain.specs.Reasons.{after_backslash, are_digits, are_two_digits, attributes_reason, begins_sequence, byte_advice, character_reason, digits_reason, flag_reason, has_byte, mark_reason, name_reason, reason, reason_after, requirement, requirement_of, signed_reason, text_reason, unless_missing, unsigned_or_none_reason, unsigned_reason};
 
 use crate::advice::is_among;
+use crate::arguments::has_form;
 use crate::names::{begins_comment, is_quoted};
-use script::{Form, has_digits_alone};
+use script::{Form, LONGEST_LINE, has_digits_alone};
 
 /// What is said of a bad byte: a carriage return, a tab, a backspace, an escape, a 0, or another.
 pub fn byte_advice(byte: u8) -> &'static [u8]
@@ -16,7 +17,7 @@ pub fn byte_advice(byte: u8) -> &'static [u8]
 {
     match byte {
         b'\r' => b"a line ends with a newline alone",
-        b'\t' => b"words are separated by single spaces",
+        b'\t' => b"a tab is written as spaces, and one space separates words",
         8 => b"a text has it as a backslash and b",
         27 => b"a text has no control sequences: see attrset, color_set, move",
         0 => b"a character is one byte, and not two as in UTF-16",
@@ -77,7 +78,7 @@ fn are_digits(text: &[u8]) -> bool
 }
 
 /// Whether a text has a byte.
-fn has_byte(text: &[u8], byte: u8) -> bool
+pub fn has_byte(text: &[u8], byte: u8) -> bool
     ensures { result ≡ has_byte byte text.now }
 {
     text.iter().any(|b| *b == byte)
@@ -109,8 +110,8 @@ fn mark_reason(said: &'static [u8], argument: &[u8]) -> &'static [u8]
 
 /// The names of the colours, in scripts of others and in C.
 const COLOURS: &[u8] =
-    b"black red green yellow blue magenta cyan white COLOR_BLACK COLOR_RED COLOR_GREEN COLOR_YELLOW \
-    COLOR_BLUE COLOR_MAGENTA COLOR_CYAN COLOR_WHITE";
+    b"black red green yellow blue magenta cyan white BLACK RED GREEN YELLOW BLUE MAGENTA CYAN WHITE \
+    COLOR_BLACK COLOR_RED COLOR_GREEN COLOR_YELLOW COLOR_BLUE COLOR_MAGENTA COLOR_CYAN COLOR_WHITE";
 
 /// What is said of an argument that may stand for a number elsewhere.
 fn name_reason(argument: &[u8]) -> &'static [u8]
@@ -126,10 +127,10 @@ fn name_reason(argument: &[u8]) -> &'static [u8]
     if argument.strip_prefix(b"COLOR_PAIR").is_some() {
         return b": a pair is its number";
     }
-    if argument.strip_prefix(b"0x").is_some() {
+    if argument.strip_prefix(b"0x").is_some() || argument.strip_prefix(b"0X").is_some() {
         return b": a number is decimal";
     }
-    b": numbers are written in digits"
+    b": numbers are written in digits, and windows and panels have numbers"
 }
 
 /// Why an argument is no number without a sign.
@@ -201,7 +202,9 @@ fn attributes_reason(argument: &[u8]) -> &'static [u8]
     ensures text { result.now ≡ attributes_reason argument.now }
     ensures short { length result.now ≤ 80 }
 {
-    if !are_two_digits(argument) {
+    if is_among(argument, COLOURS) || argument.strip_prefix(b"COLOR_").is_some() {
+        b": a colour is set by color_set"
+    } else if !are_two_digits(argument) {
         b": a sum of 01 bold, 02 dim, 04 underline, 08 blink, 10 reverse, 20 invisible"
     } else if has_upper_case(argument) {
         b": the digits are in lower case"
@@ -215,9 +218,15 @@ fn flag_reason(argument: &[u8]) -> &'static [u8]
     ensures text { result.now ≡ flag_reason argument.now }
     ensures short { length result.now ≤ 80 }
 {
-    if is_among(argument, b"ON On TRUE True true YES Yes yes 1") {
+    if is_among(
+        argument,
+        b"ON On TRUE True true YES Yes yes enable enabled t y 1",
+    ) {
         b": write on"
-    } else if is_among(argument, b"OFF Off FALSE False false NO No no 0") {
+    } else if is_among(
+        argument,
+        b"OFF Off FALSE False false NO No no disable disabled f n 0",
+    ) {
         b": write off"
     } else {
         mark_reason(b"", argument)
@@ -238,6 +247,17 @@ fn after_backslash(text: &[u8]) -> &[u8]
     left
 }
 
+/// Whether what is after a backslash begins a control sequence in other languages.
+fn begins_sequence(rest: &[u8]) -> bool
+    ensures { result ≡ begins_sequence rest.now }
+{
+    rest.strip_prefix(b"e").is_some()
+        || rest.strip_prefix(b"E").is_some()
+        || rest.strip_prefix(b"033").is_some()
+        || rest.strip_prefix(b"x1b").is_some()
+        || rest.strip_prefix(b"x1B").is_some()
+}
+
 /// What is said of a text with a backslash that begins no escape.
 fn text_reason(text: &[u8]) -> &'static [u8]
     ensures text { result.now ≡ text_reason text.now }
@@ -246,7 +266,7 @@ fn text_reason(text: &[u8]) -> &'static [u8]
     let rest = after_backslash(text);
     if rest.strip_prefix(b"t").is_some() {
         b": a tab is written as spaces, a backslash itself as two"
-    } else if rest.strip_prefix(b"e").is_some() {
+    } else if begins_sequence(rest) {
         b": it has no control sequences: see attrset, color_set, move"
     } else if rest.strip_prefix(b"u").is_some() {
         b": characters are those of ASCII"
@@ -259,12 +279,13 @@ fn text_reason(text: &[u8]) -> &'static [u8]
 
 /// Why an argument is no character.
 fn character_reason(argument: &[u8]) -> &'static [u8]
+    requires { length argument.now ≤ LONGEST_LINE }
     ensures text { result.now ≡ character_reason argument.now }
     ensures short { length result.now ≤ 80 }
 {
     if argument.is_empty() {
-        b""
-    } else if argument.strip_prefix(b"\\").is_some() {
+        b": it is empty, and a space is \\x20, or one space more"
+    } else if !has_form(Form::Text, argument) {
         text_reason(argument)
     } else if argument.strip_prefix(b"ACS_").is_some() {
         b": lines are drawn by characters such as + - and |"
@@ -289,7 +310,8 @@ fn unless_missing(said: &'static [u8], argument: &[u8]) -> &'static [u8]
 }
 
 /// Why an argument lacks its form, where more is to be said than the form.
-pub fn reason(form: Form, argument: &[u8]) -> &'static [u8]
+fn reason(form: Form, argument: &[u8]) -> &'static [u8]
+    requires { length argument.now ≤ LONGEST_LINE }
     ensures text { result.now ≡ reason form argument.now }
     ensures short { length result.now ≤ 80 }
 {
@@ -302,4 +324,19 @@ pub fn reason(form: Form, argument: &[u8]) -> &'static [u8]
         Form::Character => character_reason(argument),
         Form::Text => text_reason(argument),
     }
+}
+
+/// The same after a word: of pairs and colours more is said.
+pub fn reason_after(word: &[u8], form: Form, argument: &[u8]) -> &'static [u8]
+    requires { length argument.now ≤ LONGEST_LINE }
+    ensures text { result.now ≡ reason_after word.now form argument.now }
+    ensures short { length result.now ≤ 80 }
+{
+    if is_among(word, b"color_set bkgdpair") && is_among(argument, COLOURS) {
+        return b": a pair has its colours by init_pair, as init_pair 1 1 0 for red on black";
+    }
+    if word == b"init_pair".as_slice() && is_among(argument, b"-1 default") {
+        return b": only pair 0 has the colours of the terminal itself";
+    }
+    reason(form, argument)
 }

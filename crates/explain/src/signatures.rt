@@ -42,8 +42,9 @@ fn writing_arguments(word: WritingWord) -> &'static [u8]
         WritingWord::Scrollok | WritingWord::Clearok =>
             b"window (0 is the standard screen), on or off",
         WritingWord::Attrset | WritingWord::Attron | WritingWord::Attroff =>
-            b"window (0 is the standard screen), attributes",
-        WritingWord::Bkgdset => b"window (0 is the standard screen), attributes, character",
+            b"window (0 is the standard screen), attributes as one sum",
+        WritingWord::Bkgdset =>
+            b"window (0 is the standard screen), attributes as one sum, character",
         WritingWord::ColorSet | WritingWord::Bkgdpair => b"window (0 is the standard screen), pair",
     }
 }

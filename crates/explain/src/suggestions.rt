@@ -3,11 +3,11 @@
 ghost use Rattle.std.specs.Prelude.{◌≡◌, ◌≤◌, ◌+◌, ◌++◌, IfSome, codes, length, option_map, take};
 ghost use Rattle.std.specs.Char.{is_ascii_digit};
 ghost use Rattle.std.specs.List.{list_any};
-ghost use Rattle.explain.specs.Advice.{advice_on_rest, after_prefix, called_name, is_name_byte, said_near_name, said_of, said_of_marks, said_of_name, said_of_near, said_of_written, say_call, see_longer, see_nearest};
+ghost use Rattle.explain.specs.Advice.{advice_on_rest, after_prefix, called_name, is_name_byte, no_variables, said_near_name, said_of, said_of_marks, said_of_menus, said_of_name, said_of_near, said_of_written, say_call, see_longer, see_nearest};
 ghost use Rattle.explain.specs.steps.Suggestions.{said_now};
 
 use crate::advice::advice_on;
-use crate::names::{after_name, begins_comment, is_name_byte, is_quoted};
+use crate::names::{after_name, begins_comment, is_name_byte, is_of_menus, is_quoted};
 use crate::nearest::{nearest, nearest_other};
 use script::Word;
 
@@ -142,11 +142,37 @@ fn begins_with_name(word: &[u8]) -> bool
     }
 }
 
+/// What a script has in place of variables.
+pub fn no_variables() -> &'static [u8]
+    ensures text { result.now ≡ no_variables }
+    ensures short { length result.now ≤ 80 }
+{
+    b"a script has no variables: windows and panels are numbered from 1"
+}
+
+/// What is said of a name of menus or forms.
+fn said_of_menus<'a>(name: &[u8]) -> Option<Said<'a>>
+    ensures said { said_now result ≡ said_of_menus name.now }
+    ensures short { IfSome result (λ s. length s.text.now ≤ 80) }
+    ensures call { IfSome result (λ s. length s.call.now ≤ 80) }
+{
+    if is_of_menus(name) {
+        return Some(Said {
+            text: b"there are no menus or forms",
+            call: b"",
+        });
+    }
+    None
+}
+
 /// What is said of a word that begins with no letter, or that gives a value to a name.
 fn said_of_marks(word: &[u8]) -> Option<&'static [u8]>
     ensures said { option_map (λ text. text.now) result ≡ said_of_marks word.now }
     ensures short { IfSome result (λ text. length text.now ≤ 80) }
 {
+    if word.strip_prefix(b"\\").is_some() {
+        return Some(b"a script has no control sequences: see attrset, color_set, move, clear");
+    }
     if word.strip_prefix(b"-").is_some() {
         return Some(b"an option belongs on the command line, and a comment begins with #");
     }
@@ -168,7 +194,7 @@ fn said_of_marks(word: &[u8]) -> Option<&'static [u8]>
         return Some(b"a line begins with the name of a call, and a comment with #");
     }
     if after_name(word).strip_prefix(b"=").is_some() {
-        return Some(b"a script has no variables: windows are numbered from 1 as they are made");
+        return Some(no_variables());
     }
     None
 }
@@ -217,7 +243,7 @@ fn said_of_written<'a>(word: &[u8], name: &'a [u8]) -> Option<Said<'a>>
         return Some(said);
     }
     say_call(
-        b"a call's name stands alone, with a space before each argument: see ",
+        b"a call's name stands alone in its line, or before a space and arguments: see ",
         name,
     )
 }
@@ -243,6 +269,9 @@ pub fn said_of<'a>(word: &[u8], name: &'a [u8]) -> Option<Said<'a>>
         return Some(said);
     }
     if let Some(said) = said_of_name(name) {
+        return Some(said);
+    }
+    if let Some(said) = said_of_menus(name) {
         return Some(said);
     }
     if let Some(said) = said_of_near(word) {

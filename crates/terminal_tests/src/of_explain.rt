@@ -21,9 +21,9 @@ static FINDINGS: [(TextFault, &[u8], &str); 14] = [
     (
         TextFault::UnknownCall,
         b"w=1",
-        "line 12, column 1: unknown call \"w=1\": a script has no variables: windows are numbered from 1 as they are made\n",
+        "line 12, column 1: unknown call \"w=1\": a script has no variables: windows and panels are numbered from 1\n",
     ),
-    (TextFault::UnknownCall, b" move 0 0 0", "line 12, column 1: the line begins with a space, and not with a call\n"),
+    (TextFault::UnknownCall, b" move 0 0 0", "line 12, column 1: the line begins with a space, and not with a call; an empty line has no spaces\n"),
     (TextFault::WrongNumberOfArguments, b"addch 0", "line 12, column 9: addch takes 2 arguments, 1 given: window (0 is the standard screen), character\n"),
     (TextFault::WrongNumberOfArguments, b"erase 0 $", "line 12, column 9: erase takes 1 argument, 2 given: window (0 is the standard screen)\n"),
     (
@@ -61,7 +61,8 @@ fn calls_that_every_screen_refuses_are_told(rt: HostRuntime) {
         None,
     ];
     assert_eq!(rt; why, wanted);
-    let line = "line 7, column 1: every screen refuses this call: E11 BadSize\n";
+    let line =
+        "line 7, column 1: every screen refuses this call: E11 BadSize: a pad has 1 to 1000 lines and 1 to 1000 columns\n";
     assert_eq!(rt;
         refused_line(7, Refusal::BadSize).as_slice(),
         line.as_bytes()
