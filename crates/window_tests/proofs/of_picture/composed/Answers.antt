@@ -29,7 +29,7 @@ compose_row-requires c κs =
     let height = size.height in
     let wide = length-line 0 size some in
     let ordered = c.if-right-left.false in
-    let back = sym c.of.ensures.windows in (
+    let back = sym c.of-rows.ensures.windows in (
       (refl, record {}),
       (
         λ u from upto. subst (λ (now : Windows). holds now.window standard_screen 0 u ≡ true) back (standard-holds ws 0 u sound some (omega (arith, right, upto))),
