@@ -276,15 +276,15 @@ said_of_written word = if length (called_name word) == length word then say_call
     else or_else (see_longer word) (say_call (codes "a call's name stands alone in its line, or before a space and arguments: see ") (called_name word))
 
 -- of what begins a comment elsewhere, that # does here; or else what the table has of the word as it is; or else how the
--- call in it is written; or else what is said of the name of what it calls, also where that is of menus or forms; or else
--- of what the word is near, of its marks, or of what that name is near
+-- call in it is written; or else what is said of the name of what it calls; or else of what the word is near, of menus or
+-- forms, of its marks, or of what that name is near
 unfoldable pub said_of : List ℕ → Option (List ℕ)
 said_of word = if begins_comment word then Some (codes "a comment begins with #")
     else or_else (advice_on word)
     (or_else (said_of_written word)
     (or_else (said_of_name (called_name word))
-    (or_else (said_of_menus (called_name word))
     (or_else (said_of_near word)
+    (or_else (said_of_menus (called_name word))
     (or_else (said_of_marks word)
     (said_near_name word))))))
 

@@ -1,5 +1,5 @@
 -- What a word was meant to be: the first name whose letters are the word's but for one, or two that changed places.
-use Rattle.std.specs.Prelude.{◌==◌, ◌&&◌, ◌||◌, ℕ, Bool, false, List, [], ◌∷◌, ◌++◌, codes, find, length, map, nat_le, Option, None, Some, if◌then◌else◌}
+use Rattle.std.specs.Prelude.{◌==◌, ◌&&◌, ◌||◌, ℕ, Bool, false, List, [], ◌∷◌, ◌++◌, codes, find, length, map, nat_le, Option, None, Some, option_and_then, if◌then◌else◌}
 use Rattle.std.specs.Char.{is_ascii_alphabetic, to_ascii_lowercase}
 use Rattle.std.specs.List.{flat_map, slice_split}
 use Rattle.std.specs.Str.{bytes_eq}
@@ -58,9 +58,9 @@ same_call word = same_of call_words word
 abbrev pub near_call : List ℕ → Option (List ℕ)
 near_call word = nearest_of call_words word
 
--- the call with a word's letters, or else the first that is near it
+-- of the calls that are near a word the one with its letters, or else the first
 abbrev pub nearest : List ℕ → Option (List ℕ)
-nearest word = or_else (same_call word) (near_call word)
+nearest word = option_and_then (λ first. or_else (same_call word) (Some first)) (near_call word)
 
 abbrev pub nearest_other : List ℕ → Option (List ℕ)
 nearest_other word = nearest_of other_names word

@@ -134,14 +134,15 @@ fn near_call(word: &[u8]) -> Option<&'static [u8]>
     nearest_in(word, Some(CALLS))
 }
 
-/// The call that is nearest to a word: the one with its letters, or else the first that is near it.
+/// The call that is nearest to a word: of those that are near it the one with its letters, or else the first.
 pub fn nearest(word: &[u8]) -> Option<&'static [u8]>
     ensures name { option_map (λ name. name.now) result ≡ nearest word.now }
     ensures short { IfSome result (λ name. length name.now ≤ 80) }
 {
+    let first = near_call(word)?;
     match same_call(word) {
         Some(call) => Some(call),
-        None => near_call(word),
+        None => Some(first),
     }
 }
 

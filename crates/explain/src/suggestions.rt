@@ -271,10 +271,10 @@ pub fn said_of<'a>(word: &[u8], name: &'a [u8]) -> Option<Said<'a>>
     if let Some(said) = said_of_name(name) {
         return Some(said);
     }
-    if let Some(said) = said_of_menus(name) {
+    if let Some(said) = said_of_near(word) {
         return Some(said);
     }
-    if let Some(said) = said_of_near(word) {
+    if let Some(said) = said_of_menus(name) {
         return Some(said);
     }
     if let Some(text) = said_of_marks(word) {
