@@ -23,6 +23,7 @@ class Reading:
         self.terminal.cursor = update.cursor_before
         self.before = None      # the final byte of the item before
         self.gap = None         # how many unchanged cells were printed after a changed one; None where no gap may begin
+        self.is_first = True    # nothing but unchanged cells was printed yet, from where the cursor was
         self.left_out = None    # a gap that a move left out: its cells, the rendition before it, and the bytes of the move and of what followed
 
     def is_changed(self, place):
@@ -43,7 +44,7 @@ class Reading:
         elif final == b'H':
             waste = 'a move to where the cursor is' if self.terminal.cursor == cursor else self.waste_of_end()
             self.left_out = self.gap_before(cursor, len(item.group()))
-            self.gap = None
+            self.gap, self.is_first = None, False
         elif final == b'm':
             waste = 'a selection of what is selected' if self.terminal.rendition == rendition else None
             self.left_out = left_out and (*left_out[:2], left_out[2] + len(item.group()))
@@ -71,12 +72,12 @@ class Reading:
 
     def waste_of_print(self, cursor):
         if not self.is_changed(cursor):
-            if self.gap is None:
+            if self.gap is None and not self.is_first:
                 return 'an unchanged cell that is in no gap'
-            self.gap += 1
+            self.gap = (self.gap or 0) + 1
             return None
         is_long = (self.gap or 0) > len(position(cursor))
-        self.gap = 0
+        self.gap, self.is_first = 0, False
         return 'a gap that is longer than a move' if is_long else None
 
     def waste_of_end(self):
@@ -92,7 +93,7 @@ class Reading:
             return 'a gap before an erasure that leads into the blank end'
         if self.gap and self.gap > len(position(cursor)):
             return 'a gap before an erasure that is longer than a move'
-        self.gap = None
+        self.gap, self.is_first = None, False
         erased = [(y, x) for y, line in enumerate(picture) for x, cell in enumerate(line) if self.terminal.picture[y][x] != cell]
         if not erased:
             return 'an erasure that changes nothing'

@@ -10,13 +10,15 @@ def finding(number, line, fault):
     elif fault.kind == BAD_BYTE:
         what = f'bad byte {line[fault.column - 1]:02x}: '
     elif fault.kind == UNKNOWN_CALL:
-        what = 'the line begins with a space, and not with a call\n' if line.startswith(b' ') else 'unknown call "'
+        begins = 'the line begins with a space, and not with a call; an empty line has no spaces\n'
+        what = begins if line.startswith(b' ') else 'unknown call "'
     else:
         word = line.split(b' ')[0].decode()
         forms = CALLS[word][0]
         pieces = pieces_of(line, forms)
         wanted = f'{len(forms)} argument' + ('' if len(forms) == 1 else 's')
-        end = ': ' if forms or any(is_stray(piece) for piece in pieces) else '\n'
+        has_more = any(is_stray(piece) or piece.decode() in CALLS for piece in pieces) or b',' in line
+        end = ': ' if forms or has_more else '\n'
         what = f'{word} wants ' if fault.kind == BAD_ARGUMENT else f'{word} takes {wanted}, {len(pieces)} given{end}'
     return f'line {number}, column {fault.column}: {what}'
 

@@ -90,8 +90,10 @@ def is_checked(program, script):
     last = int(faults[0].split(',')[0].split()[1]) if faults else None
     for line in refused:
         number, why = line.rstrip('\n').split(REFUSES)
+        refusal, _, meaning = why.partition(': ')
+        want_that('check says what the refusal means', meaning, line)
         if last is None or int(number.split()[1]) < last:
-            want_that('run refuses what every screen refuses', f'{number}: {why}' in log, ran.log)
+            want_that('run refuses what every screen refuses', f'{number}: {refusal}' in log, ran.log)
 
 
 def sizes_of_pieces(script):
