@@ -19,7 +19,7 @@ const char *curspan_text(uint32_t status) {
         "the window is in a panel",
         "the call is not for pads",
         "the call is for pads alone",
-        "the call is for derived windows and pads alone",
+        "the call is for windows and pads that derive from another one",
         "a screen or a pad has no such size",
         "the region's first line is after its last, or the window has no such line",
         "the character is none that the call takes",

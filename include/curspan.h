@@ -57,7 +57,7 @@ enum curspan_status {
     CURSPAN_IN_PANEL = 7,         /* the window is in a panel */
     CURSPAN_IS_PAD = 8,           /* the call is not for pads */
     CURSPAN_NOT_PAD = 9,          /* the call is for pads alone */
-    CURSPAN_NOT_DERIVED = 10,     /* the call is for derived windows and pads alone */
+    CURSPAN_NOT_DERIVED = 10,     /* the call is for windows and pads that derive from another one */
     CURSPAN_BAD_SIZE = 11,        /* a screen or a pad has no such size */
     CURSPAN_BAD_REGION = 12,      /* the region's first line is after its last, or the window has no such line */
     CURSPAN_BAD_CHARACTER = 13,   /* the character is none that the call takes */
@@ -211,9 +211,10 @@ curspan_answer curspan_mvderwin(curspan *screen, uint32_t win, uint32_t y, uint3
    hasn't. */
 curspan_answer curspan_wmove(curspan *screen, uint32_t win, uint32_t y, uint32_t x);
 
-/* Writes a character at the cursor, which advances, from the last column to the next line. On the region's last line
-   the region scrolls, if the window does, and else the cursor stays. A newline (10), carriage return (13) or backspace
-   (8) moves it. Refused: NO_SUCH_WINDOW; BAD_CHARACTER for another character outside 32 to 126. */
+/* Writes a character at the cursor, which advances, from the last column to the next line. Past the last column of the
+   scroll region's last line the region scrolls, if the window may scroll, and else the cursor stays there. A newline
+   (code 10), carriage return (13) or backspace (8) moves the cursor. Refused: NO_SUCH_WINDOW; BAD_CHARACTER for another
+   character outside 32 to 126. */
 curspan_answer curspan_waddch(curspan *screen, uint32_t win, uint32_t ch);
 
 /* Writes the characters of a text in order, each as `waddch` does. No character of a refused text is written. The text

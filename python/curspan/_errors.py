@@ -59,7 +59,7 @@ class NotPad(Refusal):
 
 
 class NotDerived(Refusal):
-    """The call is for derived windows and pads alone."""
+    """The call is for windows and pads that derive from another one."""
     status = 10
 
 

@@ -349,10 +349,10 @@ PyMethodDef curspan_window_methods[] = {
      "window hasn't."},
     {"addch", AS_FUNCTION(curspan_window_addch), METH_FASTCALL | METH_KEYWORDS,
      "addch([y, x, ]ch, attrs=None, *, pair=None)\n"
-     "Writes a character at the cursor, which advances, from the last column to the next line. On the\n"
-     "region's last line the region scrolls, if the window does, and else the cursor stays. A newline\n"
-     "(10), carriage return (13) or backspace (8) moves it. Refused: NoSuchWindow; BadCharacter for\n"
-     "another character outside 32 to 126."},
+     "Writes a character at the cursor, which advances, from the last column to the next line. Past the\n"
+     "last column of the scroll region's last line the region scrolls, if the window may scroll, and else\n"
+     "the cursor stays there. A newline (code 10), carriage return (13) or backspace (8) moves the cursor.\n"
+     "Refused: NoSuchWindow; BadCharacter for another character outside 32 to 126."},
     {"addstr", AS_FUNCTION(curspan_window_addstr), METH_FASTCALL | METH_KEYWORDS,
      "addstr([y, x, ]text, attrs=None, *, pair=None)\n"
      "Writes the characters of a text in order, each as addch does. No character of a refused text is\n"

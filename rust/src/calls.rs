@@ -139,9 +139,10 @@ impl<W> Screen<W> {
         Ok(())
     }
 
-    /// Writes a character at the cursor, which advances, from the last column to the next line. On
-    /// the region's last line the region scrolls, if the window does, and else the cursor stays. A
-    /// newline (10), carriage return (13) or backspace (8) moves it.
+    /// Writes a character at the cursor, which advances, from the last column to the next line.
+    /// Past the last column of the scroll region's last line the region scrolls, if the window may
+    /// scroll, and else the cursor stays there. A newline (code 10), carriage return (13) or
+    /// backspace (8) moves the cursor.
     ///
     /// # Errors
     ///

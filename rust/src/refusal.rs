@@ -28,7 +28,7 @@ pub enum Refusal {
     IsPad = 8,
     /// The call is for pads alone.
     NotPad = 9,
-    /// The call is for derived windows and pads alone.
+    /// The call is for windows and pads that derive from another one.
     NotDerived = 10,
     /// A screen or a pad has no such size.
     BadSize = 11,
@@ -76,7 +76,7 @@ const TEXTS: [(Refusal, &str); 20] = [
     (Refusal::NotPad, "the call is for pads alone"),
     (
         Refusal::NotDerived,
-        "the call is for derived windows and pads alone",
+        "the call is for windows and pads that derive from another one",
     ),
     (Refusal::BadSize, "a screen or a pad has no such size"),
     (

@@ -26,7 +26,7 @@ pub enum Refusal {
     IsPad,
     /// The call is for pads alone.
     NotPad,
-    /// The call is for derived windows and pads alone.
+    /// The call is for windows and pads that derive from another one.
     NotDerived,
     /// A screen or a pad has no such size.
     BadSize,

@@ -31,9 +31,9 @@ pub extern "C" fn curspan_wmove(
     )
 }
 
-/// Writes a character at the cursor, which advances, from the last column to the next line. On the region's last line
-/// the region scrolls, if the window does, and else the cursor stays. A newline (10), carriage return (13) or backspace
-/// (8) moves it.
+/// Writes a character at the cursor, which advances, from the last column to the next line. Past the last column of the
+/// scroll region's last line the region scrolls, if the window may scroll, and else the cursor stays there. A newline
+/// (code 10), carriage return (13) or backspace (8) moves the cursor.
 #[unsafe(no_mangle)]
 pub extern "C" fn curspan_waddch(alloc: Global, screen: &mut Handle, win: u32, ch: u32) -> Answer
     ensures { Called ⟦<Outlet as Sink>⟧ screen.old.value (Call.Writing (Writing.Addch (window_of win) (saturated_character ch))) result screen.new.value }
