@@ -97,7 +97,7 @@ def pieces_of(line, forms):
 
 def is_stray(piece):
     """Whether an argument is none, or would begin a comment, here or in other languages."""
-    return piece == b'' or piece.startswith((b'#', b'//', b'/*'))
+    return piece in (b'', b'--') or piece.startswith((b'#', b'//', b'/*'))
 
 
 def read_line(line):

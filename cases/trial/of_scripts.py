@@ -93,7 +93,9 @@ def is_checked(program, script):
         refusal, _, meaning = why.partition(': ')
         want_that('check says what the refusal means', meaning, line)
         if last is None or int(number.split()[1]) < last:
-            want_that('run refuses what every screen refuses', f'{number}: {refusal}' in log, ran.log)
+            # where there is no such window, that is why
+            why = [f'{number}: {refusal}', f'{number}: E1 NoSuchWindow']
+            want_that('run refuses what every screen refuses', any(it in log for it in why), ran.log)
 
 
 def sizes_of_pieces(script):

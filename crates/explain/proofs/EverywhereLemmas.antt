@@ -1,8 +1,9 @@
 -- The calls that every screen refuses: whatever its size, window 0 is there, and is neither a pad nor derived.
-use Rattle.std.proofs.Common.{◌≡◌, ◌≤◌, ◌&&◌, ◌==◌, ℕ, Bool, true, false, not, Option, None, Some, refl, sym, ap, arith, unwrap_or}
+use Rattle.std.proofs.Common.{◌≡◌, ◌≢◌, ◌≤◌, ◌&&◌, ◌==◌, ℕ, Bool, true, false, not, Option, None, Some, refl, sym, ap, arith, unwrap_or}
 use Rattle.std.proofs.lemmas.Bool.Decides.{Decides-eqb, nat_tests}
 use Rattle.std.specs.Prelude.{IfSome, IsSomeAnd}
 use Rattle.cell.specs.declared.refusal.Refusal.{Refusal}
+use Rattle.cell.specs.declared.refusal.Refusal.TheVariants.{NoSuchWindow}
 use Rattle.world.specs.Panels.{standard_screen}
 use Rattle.world.specs.Sound.{IsSound, IsStandardScreen}
 use Rattle.world.specs.Windows.{Window}
@@ -57,8 +58,9 @@ module _ (world : World) (sound : IsSound world) where
   making_refused : (making : Making) (why : Refusal) → making_everywhere making ≡ Some why → refusal world (calls.Making making) ≡ Some why
   making_refused making why e = grind (arith, nat_tests, never_inside, only_if_so, standard_so, has_standard, making)
 
-  writing_refused : (writing : Writing) (why : Refusal) → writing_everywhere writing ≡ Some why → refusal world (calls.Writing writing) ≡ Some why
-  writing_refused writing why e = grind (arith, nat_tests, standard_so, has_standard, sound.windows.few_lines, sound.windows.few_columns, writing)
+  writing_refused : (writing : Writing) (why : Refusal) → writing_everywhere writing ≡ Some why
+      → refusal world (calls.Writing writing) ≢ Some NoSuchWindow → refusal world (calls.Writing writing) ≡ Some why
+  writing_refused writing why e there = grind (arith, nat_tests, only_if_so, standard_so, has_standard, sound.windows.few_lines, sound.windows.few_columns, writing)
 
   no_panel_there : (p : ℕ) (why : Refusal) → no_panel p ≡ Some why → world.panels.window p ≡ None
   no_panel_there p why e = grind (arith, nat_tests, only_if_so, sound.panels.each p)
@@ -72,13 +74,14 @@ module _ (world : World) (sound : IsSound world) where
   refresh_refused : (refresh : Refresh) (why : Refusal) → refusal_everywhere (calls.Refresh refresh) ≡ Some why → refusal world (calls.Refresh refresh) ≡ Some why
   refresh_refused refresh why e = grind (arith, standard_so, has_standard, refresh)
 
-  pub refused_everywhere : (call : Call) (why : Refusal) → refusal_everywhere call ≡ Some why → refusal world call ≡ Some why
-  refused_everywhere (calls.Making making) why e = making_refused making why e
-  refused_everywhere (calls.Writing writing) why e = writing_refused writing why e
-  refused_everywhere (calls.Copying copying) why e = cc
-  refused_everywhere (calls.Query query) why e = query_refused query why e
-  refused_everywhere (calls.Stacking stacking) why e = stacking_refused stacking why e
-  refused_everywhere (calls.Refresh refresh) why e = refresh_refused refresh why e
+  pub refused_everywhere : (call : Call) (why : Refusal) → refusal_everywhere call ≡ Some why
+      → refusal world call ≢ Some NoSuchWindow → refusal world call ≡ Some why
+  refused_everywhere (calls.Making making) why e there = making_refused making why e
+  refused_everywhere (calls.Writing writing) why e there = writing_refused writing why e there
+  refused_everywhere (calls.Copying copying) why e there = cc
+  refused_everywhere (calls.Query query) why e there = query_refused query why e
+  refused_everywhere (calls.Stacking stacking) why e there = stacking_refused stacking why e
+  refused_everywhere (calls.Refresh refresh) why e there = refresh_refused refresh why e
 
 pub everywhere_so : (call : Call) (refused : Option Refusal) → refused ≡ refusal_everywhere call → IfSome refused (IsRefusedEverywhere call)
 everywhere_so call None e = tt

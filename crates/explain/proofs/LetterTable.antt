@@ -9,7 +9,7 @@ letters = map (λ entry. (entry.0, map (λ row. (row.0.now, row.1.now)) entry.1.
 
 later-rows : HaveRows (drop 14 letters)
 unfolding advised
-later-rows = (refl, (refl, (refl, (refl, (refl, (refl, (refl, (refl, (refl, (refl, (refl, (refl, (refl, (refl, (refl, tt)))))))))))))))
+later-rows = (refl, (refl, (refl, (refl, (refl, (refl, (refl, (refl, (refl, (refl, (refl, (refl, (refl, (refl, tt))))))))))))))
 
 pub table-rows : HaveRows letters
 unfolding advised

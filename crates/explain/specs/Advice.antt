@@ -1,5 +1,6 @@
 -- What to write for a name of curses, or a word of another language, that is no word of scripts. The texts are Curspan's own.
-use Rattle.std.specs.Prelude.{◌==◌, ◌||◌, ℕ, Bool, false, not, List, [], ◌∷◌, ◌++◌, codes, drop, find, is_some, length, nat_lt, Option, option_and_then, option_map, Some, None, take, unwrap_or, if◌then◌else◌}
+use Rattle.std.specs.Prelude.{◌-◌, ◌==◌, ◌&&◌, ◌||◌, ℕ, Bool, false, not, List, [], ◌∷◌, ◌++◌, codes, drop, find, is_some, length, nat_lt}
+use Rattle.std.specs.Prelude.{Option, option_and_then, option_map, Some, None, take, unwrap_or, if◌then◌else◌}
 use Rattle.std.specs.Char.{is_ascii_alphanumeric, is_ascii_digit, to_ascii_lowercase}
 use Rattle.std.specs.List.{list_any, slice_split}
 use Rattle.std.specs.Str.{bytes_eq}
@@ -24,11 +25,12 @@ advised =
     ∷ (
       codes "no call reads keys",
       codes "getch ungetch getstr getnstr scanw vwscanw vw_scanw keypad nodelay notimeout timeout halfdelay cbreak"
-          ++ codes " nocbreak noecho raw noraw nl nonl flushinp intrflush meta qiflush noqiflush typeahead has_key keyname"
+          ++ codes " nocbreak noecho raw noraw nonl flushinp intrflush meta qiflush noqiflush typeahead has_key keyname"
           ++ codes " keyok keybound key_defined define_key erasechar killchar set_escdelay get_escdelay read readkey read_key"
           ++ codes " getkey get_key key input gets getc getchar getche scanf kbhit key_up key_down key_left key_right"
           ++ codes " key_enter get_wch get_wstr getn_wstr unget_wch",
     )
+    ∷ (codes "a text has \\n for a newline, \\r and \\b, and spaces as they are", codes "nl newline cr tab space backspace")
     ∷ (codes "no call reads the mouse", codes "getmouse ungetmouse mousemask mouseinterval has_mouse mouse_trafo enclose mouse click")
     ∷ (
       codes "the screen is there from the first line on, and ends with the script",
@@ -44,7 +46,7 @@ advised =
     ∷ (
       codes "see addstr",
       codes "addnstr addchstr addchnstr print println puts putstr put write writestr text say string addstring"
-          ++ codes " addtext type print_at add_string add_text title label cout writeln fputs",
+          ++ codes " addtext type print_at add_string add_text title label cout writeln fputs log output out",
     )
     ∷ (codes "see insch", codes "insstr insnstr insert inschar inserch insertch")
     ∷ (codes "see insertln, deleteln", codes "insdelln insertline insline deleteline delete_line delline")
@@ -54,15 +56,16 @@ advised =
     ∷ (codes "a window keeps its size: see newwin, overwrite", codes "resize")
     ∷ (codes "the screen keeps its size, which the command line gives", codes "resizeterm resize_term is_term_resized")
     ∷ (codes "see newwin, overwrite", codes "dupwin")
-    ∷ (codes "see attron, with 10", codes "standout")
+    ∷ (codes "see attron, with 10", codes "standout invert")
+    ∷ (codes "see attroff", codes "attrof")
     ∷ (codes "see attrset, with 00", codes "standend sgr0")
     ∷ (
       codes "see attrset, attron, attroff, color_set",
       codes "attr_set attr_on attr_off chgat attr attribute attributes bold dim underline blink reverse inverse"
           ++ codes " a_bold a_dim a_underline a_blink a_reverse a_invis a_standout a_normal highlight italic normal"
-          ++ codes " setattr set_attr",
+          ++ codes " setattr set_attr attrs",
     )
-    ∷ (codes "see inch, which answers those of a cell", codes "attr_get getattrs termattrs term_attrs")
+    ∷ (codes "see inch, which answers those of a cell", codes "attr_get getattrs")
     ∷ (
       codes "colours are there from the first line on: see init_pair",
       codes "start_color init_color init_extended_color init_extended_pair use_default_colors assume_default_colors"
@@ -72,12 +75,12 @@ advised =
     ∷ (codes "a pair is its number: see init_pair, color_set", codes "alloc_pair find_pair free_pair color_pair pair_number")
     ∷ (codes "see scrl", codes "scroll scroll_up scroll_down scrollup scrolldown")
     ∷ (codes "see clearok, touchwin", codes "redrawwin redrawln")
-    ∷ (codes "see move", codes "cursyncup goto gotoxy cursor move_cursor movecursor setcursor set_cursor locate at mv moveto up down left right setsyx cup pos")
+    ∷ (codes "see move", codes "cursyncup goto gotoxy cursor move_cursor movecursor setcursor set_cursor locate at mv moveto move_to go_to up down left right setsyx cup pos")
     ∷ (codes "see getyx", codes "getcurx getcury getsyx getcursor get_cursor getpos")
     ∷ (codes "see getbegyx", codes "getbegx getbegy")
     ∷ (codes "see getparyx", codes "getparx getpary")
-    ∷ (codes "see getmaxyx", codes "getmaxx getmaxy size getsize get_size getmax")
-    ∷ (codes "the command line gives the size, by --lines and --cols; see getmaxyx", codes "lines cols columns")
+    ∷ (codes "see getmaxyx", codes "getmaxx getmaxy size getsize get_size getmax maxyx")
+    ∷ (codes "the command line gives the size, by --lines and --cols; see getmaxyx", codes "lines cols columns rows height width screen")
     ∷ (codes "no window has this flag", codes "leaveok immedok syncok idlok idcok")
     ∷ (
       codes "no call answers this",
@@ -86,12 +89,17 @@ advised =
     )
     ∷ (codes "see panel_above, with none", codes "ground_panel")
     ∷ (codes "see panel_below, with none", codes "ceiling_panel")
-    ∷ (codes "a panel has no pointer", codes "panel_userptr set_panel_userptr")
+    ∷ (codes "a panel has no pointer", codes "panel_userptr set_panel_userptr userptr set_userptr")
+    ∷ (codes "see panel_hidden", codes "is_hidden hidden")
+    ∷ (codes "see del_panel", codes "deletepanel delete_panel")
+    ∷ (codes "see replace_panel", codes "replace")
+    ∷ (codes "see newpad", codes "pad")
+    ∷ (codes "see scrollok", codes "scrlok")
     ∷ (
       codes "characters are those of ASCII",
       codes "add_wch add_wchstr add_wchnstr addwstr addnwstr bkgrnd bkgrndset echo_wchar"
           ++ codes " erasewchar getbkgrnd getcchar in_wch in_wchstr in_wchnstr innwstr"
-          ++ codes " ins_nwstr ins_wch ins_wstr inwstr key_name killwchar pecho_wchar setcchar wunctrl unctrl",
+          ++ codes " ins_nwstr ins_wch ins_wstr inwstr key_name killwchar pecho_wchar setcchar wunctrl unctrl setlocale",
     )
     ∷ (
       codes "there are no soft labels",
@@ -104,7 +112,7 @@ advised =
           ++ codes " savetty has_ic has_il longname termname mcprint mvcur putp tigetflag tigetnum tigetstr tiparm tparm"
           ++ codes " vidattr vidputs vid_attr vid_puts ripoffline set_tabsize use_env use_tioctl filter nofilter"
           ++ codes " use_extended_names use_legacy_coding bell tput stty setupterm restartterm cur_term set_curterm del_curterm"
-          ++ codes " tputs tgetent tgetflag tgetnum tgetstr tgoto civis cnorm smcup rmcup",
+          ++ codes " tputs tgetent tgetflag tgetnum tgetstr tgoto civis cnorm smcup rmcup termattrs term_attrs hide_cursor show_cursor",
     )
     ∷ (codes "nothing is saved or loaded", codes "scr_dump scr_init scr_restore scr_set getwin putwin save load")
     ∷ (codes "no call traces or names a version", codes "trace curses_trace curses_version ncurses_version")
@@ -113,10 +121,10 @@ advised =
     ∷ (codes "see delch", codes "delchar deletech deletechar")
     ∷ (codes "see clear, erase", codes "cls clr clrscr clearscreen clear_screen clear_window clearscr wipe reset")
     ∷ (codes "see clrtobot", codes "clrtobottom clrtoeos")
-    ∷ (codes "see clrtoeol", codes "clear_line clearline erase_line clreol")
+    ∷ (codes "see clrtoeol", codes "clear_line clearline erase_line clreol cleareol clear_to_eol")
     ∷ (codes "see update_panels, doupdate", codes "update update_screen updatescreen flush draw redraw render display show_screen sync refresh_screen repaint fflush")
     ∷ (codes "windows are numbered from 1 as they are made: see newwin", codes "window win newwindow new_window create_window createwin makewin mkwin openwin open_window")
-    ∷ (codes "see delwin", codes "delwindow delete_window del_window destroy_window rmwin closewin close_window destroy delete deletewin killwin destroy_win")
+    ∷ (codes "see delwin", codes "delwindow delete_window del_window destroy_window rmwin closewin close_window destroy delete deletewin killwin destroy_win destroywin")
     ∷ (codes "see mvwin, move_panel", codes "move_window move_win movewin movewindow panel_move")
     ∷ (codes "see new_panel", codes "panel create_panel add_panel make_panel panel_new")
     ∷ (codes "see show_panel, hide_panel", codes "show hide show_window hide_window panel_show panel_hide")
@@ -124,10 +132,11 @@ advised =
     ∷ (codes "see setscrreg", codes "setscroll setscrollreg set_scroll_region scroll_region")
     ∷ (codes "see copywin, overwrite, overlay", codes "copy copywindow copy_window")
     ∷ (codes "see touchwin", codes "touch touchwindow touch_window")
-    ∷ (codes "see is_wintouched, is_linetouched", codes "is_touched istouched")
+    ∷ (codes "see is_wintouched, is_linetouched", codes "is_touched istouched touched")
     ∷ (
       codes "see init_pair, color_set",
-      codes "color colour colors colours setcolor set_color textcolor fg bg foreground pair setpair set_pair setaf setab",
+      codes "color colour colors colours setcolor set_color textcolor fg bg foreground pair setpair set_pair setaf setab"
+          ++ codes " black red green blue white",
     )
     ∷ (codes "no call waits", codes "sleep usleep msleep wait pause delay napms delay_output")
     ∷ (
@@ -144,16 +153,16 @@ advised =
       codes "a script has calls alone: no variables, loops or functions",
       codes "if then else elif fi for while until do done case esac switch break continue return int void char const"
           ++ codes " static struct let local export set declare function def import from { } begin repeat next try except"
-          ++ codes " pass with class fn var bool long unsigned enum typedef include using use my loop require",
+          ++ codes " pass with class fn var bool long unsigned enum typedef include using use my loop require main lambda del global func unset",
     )
-    ∷ (codes "a comment begins with #", codes "; % -- rem")
+    ∷ (codes "a comment begins with #", codes "; % rem")
     ∷ (
       codes "a script runs no programs: each line of it is a call",
-      codes "ls cat cd pwd cp rm mkdir grep sed awk sudo sh bash python test source eval alias trap",
+      codes "ls cat cd pwd cp rm mkdir grep sed awk sudo sh bash python test source eval alias trap exec kill tmux",
     )
     ∷ (codes "this belongs on the command line: a script has calls alone", codes "curspan ./curspan run paint check version")
-    ∷ (codes "the end of a here-document stands alone in the shell, and is no call", codes "eof eot")
-    ∷ (codes "see subwin, derwin", codes "subwindow")
+    ∷ (codes "the end of a here-document stands alone in the shell, and is no call", codes "eof eot end_of_file")
+    ∷ (codes "see subwin, derwin", codes "subwindow derwindow")
     ∷ (codes "curspan --help and the manual page, man curspan, give help", codes "help ? man info usage")
     ∷ (codes "see newwin, newpad, new_panel", codes "new create make open")
     ∷ (codes "see panel_above, panel_below", codes "panel_over panel_under panel_up panel_down above below")
@@ -172,9 +181,15 @@ advice_on name = advice_in advised name
 abbrev pub begins_with : List ℕ → List ℕ → Bool
 begins_with prefix text = bytes_eq (take (length prefix) text) prefix
 
--- what begins a comment in other languages
+-- what begins a comment in other languages, of which two hyphens stand alone
 abbrev pub begins_comment : List ℕ → Bool
-begins_comment text = begins_with (codes "//") text || begins_with (codes "/*") text
+begins_comment text = begins_with (codes "//") text || begins_with (codes "/*") text || bytes_eq text (codes "--")
+
+abbrev pub begins_with_digit : List ℕ → Bool
+begins_with_digit text = list_any is_ascii_digit (take 1 text)
+
+abbrev pub ends_with_comma : List ℕ → Bool
+ends_with_comma text = list_any (λ b. b == 44) (drop (length text - 1) text)
 
 abbrev pub is_quoted : List ℕ → Bool
 is_quoted text = begins_with (codes "\"") text || begins_with (codes "'") text
@@ -245,18 +260,33 @@ said_near_name word = if length (called_name word) == length word then None else
 abbrev pub no_variables : List ℕ
 no_variables = codes "a script has no variables: windows and panels are numbered from 1"
 
+-- where a number stands
+abbrev pub number_first : List ℕ
+number_first = codes "a line begins with the name of its call, and numbers come after it"
+
+-- a text begins as what gives a value to a name
+abbrev pub gives_value : List ℕ → Bool
+gives_value text = begins_with (codes "=") text || begins_with (codes "+=") text || begins_with (codes "-=") text || begins_with (codes ":=") text
+    || begins_with (codes "<-") text || begins_with (codes "++") text
+
+-- the first word after one does, or, where that ends in a comma, some word
+abbrev pub has_value : List ℕ → List (List ℕ) → Bool
+has_value word [] = false
+has_value word (piece ∷ pieces) = gives_value piece || (ends_with_comma word && list_any gives_value pieces)
+
 -- of a word that begins with no letter, or that gives a value to a name
 abbrev pub said_of_marks : List ℕ → Option (List ℕ)
 said_of_marks word = if begins_with (codes "\\") word then Some (codes "a script has no control sequences: see attrset, color_set, move, clear")
+    else (if begins_with (codes "-") word && begins_with_digit (drop 1 word) then Some number_first
     else (if begins_with (codes "-") word then Some (codes "an option belongs on the command line, and a comment begins with #")
     else (if begins_with (codes "$") word || begins_with (codes ">") word
     then Some (codes "a script has no variables, prompts or redirections: a line begins with a call")
     else (if is_quoted word then Some (codes "a text is an argument of addstr, without quotes; a comment begins with #")
     else (if begins_with (codes "/") word || begins_with (codes "./") word then Some (codes "a script runs no programs: each line of it is a call")
-    else (if list_any is_ascii_digit (take 1 word) then Some (codes "a line begins with the name of its call, and numbers come after it")
+    else (if begins_with_digit word then Some number_first
     else (if not (list_any is_name_byte (take 1 word)) then Some (codes "a line begins with the name of a call, and a comment with #")
-    else (if begins_with (codes "=") (after_name word) then Some no_variables
-    else None)))))))
+    else (if gives_value (after_name word) then Some no_variables
+    else None))))))))
 
 -- of a name of menus or forms
 abbrev pub said_of_menus : List ℕ → Option (List ℕ)
@@ -273,25 +303,26 @@ say_call said name = if is_some (word_of name) then Some (said ++ name) else Non
 -- Of a word that has the name of a call in it: how that is written. Of `move-panel` it is the longer name.
 unfoldable pub said_of_written : List ℕ → Option (List ℕ)
 said_of_written word = if length (called_name word) == length word then say_call (codes "calls are in lower case: see ") (called_name word)
-    else or_else (see_longer word) (say_call (codes "a call's name stands alone in its line, or before a space and arguments: see ") (called_name word))
+    else or_else (see_longer word) (say_call (codes "a line is a call's name, and arguments after single spaces, as addstr 0 hi: see ") (called_name word))
 
--- of what begins a comment elsewhere, that # does here; or else what the table has of the word as it is; or else how the
--- call in it is written; or else what is said of the name of what it calls; or else of what the word is near, of menus or
--- forms, of its marks, or of what that name is near
+-- of what begins a comment elsewhere, that # does here; of `panel.move`, which is near no call, the call; or else what
+-- the table has of the word as it is; or else how the call in it is written; or else what is said of the name of what it
+-- calls; or else of what the word is near, of menus or forms, of its marks, or of what that name is near
 unfoldable pub said_of : List ℕ → Option (List ℕ)
 said_of word = if begins_comment word then Some (codes "a comment begins with #")
+    else (if begins_with (codes "panel.move") word then Some (codes "see move_panel")
     else or_else (advice_on word)
     (or_else (said_of_written word)
     (or_else (said_of_name (called_name word))
     (or_else (said_of_near word)
     (or_else (said_of_menus (called_name word))
     (or_else (said_of_marks word)
-    (said_near_name word))))))
+    (said_near_name word)))))))
 
 -- what a line is, said where nothing else is
 unfoldable pub line_advice : List ℕ
-line_advice = codes "a line is the name of a call and its arguments, as in addstr 0 hi; man curspan lists the calls"
+line_advice = codes "a line is the name of a call and its arguments: addstr 0 hi writes hi; man curspan lists the calls"
 
--- of a word that is no call, and the argument after it: an equals sign there would give the word a value
-abbrev pub call_advice : List ℕ → List ℕ → List ℕ
-call_advice word argument = codes ": " ++ (if begins_with (codes "=") argument then no_variables else unwrap_or (said_of word) line_advice)
+-- of a word that is no call, and the words after it, which may give it a value
+abbrev pub call_advice : List ℕ → List (List ℕ) → List ℕ
+call_advice word pieces = codes ": " ++ (if has_value word pieces then no_variables else unwrap_or (said_of word) line_advice)

@@ -1,12 +1,12 @@
--- The calls that every screen refuses, and for one reason: whatever its size, and whatever was called on it before.
-use Rattle.std.specs.Prelude.{◌≡◌, ℕ, ◌==◌, ◌&&◌, ◌||◌, not, nat_le, nat_lt, Bool, true, List, [], ◌∷◌, ◌++◌, Option, None, Some, codes, decimal, if◌then◌else◌, option_and_then}
+-- The calls that every screen refuses, whatever its size, and whatever was called on it before: for one reason, unless a window isn't there.
+use Rattle.std.specs.Prelude.{◌≡◌, ◌≢◌, ℕ, ◌==◌, ◌&&◌, ◌||◌, not, nat_le, nat_lt, Bool, true, List, [], ◌∷◌, ◌++◌, Option, None, Some, codes, decimal, if◌then◌else◌, option_and_then}
 use Rattle.std.specs.List.{list_any}
 use Rattle.cell.specs.Glyphs.{is_printable}
 use Rattle.cell.specs.Limits.{is_no_size}
 use Rattle.cell.specs.Refusals.{first_of, refusal_text}
 use Rattle.cell.specs.declared.limits.TheConstants.{LARGEST_PAD, LARGEST_SCREEN, MOST_PANELS}
 use Rattle.cell.specs.declared.refusal.Refusal.{Refusal}
-use Rattle.cell.specs.declared.refusal.Refusal.TheVariants.{BadCharacter, BadPair, BadRegion, BadSize, NoSuchPanel, NotDerived, NotPad, OffScreen, OutsideParent, OutsideWindow, StandardScreen}
+use Rattle.cell.specs.declared.refusal.Refusal.TheVariants.{BadCharacter, BadPair, BadRegion, BadSize, NoSuchPanel, NoSuchWindow, NotDerived, NotPad, OffScreen, OutsideParent, OutsideWindow, StandardScreen}
 use Rattle.script.specs.Characters.{newline}
 use Rattle.world.specs.Panels.{standard_screen}
 use Rattle.world.specs.Sound.{IsSound}
@@ -26,9 +26,9 @@ use Rattle.world.specs.declared.call.Stacking.{Stacking}
 use Rattle.world.specs.declared.call.Stacking.TheVariants.{NewPanel, DelPanel, ShowPanel, HidePanel, TopPanel, BottomPanel, MovePanel, ReplacePanel, PanelAbove, PanelBelow, PanelWindow, PanelHidden}
 use Rattle.world.specs.declared.call.Refresh.TheVariants.{Pnoutrefresh, InitPair}
 
--- Every screen refuses the call for this reason.
+-- Every screen refuses the call: for this reason, unless it has no such window. Each has window 0.
 abbrev pub IsRefusedEverywhere : Call → Refusal → Type 0
-IsRefusedEverywhere call why = (world : World) → IsSound world → refusal world call ≡ Some why
+IsRefusedEverywhere call why = (world : World) → IsSound world → refusal world call ≢ Some NoSuchWindow → refusal world call ≡ Some why
 
 -- ---- the refusal of a call by its arguments alone
 
@@ -61,13 +61,13 @@ making_everywhere making = None
 
 abbrev pub writing_everywhere : Writing → Option Refusal
 writing_everywhere (Move win y x) = on_standard win.0 (is_past y || is_past x) OutsideWindow
-writing_everywhere (Addch win character) = on_standard win.0 (is_bad_character character) BadCharacter
-writing_everywhere (Addstr win text) = on_standard win.0 (list_any is_bad_character text.now) BadCharacter
-writing_everywhere (Insch win character) = on_standard win.0 (not (is_printable character)) BadCharacter
-writing_everywhere (Setscrreg win top bottom) = on_standard win.0 (nat_lt bottom top || is_past bottom) BadRegion
-writing_everywhere (Bkgdset win attributes character) = on_standard win.0 (not (is_printable character)) BadCharacter
-writing_everywhere (ColorSet win pair) = on_standard win.0 (is_no_pair pair) BadPair
-writing_everywhere (Bkgdpair win pair) = on_standard win.0 (is_no_pair pair) BadPair
+writing_everywhere (Addch win character) = only_if (is_bad_character character) BadCharacter
+writing_everywhere (Addstr win text) = only_if (list_any is_bad_character text.now) BadCharacter
+writing_everywhere (Insch win character) = only_if (not (is_printable character)) BadCharacter
+writing_everywhere (Setscrreg win top bottom) = only_if (nat_lt bottom top || (win.0 == standard_screen && is_past bottom)) BadRegion
+writing_everywhere (Bkgdset win attributes character) = only_if (not (is_printable character)) BadCharacter
+writing_everywhere (ColorSet win pair) = only_if (is_no_pair pair) BadPair
+writing_everywhere (Bkgdpair win pair) = only_if (is_no_pair pair) BadPair
 writing_everywhere writing = None
 
 -- no screen has such a panel
@@ -101,7 +101,7 @@ refusal_everywhere call = None
 
 -- what a refusal by the arguments alone means
 abbrev pub meaning : Refusal → List ℕ
-meaning NoSuchPanel = codes ": panels are numbered from 1 to 1000"
+meaning NoSuchPanel = codes ": panels are numbered from 1 to 1000; panel_above and panel_below take none"
 meaning OffScreen = codes ": a screen has at most 999 lines and 999 columns"
 meaning OutsideParent = codes ": a screen has at most 999 lines and 999 columns"
 meaning OutsideWindow = codes ": a screen has at most 999 lines and 999 columns"

@@ -41,16 +41,16 @@ ill_formed_text word ill = word ++ codes " wants " ++ requirement_of word ill.fo
 abbrev pub bad_byte_text : ℕ → List ℕ
 bad_byte_text byte = codes "bad byte " ++ hex_digits byte ++ codes ": " ++ byte_advice byte
 
-abbrev pub unknown_text : List ℕ → List ℕ → List ℕ
-unknown_text word argument = if length word == 0 then codes "the line begins with a space, and not with a call; an empty line has no spaces"
-    else codes "unknown call " ++ quotation word ++ call_advice word argument
+abbrev pub unknown_text : List ℕ → List (List ℕ) → List ℕ
+unknown_text word pieces = if length word == 0 then codes "the line begins with a space, and not with a call or #; an empty line has no spaces"
+    else codes "unknown call " ++ quotation word ++ call_advice word pieces
 
 abbrev pub number_text : List ℕ → ℕ → ℕ → List ℕ
 number_text word taken given = word ++ codes " takes " ++ count_text taken ++ codes ", " ++ decimal given ++ codes " given"
 
 -- what is said of a stray argument
 abbrev pub stray_text : List ℕ → List ℕ
-stray_text argument = if length argument == 0 then codes ": single spaces separate words"
+stray_text argument = if length argument == 0 then codes ": single spaces separate words, and none ends a line"
     else (if begins_comment argument then codes ": a comment has a line of its own, and begins with #"
     else codes ": a comment has a line of its own")
 
@@ -62,8 +62,8 @@ signature_text names = if length names == 0 then [] else codes ": " ++ names
 abbrev pub has_call : List (List ℕ) → Bool
 has_call pieces = list_any (λ piece. is_some (word_of piece)) pieces
 
--- What is said after the number of arguments, which may be too many: of the stray one; or else of another call, or of a comma; or else
--- what they are.
+-- What is said after the number of arguments, which may be too many: of the stray one; or else of another call, or of a
+-- comma; or else what they are.
 abbrev pub number_advice : List ℕ → List ℕ → Bool → Option (ℕ × List ℕ) → List ℕ
 number_advice word line many None = if many && has_call (drop 1 (slice_split is_space line)) then codes ": a line has one call"
     else (if has_byte comma line then codes ": spaces separate arguments, and no commas"
@@ -83,7 +83,7 @@ explanation LineTooLong line = codes "the line is longer than 512 bytes"
 explanation BadByte line = bad_line_text line
 explanation UnknownCall line =
     let pieces = slice_split is_space line in
-    unknown_text (word_in pieces) (word_in (drop 1 pieces))
+    unknown_text (word_in pieces) (drop 1 pieces)
 explanation WrongNumberOfArguments line =
     let pieces = slice_split is_space line in
     number_text (word_in pieces) (length (forms_of (word_in pieces))) (length (arguments_in pieces))

@@ -38,7 +38,8 @@ abbrev pub other_names : List (List ℕ)
 other_names = slice_split is_space (
     codes "refresh wrefresh prefresh printw wprintw mvprintw mvwprintw waddstr mvaddstr mvwaddstr mvaddch mvwaddch"
     ++ codes " initscr endwin getch wgetch getstr noecho cbreak keypad start_color color_pair has_colors curs_set border"
-    ++ codes " wborder hline vline insstr resize standout standend timeout nodelay wattron wattroff print write window colour")
+    ++ codes " wborder hline vline insstr resize standout standend timeout nodelay wattron wattroff print write window colour"
+    ++ codes " wnoutrefresh")
 
 -- the first of some names that is near a word
 abbrev pub nearest_of : List (List ℕ) → List ℕ → Option (List ℕ)

@@ -12,13 +12,13 @@ use Rattle.script.specs.declared.words.RefreshWord.TheVariants as refresh
 abbrev pub names_of_arguments : Word → List ℕ
 -- making and placing
 names_of_arguments (word.Making making.Newwin) = codes "lines, columns, top line, left column"
-names_of_arguments (word.Making making.Subwin) = codes "window, lines, columns, top line, left column"
-names_of_arguments (word.Making making.Derwin) = codes "window, lines, columns, top line, left column"
+names_of_arguments (word.Making making.Subwin) = codes "window, lines, columns, top line, left column of the screen"
+names_of_arguments (word.Making making.Derwin) = codes "window, lines, columns, top line, left column of that window"
 names_of_arguments (word.Making making.Newpad) = codes "lines, columns"
-names_of_arguments (word.Making making.Subpad) = codes "pad, lines, columns, top line, left column"
+names_of_arguments (word.Making making.Subpad) = codes "pad, lines, columns, top line, left column of that pad"
 names_of_arguments (word.Making making.Delwin) = codes "window"
 names_of_arguments (word.Making making.Mvwin) = codes "window, top line, left column"
-names_of_arguments (word.Making making.Mvderwin) = codes "window, top line, left column"
+names_of_arguments (word.Making making.Mvderwin) = codes "window, top line, left column of its parent"
 -- writing
 names_of_arguments (word.Writing writing.Move) = codes "window (0 is the standard screen), line, column"
 names_of_arguments (word.Writing writing.Addch) = codes "window (0 is the standard screen), character"
@@ -44,7 +44,7 @@ names_of_arguments (word.Writing writing.Bkgdpair) = codes "window (0 is the sta
 -- copies and marks
 names_of_arguments (word.Copying copying.Overlay) = codes "window, window to write in"
 names_of_arguments (word.Copying copying.Overwrite) = codes "window, window to write in"
-names_of_arguments (word.Copying copying.Copywin) = codes "window, window to write in, line, column, there top, left, bottom, right, on or off"
+names_of_arguments (word.Copying copying.Copywin) = codes "window, window to write in, line, column, there top, left, bottom, right, overlay on or off"
 names_of_arguments (word.Copying copying.Touchwin) = codes "window"
 names_of_arguments (word.Copying copying.Untouchwin) = codes "window"
 names_of_arguments (word.Copying copying.Touchline) = codes "window, first line, how many lines"
@@ -57,7 +57,7 @@ names_of_arguments (word.Copying copying.IsWintouched) = codes "window"
 names_of_arguments (word.Query query.Getyx) = codes "window (0 is the standard screen)"
 names_of_arguments (word.Query query.Getbegyx) = codes "window (0 is the standard screen)"
 names_of_arguments (word.Query query.Getmaxyx) = codes "window (0 is the standard screen)"
-names_of_arguments (word.Query query.Getparyx) = codes "window (0 is the standard screen)"
+names_of_arguments (word.Query query.Getparyx) = codes "window"
 names_of_arguments (word.Query query.Inch) = codes "window (0 is the standard screen)"
 -- panels
 names_of_arguments (word.Stacking stacking.NewPanel) = codes "window"

@@ -124,19 +124,18 @@ fn of_writing(writing: &Writing<'_>) -> Option<Refusal>
         Writing::Move { win, y, x } => {
             on_standard(win, is_past(y) || is_past(x), Refusal::OutsideWindow)
         }
-        Writing::Addch { win, ch } => on_standard(win, is_bad_character(ch), Refusal::BadCharacter),
-        Writing::Addstr { win, text } => {
-            on_standard(win, has_bad_character(text), Refusal::BadCharacter)
-        }
-        Writing::Insch { win, ch } => on_standard(win, !is_printable(ch), Refusal::BadCharacter),
+        Writing::Addch { ch, .. } => only_if(is_bad_character(ch), Refusal::BadCharacter),
+        Writing::Addstr { text, .. } => only_if(has_bad_character(text), Refusal::BadCharacter),
+        Writing::Insch { ch, .. } => only_if(!is_printable(ch), Refusal::BadCharacter),
         Writing::Setscrreg { win, top, bottom } => {
-            on_standard(win, bottom < top || is_past(bottom), Refusal::BadRegion)
+            only_if(
+                bottom < top || win.0 == 0 && is_past(bottom),
+                Refusal::BadRegion,
+            )
         }
-        Writing::Bkgdset { win, ch, .. } => {
-            on_standard(win, !is_printable(ch), Refusal::BadCharacter)
-        }
-        Writing::ColorSet { win, pair } => on_standard(win, is_no_pair(pair), Refusal::BadPair),
-        Writing::Bkgdpair { win, pair } => on_standard(win, is_no_pair(pair), Refusal::BadPair),
+        Writing::Bkgdset { ch, .. } => only_if(!is_printable(ch), Refusal::BadCharacter),
+        Writing::ColorSet { pair, .. } => only_if(is_no_pair(pair), Refusal::BadPair),
+        Writing::Bkgdpair { pair, .. } => only_if(is_no_pair(pair), Refusal::BadPair),
         _ => None,
     }
 }
@@ -202,7 +201,7 @@ fn by_arguments(call: &Call<'_>) -> Option<Refusal>
     }
 }
 
-/// Why every screen refuses a call, where its arguments alone say so.
+/// Why every screen refuses a call, unless it has no such window, where its arguments alone say so.
 pub fn refusal_everywhere(call: &Call<'_>) -> Option<Refusal>
     ensures which { result ≡ refusal_everywhere call.now }
     ensures so { IfSome result (IsRefusedEverywhere call.now) }
@@ -216,7 +215,9 @@ fn meaning(why: Refusal) -> &'static [u8]
     ensures short { length result.now ≤ 80 }
 {
     match why {
-        Refusal::NoSuchPanel => b": panels are numbered from 1 to 1000",
+        Refusal::NoSuchPanel => {
+            b": panels are numbered from 1 to 1000; panel_above and panel_below take none"
+        }
         Refusal::OffScreen | Refusal::OutsideParent | Refusal::OutsideWindow =>
             b": a screen has at most 999 lines and 999 columns",
         Refusal::NotPad => b": window 0 is the standard screen, and no pad",

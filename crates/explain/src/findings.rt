@@ -3,12 +3,12 @@
 ghost use Rattle.std.specs.Prelude.{◌≡◌, ◌≤◌, ◌+◌, ◌++◌, ◌<◌, codes, decimal, length, option_map, unwrap_or};
 ghost use Rattle.explain.specs.Advice.{call_advice, line_advice, said_of};
 ghost use Rattle.script.specs.Pieces.{pieces_of};
-ghost use Rattle.explain.specs.Faults.{IllFormed as Ill, word_in};
+ghost use Rattle.explain.specs.Faults.{IllFormed as Ill};
 ghost use Rattle.explain.specs.Explanations.{bad_byte_text, bad_line_text, count_text, explanation, finding, has_call, ill_formed_text, number_advice, number_text, quotation, signature_text, stray_text, unknown_text};
 
 use crate::arguments::{IllFormed, Stray, count, find_ill_formed, find_stray, forms_of};
 use crate::column::{bad_byte, column_of};
-use crate::names::{after_dot, begins_comment, name_of};
+use crate::names::{after_dot, begins_comment, has_value, name_of};
 use crate::reasons::{byte_advice, has_byte, reason_after, requirement_of};
 use crate::signatures::names_of_arguments;
 use crate::suggestions::{no_variables, said_of};
@@ -85,7 +85,7 @@ fn line_advice() -> &'static [u8]
     ensures text { result.now ≡ line_advice }
     ensures short { length result.now ≤ 100 }
 {
-    b"a line is the name of a call and its arguments, as in addstr 0 hi; man curspan lists the calls"
+    b"a line is the name of a call and its arguments: addstr 0 hi writes hi; man curspan lists the calls"
 }
 
 /// Appends what to write for a word that is no call.
@@ -105,48 +105,39 @@ fn append_said(text: &mut Finding, word: &[u8])
     }
 }
 
-/// Appends that, or what stands in place of variables where this argument after the word would give it a value.
-fn append_advice(text: &mut Finding, word: &[u8], argument: &[u8])
+/// Appends what to write for a word that is no call, or what stands in place of variables where the words after it would
+/// give it a value.
+fn append_advice(text: &mut Finding, word: &[u8], arguments: Option<&[u8]>)
     requires room { length text.old.items ≤ 600 }
     requires word { length word.now ≤ LONGEST_LINE }
-    ensures text { text.new.items ≡ text.old.items ++ call_advice word.now argument.now }
+    ensures text { text.new.items ≡ text.old.items ++ call_advice word.now (pieces_of arguments.entry) }
     ensures short { length text.new.items < FINDING_ROOM }
 {
     append(text, b": ");
-    if argument.strip_prefix(b"=").is_some() {
+    if has_value(word, arguments) {
         append(text, no_variables());
     } else {
         append_said(text, word);
     }
 }
 
-/// The first argument of some, and none where there is none.
-fn first_of(arguments: Option<&[u8]>) -> &[u8]
-    ensures { result.now ≡ word_in (pieces_of arguments.entry) }
-{
-    match arguments {
-        Some(arguments) => split_at_space(arguments).0,
-        None => b"",
-    }
-}
-
-/// Appends what is said of a word that is no call, and has this argument after it. It is empty where a line begins with
-/// a space.
-fn append_unknown(text: &mut Finding, word: &[u8], argument: &[u8])
+/// Appends what is said of a word that is no call, and of the words after it. It is empty where a line begins with a
+/// space.
+fn append_unknown(text: &mut Finding, word: &[u8], arguments: Option<&[u8]>)
     requires room { length text.old.items ≤ 64 }
     requires word { length word.now ≤ LONGEST_LINE }
-    ensures text { text.new.items ≡ text.old.items ++ unknown_text word.now argument.now }
+    ensures text { text.new.items ≡ text.old.items ++ unknown_text word.now (pieces_of arguments.entry) }
     ensures short { length text.new.items < FINDING_ROOM }
 {
     if word.is_empty() {
         return append(
             text,
-            b"the line begins with a space, and not with a call; an empty line has no spaces",
+            b"the line begins with a space, and not with a call or #; an empty line has no spaces",
         );
     }
     append(text, b"unknown call ");
     append_quoted(text, word);
-    append_advice(text, word, argument);
+    append_advice(text, word, arguments);
 }
 
 /// Appends what is said of the number of a word's arguments.
@@ -170,7 +161,7 @@ fn stray_text(argument: &[u8]) -> &'static [u8]
     ensures short { length result.now ≤ 80 }
 {
     if argument.is_empty() {
-        b": single spaces separate words"
+        b": single spaces separate words, and none ends a line"
     } else if begins_comment(argument) {
         b": a comment has a line of its own, and begins with #"
     } else {
@@ -264,7 +255,7 @@ fn append_explanation(text: &mut Finding, fault: TextFault, line: &[u8])
     match fault {
         TextFault::LineTooLong => append(text, b"the line is longer than 512 bytes"),
         TextFault::BadByte => append_bad_line(text, line),
-        TextFault::UnknownCall => append_unknown(text, word, first_of(arguments)),
+        TextFault::UnknownCall => append_unknown(text, word, arguments),
         TextFault::WrongNumberOfArguments => {
             let forms = forms_of(word);
             let given = count(forms, arguments);

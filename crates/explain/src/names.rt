@@ -1,19 +1,76 @@
 //! The name that a word begins with, and the marks of other languages in it.
 
 ghost use Rattle.std.specs.Prelude.{◌≡◌, ◌≤◌, length};
-ghost use Rattle.explain.specs.Advice.{after_dot, after_name, begins_comment, has_part, is_name_byte, is_of_menus, is_quoted, name_in};
+ghost use Rattle.std.specs.List.{list_any};
+ghost use Rattle.script.specs.Pieces.{pieces_of};
+ghost use Rattle.explain.specs.Advice.{after_dot, after_name, begins_comment, begins_with_digit, ends_with_comma, gives_value, has_part, has_value, is_name_byte, is_of_menus, is_quoted, name_in};
 
 use arrayvec::ArrayVec;
-use script::LONGEST_LINE;
+use script::{LONGEST_LINE, split_at_space};
 
 /// Room for the name of a word.
 pub type Name = ArrayVec<u8, LONGEST_LINE>;
 
-/// Whether a text begins as comments do in other languages.
+/// Whether a text begins as comments do in other languages. Two hyphens stand alone.
 pub fn begins_comment(text: &[u8]) -> bool
     ensures { result ≡ begins_comment text.now }
 {
-    text.strip_prefix(b"//").is_some() || text.strip_prefix(b"/*").is_some()
+    text.strip_prefix(b"//").is_some()
+        || text.strip_prefix(b"/*").is_some()
+        || text == b"--".as_slice()
+}
+
+/// Whether a text begins with a digit.
+pub fn begins_with_digit(text: &[u8]) -> bool
+    ensures { result ≡ begins_with_digit text.now }
+{
+    match text.first() {
+        Some(first) => first.is_ascii_digit(),
+        None => false,
+    }
+}
+
+/// Whether a text ends with a comma.
+fn ends_with_comma(text: &[u8]) -> bool
+    ensures { result ≡ ends_with_comma text.now }
+{
+    match text.last() {
+        Some(last) => *last == b',',
+        None => false,
+    }
+}
+
+/// Whether a text begins as what gives a value to a name.
+pub fn gives_value(text: &[u8]) -> bool
+    ensures { result ≡ gives_value text.now }
+{
+    text.strip_prefix(b"=").is_some()
+        || text.strip_prefix(b"+=").is_some()
+        || text.strip_prefix(b"-=").is_some()
+        || text.strip_prefix(b":=").is_some()
+        || text.strip_prefix(b"<-").is_some()
+        || text.strip_prefix(b"++").is_some()
+}
+
+/// Whether some of the words in a text does.
+fn has_some_value(text: Option<&[u8]>) -> bool
+    ensures { result ≡ list_any gives_value (pieces_of text.entry) }
+{
+    let Some(text) = text else { return false };
+    let (first, rest) = split_at_space(text);
+    if gives_value(first) {
+        return true;
+    }
+    has_some_value(rest)
+}
+
+/// Whether the first of the words after one does, or, where that ends in a comma, some of them.
+pub fn has_value(word: &[u8], text: Option<&[u8]>) -> bool
+    ensures { result ≡ has_value word.now (pieces_of text.entry) }
+{
+    let Some(text) = text else { return false };
+    let (first, rest) = split_at_space(text);
+    gives_value(first) || ends_with_comma(word) && has_some_value(rest)
 }
 
 /// Whether a text begins with a quote.

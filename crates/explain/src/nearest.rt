@@ -27,7 +27,7 @@ pub const OTHER_NAMES: &[u8] =
     b"refresh wrefresh prefresh printw wprintw mvprintw mvwprintw waddstr mvaddstr mvwaddstr mvaddch mvwaddch \
     initscr endwin getch wgetch getstr noecho cbreak keypad start_color color_pair has_colors curs_set border \
     wborder hline vline insstr resize standout standend timeout nodelay wattron wattroff print write window \
-    colour";
+    colour wnoutrefresh";
 
 /// The first letter of a text, in lower case, and what follows it.
 fn first_letter(text: &[u8]) -> Option<(u8, &[u8])>

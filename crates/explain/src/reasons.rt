@@ -1,13 +1,13 @@
 //! What an argument of a form has to be, and why a byte or an argument is faulty.
 
-ghost use Rattle.std.specs.Prelude.{◌≡◌, ◌≤◌, length};
-ghost use Rattle.std.specs.Char.{is_ascii_hexdigit, is_ascii_uppercase};
+ghost use Rattle.std.specs.Prelude.{◌≡◌, ◌≤◌, length, take};
+ghost use Rattle.std.specs.Char.{is_ascii_alphanumeric, is_ascii_hexdigit, is_ascii_uppercase};
 ghost use Rattle.std.specs.List.{list_all, list_any};
-ghost use Rattle.explain.specs.Reasons.{after_backslash, are_digits, are_two_digits, attributes_reason, begins_sequence, byte_advice, character_reason, digits_reason, flag_reason, has_byte, mark_reason, name_reason, reason, reason_after, requirement, requirement_of, signed_reason, text_reason, unless_missing, unsigned_or_none_reason, unsigned_reason};
+ghost use Rattle.explain.specs.Reasons.{after_bad_escape, are_digits, are_two_digits, attributes_reason, begins_escape, begins_sequence, byte_advice, character_reason, digits_reason, ends_with_space, escape_reason, flag_reason, has_byte, mark_reason, minus_reason, name_reason, reason, reason_after, requirement, requirement_after, requirement_of, signed_reason, text_reason, unless_missing, unsigned_or_none_reason, unsigned_reason};
 
 use crate::advice::is_among;
 use crate::arguments::has_form;
-use crate::names::{begins_comment, is_quoted};
+use crate::names::{begins_comment, begins_with_digit, is_quoted};
 use script::{Form, LONGEST_LINE, has_digits_alone};
 
 /// What is said of a bad byte: a carriage return, a tab, a backspace, an escape, a 0, or another.
@@ -16,8 +16,10 @@ pub fn byte_advice(byte: u8) -> &'static [u8]
     ensures short { length result.now ≤ 80 }
 {
     match byte {
-        b'\r' => b"a line ends with a newline alone",
-        b'\t' => b"a tab is written as spaces, and one space separates words",
+        b'\r' => b"a line ends with a newline alone, and a text has it as \\r",
+        b'\t' => {
+            b"no line has tabs: a call begins it, one space separates words, a text has spaces"
+        },
         8 => b"a text has it as a backslash and b",
         27 => b"a text has no control sequences: see attrset, color_set, move",
         0 => b"a character is one byte, and not two as in UTF-16",
@@ -42,6 +44,18 @@ fn requirement(form: Form) -> &'static [u8]
     }
 }
 
+/// The same after a word: some calls take no newline as their character.
+fn requirement_after(word: &[u8], form: Form) -> &'static [u8]
+    ensures text { result.now ≡ requirement_after word.now form }
+    ensures short { length result.now ≤ 80 }
+{
+    match form {
+        Form::Character if is_among(word, b"insch bkgdset") =>
+            b"one character, or one of the escapes \\\\ and \\xhh in lower case",
+        _ => requirement(form),
+    }
+}
+
 /// What an argument of a form has to be after a word: of a call that takes pairs or colours all that it takes is said.
 pub fn requirement_of(word: &[u8], form: Form) -> &'static [u8]
     ensures text { result.now ≡ requirement_of word.now form }
@@ -54,7 +68,7 @@ pub fn requirement_of(word: &[u8], form: Form) -> &'static [u8]
     } else if word == b"bkgdpair".as_slice() {
         b"a window, and a pair from 0 to 63 as init_pair set it"
     } else {
-        requirement(form)
+        requirement_after(word, form)
     }
 }
 
@@ -130,7 +144,25 @@ fn name_reason(argument: &[u8]) -> &'static [u8]
     if argument.strip_prefix(b"0x").is_some() || argument.strip_prefix(b"0X").is_some() {
         return b": a number is decimal";
     }
-    b": numbers are written in digits, and windows and panels have numbers"
+    if begins_with_digit(argument) {
+        return b": a number has digits alone";
+    }
+    if argument.strip_prefix(b"LINES").is_some() || argument.strip_prefix(b"COLS").is_some() {
+        return b": a size of 0 reaches to the edge; the command line gives the screen's";
+    }
+    b": numbers are in digits; a window's or a panel's comes first, as addstr 0 hi"
+}
+
+/// Why what is after a minus makes no number without a sign.
+fn minus_reason(rest: &[u8]) -> &'static [u8]
+    ensures text { result.now ≡ minus_reason rest.now }
+    ensures short { length result.now ≤ 80 }
+{
+    if are_digits(rest) {
+        b": it has no minus"
+    } else {
+        b": a call has no options: its arguments come in their order"
+    }
 }
 
 /// Why an argument is no number without a sign.
@@ -141,8 +173,8 @@ fn unsigned_reason(argument: &[u8]) -> &'static [u8]
     if are_digits(argument) {
         return digits_reason(b": it is too great", argument);
     }
-    if argument.strip_prefix(b"-").is_some() {
-        return b": it has no minus";
+    if let Some(rest) = argument.strip_prefix(b"-") {
+        return minus_reason(rest);
     }
     if argument.strip_prefix(b"+").is_some() {
         return b": it has no plus";
@@ -204,8 +236,13 @@ fn attributes_reason(argument: &[u8]) -> &'static [u8]
 {
     if is_among(argument, COLOURS) || argument.strip_prefix(b"COLOR_").is_some() {
         b": a colour is set by color_set"
+    } else if argument.strip_prefix(b"0x").is_some() {
+        b": it has no 0x before its two digits"
     } else if !are_two_digits(argument) {
-        b": a sum of 01 bold, 02 dim, 04 underline, 08 blink, 10 reverse, 20 invisible"
+        mark_reason(
+            b": a sum of 01 bold, 02 dim, 04 underline, 08 blink, 10 reverse, 20 invisible",
+            argument,
+        )
     } else if has_upper_case(argument) {
         b": the digits are in lower case"
     } else {
@@ -233,16 +270,37 @@ fn flag_reason(argument: &[u8]) -> &'static [u8]
     }
 }
 
-/// What is after the first backslash of a text.
-fn after_backslash(text: &[u8]) -> &[u8]
-    ensures { result.now ≡ after_backslash text.now }
+/// Whether a text ends with a space.
+fn ends_with_space(text: &[u8]) -> bool
+    ensures { result ≡ ends_with_space text.now }
+{
+    match text.last() {
+        Some(last) => *last == b' ',
+        None => false,
+    }
+}
+
+/// Whether a text begins with an escape: with two bytes that are a text, or with four.
+fn begins_escape(text: &[u8]) -> bool
+    ensures { result ≡ begins_escape text.now }
+{
+    has_form(Form::Text, &text[..text.len().min(2)])
+        || has_form(Form::Text, &text[..text.len().min(4)])
+}
+
+/// What is after the first backslash of a text that begins no escape.
+fn after_bad_escape(text: &[u8]) -> &[u8]
+    ensures { result.now ≡ after_bad_escape text.now }
 {
     let mut left = text;
     while let Some((first, rest)) = left.split_first() {
-        if *first == b'\\' {
+        if *first != b'\\' {
+            left = rest;
+        } else if begins_escape(left) && !rest.is_empty() {
+            left = &rest[1..];
+        } else {
             return rest;
         }
-        left = rest;
     }
     left
 }
@@ -258,22 +316,43 @@ fn begins_sequence(rest: &[u8]) -> bool
         || rest.strip_prefix(b"x1B").is_some()
 }
 
+/// Whether a text begins with a letter or a digit.
+fn begins_with_letter(text: &[u8]) -> bool
+    ensures { result ≡ list_any is_ascii_alphanumeric (take 1 text.now) }
+{
+    match text.first() {
+        Some(first) => first.is_ascii_alphanumeric(),
+        None => false,
+    }
+}
+
 /// What is said of a text with a backslash that begins no escape.
 fn text_reason(text: &[u8]) -> &'static [u8]
     ensures text { result.now ≡ text_reason text.now }
     ensures short { length result.now ≤ 80 }
 {
-    let rest = after_backslash(text);
+    escape_reason(after_bad_escape(text))
+}
+
+/// What is said of a backslash that begins no escape, by what is after it.
+fn escape_reason(rest: &[u8]) -> &'static [u8]
+    ensures text { result.now ≡ escape_reason rest.now }
+    ensures short { length result.now ≤ 80 }
+{
     if rest.strip_prefix(b"t").is_some() {
         b": a tab is written as spaces, a backslash itself as two"
     } else if begins_sequence(rest) {
         b": it has no control sequences: see attrset, color_set, move"
-    } else if rest.strip_prefix(b"u").is_some() {
+    } else if rest.strip_prefix(b"u").is_some() || rest.strip_prefix(b"U").is_some() {
         b": characters are those of ASCII"
     } else if rest.strip_prefix(b"x").is_some() {
         b": two digits in lower case come after \\x"
-    } else {
+    } else if begins_with_letter(rest) {
+        b": a byte is \\x and two digits, and a backslash itself is written as two"
+    } else if rest.is_empty() {
         b": a backslash itself is written as two"
+    } else {
+        b": no other mark needs a backslash, and a backslash itself is written as two"
     }
 }
 
@@ -291,6 +370,12 @@ fn character_reason(argument: &[u8]) -> &'static [u8]
         b": lines are drawn by characters such as + - and |"
     } else if is_quoted(argument) {
         b": it has no quotes"
+    } else if are_digits(argument) {
+        b": it is more than one, and a code is written as \\x and two digits"
+    } else if has_byte(argument, b'#') {
+        b": it is more than one, and a comment has a line of its own"
+    } else if ends_with_space(argument) {
+        b": it is more than one, and a line has no space at its end"
     } else {
         b": it is more than one"
     }
@@ -303,7 +388,7 @@ fn unless_missing(said: &'static [u8], argument: &[u8]) -> &'static [u8]
     ensures short { length result.now ≤ 80 }
 {
     if argument.is_empty() {
-        b": single spaces separate words"
+        b": single spaces separate words, and none ends a line"
     } else {
         said
     }

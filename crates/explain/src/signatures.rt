@@ -4,7 +4,7 @@ ghost use Rattle.std.specs.Prelude.{◌≡◌, ◌≤◌, length};
 ghost use Rattle.explain.specs.Signatures.{names_of_arguments};
 ghost use Rattle.script.specs.declared.words.Word.TheVariants as words;
 
-use script::{CopyingWord, MakingWord, RefreshWord, StackingWord, Word, WritingWord};
+use script::{CopyingWord, MakingWord, QueryWord, RefreshWord, StackingWord, Word, WritingWord};
 
 /// What the arguments are of a call that makes, deletes or places a window or pad.
 fn making_arguments(word: MakingWord) -> &'static [u8]
@@ -13,11 +13,13 @@ fn making_arguments(word: MakingWord) -> &'static [u8]
 {
     match word {
         MakingWord::Newwin => b"lines, columns, top line, left column",
-        MakingWord::Subwin | MakingWord::Derwin => b"window, lines, columns, top line, left column",
+        MakingWord::Subwin => b"window, lines, columns, top line, left column of the screen",
+        MakingWord::Derwin => b"window, lines, columns, top line, left column of that window",
         MakingWord::Newpad => b"lines, columns",
-        MakingWord::Subpad => b"pad, lines, columns, top line, left column",
+        MakingWord::Subpad => b"pad, lines, columns, top line, left column of that pad",
         MakingWord::Delwin => b"window",
-        MakingWord::Mvwin | MakingWord::Mvderwin => b"window, top line, left column",
+        MakingWord::Mvwin => b"window, top line, left column",
+        MakingWord::Mvderwin => b"window, top line, left column of its parent",
     }
 }
 
@@ -56,8 +58,9 @@ fn copying_arguments(word: CopyingWord) -> &'static [u8]
 {
     match word {
         CopyingWord::Overlay | CopyingWord::Overwrite => b"window, window to write in",
-        CopyingWord::Copywin =>
-            b"window, window to write in, line, column, there top, left, bottom, right, on or off",
+        CopyingWord::Copywin => {
+            b"window, window to write in, line, column, there top, left, bottom, right, overlay on or off"
+        }
         CopyingWord::Touchwin
         | CopyingWord::Untouchwin
         | CopyingWord::Syncup
@@ -112,6 +115,7 @@ pub fn names_of_arguments(word: Word) -> &'static [u8]
         Word::Making(word) => making_arguments(word),
         Word::Writing(word) => writing_arguments(word),
         Word::Copying(word) => copying_arguments(word),
+        Word::Query(QueryWord::Getparyx) => b"window",
         Word::Query(_) => b"window (0 is the standard screen)",
         Word::Stacking(word) => stacking_arguments(word),
         Word::Refresh(word) => refresh_arguments(word),

@@ -1,13 +1,15 @@
 //! What to write for a word that is no call.
 
 ghost use Rattle.std.specs.Prelude.{◌≡◌, ◌≤◌, ◌+◌, ◌++◌, IfSome, codes, length, option_map, take};
-ghost use Rattle.std.specs.Char.{is_ascii_digit};
 ghost use Rattle.std.specs.List.{list_any};
-ghost use Rattle.explain.specs.Advice.{advice_on_rest, after_prefix, called_name, is_name_byte, no_variables, said_near_name, said_of, said_of_marks, said_of_menus, said_of_name, said_of_near, said_of_written, say_call, see_longer, see_nearest};
+ghost use Rattle.explain.specs.Advice.{advice_on_rest, after_prefix, called_name, is_name_byte, no_variables, number_first, said_near_name, said_of, said_of_marks, said_of_menus, said_of_name, said_of_near, said_of_written, say_call, see_longer, see_nearest};
 ghost use Rattle.explain.specs.steps.Suggestions.{said_now};
 
 use crate::advice::advice_on;
-use crate::names::{after_name, begins_comment, is_name_byte, is_of_menus, is_quoted};
+use crate::names::{
+    after_name, begins_comment, begins_with_digit, gives_value, is_name_byte, is_of_menus,
+    is_quoted,
+};
 use crate::nearest::{nearest, nearest_other};
 use script::Word;
 
@@ -122,16 +124,6 @@ fn said_near_name<'a>(word: &[u8], name: &[u8]) -> Option<Said<'a>>
     said_of_near(name)
 }
 
-/// Whether a word begins with a digit.
-fn begins_with_digit(word: &[u8]) -> bool
-    ensures { result ≡ list_any is_ascii_digit (take 1 word.now) }
-{
-    match word.first() {
-        Some(first) => first.is_ascii_digit(),
-        None => false,
-    }
-}
-
 /// Whether a word begins with what a name may have.
 fn begins_with_name(word: &[u8]) -> bool
     ensures { result ≡ list_any is_name_byte (take 1 word.now) }
@@ -148,6 +140,14 @@ pub fn no_variables() -> &'static [u8]
     ensures short { length result.now ≤ 80 }
 {
     b"a script has no variables: windows and panels are numbered from 1"
+}
+
+/// Where a number stands.
+fn number_first() -> &'static [u8]
+    ensures text { result.now ≡ number_first }
+    ensures short { length result.now ≤ 80 }
+{
+    b"a line begins with the name of its call, and numbers come after it"
 }
 
 /// What is said of a name of menus or forms.
@@ -173,7 +173,10 @@ fn said_of_marks(word: &[u8]) -> Option<&'static [u8]>
     if word.strip_prefix(b"\\").is_some() {
         return Some(b"a script has no control sequences: see attrset, color_set, move, clear");
     }
-    if word.strip_prefix(b"-").is_some() {
+    if let Some(rest) = word.strip_prefix(b"-") {
+        if begins_with_digit(rest) {
+            return Some(number_first());
+        }
         return Some(b"an option belongs on the command line, and a comment begins with #");
     }
     if word.strip_prefix(b"$").is_some() || word.strip_prefix(b">").is_some() {
@@ -188,12 +191,12 @@ fn said_of_marks(word: &[u8]) -> Option<&'static [u8]>
         return Some(b"a script runs no programs: each line of it is a call");
     }
     if begins_with_digit(word) {
-        return Some(b"a line begins with the name of its call, and numbers come after it");
+        return Some(number_first());
     }
     if !begins_with_name(word) {
         return Some(b"a line begins with the name of a call, and a comment with #");
     }
-    if after_name(word).strip_prefix(b"=").is_some() {
+    if gives_value(after_name(word)) {
         return Some(no_variables());
     }
     None
@@ -243,7 +246,7 @@ fn said_of_written<'a>(word: &[u8], name: &'a [u8]) -> Option<Said<'a>>
         return Some(said);
     }
     say_call(
-        b"a call's name stands alone in its line, or before a space and arguments: see ",
+        b"a line is a call's name, and arguments after single spaces, as addstr 0 hi: see ",
         name,
     )
 }
@@ -261,6 +264,9 @@ pub fn said_of<'a>(word: &[u8], name: &'a [u8]) -> Option<Said<'a>>
             text: b"a comment begins with #",
             call: b"",
         });
+    }
+    if word.strip_prefix(b"panel.move").is_some() {
+        return Some(see(b"move_panel"));
     }
     if let Some(text) = advice_on(word) {
         return Some(Said { text, call: b"" });

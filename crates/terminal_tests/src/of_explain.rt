@@ -10,8 +10,8 @@ use world::Call;
 #[rattlefmt::skip]
 static FINDINGS: [(TextFault, &[u8], &str); 14] = [
     (TextFault::LineTooLong, b"", "line 12, column 513: the line is longer than 512 bytes\n"),
-    (TextFault::BadByte, b"addstr 0 hi\r", "line 12, column 12: bad byte 0d: a line ends with a newline alone\n"),
-    (TextFault::UnknownCall, b"fly 0", "line 12, column 1: unknown call \"fly\": a line is the name of a call and its arguments, as in addstr 0 hi; man curspan lists the calls\n"),
+    (TextFault::BadByte, b"addstr 0 hi\r", "line 12, column 12: bad byte 0d: a line ends with a newline alone, and a text has it as \\r\n"),
+    (TextFault::UnknownCall, b"fly 0", "line 12, column 1: unknown call \"fly\": a line is the name of a call and its arguments: addstr 0 hi writes hi; man curspan lists the calls\n"),
     (TextFault::UnknownCall, b"wrefresh 1", "line 12, column 1: unknown call \"wrefresh\": see noutrefresh, doupdate\n"),
     (TextFault::UnknownCall, b"REFRESH();", "line 12, column 1: unknown call \"REFRESH();\": see noutrefresh, doupdate\n"),
     (TextFault::UnknownCall, b"mvwaddch 0 1 1 h", "line 12, column 1: unknown call \"mvwaddch\": see move, addch\n"),
@@ -23,7 +23,7 @@ static FINDINGS: [(TextFault, &[u8], &str); 14] = [
         b"w=1",
         "line 12, column 1: unknown call \"w=1\": a script has no variables: windows and panels are numbered from 1\n",
     ),
-    (TextFault::UnknownCall, b" move 0 0 0", "line 12, column 1: the line begins with a space, and not with a call; an empty line has no spaces\n"),
+    (TextFault::UnknownCall, b" move 0 0 0", "line 12, column 1: the line begins with a space, and not with a call or #; an empty line has no spaces\n"),
     (TextFault::WrongNumberOfArguments, b"addch 0", "line 12, column 9: addch takes 2 arguments, 1 given: window (0 is the standard screen), character\n"),
     (TextFault::WrongNumberOfArguments, b"erase 0 $", "line 12, column 9: erase takes 1 argument, 2 given: window (0 is the standard screen)\n"),
     (
@@ -52,6 +52,7 @@ fn calls_that_every_screen_refuses_are_told(rt: HostRuntime) {
         refusal_everywhere(&Call::delwin(WinId::STANDARD)),
         refusal_everywhere(&Call::newwin(999, 999, 0, 0)),
         refusal_everywhere(&Call::delwin(WinId(1))),
+        refusal_everywhere(&Call::wcolor_set(WinId(1), 64)),
     ];
     let wanted = [
         Some(Refusal::BadSize),
@@ -59,6 +60,7 @@ fn calls_that_every_screen_refuses_are_told(rt: HostRuntime) {
         Some(Refusal::StandardScreen),
         None,
         None,
+        Some(Refusal::BadPair),
     ];
     assert_eq!(rt; why, wanted);
     let line =
