@@ -3,13 +3,10 @@ use Rattle.std.proofs.Common.{◌≡◌, ◌⊎◌, ◌||◌, ℕ, Bool, List, [
 use Rattle.std.specs.Borrow.{Bor}
 use Rattle.std.specs.Prelude.{IfErr, MatchOption}
 use Rattle.std.specs.Str.Parse.{ParsesUnsigned}
-use Rattle.clap.specs.Words.{AddsSubcommand, App, FailsBy, HasKind, HasMatchesOf, Row, Text, app_of, fault_of}
+use Rattle.clap.specs.Words.{App, FailsBy, HasKind, HasMatchesOf, Row, Text, app_of, fault_of}
 use Rattle.clap.specs.Words.{first_of, first_value, has_subcommand, is_simple, is_simple_and_free, kind_of, one_of, one_text, rows_of}
 use Rattle.clap.specs.Words.{subcommand_of, subcommand_rows_of}
-use Rattle.clap.specs.Words.{with_subcommand}
 use Rattle.clap.specs.Matches.{ReadsOne, subcommand_name_of}
-use Rattle.clap.specs.declared.builder.command.Command.{Command}
-use Rattle.clap.specs.declared.builder.command.Command.TheViews.{out-Command}
 use Rattle.clap.specs.declared.error.Error.{Error}
 use Rattle.clap.specs.declared.error.kind.ErrorKind.TheVariants.{OutOfMemory}
 use Rattle.clap.specs.declared.parser.matches.ArgMatches.{ArgMatches}
@@ -25,11 +22,6 @@ curspan_is_simple = refl
 curspan_is_free : is_simple_and_free curspan ≡ true
 unfolding clap_on_literals
 curspan_is_free = refl
-
--- what a subcommand adds to an application
-pub subcommand_added : (old sub new : Command) (a s : App) → app_of old ≡ a → app_of sub ≡ s → (out-Command sub).has_globals ≡ false → AddsSubcommand old sub new
-    → app_of new ≡ with_subcommand a s.top
-subcommand_added old sub new a s old_is sub_is local adds = grind arith
 
 -- what clap says of its errors, of this program's command line
 pub kinds_of_curspan : (a : App) (words : List Text) (e : Error) → a ≡ curspan → (is_simple_and_free a ≡ true → HasKind (fault_of a words) e)

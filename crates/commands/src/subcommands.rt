@@ -1,7 +1,7 @@
 //! The definition of the command line, for `clap`.
 
 ghost use Rattle.std.specs.Prelude.{◌≡◌, IfOk, false};
-ghost use Rattle.clap.specs.Words.{app_of, new_app, rule_of, with_rule};
+ghost use Rattle.clap.specs.Words.{app_of, new_app, rule_of, with_rule, with_subcommand};
 ghost use Rattle.clap.specs.declared.builder.command.Command.TheViews.{out-Command};
 ghost use Rattle.commands.specs.declared.requests.Kind.TheVariants.{Show};
 ghost use Rattle.commands.specs.CommandLine.{bare, check_mode, curspan, file_rule, log_rule, mode, on_screen, quiet_rule, size_rule, with_files, with_size};
@@ -160,17 +160,20 @@ fn program<'a>(alloc: Global) -> Command<'a>
         .subcommand_required(true)
 }
 
+/// A program with one more subcommand, that of a kind.
+fn with_kind<'a>(alloc: Global, program: Command<'a>, kind: Kind) -> Result<Command<'a>, AllocError>
+    ensures { IfOk result (λ c. app_of c ≡ with_subcommand (app_of program.entry) (mode kind).top) }
+{
+    program.subcommand(subcommand(alloc, kind)?)
+}
+
 /// The program's command line.
 pub fn command<'a>(alloc: Global) -> Result<Command<'a>, AllocError>
     ensures { IfOk result (λ c. app_of c ≡ curspan) }
 {
-    let run = subcommand(alloc, Kind::Run)?;
-    let paint = subcommand(alloc, Kind::Paint)?;
-    let show = subcommand(alloc, Kind::Show)?;
-    let check = checking(alloc)?;
-    program(alloc)
-        .subcommand(run)?
-        .subcommand(paint)?
-        .subcommand(show)?
-        .subcommand(check)
+    let mut program = program(alloc);
+    program = with_kind(alloc, program, Kind::Run)?;
+    program = with_kind(alloc, program, Kind::Paint)?;
+    program = with_kind(alloc, program, Kind::Show)?;
+    program.subcommand(checking(alloc)?)
 }

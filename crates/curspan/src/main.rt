@@ -54,10 +54,30 @@ fn words(rt: &HostRuntime) -> io::Result<Vec<String>> {
     Ok(env::args(rt)?.collect(rt.alloc())?)
 }
 
-/// Does what the command line asks for, on the standard streams or files, and answers the status. It notes once nobody
-/// reads standard output.
+/// Does what words ask for, on the standard streams or files, and answers the status. It notes once nobody reads
+/// standard output.
+fn begin<L: FileSink>(
+    rt: &HostRuntime,
+    is_closed: &Cell<bool>,
+    words: &[String],
+    variables: &Variables<'_>,
+    log: &mut L,
+) -> Result<u8, Obstacle> {
+    let lacks_streams = |_| Obstacle::NoMemory(Need::Streams);
+    let mut input = Script::new(rt, rt.stdin()).map_err(lacks_streams)?;
+    let out = Output {
+        writer: Patient {
+            stream: rt.stdout(),
+        },
+        is_closed,
+    };
+    let out = BufWriter::with_capacity(rt.alloc(), WRITTEN_AT_ONCE, out).map_err(lacks_streams)?;
+    let mut out = Counted::new(out);
+    Ok(serve(rt.alloc(), words, variables, &mut input, &mut out, log))
+}
+
+/// The same of what the command line asks for.
 fn run<L: FileSink>(rt: &HostRuntime, is_closed: &Cell<bool>, log: &mut L) -> Result<u8, Obstacle> {
-    let alloc = rt.alloc();
     let words = words(rt).map_err(|error| match error.kind() {
         ErrorKind::OutOfMemory => Obstacle::NoMemory(Need::CommandLine),
         _ => Obstacle::BadWord,
@@ -69,21 +89,5 @@ fn run<L: FileSink>(rt: &HostRuntime, is_closed: &Cell<bool>, log: &mut L) -> Re
         lines: lines.as_ref().map(|text| text.as_str()),
         columns: columns.as_ref().map(|text| text.as_str()),
     };
-    let lacks_streams = |_| Obstacle::NoMemory(Need::Streams);
-    let mut input = Script::new(rt, rt.stdin()).map_err(lacks_streams)?;
-    let out = Output {
-        writer: Patient {
-            stream: rt.stdout(),
-        },
-        is_closed,
-    };
-    let out = BufWriter::with_capacity(alloc, WRITTEN_AT_ONCE, out).map_err(lacks_streams)?;
-    Ok(serve(
-        alloc,
-        words.as_slice(),
-        &variables,
-        &mut input,
-        &mut Counted::new(out),
-        log,
-    ))
+    begin(rt, is_closed, words.as_slice(), &variables, log)
 }

@@ -48,8 +48,8 @@ struct Counters {
 
 /// A screen with a list that scrolls, and a panel of counters on top.
 #[derive(Drop)]
-struct Monitor<W> {
-    screen: Screen<W>,
+struct Monitor<'a, W> {
+    screen: &'a mut Screen<W>,
     list: WinId,
     panel: WinId,
     counters: Counters,
@@ -73,11 +73,10 @@ fn make_panel<W: Sink>(screen: &mut Screen<W>) -> Result<WinId, Fault> {
     Ok(win)
 }
 
-impl<W: Sink + Drop> Monitor<W> {
-    fn new(alloc: Global, writer: W) -> Result<Monitor<W>, Trouble> {
-        let mut screen = Screen::new(alloc, LINES, COLUMNS, writer)?;
-        let list = make_list(&mut screen)?;
-        let panel = make_panel(&mut screen)?;
+impl<'a, W: Sink> Monitor<'a, W> {
+    fn new(screen: &'a mut Screen<W>) -> Result<Monitor<'a, W>, Fault> {
+        let list = make_list(screen)?;
+        let panel = make_panel(screen)?;
         let counters = Counters {
             calls: 0,
             cells: 0,
@@ -90,9 +89,7 @@ impl<W: Sink + Drop> Monitor<W> {
             counters,
         })
     }
-}
 
-impl<W: Sink> Monitor<W> {
     /// Writes a text at the cursor of a window.
     fn write(&mut self, win: WinId, text: &str) -> Result<(), Fault> {
         self.screen.waddstr(win, text.as_bytes())?;
@@ -137,11 +134,16 @@ impl<W: Sink> Monitor<W> {
     }
 }
 
-fn main(rt: HostRuntime) -> Result<(), Trouble> {
-    let alloc = rt.alloc();
-    let mut monitor = Monitor::new(alloc, Counted::new(rt.stdout()))?;
+/// Shows a monitor on a screen until its last update.
+fn run<W: Sink>(alloc: Global, screen: &mut Screen<W>) -> Result<(), Trouble> {
+    let mut monitor = Monitor::new(screen)?;
     for number in 1..=UPDATES {
         monitor.update(alloc, number)?;
     }
     Ok(())
+}
+
+fn main(rt: HostRuntime) -> Result<(), Trouble> {
+    let mut screen = Screen::new(rt.alloc(), LINES, COLUMNS, Counted::new(rt.stdout()))?;
+    run(rt.alloc(), &mut screen)
 }

@@ -41,17 +41,21 @@ fn make_call(
     }
 }
 
-/// Makes the calls of the script on standard input, up to its first fault, and prints each count in a line.
-pub(crate) fn run(rt: &HostRuntime, lines: &str, columns: &str) -> io::Result<()> {
-    let mut screen = screen_of(rt.alloc(), lines, columns)?;
-    let mut text = Vec::new(rt.alloc());
-    rt.stdin().read_to_end(&mut text)?;
-    let mut out = rt.stdout();
+/// Makes the calls of a script, up to its first fault, and prints each count in a line.
+fn tally<W: Write>(screen: &mut Screen<Discard>, text: &[u8], out: &mut W) -> io::Result<()> {
     let mut taken = Arguments::new();
     for line in text.split(|b| *b == b'\n') {
-        if let Some(cells) = make_call(&mut screen, line, &mut taken)? {
+        if let Some(cells) = make_call(screen, line, &mut taken)? {
             writeln!(out, "{}", cells)?;
         }
     }
     Ok(())
+}
+
+/// The same of the script on standard input, on a screen of the size that two words give.
+pub(crate) fn run(rt: &HostRuntime, lines: &str, columns: &str) -> io::Result<()> {
+    let mut text = Vec::new(rt.alloc());
+    rt.stdin().read_to_end(&mut text)?;
+    let mut screen = screen_of(rt.alloc(), lines, columns)?;
+    tally(&mut screen, text.as_slice(), &mut rt.stdout())
 }
