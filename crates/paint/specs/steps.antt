@@ -6,3 +6,4 @@ pub mod Passes
 pub mod Listing
 pub mod Counting
 pub mod Linking
+pub mod Walking

@@ -8,7 +8,7 @@ ghost use Rattle.cell.specs.declared.limits.TheConstants.{LARGEST_SCREEN};
 ghost use Rattle.cell.specs.declared.lanes.TheConstants.{LANES};
 ghost use Rattle.streams.specs.Sinks.{Seen};
 ghost use Rattle.paint.specs.Updates.{place_bytes};
-ghost use Rattle.paint.specs.steps.Strokes.{IsPlainAt, SameTerminals, Strokes, drawn_bytes, line_bytes, reach_bytes, run_bytes, with_cells, within};
+ghost use Rattle.paint.specs.steps.Strokes.{ExactStrokes, IsPlainAt, SameTerminals, drawn_bytes, line_bytes, reach_bytes, run_bytes, with_cells, within};
 ghost use Rattle.paint.specs.steps.Walks.{AreEnds, AreOfRun, DifferWithin, IsLinePainted, IsOver, IsReadyToErase, IsRun, IsStretch, StrokesLine, HaveOneRendition, cells_between, is_over};
 
 use crate::gap::{approach, is_plain_gap};
@@ -98,7 +98,7 @@ fn come_to<W: Sink>(pen: &mut Pen, sink: &mut W, row: &Row<'_>, gap: usize, colu
     requires column { column < length row.now.wanted.now }
     ensures strokes { (picture : Picture) → length (line_of picture row.now.line) ≡ pen.old.columns
         → take column (line_of picture row.now.line) ≡ take column row.now.wanted.now
-        → Strokes (reach_bytes pen.old.cursor pen.old.rendition row.now.line row.now.wanted.now gap column) (W.seen sink.old) (W.seen sink.new)
+        → ExactStrokes (reach_bytes pen.old.cursor pen.old.rendition row.now.line row.now.wanted.now gap column) (W.seen sink.old) (W.seen sink.new)
         pen.old pen.new picture picture }
     ensures plain { IsPlainAt pen.new (row.now.line, column) }
     ensures same { SameTerminals (W.name sink.old) (W.name sink.new) pen.old pen.new }
@@ -312,7 +312,7 @@ pub fn paint_run<W: Sink>(
     requires run { HaveOneRendition row.now.wanted.now start end }
     ensures strokes { (picture : Picture) → length (line_of picture row.now.line) ≡ pen.old.columns
         → cells_between gap start (line_of picture row.now.line) ≡ cells_between gap start row.now.wanted.now
-        → Strokes (drawn_bytes pen.old.cursor pen.old.rendition (row.now.line, gap) (cells_between gap start row.now.wanted.now)
+        → ExactStrokes (drawn_bytes pen.old.cursor pen.old.rendition (row.now.line, gap) (cells_between gap start row.now.wanted.now)
         (cells_between start end row.now.wanted.now)) (W.seen sink.old) (W.seen sink.new) pen.old pen.new picture
         (with_cells picture (row.now.line, start) (cells_between start end row.now.wanted.now)) }
     ensures short { drawn_bytes pen.old.cursor pen.old.rendition (row.now.line, gap) (cells_between gap start row.now.wanted.now)

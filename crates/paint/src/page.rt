@@ -1,6 +1,7 @@
 //! The walk over the lines of a picture.
 
-ghost use Rattle.std.specs.Prelude.{◌≡◌, ◌≢◌, ℕ, ◌-◌, ◌<◌, ◌≤◌, drop, false, length, map, min};
+ghost use Rattle.std.specs.Prelude.{◌≡◌, ◌≢◌, ℕ, ◌+◌, ◌-◌, ◌<◌, ◌≤◌, Some, drop, false, length, map, min};
+ghost use Rattle.std.specs.Option.{option_map};
 ghost use Rattle.cell.specs.Pictures.{line_of};
 ghost use Rattle.ecma.specs.Terminals.{blank_line};
 ghost use Rattle.extents.specs.Extents.{is_among};
@@ -57,6 +58,7 @@ fn next_line(pen: &Pen, changes: &Extents, blank: u16, from: u16) -> u16
     ensures from { from ≤ result }
     ensures inside { from ≤ length changes.now → result ≤ length changes.now }
     ensures none { (y x : ℕ) → from ≤ y → y < result → is_among changes.now y x ≡ false }
+    ensures pen { (y : ℕ) → from ≤ y → y < result → blank ≤ y + 1 → option_map (λ place. place.0) pen.now.cursor ≡ Some y → ⊥ }
 {
     let next = changes.next(from);
     match pen.line() {

@@ -6,7 +6,7 @@ use Rattle.paint.specs.steps.Walks.{cells_between}
 use Rattle.paint.proofs.Prefixes.{between}
 use Rattle.paint.proofs.CellRuns.{same_shown-at, line-stretch, part-of}
 use Rattle.paint.proofs.Walks.{alike-same, length-between, line-kept, line-skipped}
-use Rattle.paint.proofs.PenStrokes.{Strokes-more}
+use Rattle.paint.proofs.PenStrokes.{exact-within}
 use Rattle.paint.proofs.line.paint_cells.Goals as goal
 
 pub loop-x-preserved-then-eq : goal.loop-x-preserved-then-eq
@@ -45,7 +45,7 @@ loop-x-preserved g c =
           let so_far = c.loop-x.invariant.painted before old h in
           line-stretch (cells_between x stop wanted) same cells.some (omega (arith, long, cells.some)) (omega (arith, inside, same)) so_far
           (c.args.row.now.same ∙ sym c.requires.width ∙ sym c.loop-x.invariant.columns ∙ so_far.columns) (λ k few. part-of x stop k wanted (omega (arith, long))) stretch.changed stretch.short
-          (λ picture wide prefix. Strokes-more (c.paint_run.ensures.strokes picture wide (between c.loop-x.gap x (line_of picture c.args.row.now.line) wanted c.loop-x.invariant.gap prefix))
+          (λ picture wide prefix. exact-within (c.paint_run.ensures.strokes picture wide (between c.loop-x.gap x (line_of picture c.args.row.now.line) wanted c.loop-x.invariant.gap prefix))
           c.paint_run.ensures.short)
           c.paint_run.ensures.same.columns;
       gap = omega arith;

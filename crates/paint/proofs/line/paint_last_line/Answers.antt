@@ -3,7 +3,7 @@
 use Rattle.std.proofs.Common.{◌≡◌, ◌∙◌, length, drop, sym, arith}
 use Rattle.cell.specs.Shown.{shown_blank}
 use Rattle.paint.specs.steps.Walks.{AreBlank}
-use Rattle.paint.proofs.PenStrokes.{reach-most}
+use Rattle.paint.proofs.PenStrokes.{exact-within, reach-most}
 use Rattle.paint.proofs.Tails.{kept-later}
 use Rattle.paint.proofs.Walks.{line-begun, line-ready, line-at_cursor, ready-more}
 use Rattle.paint.proofs.line.paint_last_line.Goals as goal
@@ -14,14 +14,14 @@ returns-in-Some-clause-ready g c =
     let wanted = c.args.row.now.wanted.now in
     let from = c.erased_from-from.result in
     let same : length shown ≡ length wanted = c.args.row.now.same in
-    let painted = c.paint_cells-gap.ensures.painted _ _ (line-begun _ _ c.args.row.now.line c.in-Some.first shown wanted c.in-Some.ensures.0) in
+    let painted = c.paint_cells-gap.ensures.painted _ _ (line-begun _ _ c.args.row.now.line c.in-Some.first shown wanted c.in-Some.ensures.end.0) in
     let blank : AreBlank (drop from wanted) = kept-later (λ _. shown_blank) c.tail_start-tail.result from wanted c.erased_from-from.ensures.from c.tail_start-tail.ensures.blank in
-    let changed = c.in-Some.ensures.3 in
+    let changed = c.in-Some.ensures.end.3 in
     let few = reach-most c.paint_cells-gap.new.pen.cursor c.paint_cells-gap.new.pen.rendition c.args.row.now.line wanted c.paint_cells-gap.result from c.args.row.now.few_lines
     (omega (arith, c.erased_from-from.ensures.to, changed.inside)) c.args.row.now.few_columns in
     ready-more
     (line-ready same (c.args.row.now.same ∙ sym c.requires.width) painted c.erased_from-from.ensures.to blank changed
-    c.come_to.ensures.strokes few c.come_to.ensures.plain c.come_to.ensures.same.columns)
+    (λ picture wide prefix. exact-within (c.come_to.ensures.strokes picture wide prefix) (omega arith)) few c.come_to.ensures.plain c.come_to.ensures.same.columns)
     (omega arith)
 
 pub returns-in_ok-column-in-None-clause-ready : goal.returns-in_ok-column-in-None-clause-ready

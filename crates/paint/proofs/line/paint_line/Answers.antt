@@ -3,7 +3,7 @@
 use Rattle.std.proofs.Common.{◌≡◌, ◌∙◌, length, drop, refl, sym, arith}
 use Rattle.cell.specs.Shown.{shown_blank}
 use Rattle.paint.specs.steps.Walks.{AreBlank}
-use Rattle.paint.proofs.PenStrokes.{reach-most}
+use Rattle.paint.proofs.PenStrokes.{exact-within, reach-most}
 use Rattle.paint.proofs.Tails.{differs-before, kept-later}
 use Rattle.paint.proofs.Walks.{line-begun, line-erased, line-painted, line-ready}
 use Rattle.paint.proofs.line.paint_line.Goals as goal
@@ -30,13 +30,13 @@ returns-then-is_erased-clause-strokes g c =
     let from = c.erased_from-from.result in
     let same : length shown ≡ length wanted = c.args.row.now.same in
     let painted = c.paint_cells-gap.ensures.painted _ _ (line-begun _ _ c.args.row.now.line c.in-Some.first shown wanted c.in-Some.ensures.1) in
-    let blank : AreBlank (drop from wanted) = kept-later (λ _. shown_blank) c.in-Some-changed_tail.tail from wanted c.erased_from-from.ensures.from c.in-Some-changed_tail.ensures.0 in
-    let changed = c.in-Some-changed_tail.ensures.3 in
+    let blank : AreBlank (drop from wanted) = kept-later (λ _. shown_blank) c.in-Some-changed_tail.tail from wanted c.erased_from-from.ensures.from c.in-Some-changed_tail.ensures.tail.0 in
+    let changed = c.in-Some-changed_tail.ensures.tail.3 in
     let few = reach-most c.paint_cells-gap.new.pen.cursor c.paint_cells-gap.new.pen.rendition c.args.row.now.line wanted c.paint_cells-gap.result from c.args.row.now.few_lines
     (omega (arith, c.erased_from-from.ensures.to, changed.inside)) c.args.row.now.few_columns in
     line-erased same
     (line-ready same (c.args.row.now.same ∙ sym c.requires.width) painted c.erased_from-from.ensures.to blank changed
-    c.come_to.ensures.strokes few c.come_to.ensures.plain c.come_to.ensures.same.columns)
+    (λ picture wide prefix. exact-within (c.come_to.ensures.strokes picture wide prefix) (omega arith)) few c.come_to.ensures.plain c.come_to.ensures.same.columns)
     c.erase_line.ensures.draws
 
 pub returns-clause-strokes : goal.returns-clause-strokes
