@@ -1,6 +1,6 @@
 -- Which columns of a line are changed, and where its blank end begins.
 use Rattle.std.proofs.Common.{◌≡◌, ℕ, ◌+◌, ◌-◌, ◌<◌, ◌≤◌, true, false, List, length, get_or, take, drop, inl, inr, refl, sym, ap, ◌∙◌, subst, arith}
-use Rattle.std.specs.Prelude.{not}
+use Rattle.std.specs.Prelude.{◌⊎◌, not}
 use Rattle.std.proofs.lemmas.Bool.{cases_Bool, cases_lt, true≢false}
 use Rattle.std.proofs.lemmas.List.{get_or-drop, get_or-take}
 use Rattle.cell.specs.Shown.{Shown, shown_blank}
@@ -33,6 +33,13 @@ unchanged-at shown wanted x is = same-not (get_or shown x shown_blank) (get_or w
 
 pub changed-at : (shown wanted : List Shown) (x : ℕ) → DiffersAt shown wanted x → is_changed shown wanted x ≡ true
 changed-at shown wanted x h = other-not (get_or shown x shown_blank) (get_or wanted x shown_blank) h.differs
+
+-- one of two cells next to each other
+pub either-changed : (shown wanted : List Shown) (x : ℕ)
+    → (same_shown (get_or shown x shown_blank) (get_or wanted x shown_blank) ≡ false) ⊎ (same_shown (get_or shown (x + 1) shown_blank) (get_or wanted (x + 1) shown_blank) ≡ false)
+    → (is_changed shown wanted x ≡ true) ⊎ (is_changed shown wanted (x + 1) ≡ true)
+either-changed shown wanted x (inl h) = inl (ap not h)
+either-changed shown wanted x (inr h) = inr (ap not h)
 
 -- lines that are the same before a column, or from one on
 pub unchanged-before : (shown wanted : List Shown) (x v : ℕ) → take x shown ≡ take x wanted → v < x → is_changed shown wanted v ≡ false

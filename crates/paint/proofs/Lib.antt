@@ -53,3 +53,9 @@ pub mod Tests
 pub mod PrintedCells
 -- Which columns of a line are changed, and where its blank end begins; for `changed_from`, `tail_start` and others
 pub mod ChangedCells
+-- What was drawn has just as many bytes as are defined for it; for `paint_cells`, `paint_line` and others
+pub mod DrawnExactly
+-- The blank end of a line: printed, or erased where that takes fewer bytes; for `paint_line`, `paint_last_line`
+pub mod BlankEnds
+-- A line is drawn as it is defined; for `paint_line`, `paint_last_line`
+pub mod WalkedLines
