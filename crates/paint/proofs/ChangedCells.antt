@@ -22,7 +22,7 @@ other-not a b other = elim (cases_Bool (same_shown a b)) [
   | inr differs ↦ ap not differs
 ]
 
-not-other : (a b : Shown) → not (same_shown a b) ≡ false → a ≡ b
+pub not-other : (a b : Shown) → not (same_shown a b) ≡ false → a ≡ b
 not-other a b h = elim (cases_Bool (same_shown a b)) [
   | inl same ↦ same_shown-equal a b same
   | inr differs ↦ absurd (true≢false (sym (ap not differs) ∙ h))

@@ -59,3 +59,5 @@ pub mod DrawnExactly
 pub mod BlankEnds
 -- A line is drawn as it is defined; for `paint_line`, `paint_last_line`
 pub mod WalkedLines
+-- The lines of a picture are drawn, and the page's blank end erased, as it is defined; for `paint_picture`
+pub mod WalkedPages

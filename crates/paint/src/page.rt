@@ -5,6 +5,10 @@ ghost use Rattle.std.specs.Option.{option_map};
 ghost use Rattle.cell.specs.Pictures.{line_of};
 ghost use Rattle.ecma.specs.Terminals.{blank_line};
 ghost use Rattle.extents.specs.Extents.{is_among};
+ghost use Rattle.streams.specs.Sinks.{Seen};
+ghost use Rattle.paint.specs.declared.counting.Count.{Count as AnyCount};
+ghost use Rattle.paint.specs.declared.pen.Pen.{Pen as AnyPen};
+ghost use Rattle.paint.specs.steps.Walking.{IsDrawn, with_picture};
 ghost use Rattle.paint.specs.steps.Strokes.{SameTerminals, Strokes, picture_bytes};
 
 use crate::changes::Frame;
@@ -21,6 +25,8 @@ pub fn paint_picture<W: Sink>(pen: &mut Pen, sink: &mut W, frame: &Frame<'_>)
     requires { pen.old.columns ≡ frame.now.columns }
     ensures strokes { Strokes (picture_bytes frame.now.shown.now frame.now.wanted.now) (W.seen sink.old) (W.seen sink.new) pen.old pen.new
         frame.now.shown.now frame.now.wanted.now }
+    ensures counted { (count : AnyCount) (before : Seen) (begun : AnyPen) → IsDrawn count before (W.seen sink.old) begun pen.old
+        → IsDrawn (with_picture frame.now.shown.now frame.now.wanted.now count) before (W.seen sink.new) begun pen.new }
     ensures same { SameTerminals (W.name sink.old) (W.name sink.new) pen.old pen.new }
 {
     let changed = changed_lines(frame);

@@ -186,8 +186,8 @@ pub record IsPrintedTo (line : ℕ) (shown wanted : List Shown) (count : Count) 
   pub is : IsDrawn (printed_to line shown wanted count column).count before now begun pen
   pub gap_is : gap ≡ (printed_to line shown wanted count column).gap
 
--- The same of the lines before one: those from it on up to an end are left.
-pub record IsDrawnTo (shown wanted : Picture) (count : Count) (line end : ℕ) (before now : Seen) (begun pen : Pen) : Type 0 where
+-- The same of the lines before one: those from it on are left.
+pub record IsDrawnTo (shown wanted : Picture) (count : Count) (line : ℕ) (before now : Seen) (begun pen : Pen) : Type 0 where
   pub drawn : Count
   pub is : IsDrawn drawn before now begun pen
-  pub left : with_lines shown wanted line (end - line) drawn ≡ with_picture shown wanted count
+  pub left : with_lines shown wanted line (changed_lines shown wanted - line) drawn ≡ with_picture shown wanted count
