@@ -10,8 +10,8 @@ use Rattle.ecma.specs.declared.token.Erase.TheVariants.{ToEnd}
 use Rattle.paint.specs.declared.counting.Count.{Count}
 use Rattle.paint.specs.declared.pen.Pen.{Pen}
 use Rattle.paint.specs.steps.Counting.{count_from}
-use Rattle.paint.specs.steps.Gathering.{GathersExactly, Outbox}
-use Rattle.paint.specs.steps.Strokes.{Draws, ExactStrokes, IsPlainAt, approach_bytes, drawn_bytes, within}
+use Rattle.paint.specs.steps.Gathering.{GathersExactly, Outbox, empty_outbox}
+use Rattle.paint.specs.steps.Strokes.{Draws, ExactStrokes, IsPlainAt, approach_bytes, change, drawn_bytes, move_from, moved_bytes, within}
 use Rattle.paint.specs.steps.Walks.{HaveOneRendition, cells_between}
 use Rattle.paint.specs.steps.Walking.{IsDrawn, IsPrintedTo, Printed, is_changed, printed_to, with_erasure}
 use Rattle.paint.proofs.CountedRuns.{drawn-is}
@@ -103,3 +103,16 @@ drawn-erased {count} {before} {mid} {now} {begun} {pen} {next} token long h k re
   cursor = ap (λ (p : Pen). p.cursor) rest ∙ h.cursor;
   rendition = ap (λ (p : Pen). p.rendition) rest ∙ h.rendition;
 }
+
+-- ---- the end
+
+-- the pen goes to a place, with the empty rendition
+pub drawn-ended : {count : Count} {start mid now : Seen} {begun x y : Pen} {picture drawn : Picture} (to : Place) → begun.outbox ≡ empty_outbox → IsDrawn count start mid begun x
+    → Draws (change x.rendition no_rendition ++ move_from x.cursor to) mid now x y picture drawn
+    → GathersExactly (count.bytes + moved_bytes count.pen.cursor count.pen.rendition to no_rendition) start now empty_outbox y.outbox
+drawn-ended {count} {start} {mid} {now} {begun} {x} {y} to empty h k =
+    let piece = change x.rendition no_rendition ++ move_from x.cursor to in
+    let long : length piece ≡ moved_bytes count.pen.cursor count.pen.rendition to no_rendition =
+    omega (arith, length-append (change x.rendition no_rendition) (move_from x.cursor to)) ∙ (λ i. moved_bytes (h.cursor i) (h.rendition i) to no_rendition) in
+    subst (λ n. GathersExactly (count.bytes + n) start now empty_outbox y.outbox) long
+    (subst (λ (outbox : Outbox). GathersExactly (count.bytes + length piece) start now outbox y.outbox) empty (exactly-then h.bytes (exactly-draws k)))

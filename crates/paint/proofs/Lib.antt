@@ -61,3 +61,5 @@ pub mod BlankEnds
 pub mod WalkedLines
 -- The lines of a picture are drawn, and the page's blank end erased, as it is defined; for `paint_picture`
 pub mod WalkedPages
+-- The shorter of two texts is sent; for `draw_frame`
+pub mod Comparing

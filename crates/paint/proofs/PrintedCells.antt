@@ -152,8 +152,7 @@ module _ (line : ℕ) (shown wanted : List Shown) (count : Count) (start stop : 
   next : (u v : ℕ) → u + 1 ≡ v → start ≤ u → v < stop → IsTo u → IsTo v
   next u v is from to before =
       let at : printed_to line shown wanted count (u + 1) ≡ printed_to line shown wanted count v = ap (printed_to line shown wanted count) is in
-      let each = λ (w : ℕ) (on : start ≤ w) (up : w ≤ v). one w on (omega (arith, up, to)) in
-      (
+      let each = λ (w : ℕ) (on : start ≤ w) (up : w ≤ v). one w on (omega (arith, up, to)) in (
         λ changed. printed-one line shown wanted count v changed ∙ elim (cases_Bool (is_changed shown wanted u)) [
           | inl other ↦
               let so_far : printed_to line shown wanted count v ≡ together line wanted printed start v = sym at ∙ before.0 other ∙ ap (together line wanted printed start) is in

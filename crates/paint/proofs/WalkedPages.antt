@@ -33,12 +33,12 @@ changed_lines-is shown wanted n few kept same changed =
     let passes : ℕ → Bool = λ y. nat_lt (changed_from (line_of shown y) (line_of wanted y) 0) (length (line_of wanted y)) in
     last-is passes (length wanted) n few
     (λ y from to.
-      let split : n + (y - n) ≡ y = omega arith in
-      let at = λ (l : Picture). sym (ap (λ k. get_or l k []) split) ∙ sym (get_or-drop n l (y - n) []) in
-      let alike : line_of shown y ≡ line_of wanted y = at shown ∙ ap (λ (l : Picture). get_or l (y - n) []) kept ∙ sym (at wanted) in
-      le-ltb (changed_from (line_of shown y) (line_of wanted y) 0) (length (line_of wanted y)) (omega (arith, changed_from-none (line_of shown y) (line_of wanted y) 0 alike (omega arith))))
+    let split : n + (y - n) ≡ y = omega arith in
+    let at = λ (l : Picture). sym (ap (λ k. get_or l k []) split) ∙ sym (get_or-drop n l (y - n) []) in
+    let alike : line_of shown y ≡ line_of wanted y = at shown ∙ ap (λ (l : Picture). get_or l (y - n) []) kept ∙ sym (at wanted) in
+    le-ltb (changed_from (line_of shown y) (line_of wanted y) 0) (length (line_of wanted y)) (omega (arith, changed_from-none (line_of shown y) (line_of wanted y) 0 alike (omega arith))))
     (λ some. lt-ltb (changed_from (line_of shown (n - 1)) (line_of wanted (n - 1)) 0) (length (line_of wanted (n - 1)))
-      (line-changed (line_of shown (n - 1)) (line_of wanted (n - 1)) (same some) (changed some)))
+    (line-changed (line_of shown (n - 1)) (line_of wanted (n - 1)) (same some) (changed some)))
 
 -- ---- the line from which on all are blank
 

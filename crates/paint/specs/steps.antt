@@ -7,3 +7,4 @@ pub mod Listing
 pub mod Counting
 pub mod Linking
 pub mod Walking
+pub mod Comparing

@@ -78,7 +78,7 @@ loop-line-preserved-then-line-blank g c =
           drawn-over next.result drawn_line next.ensures.from
           (λ v from to. line-alike f.shown f.wanted f.changes v (omega (arith, to, few)) (λ x left. next.ensures.none v x from to))
           (λ v from to early last. next.ensures.pen v from to
-            (last-blank c.args.frame.now.shown.now c.args.frame.now.wanted.now page.result changed.result is page.ensures.blank page.ensures.first v last));
+          (last-blank c.args.frame.now.shown.now c.args.frame.now.wanted.now page.result changed.result is page.ensures.blank page.ensures.first v last));
       inside = few;
       same = c.paint_line.ensures.same.sink ∙ c.loop-line.invariant.same;
     }
@@ -109,7 +109,7 @@ loop-line-preserved g c =
           drawn-over next.result drawn_line next.ensures.from
           (λ v from to. line-alike f.shown f.wanted f.changes v (omega (arith, to, few)) (λ x left. next.ensures.none v x from to))
           (λ v from to early last. next.ensures.pen v from to
-            (last-blank c.args.frame.now.shown.now c.args.frame.now.wanted.now page.result changed.result is page.ensures.blank page.ensures.first v last));
+          (last-blank c.args.frame.now.shown.now c.args.frame.now.wanted.now page.result changed.result is page.ensures.blank page.ensures.first v last));
       inside = few;
       same = c.paint_last_line.ensures.same.sink ∙ c.loop-line.invariant.same;
     }
