@@ -63,3 +63,5 @@ pub mod WalkedLines
 pub mod WalkedPages
 -- The shorter of two texts is sent; for `draw_frame`
 pub mod Comparing
+-- Where the gaps before runs begin; for `add_line`, `list`
+pub mod Gaps

@@ -7,7 +7,7 @@ ghost use Rattle.paint.specs.steps.Comparing.{IsCompared};
 ghost use Rattle.paint.specs.steps.Counting.{HasAtMost, passes_bytes, walk_bytes as runs_bytes};
 ghost use Rattle.paint.specs.steps.Gathering.{GathersExactly, empty_outbox};
 ghost use Rattle.paint.specs.steps.Holding.{CanDraw, HoldsFrameUpdate};
-ghost use Rattle.paint.specs.steps.Listing.{AreRuns, AreTooMany};
+ghost use Rattle.paint.specs.steps.Listing.{AreRuns, AreTooMany, HaveGaps};
 ghost use Rattle.paint.specs.steps.Passes.{HasNoted, changed_renditions, order_for};
 ghost use Rattle.paint.specs.steps.Strokes.{SameTerminals};
 ghost use Rattle.paint.specs.steps.Walking.{walk_bytes};
@@ -71,6 +71,7 @@ fn list_runs(runs: &mut Runs, frame: &Frame<'_>) -> bool
         ⊎ AreTooMany runs.new.noted.order frame.now.shown.now frame.now.wanted.now runs.new }
     ensures runs { result ≡ true → AreRuns runs.new.noted.order frame.now.shown.now frame.now.wanted.now runs.new.runs (frame.now.lines, 0) }
     ensures noted { result ≡ true → HasNoted runs.new.noted (changed_renditions frame.now.shown.now frame.now.wanted.now) }
+    ensures gaps { result ≡ true → HaveGaps runs.new.runs }
     ensures room { runs.new.room ≡ runs.old.room }
 {
     if runs.order().is_empty() && order_of(frame).renditions().is_empty() {
