@@ -65,3 +65,5 @@ pub mod WalkedPages
 pub mod Comparing
 -- Where the gaps before runs begin; for `add_line`, `list`
 pub mod Gaps
+-- A walk that erases nothing takes what the runs of its frame take one after another; for `draw_frame`
+pub mod WalkedRuns

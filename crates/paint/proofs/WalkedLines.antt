@@ -20,7 +20,7 @@ use Rattle.paint.proofs.PrintedCells.{printed-same}
 
 -- ---- the cells of a line
 
-printed-zero : (line : ℕ) (shown wanted : List Shown) (count : Count) → printed_to line shown wanted count 0 ≡ record { count = count; gap = changed_from shown wanted 0 }
+pub printed-zero : (line : ℕ) (shown wanted : List Shown) (count : Count) → printed_to line shown wanted count 0 ≡ record { count = count; gap = changed_from shown wanted 0 }
 unfolding printed_to
 printed-zero line shown wanted count = refl
 

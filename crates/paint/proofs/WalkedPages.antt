@@ -132,7 +132,7 @@ module _ (shown wanted : Picture) (line left : ℕ) (count : Count) where
             lines-on is (ap (λ (l : LastLine). l.erases) is_kept) ∙ ap (λ (l : LastLine). with_lines shown wanted (line + 1) left l.count) is_kept ∙ ap (with_lines shown wanted (line + 1) left) kept
       ]
 
-lines-none : (shown wanted : Picture) (line : ℕ) (count : Count) → with_lines shown wanted line 0 count ≡ count
+pub lines-none : (shown wanted : Picture) (line : ℕ) (count : Count) → with_lines shown wanted line 0 count ≡ count
 unfolding with_lines
 lines-none shown wanted line count = refl
 

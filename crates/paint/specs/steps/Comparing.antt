@@ -6,8 +6,8 @@ use Rattle.streams.specs.Sinks.{Seen}
 use Rattle.paint.specs.declared.changes.Frame.{Frame}
 use Rattle.paint.specs.declared.pen.Pen.{Pen}
 use Rattle.paint.specs.declared.runs.Run.{Run}
-use Rattle.paint.specs.steps.Counting.{AreWrittenAtEnds, HasAtMost, passes_bytes, walk_bytes as runs_bytes}
-use Rattle.paint.specs.steps.Listing.{AreRuns, AreTooMany, RunList}
+use Rattle.paint.specs.steps.Counting.{HasAtMost, passes_bytes}
+use Rattle.paint.specs.steps.Listing.{AreRuns, AreTooMany, HaveGaps, RunList}
 use Rattle.paint.specs.steps.Passes.{changed_renditions, order_for}
 use Rattle.paint.specs.steps.Walking.{walk_bytes}
 
@@ -15,10 +15,12 @@ use Rattle.paint.specs.steps.Walking.{walk_bytes}
 abbrev pub frame_order : Frame → List Rendition
 frame_order frame = order_for (changed_renditions frame.shown.now frame.wanted.now)
 
--- A text that a pen gathered has no more bytes than the walk takes, and no more than the runs of the frame take in passes.
+-- A text that a pen gathered has no more bytes than the walk takes, and no more than the runs of the frame take in passes. There is one list of
+-- runs that are those of the frame, with gaps that begin as they do.
 pub record IsShorter (frame : Frame) (from to : Place) (before now : Seen) (pen : Pen) : Type 0 where
   pub runs : List Run
   pub are_runs : AreRuns (frame_order frame) frame.shown.now frame.wanted.now runs (frame.lines, 0)
+  pub gaps : HaveGaps runs
   pub short : HasAtMost (min (walk_bytes frame.shown.now frame.wanted.now from to) (passes_bytes frame.columns frame.wanted.now (length (frame_order frame) + 1) runs from to))
       before now pen
 
@@ -28,15 +30,7 @@ pub record HasTooMany (frame : Frame) (room : ℕ) : Type 0 where
   pub room_is : list.room ≡ room
   pub too_many : AreTooMany list.noted.order frame.shown.now frame.wanted.now list
 
--- Where no line's last changed cell is blank, the walk erases nothing, and takes what the runs take one after another.
-pub record IsShorterByRuns (frame : Frame) (from to : Place) (before now : Seen) (pen : Pen) : Type 0 where
-  pub runs : List Run
-  pub are_runs : AreRuns (frame_order frame) frame.shown.now frame.wanted.now runs (frame.lines, 0)
-  pub written : AreWrittenAtEnds frame.wanted.now runs (length runs)
-  pub short : HasAtMost (min (runs_bytes frame.columns frame.wanted.now runs from to) (passes_bytes frame.columns frame.wanted.now (length (frame_order frame) + 1) runs from to))
-      before now pen
-
 -- Passes are compared with the walk, but where they save nothing, or where there are too many runs.
 abbrev pub IsCompared : Frame → ℕ → Place → Place → Seen → Seen → Pen → Type 0
 IsCompared frame room from to before now pen =
-    ((frame_order frame ≡ []) ⊎ HasTooMany frame room) ⊎ (IsShorterByRuns frame from to before now pen ⊎ IsShorter frame from to before now pen)
+    ((frame_order frame ≡ []) ⊎ HasTooMany frame room) ⊎ IsShorter frame from to before now pen

@@ -7,8 +7,8 @@ use Rattle.cell.specs.Shown.{Rendition}
 use Rattle.paint.specs.declared.runs.Run.{Run}
 use Rattle.paint.specs.steps.Counting.{AreInside, passes_bytes}
 use Rattle.paint.specs.steps.Holding.{last_shown}
-use Rattle.paint.specs.steps.Listing.{AreRuns}
-use Rattle.paint.proofs.Comparing.{passes-shorter, walk-shorter}
+use Rattle.paint.specs.steps.Listing.{AreRuns, HaveGaps}
+use Rattle.paint.proofs.Comparing.{passes-shorter, runs-shorter, walk-shorter}
 use Rattle.paint.proofs.Gathering.{exactly-anew, gathered-anew, told-exactly}
 use Rattle.paint.proofs.Linking.{passes-few}
 use Rattle.paint.proofs.Listing.{runs-in_order, runs-inside}
@@ -59,10 +59,11 @@ returns-then-are_passes_shorter-clause-compared g c =
     (c.list_runs.ensures.runs c.if-not-list_runs.false) in
     let runs = c.linked.result.1.runs.now in
     let are_runs = subst (λ (o : List Rendition). AreRuns o frame.shown.now frame.wanted.now runs (frame.lines, 0)) order are in
+    let gaps = subst HaveGaps (sym c.linked.ensures.runs) (c.list_runs.ensures.gaps c.if-not-list_runs.false) in
     let drawn = c.draw_walk-2.ensures.holds (record { lines = frame.lines; columns = frame.columns; last = last_shown frame.shown.now (Some c.args.from) }) false refl refl refl in
     let told = c.bytes.ensures ∙ told-exactly refl refl c.draw_walk-2.ensures.exact drawn.gathered drawn.few in
     let counted = ap (λ (o : List Rendition). passes_bytes frame.columns frame.wanted.now (length o + 1) runs c.args.from c.args.to) order in
-    inr (inr (passes-shorter frame c.args.from c.args.to runs are_runs _ _ counted told (sym c.are_passes_shorter.ensures ∙ c.if-are_passes_shorter.true) c.draw_passes.ensures.short))
+    inr (passes-shorter frame c.args.from c.args.to runs are_runs gaps _ _ counted told (sym c.are_passes_shorter.ensures ∙ c.if-are_passes_shorter.true) c.draw_passes.ensures.short)
 
 pub returns-then-not-holds_all-clause-compared : goal.returns-then-not-holds_all-clause-compared
 returns-then-not-holds_all-clause-compared g c =
@@ -73,10 +74,11 @@ returns-then-not-holds_all-clause-compared g c =
     (c.list_runs.ensures.runs c.if-not-list_runs.false) in
     let runs = c.linked.result.1.runs.now in
     let are_runs = subst (λ (o : List Rendition). AreRuns o frame.shown.now frame.wanted.now runs (frame.lines, 0)) order are in
+    let gaps = subst HaveGaps (sym c.linked.ensures.runs) (c.list_runs.ensures.gaps c.if-not-list_runs.false) in
     let drawn = c.draw_walk-2.ensures.holds (record { lines = frame.lines; columns = frame.columns; last = last_shown frame.shown.now (Some c.args.from) }) false refl refl refl in
     let told = c.bytes.ensures ∙ told-exactly refl refl c.draw_walk-2.ensures.exact drawn.gathered drawn.few in
     let counted = ap (λ (o : List Rendition). passes_bytes frame.columns frame.wanted.now (length o + 1) runs c.args.from c.args.to) order in
-    inr (inr (walk-shorter frame c.args.from c.args.to runs are_runs _ _ counted told (sym c.are_passes_shorter.ensures ∙ c.if-are_passes_shorter.false) c.draw_walk-then-not-holds_all.ensures.exact))
+    inr (walk-shorter frame c.args.from c.args.to runs are_runs gaps _ _ counted told (sym c.are_passes_shorter.ensures ∙ c.if-are_passes_shorter.false) c.draw_walk-then-not-holds_all.ensures.exact)
 
 pub returns-else-not-holds_all-clause-compared : goal.returns-else-not-holds_all-clause-compared
 returns-else-not-holds_all-clause-compared g c =
@@ -87,8 +89,24 @@ returns-else-not-holds_all-clause-compared g c =
     (c.list_runs.ensures.runs c.if-not-list_runs.false) in
     let runs = c.linked.result.1.runs.now in
     let are_runs = subst (λ (o : List Rendition). AreRuns o frame.shown.now frame.wanted.now runs (frame.lines, 0)) order are in
+    let gaps = subst HaveGaps (sym c.linked.ensures.runs) (c.list_runs.ensures.gaps c.if-not-list_runs.false) in
     let drawn = c.draw_walk-2.ensures.holds (record { lines = frame.lines; columns = frame.columns; last = last_shown frame.shown.now (Some c.args.from) }) false refl refl refl in
     let told = c.bytes.ensures ∙ told-exactly refl refl c.draw_walk-2.ensures.exact drawn.gathered drawn.few in
     let counted = ap (λ (o : List Rendition). passes_bytes frame.columns frame.wanted.now (length o + 1) runs c.args.from c.args.to) order in
-    inr (inr (walk-shorter frame c.args.from c.args.to runs are_runs _ _ counted told (sym c.are_passes_shorter.ensures ∙ c.if-are_passes_shorter.false)
-    (exactly-anew _ (sym c.holds_all.ensures ∙ c.if-not-holds_all.false) c.draw_walk-2.ensures.exact)))
+    inr (walk-shorter frame c.args.from c.args.to runs are_runs gaps _ _ counted told (sym c.are_passes_shorter.ensures ∙ c.if-are_passes_shorter.false)
+    (exactly-anew _ (sym c.holds_all.ensures ∙ c.if-not-holds_all.false) c.draw_walk-2.ensures.exact))
+
+pub returns-then-are_written_at_ends-clause-compared : goal.returns-then-are_written_at_ends-clause-compared
+returns-then-are_written_at_ends-clause-compared g c =
+    let frame = c.args.frame.now in
+    let f = frame.sound in
+    let known = c.list_runs.ensures.noted c.if-not-list_runs.false in
+    let order = c.linked.ensures.value _ known in
+    let are = linked-runs (c.order.ensures.value _ known) order (grind (arith, nat_tests, c.if-is_empty.ensures)) c.linked.ensures.order c.linked.ensures.runs
+    (c.list_runs.ensures.runs c.if-not-list_runs.false) in
+    let runs = c.linked.result.1.runs.now in
+    let are_runs = subst (λ (o : List Rendition). AreRuns o frame.shown.now frame.wanted.now runs (frame.lines, 0)) order are in
+    let gaps = subst HaveGaps (sym c.linked.ensures.runs) (c.list_runs.ensures.gaps c.if-not-list_runs.false) in
+    let counted = ap (λ (o : List Rendition). passes_bytes frame.columns frame.wanted.now (length o + 1) runs c.args.from c.args.to) order in
+    inr (runs-shorter frame c.args.from c.args.to runs are_runs gaps f.shown f.wanted (omega (arith, c.requires.line)) (c.are_written_at_ends.ensures c.if-are_written_at_ends.true) _ counted
+    c.draw_shorter.ensures.shorter)
