@@ -1,17 +1,15 @@
 -- The blank end of a line: printed, or erased where that takes fewer bytes.
-use Rattle.std.proofs.Common.{◌≡◌, ℕ, zero, suc, ◌+◌, ◌-◌, ◌<◌, ◌≤◌, true, false, List, length, get_or, take, drop, Option, Some, None, inl, inr, refl, sym, ap, ◌∙◌, subst, arith}
-use Rattle.std.specs.Prelude.{◌&&◌, if◌then◌else◌, min, nat_lt}
-use Rattle.std.proofs.Math.Nat.{min-eq_left}
+use Rattle.std.proofs.Common.{◌≡◌, ℕ, zero, suc, ◌+◌, ◌-◌, ◌<◌, ◌≤◌, true, false, List, length, get_or, Some, inl, inr, refl, sym, ap, ◌∙◌, subst, arith}
+use Rattle.std.specs.Prelude.{◌&&◌, min, nat_lt}
 use Rattle.std.proofs.lemmas.Bool.{cases_Bool, cases_lt, le-ltb, lt-ltb}
-use Rattle.cell.specs.Shown.{Rendition, Shown, no_rendition, shown_blank}
-use Rattle.cell.specs.Pictures.{Place}
+use Rattle.cell.specs.Shown.{Shown, no_rendition, shown_blank}
 use Rattle.streams.specs.Sinks.{Seen}
 use Rattle.paint.specs.declared.counting.Count.{Count}
 use Rattle.paint.specs.declared.pen.Pen.{Pen}
 use Rattle.paint.specs.steps.Gathering.{GathersExactly}
 use Rattle.paint.specs.steps.Strokes.{IsPlainAt, approach_bytes, reach_bytes, within}
 use Rattle.paint.specs.steps.Walks.{cells_between}
-use Rattle.paint.specs.steps.Walking.{IsDrawn, IsPrintedTo, Printed, at_tail, changed_from, changed_tail, erased_from, is_changed, printed_to, tail_of, with_cell, with_erasure, with_line}
+use Rattle.paint.specs.steps.Walking.{IsDrawn, IsPrintedTo, Printed, at_tail, changed_tail, erased_from, is_changed, printed_to, tail_of, with_cell, with_erasure, with_line}
 use Rattle.paint.proofs.DrawnExactly.{exactly-then}
 use Rattle.paint.proofs.PrintedCells.{all-between, plain-approach, printed-none, printed-one}
 use Rattle.paint.proofs.Walks.{length-between}

@@ -1,5 +1,5 @@
 -- Which columns of a line are changed, and where its blank end begins.
-use Rattle.std.proofs.Common.{◌≡◌, ℕ, ◌+◌, ◌-◌, ◌<◌, ◌≤◌, true, false, List, length, get_or, take, drop, inl, inr, refl, sym, ap, ◌∙◌, subst, arith}
+use Rattle.std.proofs.Common.{◌≡◌, ℕ, ◌+◌, ◌-◌, ◌<◌, ◌≤◌, true, false, List, length, get_or, take, drop, inl, inr, refl, sym, ap, ◌∙◌, arith}
 use Rattle.std.specs.Prelude.{◌⊎◌, not}
 use Rattle.std.proofs.lemmas.Bool.{cases_Bool, cases_lt, true≢false}
 use Rattle.std.proofs.lemmas.List.{get_or-drop, get_or-take}

@@ -10,7 +10,7 @@ use Rattle.paint.specs.declared.counting.Count.{Count}
 use Rattle.paint.specs.declared.pen.Pen.{Pen}
 use Rattle.paint.specs.declared.runs.Run.{Run}
 use Rattle.paint.specs.steps.Comparing.{IsShorter, frame_order}
-use Rattle.paint.specs.steps.Counting.{AreWrittenAtEnds, HasAtMost, count_from, ended_bytes, passes_bytes, walk_bytes as runs_bytes}
+use Rattle.paint.specs.steps.Counting.{AreWrittenAtEnds, HasAtMost, count_from, ended_bytes, passes_bytes, runs_bytes}
 use Rattle.paint.specs.steps.Gathering.{GathersAtMost, GathersExactly, empty_outbox}
 use Rattle.paint.specs.steps.Listing.{AreRuns, HaveGaps}
 use Rattle.paint.specs.steps.Passes.{saturating_usize}

@@ -1,6 +1,6 @@
 -- What was drawn has just as many bytes as are defined for it.
-use Rattle.std.proofs.Common.{◌≡◌, ℕ, zero, suc, ◌+◌, ◌-◌, ◌<◌, ◌≤◌, false, List, [], ◌∷◌, ◌++◌, length, get_or, Some, refl, sym, ap, ◌∙◌, subst, arith, append-nil, append_assoc, length-append}
-use Rattle.cell.specs.Shown.{Rendition, Shown, no_rendition, shown_blank}
+use Rattle.std.proofs.Common.{◌≡◌, ℕ, zero, suc, ◌+◌, ◌-◌, ◌<◌, ◌≤◌, false, List, [], ◌∷◌, ◌++◌, length, get_or, refl, sym, ap, ◌∙◌, subst, arith, append-nil, append_assoc, length-append}
+use Rattle.cell.specs.Shown.{Shown, no_rendition, shown_blank}
 use Rattle.cell.specs.Pictures.{Picture, Place, line_of}
 use Rattle.streams.specs.Sinks.{Seen}
 use Rattle.ecma.specs.Spelling.{spelling}

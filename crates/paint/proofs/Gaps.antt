@@ -1,12 +1,12 @@
 -- Where the gaps before runs begin.
-use Rattle.std.proofs.Common.{◌≡◌, ℕ, zero, suc, ◌+◌, ◌-◌, ◌<◌, ◌≤◌, Bool, true, false, List, [], ◌∷◌, ◌++◌, length, get_or, inl, inr, refl, sym, ap, ◌∙◌, subst, arith, length-append}
+use Rattle.std.proofs.Common.{◌≡◌, ℕ, zero, suc, ◌+◌, ◌<◌, ◌≤◌, List, [], ◌∷◌, ◌++◌, length, get_or, inl, inr, refl, sym, ap, ◌∙◌, arith, length-append}
 use Rattle.std.specs.Prelude.{◌⊎◌, ◌==◌, if◌then◌else◌}
 use Rattle.std.proofs.lemmas.Bool.{cases_lt, eq-eqb, ne_eqb}
 use Rattle.std.proofs.Math.ListN.{get_or-append}
 use Rattle.std.proofs.Math.Seq.{get_or-append_seam}
 use Rattle.cell.specs.Shown.{Shown, shown_blank}
 use Rattle.paint.specs.declared.runs.Run.{Run}
-use Rattle.paint.specs.steps.Listing.{AreAbove, HaveGaps, gap_before, no_run}
+use Rattle.paint.specs.steps.Listing.{AreAbove, gap_before, no_run}
 
 -- What is known within a line: the next run of it is the first, and begins at its first changed cell, or its gap begins where the last run ends.
 pub record AreGapped (runs : List Run) (line gap x : ℕ) (shown wanted : List Shown) : Type 0 where

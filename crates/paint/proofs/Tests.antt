@@ -1,7 +1,6 @@
 -- The first and the last of some numbers that pass a test.
-use Rattle.std.proofs.Common.{◌≡◌, ℕ, zero, suc, ◌+◌, ◌-◌, ◌<◌, ◌≤◌, Bool, true, false, inl, inr, refl, sym, ap, ◌∙◌, arith, add-one}
-use Rattle.std.specs.Prelude.{if◌then◌else◌}
-use Rattle.std.proofs.lemmas.Bool.{cases_Bool, cases_eq, true≢false}
+use Rattle.std.proofs.Common.{◌≡◌, ℕ, zero, suc, ◌+◌, ◌-◌, ◌<◌, ◌≤◌, Bool, true, false, inl, inr, refl, sym, ap, ◌∙◌, arith}
+use Rattle.std.proofs.lemmas.Bool.{cases_Bool, cases_eq}
 use Rattle.paint.specs.steps.Walking.{after_last, first_from}
 
 -- one that passes, before which none does

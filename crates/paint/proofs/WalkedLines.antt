@@ -1,20 +1,19 @@
 -- A line is drawn as it is defined.
-use Rattle.std.proofs.Common.{◌≡◌, ℕ, zero, suc, ◌+◌, ◌-◌, ◌<◌, ◌≤◌, Bool, true, false, List, length, get_or, take, drop, Option, Some, None, inl, inr, refl, sym, ap, ◌∙◌, subst, arith}
-use Rattle.std.specs.Prelude.{◌&&◌, ◌==◌, if◌then◌else◌, max, min, nat_le, nat_lt}
+use Rattle.std.proofs.Common.{◌≡◌, ℕ, ◌+◌, ◌<◌, ◌≤◌, Bool, true, false, List, length, take, drop, Option, Some, None, inl, inr, refl, sym, ap, ◌∙◌, subst, arith}
+use Rattle.std.specs.Prelude.{◌&&◌, ◌==◌, max, min, nat_le, nat_lt}
 use Rattle.std.proofs.Math.Nat.{min-eq_left}
 use Rattle.std.proofs.lemmas.Bool.{and_parts, cases_Bool, eqb-true, eq-eqb, leb-true, le-leb, le-ltb, lt-ltb}
-use Rattle.cell.specs.Shown.{Rendition, Shown, no_rendition, shown_blank}
-use Rattle.cell.specs.Differences.{DiffersAt}
+use Rattle.cell.specs.Shown.{Shown, no_rendition}
 use Rattle.cell.specs.Pictures.{Place}
 use Rattle.streams.specs.Sinks.{Seen}
 use Rattle.paint.specs.declared.counting.Count.{Count}
 use Rattle.paint.specs.declared.pen.Pen.{Pen}
 use Rattle.paint.specs.steps.Gathering.{GathersExactly}
-use Rattle.paint.specs.steps.Strokes.{IsPlainAt, approach_bytes, change, reach_bytes}
+use Rattle.paint.specs.steps.Strokes.{approach_bytes, change, reach_bytes}
 use Rattle.paint.specs.steps.Walks.{cells_between}
-use Rattle.paint.specs.steps.Walking.{IsDrawn, IsPrintedTo, LastLine, Printed, at_cursor, at_tail, changed_from, changed_tail, column_between, erased_from, is_changed, printed_to, tail_of, with_erasure, with_last_line, with_line}
-use Rattle.paint.proofs.BlankEnds.{blank-printed, line-is-printed, line-is-written, same-choice, tail-bytes}
-use Rattle.paint.proofs.ChangedCells.{changed-at, changed_from-is, changed_from-later, tail-blank, tail-within, unchanged-after, unchanged-before}
+use Rattle.paint.specs.steps.Walking.{IsDrawn, IsPrintedTo, Printed, at_cursor, at_tail, changed_from, changed_tail, column_between, erased_from, is_changed, printed_to, tail_of, with_erasure, with_last_line, with_line}
+use Rattle.paint.proofs.BlankEnds.{blank-printed, line-is-written, same-choice, tail-bytes}
+use Rattle.paint.proofs.ChangedCells.{changed_from-is, changed_from-later, tail-blank, tail-within, unchanged-after, unchanged-before}
 use Rattle.paint.proofs.DrawnExactly.{exactly-then}
 use Rattle.paint.proofs.PrintedCells.{printed-same}
 

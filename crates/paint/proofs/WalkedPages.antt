@@ -1,8 +1,8 @@
 -- The lines of a picture are drawn, and the page's blank end erased, as it is defined.
-use Rattle.std.proofs.Common.{◌≡◌, ℕ, zero, suc, ◌+◌, ◌-◌, ◌<◌, ◌≤◌, Bool, true, false, List, [], length, get_or, map, take, drop, Option, Some, None, inl, inr, refl, sym, ap, ◌∙◌, subst, arith, add-one, length-drop}
-use Rattle.std.specs.Prelude.{◌&&◌, ◌⊎◌, if◌then◌else◌, min, nat_le, nat_lt}
+use Rattle.std.proofs.Common.{◌≡◌, ℕ, zero, suc, ◌+◌, ◌-◌, ◌<◌, ◌≤◌, Bool, true, false, List, [], length, get_or, map, drop, Some, None, inl, inr, refl, sym, ap, ◌∙◌, subst, arith, add-one, length-drop}
+use Rattle.std.specs.Prelude.{◌&&◌, ◌⊎◌, min, nat_le, nat_lt}
 use Rattle.std.specs.Option.{option_map}
-use Rattle.std.proofs.lemmas.Bool.{and_parts, cases_Bool, cases_lt, leb-true, le-leb, le-ltb, lt-leb, lt-ltb, true≢false}
+use Rattle.std.proofs.lemmas.Bool.{cases_Bool, cases_lt, le-leb, le-ltb, lt-leb, lt-ltb, true≢false}
 use Rattle.std.proofs.lemmas.List.{ext_get_or, get_or-drop, length-map}
 use Rattle.cell.specs.Shown.{Shown, shown_blank}
 use Rattle.cell.specs.Pictures.{Picture, Place, line_of}
@@ -10,11 +10,10 @@ use Rattle.ecma.specs.Terminals.{blank_line}
 use Rattle.streams.specs.Sinks.{Seen}
 use Rattle.paint.specs.declared.counting.Count.{Count}
 use Rattle.paint.specs.declared.pen.Pen.{Pen}
-use Rattle.paint.specs.steps.Walks.{AreBlank}
-use Rattle.paint.specs.steps.Walking.{IsDrawn, IsDrawnTo, LastLine, at_cursor, blank_lines, changed_from, changed_lines, changed_tail, column_between, is_changed, tail_of, with_erasure, with_last_line, with_line, with_lines, with_picture}
-use Rattle.paint.proofs.ChangedCells.{changed_from-before, changed_from-none, changed_from-within, not-other, tail-blank, tail-is, tail-within, unchanged-at}
+use Rattle.paint.specs.steps.Walking.{IsDrawn, IsDrawnTo, LastLine, blank_lines, changed_from, changed_lines, tail_of, with_erasure, with_last_line, with_line, with_lines, with_picture}
+use Rattle.paint.proofs.ChangedCells.{changed_from-before, changed_from-none, not-other, tail-blank, tail-is, tail-within, unchanged-at}
 use Rattle.paint.proofs.Tails.{get_or-map, kept-at}
-use Rattle.paint.proofs.Tests.{last-is, last-none, last-passes, last-within}
+use Rattle.paint.proofs.Tests.{last-is, last-none, last-passes}
 use Rattle.paint.proofs.WalkedLines.{between-none, last-line-kept, line-kept}
 
 -- ---- the line from which on none is changed

@@ -1,15 +1,15 @@
 -- A walk that erases nothing takes what the runs of its frame take one after another.
-use Rattle.std.proofs.Common.{◌≡◌, ℕ, zero, suc, ◌+◌, ◌-◌, ◌<◌, ◌≤◌, Bool, true, false, List, [], ◌∷◌, length, get_or, drop, inl, inr, refl, sym, ap, ◌∙◌, subst, arith, add-one, drop-cons}
-use Rattle.std.specs.Prelude.{◌≢◌, ◌⊎◌, ◌==◌, ◌&&◌, ◌||◌, not, if◌then◌else◌, min, nat_le, nat_lt}
+use Rattle.std.proofs.Common.{◌≡◌, ℕ, zero, suc, ◌+◌, ◌-◌, ◌<◌, ◌≤◌, Bool, true, false, List, length, get_or, drop, inl, inr, refl, sym, ap, ◌∙◌, subst, arith, drop-cons}
+use Rattle.std.specs.Prelude.{◌≢◌, ◌==◌, ◌&&◌, ◌||◌, not, nat_le, nat_lt}
 use Rattle.std.proofs.lemmas.Bool.{cases_Bool, cases_eq, cases_lt, eq-eqb, le-leb, le-ltb, lt-leb, lt-ltb, ne_eqb, true≢false}
 use Rattle.std.proofs.lemmas.List.{drop_all, ext_get_or}
 use Rattle.cell.specs.Shown.{Rendition, Shown, shown_blank}
-use Rattle.cell.specs.Pictures.{HasSize, Picture, Place, line_of, origin, shown_at}
+use Rattle.cell.specs.Pictures.{HasSize, Picture, Place, line_of, shown_at}
 use Rattle.cell.proofs.PictureLemmas.{length-line}
 use Rattle.paint.specs.declared.counting.Count.{Count}
 use Rattle.paint.specs.declared.runs.Run.{Run}
 use Rattle.paint.specs.steps.Counting.{AreWrittenAtEnds, is_last_of_line, with_run, with_runs}
-use Rattle.paint.specs.steps.Listing.{AreRuns, AreSameBetween, HaveGaps, IsListed, end_of, gap_before, is_before, no_run}
+use Rattle.paint.specs.steps.Listing.{AreRuns, AreSameBetween, HaveGaps, end_of, is_before, no_run}
 use Rattle.paint.specs.steps.Passes.{saturating_usize}
 use Rattle.paint.specs.steps.Strokes.{approach_bytes, within}
 use Rattle.paint.specs.steps.Walks.{IsRun, cells_between}
@@ -109,8 +109,7 @@ walked-run {columns} {shown} {wanted} {count} {begun} {runs} {x} i run here few 
     stretch-printed run.line old new begun run.start run.end cells.some cells.within cells.rendition (changed run.start (omega arith) cells.some)
     (λ v from to. inl (changed v from (omega (arith, to)))) (changed (run.end - 1) (omega (arith, cells.some)) (omega (arith, cells.some))) in
     let next : with_run columns wanted (saturated (printed run.start).count) run ≡ saturated (printed run.end).count =
-    run-together columns wanted (printed run.start) run wide (gap ∙ ap (λ (p : Printed). p.gap) (sym at)) ∙ ap (λ (p : Printed). saturated p.count) (sym whole) in
-    (
+    run-together columns wanted (printed run.start) run wide (gap ∙ ap (λ (p : Printed). p.gap) (sym at)) ∙ ap (λ (p : Printed). saturated p.count) (sym whole) in (
       record {
         left = h.left;
         drawn =

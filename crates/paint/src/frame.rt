@@ -4,7 +4,7 @@ ghost use Rattle.std.specs.Prelude.{◌≡◌, ◌+◌, ◌≤◌, ◌⊎◌, []
 ghost use Rattle.cell.specs.Shown.{Rendition as AnyRendition};
 ghost use Rattle.paint.specs.declared.passes.TheConstants.{MOST};
 ghost use Rattle.paint.specs.steps.Comparing.{IsCompared};
-ghost use Rattle.paint.specs.steps.Counting.{HasAtMost, passes_bytes, walk_bytes as runs_bytes};
+ghost use Rattle.paint.specs.steps.Counting.{HasAtMost, passes_bytes, runs_bytes};
 ghost use Rattle.paint.specs.steps.Gathering.{GathersExactly, empty_outbox};
 ghost use Rattle.paint.specs.steps.Holding.{CanDraw, HoldsFrameUpdate};
 ghost use Rattle.paint.specs.steps.Listing.{AreRuns, AreTooMany, HaveGaps};

@@ -7,6 +7,7 @@ use Rattle.paint.specs.declared.changes.Frame.{Frame}
 use Rattle.paint.specs.declared.pen.Pen.{Pen}
 use Rattle.paint.specs.declared.runs.Run.{Run}
 use Rattle.paint.specs.steps.Counting.{HasAtMost, passes_bytes}
+use Rattle.paint.specs.steps.Gathering.{GathersExactly, empty_outbox}
 use Rattle.paint.specs.steps.Listing.{AreRuns, AreTooMany, HaveGaps, RunList}
 use Rattle.paint.specs.steps.Passes.{changed_renditions, order_for}
 use Rattle.paint.specs.steps.Walking.{walk_bytes}
@@ -15,8 +16,8 @@ use Rattle.paint.specs.steps.Walking.{walk_bytes}
 abbrev pub frame_order : Frame → List Rendition
 frame_order frame = order_for (changed_renditions frame.shown.now frame.wanted.now)
 
--- A text that a pen gathered has no more bytes than the walk takes, and no more than the runs of the frame take in passes. There is one list of
--- runs that are those of the frame, with gaps that begin as they do.
+-- A text that a pen gathered has no more bytes than the walk takes, and no more than the runs of the frame take in
+-- passes.
 pub record IsShorter (frame : Frame) (from to : Place) (before now : Seen) (pen : Pen) : Type 0 where
   pub runs : List Run
   pub are_runs : AreRuns (frame_order frame) frame.shown.now frame.wanted.now runs (frame.lines, 0)
@@ -30,7 +31,8 @@ pub record HasTooMany (frame : Frame) (room : ℕ) : Type 0 where
   pub room_is : list.room ≡ room
   pub too_many : AreTooMany list.noted.order frame.shown.now frame.wanted.now list
 
--- Passes are compared with the walk, but where they save nothing, or where there are too many runs.
+-- Where passes save nothing, or where there are too many runs, the walk is drawn. Else the text is the shorter of the two.
 abbrev pub IsCompared : Frame → ℕ → Place → Place → Seen → Seen → Pen → Type 0
 IsCompared frame room from to before now pen =
-    ((frame_order frame ≡ []) ⊎ HasTooMany frame room) ⊎ IsShorter frame from to before now pen
+    (((frame_order frame ≡ []) ⊎ HasTooMany frame room) × GathersExactly (walk_bytes frame.shown.now frame.wanted.now from to) before now empty_outbox pen.outbox)
+    ⊎ IsShorter frame from to before now pen

@@ -1,5 +1,5 @@
 -- `draw_frame`: the text of the last one that was drawn; it may go to any sink where nothing of it went out (`Gathering`).
-use Rattle.std.proofs.Common.{◌≡◌, ◌+◌, ◌<◌, ◌∙◌, false, List, [], length, Some, inl, inr, arith, refl, subst, sym, ap}
+use Rattle.std.proofs.Common.{◌≡◌, ◌+◌, ◌<◌, ◌∙◌, false, List, [], length, Some, inr, arith, refl, subst, sym, ap}
 use Rattle.std.specs.Prelude.{◌⊎◌}
 use Rattle.std.proofs.lemmas.Bool.Decides.{nat_tests}
 use Rattle.cell.specs.Pictures.{Picture, Place}

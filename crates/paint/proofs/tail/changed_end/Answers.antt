@@ -1,5 +1,5 @@
 -- `changed_end`: which columns of a line are changed (`ChangedCells`).
-use Rattle.std.proofs.Common.{◌≡◌, ◌≤◌, ◌∙◌, length, max, sym, ap, arith}
+use Rattle.std.proofs.Common.{◌≤◌, ◌∙◌, length, sym, arith}
 use Rattle.paint.proofs.ChangedCells.{changed-at, changed_from-is, changed_from-later, changed_from-none, unchanged-before}
 use Rattle.paint.proofs.tail.changed_end.Goals as goal
 
