@@ -67,3 +67,5 @@ pub mod Comparing
 pub mod Gaps
 -- A walk that erases nothing takes what the runs of its frame take one after another; for `draw_frame`
 pub mod WalkedRuns
+-- A frame has one list of runs; for `draw_frame`
+pub mod OneRuns

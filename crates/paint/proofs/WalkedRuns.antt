@@ -53,13 +53,13 @@ together-gap line wanted printed start stop = refl
 before-none : (y v x : ℕ) → x ≤ v → is_before (y, v) (y, x) ≡ false
 before-none y v x past = rw (le-ltb y y (omega arith), eq-eqb y y refl, le-ltb v x past) refl
 
-before-line : (y v z x : ℕ) → y < z → is_before (y, v) (z, x) ≡ true
+pub before-line : (y v z x : ℕ) → y < z → is_before (y, v) (z, x) ≡ true
 before-line y v z x above = rw (lt-ltb y z above) refl
 
 before-later : (y v z x : ℕ) → z < y → is_before (y, v) (z, x) ≡ false
 before-later y v z x below = rw (le-ltb y z (omega arith), ne_eqb y z (λ e. omega (arith, e, below))) refl
 
-before-column : (y v x : ℕ) → v < x → is_before (y, v) (y, x) ≡ true
+pub before-column : (y v x : ℕ) → v < x → is_before (y, v) (y, x) ≡ true
 before-column y v x few = rw (le-ltb y y (omega arith), eq-eqb y y refl, lt-ltb v x few) refl
 
 module _ {shown wanted : Picture} {y x z u : ℕ} (h : AreSameBetween shown wanted (y, x) (z, u)) where

@@ -16,12 +16,17 @@ use Rattle.paint.specs.steps.Walking.{walk_bytes}
 abbrev pub frame_order : Frame → List Rendition
 frame_order frame = order_for (changed_renditions frame.shown.now frame.wanted.now)
 
+-- these are the runs of a frame
+pub record AreRunsOf (frame : Frame) (runs : List Run) : Type 0 where
+  pub runs_are : AreRuns (frame_order frame) frame.shown.now frame.wanted.now runs (frame.lines, 0)
+  pub gaps : HaveGaps runs
+
 -- A text that a pen gathered has no more bytes than the walk takes, and no more than the runs of the frame take in
--- passes.
+-- passes. There is one list of these.
 pub record IsShorter (frame : Frame) (from to : Place) (before now : Seen) (pen : Pen) : Type 0 where
   pub runs : List Run
-  pub are_runs : AreRuns (frame_order frame) frame.shown.now frame.wanted.now runs (frame.lines, 0)
-  pub gaps : HaveGaps runs
+  pub are : AreRunsOf frame runs
+  pub only : (others : List Run) → AreRunsOf frame others → others ≡ runs
   pub short : HasAtMost (min (walk_bytes frame.shown.now frame.wanted.now from to) (passes_bytes frame.columns frame.wanted.now (length (frame_order frame) + 1) runs from to))
       before now pen
 

@@ -63,7 +63,7 @@ returns-then-are_passes_shorter-clause-compared g c =
     let drawn = c.draw_walk-2.ensures.holds (record { lines = frame.lines; columns = frame.columns; last = last_shown frame.shown.now (Some c.args.from) }) false refl refl refl in
     let told = c.bytes.ensures ∙ told-exactly refl refl c.draw_walk-2.ensures.exact drawn.gathered drawn.few in
     let counted = ap (λ (o : List Rendition). passes_bytes frame.columns frame.wanted.now (length o + 1) runs c.args.from c.args.to) order in
-    inr (passes-shorter frame c.args.from c.args.to runs are_runs gaps _ _ counted told (sym c.are_passes_shorter.ensures ∙ c.if-are_passes_shorter.true) c.draw_passes.ensures.short)
+    inr (passes-shorter frame c.args.from c.args.to runs are_runs gaps frame.sound.wanted.height _ _ counted told (sym c.are_passes_shorter.ensures ∙ c.if-are_passes_shorter.true) c.draw_passes.ensures.short)
 
 pub returns-then-not-holds_all-clause-compared : goal.returns-then-not-holds_all-clause-compared
 returns-then-not-holds_all-clause-compared g c =
@@ -78,7 +78,7 @@ returns-then-not-holds_all-clause-compared g c =
     let drawn = c.draw_walk-2.ensures.holds (record { lines = frame.lines; columns = frame.columns; last = last_shown frame.shown.now (Some c.args.from) }) false refl refl refl in
     let told = c.bytes.ensures ∙ told-exactly refl refl c.draw_walk-2.ensures.exact drawn.gathered drawn.few in
     let counted = ap (λ (o : List Rendition). passes_bytes frame.columns frame.wanted.now (length o + 1) runs c.args.from c.args.to) order in
-    inr (walk-shorter frame c.args.from c.args.to runs are_runs gaps _ _ counted told (sym c.are_passes_shorter.ensures ∙ c.if-are_passes_shorter.false) c.draw_walk-then-not-holds_all.ensures.exact)
+    inr (walk-shorter frame c.args.from c.args.to runs are_runs gaps frame.sound.wanted.height _ _ counted told (sym c.are_passes_shorter.ensures ∙ c.if-are_passes_shorter.false) c.draw_walk-then-not-holds_all.ensures.exact)
 
 pub returns-else-not-holds_all-clause-compared : goal.returns-else-not-holds_all-clause-compared
 returns-else-not-holds_all-clause-compared g c =
@@ -93,7 +93,7 @@ returns-else-not-holds_all-clause-compared g c =
     let drawn = c.draw_walk-2.ensures.holds (record { lines = frame.lines; columns = frame.columns; last = last_shown frame.shown.now (Some c.args.from) }) false refl refl refl in
     let told = c.bytes.ensures ∙ told-exactly refl refl c.draw_walk-2.ensures.exact drawn.gathered drawn.few in
     let counted = ap (λ (o : List Rendition). passes_bytes frame.columns frame.wanted.now (length o + 1) runs c.args.from c.args.to) order in
-    inr (walk-shorter frame c.args.from c.args.to runs are_runs gaps _ _ counted told (sym c.are_passes_shorter.ensures ∙ c.if-are_passes_shorter.false)
+    inr (walk-shorter frame c.args.from c.args.to runs are_runs gaps frame.sound.wanted.height _ _ counted told (sym c.are_passes_shorter.ensures ∙ c.if-are_passes_shorter.false)
     (exactly-anew _ (sym c.holds_all.ensures ∙ c.if-not-holds_all.false) c.draw_walk-2.ensures.exact))
 
 pub returns-then-are_written_at_ends-clause-compared : goal.returns-then-are_written_at_ends-clause-compared
@@ -108,5 +108,5 @@ returns-then-are_written_at_ends-clause-compared g c =
     let are_runs = subst (λ (o : List Rendition). AreRuns o frame.shown.now frame.wanted.now runs (frame.lines, 0)) order are in
     let gaps = subst HaveGaps (sym c.linked.ensures.runs) (c.list_runs.ensures.gaps c.if-not-list_runs.false) in
     let counted = ap (λ (o : List Rendition). passes_bytes frame.columns frame.wanted.now (length o + 1) runs c.args.from c.args.to) order in
-    inr (runs-shorter frame c.args.from c.args.to runs are_runs gaps f.shown f.wanted (omega (arith, c.requires.line)) (c.are_written_at_ends.ensures c.if-are_written_at_ends.true) _ counted
+    inr (runs-shorter frame c.args.from c.args.to runs are_runs gaps f.wanted.height f.shown f.wanted (omega (arith, c.requires.line)) (c.are_written_at_ends.ensures c.if-are_written_at_ends.true) _ counted
     c.draw_shorter.ensures.shorter)
