@@ -12,7 +12,6 @@ use Rattle.paint.specs.declared.runs.Run.{Run}
 use Rattle.paint.specs.steps.Comparing.{AreRunsOf, IsShorter, frame_order}
 use Rattle.paint.specs.steps.Counting.{AreWrittenAtEnds, HasAtMost, count_from, ended_bytes, passes_bytes, runs_bytes}
 use Rattle.paint.specs.steps.Gathering.{GathersAtMost, GathersExactly, empty_outbox}
-use Rattle.paint.specs.steps.Listing.{AreRuns, HaveGaps}
 use Rattle.paint.specs.steps.Passes.{saturating_usize}
 use Rattle.paint.specs.steps.Strokes.{moved_bytes}
 use Rattle.paint.specs.steps.Walking.{walk_bytes, with_picture}
@@ -22,13 +21,9 @@ use Rattle.paint.proofs.WalkedRuns.{runs-walked}
 sat-end : (a b : ℕ) → saturating_usize (saturating_usize a + b) ≡ saturating_usize (a + b)
 sat-end a b = omega arith
 
-module _ (frame : Frame) (from to : Place) (runs : List Run) (are : AreRuns (frame_order frame) frame.shown.now frame.wanted.now runs (frame.lines, 0)) (gaps : HaveGaps runs)
-    (high : length frame.wanted.now ≡ frame.lines) where
-  these : AreRunsOf frame runs
-  these = record { runs_are = are; gaps = gaps }
-
+module _ (frame : Frame) (from to : Place) (runs : List Run) (are : AreRunsOf frame runs) (high : length frame.wanted.now ≡ frame.lines) where
   no-others : (others : List Run) → AreRunsOf frame others → others ≡ runs
-  no-others others h = one-list (frame_order frame) frame.shown.now frame.wanted.now frame.lines runs others are h.runs_are gaps h.gaps high
+  no-others others h = one-list (frame_order frame) frame.shown.now frame.wanted.now frame.lines runs others are.runs_are h.runs_are are.gaps h.gaps high
 
   abbrev passes : ℕ
   passes = passes_bytes frame.columns frame.wanted.now (length (frame_order frame) + 1) runs from to
@@ -40,14 +35,14 @@ module _ (frame : Frame) (from to : Place) (runs : List Run) (are : AreRuns (fra
   pub passes-shorter : {before now : Seen} {pen : Pen} (counted told : ℕ) → counted ≡ passes → told ≡ walk → nat_lt counted told ≡ true → HasAtMost counted before now pen → IsShorter frame from to before now pen
   passes-shorter {before} {now} {pen} counted told is measured fewer h =
       let least : counted ≡ min walk passes = omega (arith, is, measured, ltb-true counted told fewer) in
-      record { runs = runs; are = these; only = no-others; short = subst (λ n. HasAtMost n before now pen) least h }
+      record { runs = runs; are = are; only = no-others; short = subst (λ n. HasAtMost n before now pen) least h }
 
   -- and else that of the walk
   pub walk-shorter : {before now : Seen} {pen : Pen} (counted told : ℕ) → counted ≡ passes → told ≡ walk → nat_lt counted told ≡ false → GathersExactly walk before now empty_outbox pen.outbox
       → IsShorter frame from to before now pen
   walk-shorter counted told is measured more h = record {
     runs = runs;
-    are = these;
+    are = are;
     only = no-others;
     short = λ few.
         let enough : told ≤ counted = (elim (cases_lt counted told) [
@@ -63,12 +58,12 @@ module _ (frame : Frame) (from to : Place) (runs : List Run) (are : AreRuns (fra
       → IsShorter frame from to before now pen
   runs-shorter old_size new_size some written {before} {now} {pen} counted is h =
       let drawn = with_picture frame.shown.now frame.wanted.now (count_from from) in
-      let all = runs-walked frame.lines frame.columns frame.shown.now frame.wanted.now old_size new_size some (frame_order frame) runs are gaps written (count_from from) in
+      let all = runs-walked frame.lines frame.columns frame.shown.now frame.wanted.now old_size new_size some (frame_order frame) runs are.runs_are are.gaps written (count_from from) in
       let same : runs_bytes frame.columns frame.wanted.now runs from to ≡ saturating_usize walk =
       ap (λ (c : Count). ended_bytes c to) all ∙ sat-end drawn.bytes (moved_bytes drawn.pen.cursor drawn.pen.rendition to no_rendition) in
       record {
         runs = runs;
-        are = these;
+        are = are;
         only = no-others;
         short = λ few.
             let least : min (runs_bytes frame.columns frame.wanted.now runs from to) counted ≡ min walk passes = omega (arith, same, is, few) in

@@ -113,7 +113,7 @@ at_tail line shown wanted count =
       bytes = printed.count.bytes + reach_bytes pen.cursor pen.rendition line wanted printed.gap from;
     }
 
--- it erases to the end of the line, or of the page
+-- it erases to the end of the line, or of the page, by an escape, a bracket and a letter
 abbrev pub with_erasure : Count → Count
 with_erasure count = record { pen = count.pen; bytes = count.bytes + 3 }
 
