@@ -19,7 +19,7 @@ use Rattle.ecma.specs.declared.token.Token.TheVariants.{Print}
 use Rattle.streams.specs.Sinks.{Seen}
 use Rattle.paint.specs.declared.pen.Pen.{Pen}
 use Rattle.paint.specs.steps.Gathering.{Gathers}
-use Rattle.paint.specs.steps.Strokes.{all_have, Draws, Strokes, cell_bytes, characters, line_bytes, most_approach, run_bytes, with_cells, within}
+use Rattle.paint.specs.steps.Strokes.{all_have, Draws, ExactStrokes, Strokes, cell_bytes, characters, line_bytes, most_approach, run_bytes, with_cells, within}
 use Rattle.paint.specs.steps.Walks.{cells_between, with_prefix, AreOfRun, IsLinePainted, IsOver, IsRun, is_over}
 use Rattle.paint.proofs.Prefixes.{length-with_prefix, take-with_prefix}
 use Rattle.paint.proofs.PenStrokes.{Draws-then, Strokes-then, spelled-print}
@@ -67,12 +67,12 @@ prints-run old new line column cells picture sound same some room known wide gat
 
 -- ---- a run after an approach
 
-pub run-strokes : {a b c : Seen} {x y z : Pen} {picture drawn : Picture} {n : ℕ} (cells : List Shown) → Strokes n a b x y picture picture
-    → Draws (characters cells) b c y z picture drawn → Strokes (n + length cells) a c x z picture drawn
+pub run-strokes : {a b c : Seen} {x y z : Pen} {picture drawn : Picture} {n : ℕ} (cells : List Shown) → ExactStrokes n a b x y picture picture
+    → Draws (characters cells) b c y z picture drawn → ExactStrokes (n + length cells) a c x z picture drawn
 run-strokes cells h k = record {
   piece = h.piece ++ characters cells;
   draws = Draws-then h.draws k;
-  short = omega (arith, h.short, length-append h.piece (characters cells), length-map cells (λ (cell : Shown). cell.character));
+  long = omega (arith, h.long, length-append h.piece (characters cells), length-map cells (λ (cell : Shown). cell.character));
 }
 
 -- which is no more than it may have
@@ -119,11 +119,11 @@ pub run-after : {a b : Seen} {x y : Pen} {picture : Picture} (line column : ℕ)
     → column + length gap ≤ length (line_of picture line)
     → ((k : ℕ) → k < length gap → get_or gap k shown_blank ≡ get_or (line_of picture line) (column + k) shown_blank)
     → Draws (characters all) a b x y picture (with_cells picture (line, column) all)
-    → Strokes (length gap + length cells) a b x y picture (with_cells picture (line, column + length gap) cells)
+    → ExactStrokes (length gap + length cells) a b x y picture (with_cells picture (line, column + length gap) cells)
 run-after {a} {b} {x} {y} {picture} line column gap cells all is room are h = record {
   piece = characters all;
   draws = subst (Draws (characters all) a b x y picture) shows h;
-  short = omega (arith, length-map all (λ (cell : Shown). cell.character), ap (length {A = Shown}) is, length-append gap cells);
+  long = omega (arith, length-map all (λ (cell : Shown). cell.character), ap (length {A = Shown}) is, length-append gap cells);
 } where
   shows : with_cells picture (line, column) all ≡ with_cells picture (line, column + length gap) cells
   shows =

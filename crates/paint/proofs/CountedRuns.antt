@@ -9,7 +9,7 @@ use Rattle.paint.specs.declared.runs.Run.{Run}
 use Rattle.std.proofs.lemmas.List.{drop_all}
 use Rattle.paint.specs.steps.Counting.{HasAtMost, IsCounted, IsCountedTo, count_from, ended_bytes, with_run}
 use Rattle.paint.specs.steps.Gathering.{GathersAtMost, Outbox, empty_outbox}
-use Rattle.paint.specs.steps.Strokes.{Draws, IsPlainAt, Strokes, approach_bytes, change, drawn_bytes, move_from, moved_bytes, within}
+use Rattle.paint.specs.steps.Strokes.{Draws, ExactStrokes, IsPlainAt, approach_bytes, change, drawn_bytes, move_from, moved_bytes, within}
 use Rattle.paint.specs.steps.Walks.{HaveOneRendition, cells_between}
 use Rattle.paint.proofs.CellRuns.{part-of}
 use Rattle.paint.proofs.Walks.{length-between}
@@ -50,8 +50,8 @@ pub counted-end : {count : Count} {before now : Seen} {begun pen : Pen} {counts 
 counted-end {before = before} {now = now} {begun = begun} {pen = pen} {counts = counts} {runs = runs} {i = i} none past h =
     subst (λ (c : Count). IsCounted c before now begun pen) (sym (none h.drawn) ∙ ap (counts h.drawn) (sym (drop_all i runs past)) ∙ h.left) h.is
 
-pub strokes-most : {n : ℕ} {a b : Seen} {x y : Pen} {picture drawn : Picture} → Strokes n a b x y picture drawn → GathersAtMost n a b x.outbox y.outbox
-strokes-most h = record { piece = h.piece; gathers = h.draws.gathers; short = h.short }
+pub strokes-most : {n : ℕ} {a b : Seen} {x y : Pen} {picture drawn : Picture} → ExactStrokes n a b x y picture drawn → GathersAtMost n a b x.outbox y.outbox
+strokes-most h = record { piece = h.piece; gathers = h.draws.gathers; short = omega (arith, h.long) }
 
 -- the bytes of a run by its first cell and its columns
 pub drawn-is : (cursor : Option Place) (rendition : Rendition) (line gap start end : ℕ) (cells : List Shown) → HaveOneRendition cells start end

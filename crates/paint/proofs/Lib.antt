@@ -47,3 +47,25 @@ pub mod Narrowing
 pub mod Listing
 -- Runs linked by pass, and what a pass passes over; for `add_pass`, `new`, `paint_pass`
 pub mod Linking
+-- The first and the last of some numbers that pass a test; for `changed_lines`, `tail_start` and others
+pub mod Tests
+-- The changed cells of a line, printed one after another; for `paint_cells`
+pub mod PrintedCells
+-- Which columns of a line are changed, and where its blank end begins; for `changed_from`, `tail_start` and others
+pub mod ChangedCells
+-- What was drawn has just as many bytes as are defined for it; for `paint_cells`, `paint_line` and others
+pub mod DrawnExactly
+-- The blank end of a line: printed, or erased where that takes fewer bytes; for `paint_line`, `paint_last_line`
+pub mod BlankEnds
+-- A line is drawn as it is defined; for `paint_line`, `paint_last_line`
+pub mod WalkedLines
+-- The lines of a picture are drawn, and the page's blank end erased, as it is defined; for `paint_picture`
+pub mod WalkedPages
+-- The shorter of two texts is sent; for `draw_frame`
+pub mod Comparing
+-- Where the gaps before runs begin; for `add_line`, `list`
+pub mod Gaps
+-- A walk that erases nothing takes what the runs of its frame take one after another; for `draw_frame`
+pub mod WalkedRuns
+-- A frame has one list of runs; for `draw_frame`
+pub mod OneRuns

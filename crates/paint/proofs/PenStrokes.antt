@@ -22,7 +22,7 @@ use Rattle.streams.specs.Sinks.{Seen}
 use Rattle.paint.specs.declared.pen.Pen.{Pen}
 use Rattle.paint.specs.steps.Gathering.{Gathers, Outbox}
 use Rattle.paint.specs.steps.Strokes.{cursor_after, all_have, change, is_at, is_printed_again, move_from, under}
-use Rattle.paint.specs.steps.Strokes.{ArePrinted, Draws, IsPlainAt, Strokes, again_bytes, approach_bytes, most_approach, moved_bytes, reach_bytes}
+use Rattle.paint.specs.steps.Strokes.{ArePrinted, Draws, ExactStrokes, IsPlainAt, Strokes, again_bytes, approach_bytes, most_approach, moved_bytes, reach_bytes}
 
 -- ---- one after another
 
@@ -49,6 +49,20 @@ Strokes-then {m} {n} h k = record {
   draws = Draws-then h.draws k.draws;
   short = omega (arith, h.short, k.short, length-append h.piece k.piece);
 }
+
+pub exact-nothing : (seen : Seen) (pen : Pen) (picture : Picture) → ExactStrokes 0 seen seen pen pen picture picture
+exact-nothing seen pen picture = record { piece = []; draws = Draws-nothing seen pen picture; long = refl }
+
+pub exact-then : {m n : ℕ} {a b c : Seen} {x y z : Pen} {picture middle drawn : Picture} → ExactStrokes m a b x y picture middle → ExactStrokes n b c y z middle drawn
+    → ExactStrokes (m + n) a c x z picture drawn
+exact-then {m} {n} h k = record {
+  piece = h.piece ++ k.piece;
+  draws = Draws-then h.draws k.draws;
+  long = omega (arith, h.long, k.long, length-append h.piece k.piece);
+}
+
+pub exact-within : {m n : ℕ} {a b : Seen} {x y : Pen} {picture drawn : Picture} → ExactStrokes m a b x y picture drawn → m ≤ n → Strokes n a b x y picture drawn
+exact-within h few = record { piece = h.piece; draws = h.draws; short = omega (arith, h.long, few) }
 
 pub Strokes-more : {m n : ℕ} {a b : Seen} {x y : Pen} {picture drawn : Picture} → Strokes m a b x y picture drawn → m ≤ n → Strokes n a b x y picture drawn
 Strokes-more h few = grind arith
@@ -125,7 +139,7 @@ pub printed-none : (seen : Seen) (pen : Pen) (line column : ℕ) (cells : List S
 printed-none seen pen line column cells cursor = record {
   spent = 0;
   left = λ wanted. omega arith;
-  strokes = λ picture wide are. Strokes-nothing seen pen picture;
+  strokes = λ picture wide are. exact-nothing seen pen picture;
   cursor = cursor ∙ ap (λ n. Some (line, n)) (sym (add-zero column));
   columns = refl;
 }
@@ -153,17 +167,17 @@ printed-more {before} {mid} {chosen} {now} {old} {pen} {selected} {next} {line} 
       ap (λ r. again_bytes r (drop (i + 1) cells) wanted) rendition in
       omega (arith, h.left wanted, one, other);
   strokes = λ picture wide are.
-      let selection : Strokes (length (change pen.rendition cell.rendition)) mid chosen pen selected picture picture = record {
+      let selection : ExactStrokes (length (change pen.rendition cell.rendition)) mid chosen pen selected picture picture = record {
         piece = change pen.rendition cell.rendition;
         draws = selects picture;
-        short = omega arith;
+        long = refl;
       } in
-      let one : Strokes 1 chosen now selected next picture picture = record {
+      let one : ExactStrokes 1 chosen now selected next picture picture = record {
         piece = cell.character ∷ [];
         draws = subst (Draws (cell.character ∷ []) chosen now selected next picture) (printed-there picture line column i cells cell are inside is) (draws picture (wide ∙ sym h.columns ∙ sym same));
-        short = omega arith;
+        long = refl;
       } in
-      Strokes-then (h.strokes picture wide are) (Strokes-then selection one);
+      exact-then (h.strokes picture wide are) (exact-then selection one);
   cursor =
       let more : column + i + 1 < selected.columns = omega (arith, room, h.columns, same) in
       let next_column : column + i + 1 ≡ column + (i + 1) = omega arith in
@@ -198,21 +212,29 @@ length-move cursor place few_lines few_columns = grind (arith, cases_Bool, move-
 pub length-change : (old new : Rendition) → length (change old new) ≤ length (spelling (Sgr new))
 length-change old new = grind (arith, cases_Bool, change-same, change-other)
 
+pub cup-long : (line column : ℕ) → 4 ≤ length (spelling (Cup line column))
+unfolding spelling
+cup-long line column = grind (arith, length-append)
+
 -- ---- an approach
 
 pub approach-move : {a b c : Seen} {x y z : Pen} {picture : Picture} (place : Place) (rendition : Rendition)
     → Draws (move_from x.cursor place) a b x y picture picture → y.rendition ≡ x.rendition → Draws (change y.rendition rendition) b c y z picture picture
-    → Strokes (moved_bytes x.cursor x.rendition place rendition) a c x z picture picture
+    → ExactStrokes (moved_bytes x.cursor x.rendition place rendition) a c x z picture picture
 approach-move {x} {y} place rendition h same k = record {
   piece = move_from x.cursor place ++ change y.rendition rendition;
   draws = Draws-then h k;
-  short = omega (arith, length-append (move_from x.cursor place) (change y.rendition rendition), ap (λ r. length (change r rendition)) same);
+  long = omega (arith, length-append (move_from x.cursor place) (change y.rendition rendition), ap (λ r. length (change r rendition)) same);
 }
 
 pub approach-again : {a b c : Seen} {x y z : Pen} {picture : Picture} {line column : ℕ} {cells : List Shown} (rendition : Rendition)
     → ArePrinted a b x y line column (length cells) cells → length (line_of picture line) ≡ x.columns → take (length cells) (drop column (line_of picture line)) ≡ cells
-    → Draws (change y.rendition rendition) b c y z picture picture → Strokes (again_bytes x.rendition cells rendition) a c x z picture picture
-approach-again rendition h wide are k = grind (arith, drop_all, Strokes-more, Strokes-then)
+    → Draws (change y.rendition rendition) b c y z picture picture → ExactStrokes (again_bytes x.rendition cells rendition) a c x z picture picture
+approach-again {a} {b} {c} {x} {y} {z} {picture} {cells = cells} rendition h wide are k =
+    let ending : ExactStrokes (length (change y.rendition rendition)) b c y z picture picture = record { piece = change y.rendition rendition; draws = k; long = refl } in
+    let nothing : again_bytes y.rendition (drop (length cells) cells) rendition ≡ length (change y.rendition rendition) =
+    ap (λ l. again_bytes y.rendition l rendition) (drop_all (length cells) cells (omega arith)) in
+    subst (λ n. ExactStrokes n a c x z picture picture) (ap (λ n. h.spent + n) (sym nothing) ∙ h.left rendition) (exact-then (h.strokes picture wide are) ending)
 
 least : (b : Bool) (m n most : ℕ) → n ≤ most → (if b then min m n else n) ≤ most
 least b m n most h = grind (arith, min-le_right)
@@ -250,7 +272,7 @@ again-least rendition [] wanted = omega arith
 again-least rendition (cell ∷ gap) wanted = grind (arith, change-through, again-least cell.rendition gap wanted)
 
 -- a gap that has the rendition in force takes its characters alone
-plain-again : (rendition : Rendition) (gap : List Shown) (wanted : Rendition) → all_have rendition gap ≡ true
+pub plain-again : (rendition : Rendition) (gap : List Shown) (wanted : Rendition) → all_have rendition gap ≡ true
     → again_bytes rendition gap wanted ≡ length gap + length (change rendition wanted)
 plain-again rendition [] wanted all = omega arith
 plain-again rendition (cell ∷ gap) wanted all =
@@ -260,7 +282,7 @@ plain-again rendition (cell ∷ gap) wanted all =
     let rest : again_bytes cell.rendition gap wanted ≡ again_bytes rendition gap wanted = ap (λ r. again_bytes r gap wanted) is in
     omega (arith, first, rest, plain-again rendition gap wanted parts.1)
 
-not-further : (cursor : Option Place) (line column n : ℕ) → 0 < n → is_at cursor (line, column) ≡ true → is_at cursor (line, column + n) ≡ false
+pub not-further : (cursor : Option Place) (line column n : ℕ) → 0 < n → is_at cursor (line, column) ≡ true → is_at cursor (line, column + n) ≡ false
 not-further cursor line column n some at = rw (is_at-known cursor (line, column) at) (grind (arith, ne_eqb))
 
 -- ---- whether a gap is printed again

@@ -1,5 +1,5 @@
 -- Cells of one rendition that are printed together: runs, and a cell between two that is shown already.
-use Rattle.std.proofs.Common.{◌≡◌, ℕ, ◌+◌, ◌-◌, ◌<◌, ◌≤◌, ◌∙◌, false, List, length, get_or, drop, inl, inr, ap, arith}
+use Rattle.std.proofs.Common.{◌≡◌, ℕ, ◌+◌, ◌-◌, ◌<◌, ◌≤◌, ◌∙◌, false, List, length, get_or, drop, inl, inr, ap, subst, arith}
 use Rattle.std.proofs.lemmas.Bool.{cases_lt}
 use Rattle.cell.specs.Differences.{same_shown}
 use Rattle.cell.specs.Shown.{Rendition, Shown, shown_blank}
@@ -17,6 +17,8 @@ run-stretch {shown} {wanted} {start} {end} {stop} same inside h = record {
   cells = run-cells h inside;
   within = h.within;
   changed = h.changed start (omega arith) h.some;
+  single = λ x from to. inl (h.changed x from (omega arith));
+  last = h.changed (stop - 1) (omega (arith, h.some)) (omega (arith, h.some));
   short = run-short start stop shown wanted same h.some (omega (arith, h.within, inside, same)) h.changed;
 }
 
@@ -51,6 +53,17 @@ stretch-further {shown} {wanted} {start} {end} {stop} {later} {rendition} same i
   };
   within = run.within;
   changed = h.changed;
+  single = λ x from to. elim (cases_lt (x + 1) stop) [
+    | inl early ↦ h.single x from early
+    | inr late ↦ elim (cases_lt stop x) [
+      | inl after ↦ inl (run.changed x (omega arith) (omega arith))
+      | inr near ↦ elim (cases_lt x stop) [
+        | inl before ↦ inl (let is : stop - 1 ≡ x = omega arith in subst (λ n. same_shown (get_or shown n shown_blank) (get_or wanted n shown_blank) ≡ false) is h.last)
+        | inr at ↦ inr (run.changed (x + 1) (omega arith) to)
+      ]
+    ]
+  ];
+  last = run.changed (later - 1) (omega (arith, run.some)) (omega (arith, run.some));
   short = omega (
     arith,
     h.cells.some,

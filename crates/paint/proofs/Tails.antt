@@ -16,7 +16,7 @@ kept-later f n m items h kept =
     let whole : drop (m - n) (drop n items) ≡ drop m items = drop-drop (m - n) n items ∙ ap (λ i. drop i items) split in
     rw (← whole) (kept-drop f (m - n) (drop n items) kept)
 
-get_or-map : {A : Type 0} (f : A → A) (other : A) → f other ≡ other → (items : List A) (n : ℕ) → get_or (map f items) n other ≡ f (get_or items n other)
+pub get_or-map : {A : Type 0} (f : A → A) (other : A) → f other ≡ other → (items : List A) (n : ℕ) → get_or (map f items) n other ≡ f (get_or items n other)
 get_or-map f other is [] n = sym is
 get_or-map f other is (item ∷ items) zero = refl
 get_or-map f other is (item ∷ items) (suc n) = get_or-map f other is items n

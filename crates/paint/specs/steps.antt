@@ -6,3 +6,5 @@ pub mod Passes
 pub mod Listing
 pub mod Counting
 pub mod Linking
+pub mod Walking
+pub mod Comparing

@@ -5,7 +5,7 @@ ghost use Rattle.cell.specs.Pictures.{shown_at};
 ghost use Rattle.cell.specs.Shown.{shown_blank};
 ghost use Rattle.paint.specs.steps.Listing.{no_run};
 ghost use Rattle.cell.specs.declared.limits.TheConstants.{LARGEST_SCREEN};
-ghost use Rattle.paint.specs.steps.Counting.{AreInside, AreWrittenAtEnds, IsInside, count_from, ended_bytes, is_last_of_line, passes_bytes, walk_bytes, with_pass, with_run, with_runs};
+ghost use Rattle.paint.specs.steps.Counting.{AreInside, AreWrittenAtEnds, IsInside, count_from, ended_bytes, is_last_of_line, passes_bytes, runs_bytes, with_pass, with_run, with_runs};
 
 use crate::changes::Frame;
 use crate::gap::{approach_length, moved_length};
@@ -124,7 +124,7 @@ pub fn walk_length(frame: &Frame<'_>, runs: &[Run], from: (u16, u16), to: (u16, 
     requires runs { AreInside frame.now.lines frame.now.columns runs.now }
     requires line { to.0 < LARGEST_SCREEN }
     requires column { to.1 < LARGEST_SCREEN }
-    ensures { result ≡ walk_bytes frame.now.columns frame.now.wanted.now runs.now from to }
+    ensures { result ≡ runs_bytes frame.now.columns frame.now.wanted.now runs.now from to }
 {
     let mut count = Count::new(from);
     count.add_runs(frame, runs);

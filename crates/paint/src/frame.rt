@@ -3,11 +3,14 @@
 ghost use Rattle.std.specs.Prelude.{◌≡◌, ◌+◌, ◌≤◌, ◌⊎◌, [], List, false, length, min, true};
 ghost use Rattle.cell.specs.Shown.{Rendition as AnyRendition};
 ghost use Rattle.paint.specs.declared.passes.TheConstants.{MOST};
-ghost use Rattle.paint.specs.steps.Counting.{HasAtMost, passes_bytes, walk_bytes};
+ghost use Rattle.paint.specs.steps.Comparing.{IsCompared};
+ghost use Rattle.paint.specs.steps.Counting.{HasAtMost, passes_bytes, runs_bytes};
+ghost use Rattle.paint.specs.steps.Gathering.{GathersExactly, empty_outbox};
 ghost use Rattle.paint.specs.steps.Holding.{CanDraw, HoldsFrameUpdate};
-ghost use Rattle.paint.specs.steps.Listing.{AreRuns, AreTooMany};
+ghost use Rattle.paint.specs.steps.Listing.{AreRuns, AreTooMany, HaveGaps};
 ghost use Rattle.paint.specs.steps.Passes.{HasNoted, changed_renditions, order_for};
 ghost use Rattle.paint.specs.steps.Strokes.{SameTerminals};
+ghost use Rattle.paint.specs.steps.Walking.{walk_bytes};
 
 use crate::changes::Frame;
 use crate::counting::{are_passes_shorter, are_written_at_ends, walk_length};
@@ -34,6 +37,7 @@ pub fn draw_frame<W: Sink>(
 )
     requires { CanDraw pen.old frame.now.lines frame.now.columns to }
     ensures holds { HoldsFrameUpdate frame.now from to (W.seen sink.old) (W.seen sink.new) pen.new.outbox }
+    ensures compared { IsCompared frame.now runs.old.room from to (W.seen sink.old) (W.seen sink.new) pen.new }
     ensures same { SameTerminals (W.name sink.old) (W.name sink.new) pen.old pen.new }
 {
     if !list_runs(runs, frame) {
@@ -67,6 +71,8 @@ fn list_runs(runs: &mut Runs, frame: &Frame<'_>) -> bool
         ⊎ AreTooMany runs.new.noted.order frame.now.shown.now frame.now.wanted.now runs.new }
     ensures runs { result ≡ true → AreRuns runs.new.noted.order frame.now.shown.now frame.now.wanted.now runs.new.runs (frame.now.lines, 0) }
     ensures noted { result ≡ true → HasNoted runs.new.noted (changed_renditions frame.now.shown.now frame.now.wanted.now) }
+    ensures gaps { result ≡ true → HaveGaps runs.new.runs }
+    ensures room { runs.new.room ≡ runs.old.room }
 {
     if runs.order().is_empty() && order_of(frame).renditions().is_empty() {
         return false;
@@ -84,6 +90,7 @@ fn draw_walk<W: Sink>(
 )
     requires { CanDraw pen.old frame.now.lines frame.now.columns to }
     ensures holds { HoldsFrameUpdate frame.now from to (W.seen sink.old) (W.seen sink.new) pen.new.outbox }
+    ensures exact { GathersExactly (walk_bytes frame.now.shown.now frame.now.wanted.now from to) (W.seen sink.old) (W.seen sink.new) empty_outbox pen.new.outbox }
     ensures same { SameTerminals (W.name sink.old) (W.name sink.new) pen.old pen.new }
 {
     pen.begin(from);
@@ -105,7 +112,7 @@ fn draw_shorter<W: Sink>(
     requires few { length order.now ≤ MOST }
     requires runs { AreRuns order.now frame.now.shown.now frame.now.wanted.now passes.now.runs.now (frame.now.lines, 0) }
     ensures holds { HoldsFrameUpdate frame.now from to (W.seen sink.old) (W.seen sink.new) pen.new.outbox }
-    ensures shorter { HasAtMost (min (walk_bytes frame.now.columns frame.now.wanted.now passes.now.runs.now from to)
+    ensures shorter { HasAtMost (min (runs_bytes frame.now.columns frame.now.wanted.now passes.now.runs.now from to)
         (passes_bytes frame.now.columns frame.now.wanted.now (length order.now + 1) passes.now.runs.now from to)) (W.seen sink.old) (W.seen sink.new) pen.new }
     ensures same { SameTerminals (W.name sink.old) (W.name sink.new) pen.old pen.new }
 {
@@ -130,7 +137,7 @@ fn draw_runs<W: Sink>(
     requires can { CanDraw pen.old frame.now.lines frame.now.columns to }
     requires runs { (order : List AnyRendition) × AreRuns order frame.now.shown.now frame.now.wanted.now runs.now (frame.now.lines, 0) }
     ensures holds { HoldsFrameUpdate frame.now from to (W.seen sink.old) (W.seen sink.new) pen.new.outbox }
-    ensures short { HasAtMost (walk_bytes frame.now.columns frame.now.wanted.now runs.now from to) (W.seen sink.old) (W.seen sink.new) pen.new }
+    ensures short { HasAtMost (runs_bytes frame.now.columns frame.now.wanted.now runs.now from to) (W.seen sink.old) (W.seen sink.new) pen.new }
     ensures same { SameTerminals (W.name sink.old) (W.name sink.new) pen.old pen.new }
 {
     pen.begin(from);

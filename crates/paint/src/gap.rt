@@ -4,7 +4,7 @@ ghost use Rattle.std.specs.Prelude.{◌≡◌, ◌+◌, ◌<◌, ◌≤◌, ◌&
 ghost use Rattle.cell.specs.Differences.{same_rendition};
 ghost use Rattle.cell.specs.Pictures.{Picture, line_of};
 ghost use Rattle.paint.specs.declared.gap.TheConstants.{LONGEST_MOVE};
-ghost use Rattle.paint.specs.steps.Strokes.{SameTerminals, Strokes, again_bytes, all_have, approach_bytes, change, is_printed_again, moved_bytes};
+ghost use Rattle.paint.specs.steps.Strokes.{ExactStrokes, SameTerminals, again_bytes, all_have, approach_bytes, change, is_printed_again, moved_bytes};
 
 use crate::pen::{Pen, PenState};
 use cell::{LARGEST_SCREEN, Rendition, Shown, have_rendition};
@@ -30,7 +30,7 @@ pub fn approach<W: Sink>(
     requires columns { pen.old.columns ≤ LARGEST_SCREEN }
     ensures strokes { (picture : Picture) → length (line_of picture line) ≡ pen.old.columns
         → take (length gap.now) (drop start (line_of picture line)) ≡ gap.now
-        → Strokes (approach_bytes pen.old.cursor pen.old.rendition (line, start) gap.now rendition) (W.seen sink.old) (W.seen sink.new)
+        → ExactStrokes (approach_bytes pen.old.cursor pen.old.rendition (line, start) gap.now rendition) (W.seen sink.old) (W.seen sink.new)
         pen.old pen.new picture picture }
     ensures rendition { pen.new.rendition ≡ rendition }
     ensures cursor { pen.new.cursor ≡ Some (line, start + length gap.now) }

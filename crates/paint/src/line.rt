@@ -1,15 +1,18 @@
 //! The walk over the cells of a line: a pen draws where the wanted one differs from the one that is shown.
 
-ghost use Rattle.std.specs.Prelude.{◌≡◌, ◌+◌, ◌<◌, ◌≤◌, ℕ, ⊤, MatchOption, None, false, true, length, slice_index_or, take};
+ghost use Rattle.std.specs.Prelude.{◌≡◌, ◌+◌, ◌<◌, ◌≤◌, ℕ, ⊤, MatchOption, None, false, is_some, true, length, slice_index_or, take};
 ghost use Rattle.cell.specs.Differences.{same_shown};
 ghost use Rattle.cell.specs.Pictures.{Picture, line_of};
 ghost use Rattle.cell.specs.Shown.{shown_blank};
 ghost use Rattle.cell.specs.declared.limits.TheConstants.{LARGEST_SCREEN};
 ghost use Rattle.cell.specs.declared.lanes.TheConstants.{LANES};
 ghost use Rattle.streams.specs.Sinks.{Seen};
+ghost use Rattle.paint.specs.declared.counting.Count.{Count as AnyCount};
+ghost use Rattle.paint.specs.declared.pen.Pen.{Pen as AnyPen};
 ghost use Rattle.paint.specs.Updates.{place_bytes};
-ghost use Rattle.paint.specs.steps.Strokes.{IsPlainAt, SameTerminals, Strokes, drawn_bytes, line_bytes, reach_bytes, run_bytes, with_cells, within};
+ghost use Rattle.paint.specs.steps.Strokes.{ExactStrokes, IsPlainAt, SameTerminals, drawn_bytes, line_bytes, reach_bytes, run_bytes, with_cells, within};
 ghost use Rattle.paint.specs.steps.Walks.{AreEnds, AreOfRun, DifferWithin, IsLinePainted, IsOver, IsReadyToErase, IsRun, IsStretch, StrokesLine, HaveOneRendition, cells_between, is_over};
+ghost use Rattle.paint.specs.steps.Walking.{IsDrawn, IsPrintedTo, with_last_line, with_line};
 
 use crate::gap::{approach, is_plain_gap};
 use crate::pen::Pen;
@@ -41,6 +44,8 @@ pub fn paint_line<W: Sink>(pen: &mut Pen, sink: &mut W, row: &Row<'_>, start: us
     requires part { DifferWithin start end row.now.shown.now row.now.wanted.now }
     ensures strokes { StrokesLine (line_bytes row.now.shown.now row.now.wanted.now) (W.seen sink.old) (W.seen sink.new) pen.old pen.new
         row.now.line row.now.shown.now row.now.wanted.now }
+    ensures counted { (count : AnyCount) (before : Seen) (begun : AnyPen) → IsDrawn count before (W.seen sink.old) begun pen.old
+        → IsDrawn (with_line row.now.line row.now.shown.now row.now.wanted.now count) before (W.seen sink.new) begun pen.new }
     ensures same { SameTerminals (W.name sink.old) (W.name sink.new) pen.old pen.new }
 {
     let (shown, wanted) = (row.shown, row.wanted);
@@ -72,6 +77,10 @@ pub fn paint_last_line<W: Sink>(pen: &mut Pen, sink: &mut W, row: &Row<'_>) -> O
         row.now.line row.now.shown.now row.now.wanted.now }
     ensures ready { MatchOption result ⊤ (λ column. IsReadyToErase (line_bytes row.now.shown.now row.now.wanted.now + place_bytes) (W.seen sink.old)
         (W.seen sink.new) pen.old pen.new row.now.line column row.now.shown.now row.now.wanted.now) }
+    ensures counted { (count : AnyCount) (before : Seen) (begun : AnyPen) → IsDrawn count before (W.seen sink.old) begun pen.old
+        → IsDrawn (with_last_line row.now.line row.now.shown.now row.now.wanted.now count).count before (W.seen sink.new) begun pen.new }
+    ensures erases { (count : AnyCount) (before : Seen) (begun : AnyPen) → IsDrawn count before (W.seen sink.old) begun pen.old
+        → is_some result ≡ (with_last_line row.now.line row.now.shown.now row.now.wanted.now count).erases }
     ensures same { SameTerminals (W.name sink.old) (W.name sink.new) pen.old pen.new }
 {
     let (shown, wanted) = (row.shown, row.wanted);
@@ -98,7 +107,7 @@ fn come_to<W: Sink>(pen: &mut Pen, sink: &mut W, row: &Row<'_>, gap: usize, colu
     requires column { column < length row.now.wanted.now }
     ensures strokes { (picture : Picture) → length (line_of picture row.now.line) ≡ pen.old.columns
         → take column (line_of picture row.now.line) ≡ take column row.now.wanted.now
-        → Strokes (reach_bytes pen.old.cursor pen.old.rendition row.now.line row.now.wanted.now gap column) (W.seen sink.old) (W.seen sink.new)
+        → ExactStrokes (reach_bytes pen.old.cursor pen.old.rendition row.now.line row.now.wanted.now gap column) (W.seen sink.old) (W.seen sink.new)
         pen.old pen.new picture picture }
     ensures plain { IsPlainAt pen.new (row.now.line, column) }
     ensures same { SameTerminals (W.name sink.old) (W.name sink.new) pen.old pen.new }
@@ -130,6 +139,9 @@ fn paint_cells<W: Sink>(
     requires inside { end ≤ length row.now.wanted.now }
     ensures painted { (before : Seen) (old : Pen) → IsLinePainted before (W.seen sink.old) old pen.old row.now.line start row.now.shown.now row.now.wanted.now
         → IsLinePainted before (W.seen sink.new) old pen.new row.now.line end row.now.shown.now row.now.wanted.now }
+    ensures counted { (count : AnyCount) (before : Seen) (begun : AnyPen)
+        → IsPrintedTo row.now.line row.now.shown.now row.now.wanted.now count start gap before (W.seen sink.old) begun pen.old
+        → IsPrintedTo row.now.line row.now.shown.now row.now.wanted.now count end result before (W.seen sink.new) begun pen.new }
     ensures within { result ≤ end }
     ensures same { SameTerminals (W.name sink.old) (W.name sink.new) pen.old pen.new }
 {
@@ -312,7 +324,7 @@ pub fn paint_run<W: Sink>(
     requires run { HaveOneRendition row.now.wanted.now start end }
     ensures strokes { (picture : Picture) → length (line_of picture row.now.line) ≡ pen.old.columns
         → cells_between gap start (line_of picture row.now.line) ≡ cells_between gap start row.now.wanted.now
-        → Strokes (drawn_bytes pen.old.cursor pen.old.rendition (row.now.line, gap) (cells_between gap start row.now.wanted.now)
+        → ExactStrokes (drawn_bytes pen.old.cursor pen.old.rendition (row.now.line, gap) (cells_between gap start row.now.wanted.now)
         (cells_between start end row.now.wanted.now)) (W.seen sink.old) (W.seen sink.new) pen.old pen.new picture
         (with_cells picture (row.now.line, start) (cells_between start end row.now.wanted.now)) }
     ensures short { drawn_bytes pen.old.cursor pen.old.rendition (row.now.line, gap) (cells_between gap start row.now.wanted.now)

@@ -1,9 +1,14 @@
 //! The walk over the lines of a picture.
 
-ghost use Rattle.std.specs.Prelude.{◌≡◌, ◌≢◌, ℕ, ◌-◌, ◌<◌, ◌≤◌, drop, false, length, map, min};
+ghost use Rattle.std.specs.Prelude.{◌≡◌, ◌≢◌, ℕ, ◌+◌, ◌-◌, ◌<◌, ◌≤◌, Some, drop, false, length, map, min};
+ghost use Rattle.std.specs.Option.{option_map};
 ghost use Rattle.cell.specs.Pictures.{line_of};
 ghost use Rattle.ecma.specs.Terminals.{blank_line};
 ghost use Rattle.extents.specs.Extents.{is_among};
+ghost use Rattle.streams.specs.Sinks.{Seen};
+ghost use Rattle.paint.specs.declared.counting.Count.{Count as AnyCount};
+ghost use Rattle.paint.specs.declared.pen.Pen.{Pen as AnyPen};
+ghost use Rattle.paint.specs.steps.Walking.{IsDrawn, with_picture};
 ghost use Rattle.paint.specs.steps.Strokes.{SameTerminals, Strokes, picture_bytes};
 
 use crate::changes::Frame;
@@ -20,6 +25,8 @@ pub fn paint_picture<W: Sink>(pen: &mut Pen, sink: &mut W, frame: &Frame<'_>)
     requires { pen.old.columns ≡ frame.now.columns }
     ensures strokes { Strokes (picture_bytes frame.now.shown.now frame.now.wanted.now) (W.seen sink.old) (W.seen sink.new) pen.old pen.new
         frame.now.shown.now frame.now.wanted.now }
+    ensures counted { (count : AnyCount) (before : Seen) (begun : AnyPen) → IsDrawn count before (W.seen sink.old) begun pen.old
+        → IsDrawn (with_picture frame.now.shown.now frame.now.wanted.now count) before (W.seen sink.new) begun pen.new }
     ensures same { SameTerminals (W.name sink.old) (W.name sink.new) pen.old pen.new }
 {
     let changed = changed_lines(frame);
@@ -57,6 +64,7 @@ fn next_line(pen: &Pen, changes: &Extents, blank: u16, from: u16) -> u16
     ensures from { from ≤ result }
     ensures inside { from ≤ length changes.now → result ≤ length changes.now }
     ensures none { (y x : ℕ) → from ≤ y → y < result → is_among changes.now y x ≡ false }
+    ensures pen { (y : ℕ) → from ≤ y → y < result → blank ≤ y + 1 → option_map (λ place. place.0) pen.now.cursor ≡ Some y → ⊥ }
 {
     let next = changes.next(from);
     match pen.line() {

@@ -1,11 +1,11 @@
 //! The runs of changed cells of a frame, as a list.
 
-ghost use Rattle.std.specs.Prelude.{◌≡◌, ℕ, ◌++◌, ◌∷◌, ◌⊎◌, ◌<◌, ◌≤◌, IfOk, List, [], false, if◌then◌else◌, length, nat_lt, slice_index_or, take, true};
+ghost use Rattle.std.specs.Prelude.{◌≡◌, ℕ, ◌+◌, ◌++◌, ◌∷◌, ◌⊎◌, ◌<◌, ◌≤◌, IfOk, List, [], false, if◌then◌else◌, length, nat_lt, slice_index_or, take, true};
 ghost use Rattle.cell.specs.Differences.{same_shown};
 ghost use Rattle.cell.specs.Shown.{Rendition as AnyRendition, shown_blank};
 ghost use Rattle.cell.specs.Pictures.{Picture, line_of};
 ghost use Rattle.paint.specs.declared.passes.TheConstants.{MOST};
-ghost use Rattle.paint.specs.steps.Listing.{AreRuns, AreTooMany, no_run};
+ghost use Rattle.paint.specs.steps.Listing.{AreAbove, AreRuns, AreTooMany, HaveGaps, no_run};
 ghost use Rattle.paint.specs.steps.Passes.{HasNoted, changed_renditions, line_renditions, order_for, pass_of, with_pass};
 
 use crate::changes::Frame;
@@ -142,6 +142,7 @@ impl Runs {
         ensures runs { result ≡ true → AreRuns self.new.noted.order frame.now.shown.now frame.now.wanted.now self.new.runs (frame.now.lines, 0) }
         ensures noted { result ≡ true → HasNoted self.new.noted (changed_renditions frame.now.shown.now frame.now.wanted.now) }
         ensures full { result ≡ false → AreTooMany self.new.noted.order frame.now.shown.now frame.now.wanted.now self.new }
+        ensures gaps { HaveGaps self.new.runs }
         ensures room { self.new.room ≡ self.old.room }
     {
         self.clear();
@@ -175,6 +176,7 @@ impl Runs {
         ensures full { result ≡ false → (came : List AnyRendition) → HasNoted self.old.noted (came ++ line_renditions (take start row.now.shown.now) (take start row.now.wanted.now))
             → (shown wanted : Picture) → line_of shown row.now.line ≡ row.now.shown.now → line_of wanted row.now.line ≡ row.now.wanted.now
             → AreRuns self.old.noted.order shown wanted self.old.runs (row.now.line, start) → AreTooMany self.new.noted.order shown wanted self.new }
+        ensures gaps { AreAbove self.old.runs row.now.line → AreAbove self.new.runs (row.now.line + 1) }
         ensures room { self.new.room ≡ self.old.room }
     {
         let (shown, wanted) = (row.shown, row.wanted);

@@ -1,9 +1,10 @@
 //! The blank end of a line, which one erasure draws.
 
-ghost use Rattle.std.specs.Prelude.{◌≡◌, ◌≢◌, ◌↔◌, ◌+◌, ◌-◌, ◌<◌, ◌≤◌, if◌then◌else◌, drop, false, length, nat_lt, slice_index_or};
+ghost use Rattle.std.specs.Prelude.{◌≡◌, ◌≢◌, ◌↔◌, ◌+◌, ◌-◌, ◌<◌, ◌≤◌, if◌then◌else◌, MatchOption, drop, false, length, max, nat_lt, slice_index_or};
 ghost use Rattle.cell.specs.Differences.{DiffersAt, IsFirstDifference, IsLastDifference};
 ghost use Rattle.cell.specs.Shown.{shown_blank};
 ghost use Rattle.paint.specs.steps.Strokes.{reach_bytes};
+ghost use Rattle.paint.specs.steps.Walking.{changed_from, erased_from, tail_of};
 ghost use Rattle.paint.specs.steps.Walks.{AreBlank, DifferWithin, IsChangedEnd, IsChangedFrom, IsChangedTail};
 
 use crate::gap::approach_length;
@@ -33,6 +34,7 @@ pub fn erased_from(
         gap column }
     ensures begun { reach_bytes pen.now.cursor pen.now.rendition line wanted.now gap result ≤ reach_bytes pen.now.cursor pen.now.rendition line wanted.now
         gap tail }
+    ensures nearest { result ≡ erased_from pen.now.cursor pen.now.rendition line wanted.now gap tail column }
 {
     let near = nearer(pen, line, wanted, gap, tail, column);
     match pen.column_between(line, tail, column) {
@@ -127,7 +129,9 @@ pub fn changed_tail(
     requires same { length shown.now ≡ length wanted.now }
     requires ordered { first ≤ last }
     requires last { DiffersAt shown.now wanted.now last }
-    ensures { IsChangedTail shown.now wanted.now first last result }
+    ensures tail { IsChangedTail shown.now wanted.now first last result }
+    ensures exact { MatchOption result (last < tail_of wanted.now) (λ columns. (columns.0 ≡ tail_of wanted.now)
+        × (columns.1 ≡ changed_from shown.now wanted.now (max (tail_of wanted.now) first))) }
 {
     if wanted[last] != Shown::BLANK {
         return None;
@@ -144,7 +148,8 @@ pub fn changed_tail(
 pub fn changed_from(shown: &[Shown], wanted: &[Shown], start: usize) -> Option<usize>
     requires same { length shown.now ≡ length wanted.now }
     requires start { start ≤ length wanted.now }
-    ensures { IsChangedFrom shown.now wanted.now start result }
+    ensures column { IsChangedFrom shown.now wanted.now start result }
+    ensures first { MatchOption result (changed_from shown.now wanted.now start ≡ length wanted.now) (λ column. column ≡ changed_from shown.now wanted.now start) }
 {
     let skipped = first_diff(&shown[start..], &wanted[start..])?;
     Some(start + skipped)
@@ -154,7 +159,9 @@ pub fn changed_from(shown: &[Shown], wanted: &[Shown], start: usize) -> Option<u
 pub fn changed_end(shown: &[Shown], wanted: &[Shown], tail: usize) -> Option<(usize, usize)>
     requires same { length shown.now ≡ length wanted.now }
     requires tail { tail ≤ length wanted.now }
-    ensures { IsChangedEnd shown.now wanted.now tail result }
+    ensures end { IsChangedEnd shown.now wanted.now tail result }
+    ensures exact { MatchOption result (changed_from shown.now wanted.now tail ≡ length wanted.now) (λ columns.
+        (columns.0 ≡ changed_from shown.now wanted.now 0) × (columns.1 ≡ changed_from shown.now wanted.now tail)) }
 {
     let first = first_diff(shown, wanted)?;
     let column = changed_from(shown, wanted, tail.max(first))?;

@@ -60,8 +60,8 @@ ended_bytes count to = saturating_usize (count.bytes + moved_bytes count.pen.cur
 abbrev pub passes_bytes : ℕ → Picture → ℕ → List Run → Place → Place → ℕ
 passes_bytes columns wanted passes runs from to = ended_bytes (with_passes columns wanted passes (count_from from) runs) to
 
-abbrev pub walk_bytes : ℕ → Picture → List Run → Place → Place → ℕ
-walk_bytes columns wanted runs from to = ended_bytes (with_runs columns wanted (count_from from) runs) to
+abbrev pub runs_bytes : ℕ → Picture → List Run → Place → Place → ℕ
+runs_bytes columns wanted runs from to = ended_bytes (with_runs columns wanted (count_from from) runs) to
 
 -- ---- what was drawn, as it was counted
 

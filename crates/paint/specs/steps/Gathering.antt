@@ -44,3 +44,9 @@ pub record GathersAtMost (most : ℕ) (before after : Seen) (old new : Outbox) :
   pub piece : List ℕ
   pub gathers : Gathers before after old new piece
   pub short : length piece ≤ most
+
+-- some piece of just so many was
+pub record GathersExactly (count : ℕ) (before after : Seen) (old new : Outbox) : Type 0 where
+  pub piece : List ℕ
+  pub gathers : Gathers before after old new piece
+  pub long : length piece ≡ count

@@ -1,5 +1,5 @@
 -- The text of a doupdate, gathered in an outbox.
-use Rattle.std.specs.Prelude.{◌≡◌, ℕ, ◌<◌, ◌^◌, Bool, List, length, Option, Some}
+use Rattle.std.specs.Prelude.{◌≡◌, ℕ, ◌-◌, ◌<◌, ◌^◌, Bool, List, length, Option, Some}
 use Rattle.std.specs.Option.{option_map}
 use Rattle.cell.specs.Pictures.{Picture, Place}
 use Rattle.streams.specs.Sinks.{Seen}
@@ -16,7 +16,7 @@ pub record HoldsUpdate (painter : PainterState) (clear : Bool) (wanted : ShownPi
   pub text : List ℕ
   pub gathered : IsGathered start now outbox text
   pub is_text : IsUpdateText painter clear wanted text
-  pub few : length text < 2 ^ 32
+  pub few : length text < 2 ^ 32 - 1
 
 -- a pen can draw a picture of this size, and end at a place of it
 pub record CanDraw (pen : Pen) (lines columns : ℕ) (end : Place) : Type 0 where

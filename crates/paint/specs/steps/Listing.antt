@@ -1,5 +1,5 @@
 -- The runs of changed cells of a frame, one after another.
-use Rattle.std.specs.Prelude.{◌≡◌, ℕ, zero, suc, ◌<◌, ◌≤◌, ◌==◌, ◌&&◌, ◌||◌, true, false, Bool, nat_lt, List, length, slice_index_or}
+use Rattle.std.specs.Prelude.{◌≡◌, ℕ, zero, suc, ◌<◌, ◌≤◌, ◌==◌, ◌&&◌, ◌||◌, if◌then◌else◌, true, false, Bool, nat_lt, List, length, slice_index_or}
 use Rattle.cell.specs.Shown.{Rendition}
 use Rattle.cell.specs.Differences.{same_shown}
 use Rattle.cell.specs.Pictures.{Picture, Place, line_of, origin, shown_at}
@@ -64,3 +64,21 @@ pub record IsPaintedTo (before now : Seen) (old pen : Pen) (to : Place) (shown w
   pub begun : Pen
   pub picture : IsPicturePainted before mid old begun to.0 shown wanted
   pub line : IsLinePainted mid now begun pen to.0 to.1 (line_of shown to.0) (line_of wanted to.0)
+
+-- ---- their gaps
+
+-- where the gap before a run begins: at the end of the run before it in its line, and the first of a line has none
+abbrev pub gap_before : List Run → ℕ → ℕ
+gap_before runs zero = (slice_index_or runs zero no_run).start
+gap_before runs (suc k) =
+    let last = slice_index_or runs k no_run in
+    let run = slice_index_or runs (suc k) no_run in
+    if last.line == run.line then last.end else run.start
+
+abbrev pub HaveGaps : List Run → Type 0
+HaveGaps runs = (k : ℕ) → k < length runs → (slice_index_or runs k no_run).gap ≡ gap_before runs k
+
+-- their gaps begin so, and they are in lines before one
+pub record AreAbove (runs : List Run) (line : ℕ) : Type 0 where
+  pub gaps : HaveGaps runs
+  pub lines : (k : ℕ) → k < length runs → (slice_index_or runs k no_run).line < line

@@ -76,6 +76,12 @@ pub record Draws (piece : List ℕ) (before after : Seen) (old new : Pen) (pictu
   pub gathers : Gathers before after old.outbox new.outbox piece
   pub leads : Leads piece (under old picture) (under new drawn)
 
+-- some piece of just so many bytes did
+pub record ExactStrokes (count : ℕ) (before after : Seen) (old new : Pen) (picture drawn : Picture) : Type 0 where
+  pub piece : List ℕ
+  pub draws : Draws piece before after old new picture drawn
+  pub long : length piece ≡ count
+
 -- some piece of at most so many bytes did
 pub record Strokes (most : ℕ) (before after : Seen) (old new : Pen) (picture drawn : Picture) : Type 0 where
   pub piece : List ℕ
@@ -132,7 +138,7 @@ pub record ArePrinted (before now : Seen) (old pen : Pen) (line column i : ℕ) 
   pub spent : ℕ
   pub left : (wanted : Rendition) → spent + again_bytes pen.rendition (drop i cells) wanted ≡ again_bytes old.rendition cells wanted
   pub strokes : (picture : Picture) → length (line_of picture line) ≡ old.columns → take (length cells) (drop column (line_of picture line)) ≡ cells
-      → Strokes spent before now old pen picture picture
+      → ExactStrokes spent before now old pen picture picture
   pub cursor : pen.cursor ≡ Some (line, column + i)
   pub columns : pen.columns ≡ old.columns
 

@@ -34,12 +34,15 @@ pub record HaveOneRendition (wanted : List Shown) (start stop : ℕ) : Type 0 wh
   pub within : stop ≤ length wanted
   pub rendition : (x : ℕ) → start ≤ x → x < stop → (slice_index_or wanted x shown_blank).rendition ≡ (slice_index_or wanted start shown_blank).rendition
 
--- Such cells, up to a column that isn't past an end. The first is changed, and a byte for each of the others is within what the changed ones
--- among them may cost.
+-- Such cells, up to a column that isn't past an end. The first and the last are changed, and of two next to each other one is. A byte for each
+-- but the first is within what the changed ones among them may cost.
 pub record IsStretch (shown wanted : List Shown) (start end stop : ℕ) : Type 0 where
   pub cells : HaveOneRendition wanted start stop
   pub within : stop ≤ end
   pub changed : same_shown (slice_index_or shown start shown_blank) (slice_index_or wanted start shown_blank) ≡ false
+  pub single : (x : ℕ) → start ≤ x → x + 1 < stop → (same_shown (slice_index_or shown x shown_blank) (slice_index_or wanted x shown_blank) ≡ false)
+      ⊎ (same_shown (slice_index_or shown (x + 1) shown_blank) (slice_index_or wanted (x + 1) shown_blank) ≡ false)
+  pub last : same_shown (slice_index_or shown (stop - 1) shown_blank) (slice_index_or wanted (stop - 1) shown_blank) ≡ false
   pub short : stop - (start + 1) + line_bytes (drop stop shown) (drop stop wanted) ≤ line_bytes (drop (start + 1) shown) (drop (start + 1) wanted)
 
 -- the first cells are changed, so many, and have one rendition

@@ -5,12 +5,13 @@ use Rattle.std.proofs.lemmas.Bool.{and_parts, cases_lt}
 use Rattle.std.proofs.lemmas.List.{get_or_default}
 use Rattle.cell.specs.Shown.{IsRendition, Rendition, Shown, shown_blank}
 use Rattle.cell.specs.Differences.{same_rendition}
+use Rattle.cell.specs.EqualityLaws.{same_rendition-equal}
 use Rattle.cell.specs.Pictures.{Place, line_of}
 use Rattle.cell.specs.declared.limits.TheConstants.{LARGEST_SCREEN}
-use Rattle.paint.specs.steps.Strokes.{Draws, Strokes, all_have, approach_bytes, characters, drawn_bytes, is_printed_again, run_bytes, with_cells}
+use Rattle.paint.specs.steps.Strokes.{Draws, ExactStrokes, all_have, approach_bytes, characters, drawn_bytes, is_printed_again, run_bytes, with_cells}
 use Rattle.paint.specs.steps.Walks.{HaveOneRendition, cells_between}
 use Rattle.paint.proofs.CellRuns.{all-at, drawn-short, gap-and, part-of, run-after, run-strokes}
-use Rattle.paint.proofs.PenStrokes.{Strokes-more, again-least, approach-most, approach-printed}
+use Rattle.paint.proofs.PenStrokes.{approach-most, approach-printed, change-same, plain-again}
 use Rattle.paint.proofs.Walks.{first-between, gap-ends, gap-shown, length-between}
 use Rattle.paint.proofs.line.paint_run.Goals as goal
 
@@ -109,12 +110,15 @@ returns-then-is_plain_gap-clause-strokes g c = λ picture wide are.
     && is_printed_again c.state.result.cursor c.state.result.rendition (c.args.row.now.line, gap) before c.rendition-rendition.result)) ≡ true =
     sym c.is_plain_gap.ensures.exact ∙ c.if-is_plain_gap.true in
     let printed = (and_parts _ _ (and_parts _ _ plain).1).1 in
-    let most : length before ≤ approach_bytes c.args.pen.now.cursor c.args.pen.now.rendition (c.args.row.now.line, gap) before (get_or cells 0 shown_blank).rendition =
+    let long : length before ≡ approach_bytes c.args.pen.now.cursor c.args.pen.now.rendition (c.args.row.now.line, gap) before (get_or cells 0 shown_blank).rendition =
     rw (first, sym c.state.ensures.cursor, sym c.state.ensures.rendition) (omega (
       arith,
       approach-printed c.state.result.cursor c.state.result.rendition (c.args.row.now.line, gap) before c.rendition-rendition.result printed,
-      again-least c.state.result.rendition before c.rendition-rendition.result,
+      plain-again c.state.result.rendition before c.rendition-rendition.result
+          (subst (λ r. all_have r before ≡ true) (same_rendition-equal c.rendition-rendition.result c.state.result.rendition (and_parts _ _ plain).0) (and_parts _ _ (and_parts _ _ plain).1).0),
+      ap length (change-same c.state.result.rendition c.rendition-rendition.result (and_parts _ _ plain).0),
     )) in
-    subst (λ n. Strokes (drawn_bytes c.args.pen.now.cursor c.args.pen.now.rendition (c.args.row.now.line, gap) before cells) (g.W.Sink.seen c.args.sink.now) (g.W.Sink.seen c.print_run.new.sink) c.args.pen.now c.print_run.new.self picture
-    (with_cells picture (c.args.row.now.line, n) cells)) ends
-    (Strokes-more drawn (omega (arith, most)))
+    subst (λ m. ExactStrokes m (g.W.Sink.seen c.args.sink.now) (g.W.Sink.seen c.print_run.new.sink) c.args.pen.now c.print_run.new.self picture
+    (with_cells picture (c.args.row.now.line, x) cells)) (ap (λ m. m + length cells) long)
+    (subst (λ n. ExactStrokes (length before + length cells) (g.W.Sink.seen c.args.sink.now) (g.W.Sink.seen c.print_run.new.sink) c.args.pen.now c.print_run.new.self picture
+    (with_cells picture (c.args.row.now.line, n) cells)) ends drawn)

@@ -5,7 +5,7 @@ use Rattle.cell.specs.Pictures.{line_of, shown_at}
 use Rattle.cell.proofs.PictureLemmas.{length-line}
 use Rattle.paint.specs.steps.Strokes.{within}
 use Rattle.paint.proofs.CountedRuns.{counted-run, drawn-is, strokes-most}
-use Rattle.paint.proofs.PenStrokes.{Strokes-more}
+use Rattle.paint.proofs.PenStrokes.{exact-within}
 use Rattle.paint.proofs.passes.draw_run.Goals as goal
 
 pub paint_run-requires-clause-width : goal.paint_run-requires-clause-width
@@ -22,7 +22,7 @@ returns-clause-strokes g c = λ picture wide are.
     let row : c.row-2.result.now ≡ line_of c.args.frame.now.wanted.now c.args.run.line = c.row-2.ensures.row ∙ ap (line_of c.args.frame.now.wanted.now) c.from-at.ensures in
     let strokes = rw (row, c.from-gap.ensures, c.from-start.ensures, c.from.ensures) at c.paint_run.ensures.strokes in
     let short = rw (row, c.from-gap.ensures, c.from-start.ensures, c.from.ensures) at c.paint_run.ensures.short in
-    Strokes-more (strokes picture wide are) short
+    exact-within (strokes picture wide are) short
 
 pub returns-clause-counted : goal.returns-clause-counted
 returns-clause-counted g c = λ count start begun h.

@@ -3,15 +3,16 @@ use Rattle.std.proofs.Common.{◌≡◌, ℕ, ◌+◌, ◌-◌, ◌<◌, ◌≤�
 use Rattle.std.specs.Prelude.{if◌then◌else◌}
 use Rattle.std.proofs.lemmas.Bool.{cases_lt}
 use Rattle.std.proofs.lemmas.Bool.Decides.{nat_tests}
-use Rattle.std.proofs.lemmas.List.{get_or_default, length-take}
+use Rattle.std.proofs.lemmas.List.{get_or-drop, get_or-take, get_or_default, length-take}
 use Rattle.cell.specs.Shown.{Rendition, Shown, shown_blank}
 use Rattle.cell.specs.Pictures.{line_of}
 use Rattle.cell.specs.EqualityLaws.{same_shown-equal}
 use Rattle.cell.specs.Differences.{same_shown}
 use Rattle.paint.specs.declared.runs.Run.{Run}
-use Rattle.paint.specs.steps.Listing.{AreRuns, AreTooMany, RunList}
+use Rattle.paint.specs.steps.Listing.{AreAbove, AreRuns, AreTooMany, RunList}
 use Rattle.paint.specs.steps.Passes.{HasNoted, line_renditions, pass_of as pass_in, with_pass}
 use Rattle.paint.proofs.CellRuns.{run-longer, same_shown-at}
+use Rattle.paint.proofs.Gaps.{AreGapped, above-later, gapped-added, gapped-first, gapped-over}
 use Rattle.paint.proofs.Listing.{line-there, part-same, run-added, runs-further, runs-kept, same-in_line, same-nothing}
 use Rattle.paint.proofs.PassOrders.{noted-gap, noted-run, placed-given}
 use Rattle.paint.proofs.runs.Runs.add_line.Goals as goal
@@ -46,6 +47,9 @@ loop-x-init c =
           ap (λ (l : List Shown). get_or l v shown_blank) old
           ∙ part-same start n skipped v c.args.row.now.shown.now c.args.row.now.wanted.now (omega arith) c.in-Some.ensures.1 from to
           ∙ ap (λ (l : List Shown). get_or l v shown_blank) (sym new)));
+      gaps = λ h. gapped-first h (λ same. c.in-Some.ensures.0.differs
+          (get_or-take n (drop start c.args.row.now.shown.now) skipped shown_blank few ∙ get_or-drop start c.args.row.now.shown.now skipped shown_blank ∙ same
+          ∙ sym (get_or-take n (drop start c.args.row.now.wanted.now) skipped shown_blank few ∙ get_or-drop start c.args.row.now.wanted.now skipped shown_blank)));
       gap = omega arith;
       within = omega arith;
       kept = λ v from to. absurd (omega arith);
@@ -70,6 +74,7 @@ loop-x-preserved-then-eq c =
       listed = λ came noted S W old new h. runs-further (c.loop-x.invariant.listed came noted S W old new h) (same-in_line S W c.args.row.now.line x next
           (omega (arith, c.next_changed-x.ensures.ordered)) (λ v from to.
           ap (λ (l : List Shown). get_or l v shown_blank) old ∙ same v from to ∙ ap (λ (l : List Shown). get_or l v shown_blank) (sym new)));
+      gaps = λ h. gapped-over equal (c.loop-x.invariant.gaps h);
       gap = omega (arith, c.loop-x.invariant.gap, c.next_changed-x.ensures.ordered);
       within = c.next_changed-x.ensures.within;
       kept = λ v from to. elim (cases_lt v x) [
@@ -128,6 +133,10 @@ loop-x-preserved c =
             placed = subst (λ r. with_pass order r ≡ order) there
                 (subst (λ (o : List Rendition). with_pass o c.rendition.result ≡ o) (sym grown) (placed-given c.loop-x.self.noted.order c.rendition.result));
           }));
+      gaps = λ h.
+          let same_runs : noted.runs ≡ c.loop-x.self.runs = ap (λ (list : RunList). list.runs) c.note-pass.ensures.list in
+          subst (λ (list : RunList). AreGapped list.runs y stop stop shown wanted) (sym pushed)
+          (gapped-added run (subst (λ (runs : List Run). AreGapped runs y c.loop-x.gap x shown wanted) (sym same_runs) (c.loop-x.invariant.gaps h)));
       gap = omega arith;
       within = c.run_end-stop.ensures.run.within;
       kept = λ v from to. absurd (omega arith);
@@ -163,3 +172,16 @@ pub returns-clause-noted : goal.returns-clause-noted
 returns-clause-noted c = λ _ came h.
     let last : c.loop-x.x ≡ c.args.end = omega (arith, c.loop-x-test.false, c.loop-x.invariant.within) in
     subst (λ n. HasNoted c.loop-x.self.noted (came ++ line_renditions (take n c.args.row.now.shown.now) (take n c.args.row.now.wanted.now))) last (c.loop-x.invariant.noted came h)
+
+pub returns-in_default-clause-gaps : goal.returns-in_default-clause-gaps
+returns-in_default-clause-gaps c = λ h. above-later h
+
+pub returns-then-not-push-clause-gaps : goal.returns-then-not-push-clause-gaps
+returns-then-not-push-clause-gaps c = λ h.
+    let noted = c.note-pass.new.self in
+    let kept : c.push.new.self ≡ noted = c.if-not-push.ensures.added in
+    let same_runs : c.push.new.self.runs ≡ c.loop-x.self.runs = ap (λ (list : RunList). list.runs) (kept ∙ c.note-pass.ensures.list) in
+    subst (λ (runs : List Run). AreAbove runs (c.args.row.now.line + 1)) (sym same_runs) (c.loop-x.invariant.gaps h).above
+
+pub returns-clause-gaps : goal.returns-clause-gaps
+returns-clause-gaps c = λ h. (c.loop-x.invariant.gaps h).above

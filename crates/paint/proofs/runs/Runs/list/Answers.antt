@@ -1,6 +1,8 @@
 -- `list`: only in the columns that may differ there are runs (`Listing`).
-use Rattle.std.proofs.Common.{◌≡◌, ◌+◌, ◌<◌, ◌≤◌, ◌∙◌, length, take, inl, inr, sym, ap, subst, arith}
-use Rattle.paint.specs.steps.Listing.{AreRuns}
+use Rattle.std.proofs.Common.{◌≡◌, ◌+◌, ◌<◌, ◌≤◌, ◌∙◌, List, length, take, inl, inr, sym, ap, subst, arith}
+use Rattle.paint.specs.steps.Listing.{AreAbove, AreRuns}
+use Rattle.paint.specs.declared.runs.Run.{Run}
+use Rattle.paint.proofs.Gaps.{above-more, above-none}
 use Rattle.paint.specs.steps.Passes.{HasNoted, changed_renditions}
 use Rattle.paint.proofs.Alike.{line-none}
 use Rattle.paint.proofs.NotedLines.{noted-begun, noted-lines}
@@ -26,6 +28,7 @@ loop-line-init c =
           c.clear.ensures.noted;
       listed = rw c.clear.ensures.none (runs-further (runs-none c.clear.new.self.noted.order shown wanted)
           (same-lines shown wanted 0 next.result (omega arith) (λ v u from to. none-there f.changes v u (next.ensures.none v from to))));
+      gaps = subst (λ (runs : List Run). AreAbove runs next.result) (sym c.clear.ensures.none) (above-none next.result);
       room = c.clear.ensures.room;
     }
 
@@ -59,6 +62,7 @@ loop-line-preserved c =
             | inr past ↦ same-past f.shown f.wanted y u below past
           ]))
           (same-lines shown wanted (y + 1) next.result next.ensures.from (λ v u from to. none-there f.changes v u (next.ensures.none v from to))));
+      gaps = above-more (c.add_line.ensures.gaps c.loop-line.invariant.gaps) next.ensures.from;
       room = c.add_line.ensures.room ∙ c.loop-line.invariant.room;
     }
 
@@ -93,3 +97,9 @@ returns-then-not-add_line-clause-full c = λ _.
 
 pub returns-then-not-add_line-clause-room : goal.returns-then-not-add_line-clause-room
 returns-then-not-add_line-clause-room c = c.add_line.ensures.room ∙ c.loop-line.invariant.room
+
+pub returns-then-not-add_line-clause-gaps : goal.returns-then-not-add_line-clause-gaps
+returns-then-not-add_line-clause-gaps c = (c.add_line.ensures.gaps c.loop-line.invariant.gaps).gaps
+
+pub returns-clause-gaps : goal.returns-clause-gaps
+returns-clause-gaps c = c.loop-line.invariant.gaps.gaps
