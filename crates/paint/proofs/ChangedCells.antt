@@ -9,7 +9,7 @@ use Rattle.cell.specs.EqualityLaws.{same_shown-equal, same_shown-self}
 use Rattle.paint.specs.steps.Walks.{AreBlank}
 use Rattle.paint.specs.steps.Walking.{changed_from, is_changed, is_written, tail_of}
 use Rattle.paint.proofs.Tails.{kept-at}
-use Rattle.paint.proofs.Tests.{first-above, first-is, first-none, first-passes, first-within, last-is, last-none, last-within}
+use Rattle.paint.proofs.FirstAndLast.{first-above, first-is, first-none, first-passes, first-within, last-is, last-none, last-within}
 
 -- ---- which columns are changed
 

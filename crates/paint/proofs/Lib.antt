@@ -48,7 +48,7 @@ pub mod Listing
 -- Runs linked by pass, and what a pass passes over; for `add_pass`, `new`, `paint_pass`
 pub mod Linking
 -- The first and the last of some numbers that pass a test; for `changed_lines`, `tail_start` and others
-pub mod Tests
+pub mod FirstAndLast
 -- The changed cells of a line, printed one after another; for `paint_cells`
 pub mod PrintedCells
 -- Which columns of a line are changed, and where its blank end begins; for `changed_from`, `tail_start` and others

@@ -13,7 +13,7 @@ use Rattle.paint.specs.declared.pen.Pen.{Pen}
 use Rattle.paint.specs.steps.Walking.{IsDrawn, IsDrawnTo, LastLine, blank_lines, changed_from, changed_lines, tail_of, with_erasure, with_last_line, with_line, with_lines, with_picture}
 use Rattle.paint.proofs.ChangedCells.{changed_from-before, changed_from-none, not-other, tail-blank, tail-is, tail-within, unchanged-at}
 use Rattle.paint.proofs.Tails.{get_or-map, kept-at}
-use Rattle.paint.proofs.Tests.{last-is, last-none, last-passes}
+use Rattle.paint.proofs.FirstAndLast.{last-is, last-none, last-passes}
 use Rattle.paint.proofs.WalkedLines.{between-none, last-line-kept, line-kept}
 
 -- ---- the line from which on none is changed

@@ -17,7 +17,7 @@ use Rattle.paint.specs.steps.Walking.{Printed, blank_lines, changed_from, change
 use Rattle.paint.proofs.BlankEnds.{line-is-written}
 use Rattle.paint.proofs.ChangedCells.{changed_from-before, changed_from-is, changed_from-none, tail-blank, tail-within, unchanged-at}
 use Rattle.paint.proofs.PrintedCells.{printed-same, stretch-printed, together}
-use Rattle.paint.proofs.Tests.{last-none, last-passes, last-within}
+use Rattle.paint.proofs.FirstAndLast.{last-none, last-passes, last-within}
 use Rattle.paint.proofs.WalkedLines.{line-kept, printed-zero}
 use Rattle.paint.proofs.WalkedPages.{is_last_at, lines-kept, lines-none, lines-plain}
 
