@@ -386,11 +386,11 @@ abbrev pub is_of_log : List ℕ → List (List ℕ) → Bool
 is_of_log word [] = false
 is_of_log word (piece ∷ pieces) = bytes_eq word (codes "line") && begins_with_digit piece && (ends_with 58 piece || ends_with 44 piece)
 
--- a statement of other languages whose first word may be a name of curses, which would have a number after it
+-- a statement of other languages whose first word is a name of curses too, which would have a number after it
 abbrev pub is_statement : List ℕ → List (List ℕ) → Bool
 is_statement word [] = false
 is_statement word (piece ∷ pieces) =
-    list_any (bytes_eq (name_in word)) (names_in (codes "raise dim end goto")) && list_any is_ascii_alphabetic (take 1 piece)
+    list_any (bytes_eq word) (names_in (codes "raise goto GOTO DIM Dim END End")) && list_any is_ascii_alphabetic (take 1 piece)
 
 -- of a word that is no call and the words after it; where a bracket is in the word, an equals sign is part of an argument
 abbrev pub said_of_line : List ℕ → List (List ℕ) → Option (List ℕ)

@@ -101,10 +101,17 @@ has_byte byte text = list_any (λ b. b == byte) text
 abbrev pub is_bracketed : List ℕ → Bool
 is_bracketed text = begins_with (codes "(") text || begins_with (codes "[") text || begins_with (codes "{") text || begins_with (codes "<") text
 
+-- how arguments are written that others put in brackets, and that others separate by commas
+abbrev pub no_brackets : List ℕ
+no_brackets = codes ": no brackets are around arguments, and single spaces separate them"
+
+abbrev pub no_commas : List ℕ
+no_commas = codes ": spaces separate arguments, and no commas"
+
 -- of what begins with a mark of other languages
 abbrev pub first_mark_reason : List ℕ → Option (List ℕ)
 first_mark_reason argument = if is_quoted argument then Some (codes ": it has no quotes")
-    else (if is_bracketed argument then Some (codes ": arguments have no brackets, and single spaces separate them")
+    else (if is_bracketed argument then Some no_brackets
     else (if begins_with (codes "$") argument || begins_with (codes "`") argument
     then Some (codes ": a script has no variables, and runs no programs")
     else (if bytes_eq argument (codes "#") || begins_comment argument then Some (codes ": a comment has a line of its own")
@@ -113,7 +120,7 @@ first_mark_reason argument = if is_quoted argument then Some (codes ": it has no
 -- the marks of other languages that an argument may not have; where it has none, this is said
 abbrev pub mark_reason : List ℕ → List ℕ → List ℕ
 mark_reason said argument = unwrap_or (first_mark_reason argument)
-    (if has_byte comma argument then codes ": spaces separate arguments, and no commas"
+    (if has_byte comma argument then no_commas
     else (if has_byte semicolon argument then codes ": a line has no semicolon"
     else (if has_byte backslash argument then codes ": only texts and characters have escapes, and a call ends with its line"
     else (if has_byte equals_sign argument then codes ": arguments have no names, and a script no variables: they come in their order"
@@ -253,8 +260,8 @@ words_reason word = if bytes_eq word (codes "bkgdset") then codes ": it is more 
 
 -- of what ends with something else than the character
 abbrev pub end_reason : List ℕ → List ℕ → List ℕ
-end_reason word argument = if ends_with semicolon argument then codes ": it is more than one, and a line has no semicolon"
-    else (if ends_with comma argument then codes ": it is more than one, and arguments have no commas"
+end_reason word argument = if ends_with semicolon argument then codes ": it is more than one, and no semicolon comes after it"
+    else (if ends_with comma argument then codes ": it is more than one, and no comma comes after it"
     else (if ends_with space argument then codes ": it is more than one, and a line has no space at its end"
     else (if has_byte space argument then words_reason word
     else codes ": it is more than one")))

@@ -2,19 +2,22 @@
 
 ghost use Rattle.std.specs.Prelude.{◌≡◌, ◌≤◌, ◌+◌, IfSome, length, option_map};
 ghost use Rattle.script.specs.Pieces.{pieces_of, room_of};
-ghost use Rattle.explain.specs.Numbers.{begins_bracketed, begins_call, has_call, has_joined, has_word_of_shells, is_joined, is_of_shells, marks_reason, number_reason, separation_reason, too_many_reason};
+ghost use Rattle.explain.specs.Numbers.{begins_bracketed, begins_call, comma_reason, has_call, has_joined, has_word_of_shells, is_joined, is_of_shells, marks_reason, number_reason, separation_reason, takes_text, too_many_reason};
 
 use crate::advice::is_among;
 use crate::names::{begins_with_digit, ends_with, name_of};
-use crate::reasons::{are_digits, are_two_digits, has_byte, is_bracketed, one_sum};
+use crate::reasons::{
+    are_digits, are_two_digits, has_byte, is_bracketed, no_brackets, no_commas, one_sum,
+};
 use script::{LONGEST_LINE, Word, split_at_space};
 
-/// Whether the first word of a text begins with a bracket.
+/// Whether the first word of a text begins with a bracket, and goes on.
 fn begins_bracketed(text: Option<&[u8]>) -> bool
     ensures { result ≡ begins_bracketed (pieces_of text.entry) }
 {
     let Some(text) = text else { return false };
-    is_bracketed(split_at_space(text).0)
+    let (first, _) = split_at_space(text);
+    is_bracketed(first) && first.len() != 1
 }
 
 /// Whether a word begins with the name of a call, or with one that curses has.
@@ -81,15 +84,19 @@ fn has_joined(text: Option<&[u8]>) -> bool
     has_joined(rest)
 }
 
-/// What is said by the marks of a line and the words after its first, which may be too many.
+/// Whether a call has a text or a character, in which most marks may be.
+fn takes_text(word: &[u8]) -> bool
+    ensures { result ≡ takes_text word.now }
+{
+    is_among(word, b"addstr addch insch bkgdset")
+}
+
+/// What is said by the words after the first, which may be too many, and by the marks of the line.
 fn marks_reason(line: &[u8], text: Option<&[u8]>, many: bool) -> Option<&'static [u8]>
     requires { room_of text ≤ LONGEST_LINE + 1 }
     ensures text { option_map (λ text. text.now) result ≡ marks_reason line.now (pieces_of text.entry) many }
     ensures short { IfSome result (λ text. length text.now ≤ 80) }
 {
-    if begins_bracketed(text) {
-        return Some(b": arguments have no brackets, and single spaces separate them");
-    }
     if many && has_call(text) {
         return Some(b": a line has one call");
     }
@@ -125,7 +132,18 @@ fn too_many_reason(word: &[u8]) -> Option<&'static [u8]>
     None
 }
 
-/// What is said of other marks.
+/// What is said of a line with a comma.
+fn comma_reason(line: &[u8]) -> Option<&'static [u8]>
+    ensures text { option_map (λ text. text.now) result ≡ comma_reason line.now }
+    ensures short { IfSome result (λ text. length text.now ≤ 80) }
+{
+    if has_byte(line, b',') {
+        return Some(no_commas());
+    }
+    None
+}
+
+/// What is said of what separates the words.
 fn separation_reason(line: &[u8], text: Option<&[u8]>, many: bool) -> Option<&'static [u8]>
     ensures text { option_map (λ text. text.now) result ≡ separation_reason line.now (pieces_of text.entry) many }
     ensures short { IfSome result (λ text. length text.now ≤ 80) }
@@ -133,8 +151,8 @@ fn separation_reason(line: &[u8], text: Option<&[u8]>, many: bool) -> Option<&'s
     if has_word_of_shells(text) {
         return Some(b": a script has no redirections or pipes");
     }
-    if has_byte(line, b',') {
-        return Some(b": spaces separate arguments, and no commas");
+    if let Some(said) = comma_reason(line) {
+        return Some(said);
     }
     if !many && has_joined(text) {
         return Some(b": single spaces separate arguments, and numbers have digits alone");
@@ -153,6 +171,12 @@ pub fn number_reason(
     ensures text { option_map (λ text. text.now) result ≡ number_reason word.now line.now (pieces_of text.entry) many }
     ensures short { IfSome result (λ text. length text.now ≤ 80) }
 {
+    if begins_bracketed(text) {
+        return Some(no_brackets());
+    }
+    if takes_text(word) {
+        return comma_reason(line);
+    }
     if let Some(said) = marks_reason(line, text, many) {
         return Some(said);
     }

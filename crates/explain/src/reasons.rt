@@ -3,7 +3,7 @@
 ghost use Rattle.std.specs.Prelude.{◌≡◌, ◌≤◌, ◌==◌, ◌&&◌, IfSome, drop, length, option_map, take};
 ghost use Rattle.std.specs.Char.{is_ascii_alphabetic, is_ascii_alphanumeric, is_ascii_hexdigit, is_ascii_uppercase};
 ghost use Rattle.std.specs.List.{list_all, list_any};
-ghost use Rattle.explain.specs.Reasons.{after_bad_escape, are_digits, are_two_digits, attributes_reason, bad_text_advice, begins_character, begins_escape, begins_escaped, begins_sequence, byte_advice, character_reason, digits_reason, end_reason, escape_reason, first_mark_reason, flag_reason, has_byte, is_attribute, is_bracketed, is_colour, is_default, later_reason, longer_reason, mark_reason, minus_reason, name_of_argument, name_reason, no_digits_reason, one_sum, pair_reason, reason, reason_after, reason_of_call, requirement, requirement_after, requirement_of, signed_reason, size_reason, text_reason, unless_missing, unsigned_or_none_reason, unsigned_reason, words_reason};
+ghost use Rattle.explain.specs.Reasons.{after_bad_escape, are_digits, are_two_digits, attributes_reason, bad_text_advice, begins_character, begins_escape, begins_escaped, begins_sequence, byte_advice, character_reason, digits_reason, end_reason, escape_reason, first_mark_reason, flag_reason, has_byte, is_attribute, is_bracketed, is_colour, is_default, later_reason, longer_reason, mark_reason, minus_reason, name_of_argument, name_reason, no_brackets, no_commas, no_digits_reason, one_sum, pair_reason, reason, reason_after, reason_of_call, requirement, requirement_after, requirement_of, signed_reason, size_reason, text_reason, unless_missing, unsigned_or_none_reason, unsigned_reason, words_reason};
 
 use crate::advice::is_among;
 use crate::arguments::has_form;
@@ -130,6 +130,22 @@ pub fn is_bracketed(text: &[u8]) -> bool
         || text.strip_prefix(b"<").is_some()
 }
 
+/// How arguments are written that others put in brackets.
+pub fn no_brackets() -> &'static [u8]
+    ensures text { result.now ≡ no_brackets }
+    ensures short { length result.now ≤ 80 }
+{
+    b": no brackets are around arguments, and single spaces separate them"
+}
+
+/// How arguments are written that others separate by commas.
+pub fn no_commas() -> &'static [u8]
+    ensures text { result.now ≡ no_commas }
+    ensures short { length result.now ≤ 80 }
+{
+    b": spaces separate arguments, and no commas"
+}
+
 /// What is said of an argument that begins with a mark of other languages.
 fn first_mark_reason(argument: &[u8]) -> Option<&'static [u8]>
     ensures text { option_map (λ text. text.now) result ≡ first_mark_reason argument.now }
@@ -139,7 +155,7 @@ fn first_mark_reason(argument: &[u8]) -> Option<&'static [u8]>
         return Some(b": it has no quotes");
     }
     if is_bracketed(argument) {
-        return Some(b": arguments have no brackets, and single spaces separate them");
+        return Some(no_brackets());
     }
     if argument.strip_prefix(b"$").is_some() || argument.strip_prefix(b"`").is_some() {
         return Some(b": a script has no variables, and runs no programs");
@@ -160,7 +176,7 @@ fn mark_reason(said: &'static [u8], argument: &[u8]) -> &'static [u8]
         return said;
     }
     if has_byte(argument, b',') {
-        return b": spaces separate arguments, and no commas";
+        return no_commas();
     }
     if has_byte(argument, b';') {
         return b": a line has no semicolon";
@@ -543,9 +559,9 @@ fn end_reason(word: &[u8], argument: &[u8]) -> &'static [u8]
     ensures short { length result.now ≤ 80 }
 {
     if ends_with(argument, b';') {
-        b": it is more than one, and a line has no semicolon"
+        b": it is more than one, and no semicolon comes after it"
     } else if ends_with(argument, b',') {
-        b": it is more than one, and arguments have no commas"
+        b": it is more than one, and no comma comes after it"
     } else if ends_with(argument, b' ') {
         b": it is more than one, and a line has no space at its end"
     } else if has_byte(argument, b' ') {

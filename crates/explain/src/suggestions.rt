@@ -194,12 +194,11 @@ fn is_of_log(word: &[u8], text: Option<&[u8]>) -> bool
 
 /// Whether a word and those after it are a statement of other languages.
 fn is_statement(word: &[u8], text: Option<&[u8]>) -> bool
-    requires { length word.now ≤ LONGEST_LINE }
     ensures { result ≡ is_statement word.now (pieces_of text.entry) }
 {
     let Some(text) = text else { return false };
     let (first, _) = split_at_space(text);
-    is_among(name_of(word).as_slice(), b"raise dim end goto") && begins_with_letter(first)
+    is_among(word, b"raise goto GOTO DIM Dim END End") && begins_with_letter(first)
 }
 
 /// What is said of a word that is no call and of the words after it.
