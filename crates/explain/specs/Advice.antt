@@ -24,6 +24,24 @@ runs_no_programs = codes "a script runs no programs: each line of it is a call"
 abbrev pub calls_alone : List ℕ
 calls_alone = codes "a script has calls alone: no variables, loops or functions"
 
+abbrev pub backgrounds : List ℕ
+backgrounds = codes "see bkgdset, bkgdpair"
+
+abbrev pub renditions : List ℕ
+renditions = codes "see attrset, attron, attroff"
+
+abbrev pub no_menus : List ℕ
+no_menus = codes "there are no menus or forms"
+
+abbrev pub no_formats : List ℕ
+no_formats = codes "no call formats: see addstr"
+
+abbrev pub refreshed : List ℕ
+refreshed = codes "see noutrefresh, doupdate"
+
+abbrev pub coloured : List ℕ
+coloured = codes "see init_pair, color_set"
+
 abbrev pub screen_size : List ℕ
 screen_size = codes "the command line gives the size, by --lines and --cols; see getmaxyx"
 
@@ -35,7 +53,7 @@ cursor_shown = codes "see move; the shell's tput civis hides the cursor, and tpu
 -- what is said of such names, and of which
 unfoldable pub advised : List (List ℕ × List ℕ)
 advised =
-    (codes "see noutrefresh, doupdate", codes "refresh")
+    (refreshed, codes "refresh")
     ∷ (codes "see pnoutrefresh, doupdate", codes "prefresh")
     ∷ (codes "see addch, noutrefresh, doupdate", codes "echochar pechochar")
     ∷ (
@@ -58,7 +76,7 @@ advised =
       codes "box border hline vline line rect rectangle frame draw_box drawbox acs_hline acs_vline border_set"
           ++ codes " box_set hline_set vline_set",
     )
-    ∷ (codes "no call formats: see addstr", codes "printw vwprintw vw_printw vsscanf printf sprintf fprintf format")
+    ∷ (no_formats, codes "printw vwprintw vw_printw vsscanf printf sprintf fprintf format")
     ∷ (
       codes "see addstr",
       codes "addnstr addchstr addchnstr print println puts putstr put write writestr text say string addstring"
@@ -150,13 +168,13 @@ advised =
     ∷ (codes "see touchwin", codes "touch touchwindow touch_window")
     ∷ (codes "see is_wintouched, is_linetouched", codes "is_touched istouched touched")
     ∷ (
-      codes "see init_pair, color_set",
+      coloured,
       codes "color colour colors colours setcolor set_color textcolor fg bg foreground pair setpair set_pair setaf setab"
           ++ codes " black red green blue white",
     )
     ∷ (codes "no call waits", codes "sleep usleep msleep wait pause delay napms delay_output")
     ∷ (
-      codes "there are no menus or forms",
+      no_menus,
       codes "menu new_menu free_menu post_menu unpost_menu menu_driver new_item free_item form new_form free_form"
           ++ codes " post_form unpost_form form_driver new_field free_field button dialog whiptail",
     )
@@ -215,7 +233,7 @@ more_advised =
     ∷ (codes "see pnoutrefresh", codes "refresh_pad refreshpad pad_refresh padrefresh")
     ∷ (codes "a window is hidden with its panel: see hide_panel, show_panel", codes "hidewin showwin hide_win show_win")
     ∷ (codes "a window keeps its size: see newwin, copywin", codes "resizewin resize_win resize_window")
-    ∷ (codes "see bkgdset, bkgdpair", codes "bgset bgpair bkpair bkg")
+    ∷ (backgrounds, codes "bgset bgpair bkpair bkg")
     ∷ (codes "see color_set, init_pair", codes "op oc setfg setbg set_fg set_bg")
     ∷ (codes "see getyx, getbegyx, getmaxyx", codes "wherexy wherex getbeg getwinsize getxmaxy")
     ∷ (codes "see noutrefresh, update_panels, doupdate", codes "updateall update_all updatewin update_win flip swap present blit commit")
@@ -223,7 +241,7 @@ more_advised =
     ∷ (codes "a comment begins with #, and has a line of its own", codes "todo fixme note nb dnl")
     ∷ (codes "see move, which takes a line and a column", codes "home hpa vpa cuu1 cub1 cuf1 cud1 setpos go")
     ∷ (codes "see clrtoeol, clrtobot", codes "el el1 ed clrline")
-    ∷ (codes "see attrset, attron, attroff", codes "smso rmso smul rmul rev sgr invis style font noattr")
+    ∷ (renditions, codes "smso rmso smul rmul rev sgr invis style font noattr")
     ∷ (codes "see setscrreg, scrl", codes "csr ind ri")
     ∷ (codes "see addstr, which draws lines by + - and |", codes "acsc smacs rmacs hr vr hl vl draw_line draw_border")
     ∷ (codes "no call reads a key", codes "smkx rmkx waitkey wait_key press crmode nocrmode")
@@ -295,33 +313,26 @@ abbrev pub has_part : List ℕ → List ℕ → Bool
 has_part part [] = false
 has_part part (b ∷ bs) = begins_with part (b ∷ bs) || has_part part bs
 
--- what is said of a name that has a part, and the part
+-- what is said of names that have a part, and the parts
 unfoldable pub parts_advised : List (List ℕ × List ℕ)
 parts_advised =
-    (codes "there are no menus or forms", codes "menu")
-    ∷ (codes "there are no menus or forms", codes "item")
-    ∷ (codes "there are no menus or forms", codes "form")
-    ∷ (codes "there are no menus or forms", codes "field")
-    ∷ (codes "no call formats: see addstr", codes "printf")
-    ∷ (codes "no call formats: see addstr", codes "printw")
-    ∷ (codes "see noutrefresh, doupdate", codes "refresh")
+    (no_menus, codes "menu item form field")
+    ∷ (no_formats, codes "printf printw")
+    ∷ (refreshed, codes "refresh")
     ∷ (codes "see new_panel, del_panel, show_panel, hide_panel, top_panel, move_panel", codes "panel")
     ∷ (cursor_shown, codes "cursor")
     ∷ (codes "see scrl, setscrreg, scrollok", codes "scroll")
-    ∷ (codes "see bkgdset, bkgdpair", codes "bkgd")
-    ∷ (codes "see bkgdset, bkgdpair", codes "background")
-    ∷ (codes "see init_pair, color_set", codes "color")
-    ∷ (codes "see init_pair, color_set", codes "colour")
-    ∷ (codes "see attrset, attron, attroff", codes "attr")
-    ∷ (codes "see clear, erase, clrtoeol, clrtobot", codes "clear")
-    ∷ (codes "see clear, erase, clrtoeol, clrtobot", codes "erase")
+    ∷ (backgrounds, codes "bkgd background")
+    ∷ (coloured, codes "color colour")
+    ∷ (renditions, codes "attr")
+    ∷ (codes "see clear, erase, clrtoeol, clrtobot", codes "clear erase")
     ∷ (codes "see newwin, delwin, mvwin", codes "window")
     ∷ (codes "see touchwin, untouchwin, touchline", codes "touch")
     ∷ []
 
--- the first row of a table whose part the name has
+-- the first row of a table with a part that the name has
 abbrev pub part_in : List (List ℕ × List ℕ) → List ℕ → Option (List ℕ)
-part_in rows name = option_map (λ row. row.0) (find (λ row. has_part row.1 name) rows)
+part_in rows name = option_map (λ row. row.0) (find (λ row. list_any (λ part. has_part part name) (names_in row.1)) rows)
 
 abbrev pub advice_by_part : List ℕ → Option (List ℕ)
 advice_by_part name = part_in parts_advised name

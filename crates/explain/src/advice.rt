@@ -16,6 +16,8 @@ pub type Row = (&'static [u8], &'static [u8]);
 // What is said of names of several letters.
 const KEYS: &[u8] = b"no call reads keys";
 
+pub const REFRESHED: &[u8] = b"see noutrefresh, doupdate";
+
 const TERMINAL: &[u8] = b"nothing is asked of the terminal, nor set there";
 
 const ASCII: &[u8] = b"characters are those of ASCII";
@@ -42,7 +44,7 @@ const SIZE: &[u8] = b"the screen keeps its size, which the command line gives";
 
 const ECHOED: &[u8] = b"see addch, noutrefresh, doupdate";
 
-const FORMATS: &[u8] = b"no call formats: see addstr";
+pub const FORMATS: &[u8] = b"no call formats: see addstr";
 
 const POINTERS: &[u8] = b"a panel has no pointer";
 
@@ -54,13 +56,13 @@ const TRACES: &[u8] = b"no call traces or names a version";
 
 const ATTRIBUTES: &[u8] = b"see attrset, attron, attroff, color_set";
 
-const COLOURED: &[u8] = b"see init_pair, color_set";
+pub const COLOURED: &[u8] = b"see init_pair, color_set";
 
 const TEXTS: &[u8] = b"see addstr";
 
 pub const CALLS_ALONE: &[u8] = b"a script has calls alone: no variables, loops or functions";
 
-const MENUS: &[u8] = b"there are no menus or forms";
+pub const MENUS: &[u8] = b"there are no menus or forms";
 
 const BEGINNINGS: &[u8] = b"a line begins with a call";
 
@@ -376,7 +378,7 @@ const ADVICE: [(u8, &[Row]); 28] = [
         (SCREEN, b"quit"),
     ]),
     (b'r', &[
-        (b"see noutrefresh, doupdate", b"refresh"),
+        (REFRESHED, b"refresh"),
         (KEYS, b"raw read readkey read_key"),
         (LINES, b"rect rectangle"),
         (b"a window keeps its size: see newwin, overwrite", b"resize"),

@@ -1,11 +1,18 @@
 //! What to write for further names, and for parts of names.
 
 ghost use Rattle.std.specs.Prelude.{◌≡◌, ◌≤◌, IfSome, length, option_map};
-ghost use Rattle.explain.specs.Advice.{advice_by_part, more_advice, part_in};
+ghost use Rattle.std.specs.List.{list_any};
+ghost use Rattle.script.specs.Pieces.{pieces_of};
+ghost use Rattle.explain.specs.Advice.{advice_by_part, has_part, more_advice, part_in};
 ghost use Rattle.explain.specs.steps.Tables.{rows_now};
 
-use crate::advice::{CALLS_ALONE, PROGRAMS, Row, look_up};
+use crate::advice::{CALLS_ALONE, COLOURED, FORMATS, MENUS, PROGRAMS, REFRESHED, Row, look_up};
 use crate::names::has_part;
+use script::split_at_space;
+
+const BACKGROUNDS: &[u8] = b"see bkgdset, bkgdpair";
+
+const RENDITIONS: &[u8] = b"see attrset, attron, attroff";
 
 const CURSOR_SHOWN: &[u8] =
     b"see move; the shell's tput civis hides the cursor, and tput cnorm shows it";
@@ -38,7 +45,7 @@ const MORE: [Row; 36] = [
     (b"see pnoutrefresh", b"refresh_pad refreshpad pad_refresh padrefresh"),
     (b"a window is hidden with its panel: see hide_panel, show_panel", b"hidewin showwin hide_win show_win"),
     (b"a window keeps its size: see newwin, copywin", b"resizewin resize_win resize_window"),
-    (b"see bkgdset, bkgdpair", b"bgset bgpair bkpair bkg"),
+    (BACKGROUNDS, b"bgset bgpair bkpair bkg"),
     (b"see color_set, init_pair", b"op oc setfg setbg set_fg set_bg"),
     (b"see getyx, getbegyx, getmaxyx", b"wherexy wherex getbeg getwinsize getxmaxy"),
     (b"see noutrefresh, update_panels, doupdate",
@@ -47,7 +54,7 @@ const MORE: [Row; 36] = [
     (b"a comment begins with #, and has a line of its own", b"todo fixme note nb dnl"),
     (b"see move, which takes a line and a column", b"home hpa vpa cuu1 cub1 cuf1 cud1 setpos go"),
     (b"see clrtoeol, clrtobot", b"el el1 ed clrline"),
-    (b"see attrset, attron, attroff", b"smso rmso smul rmul rev sgr invis style font noattr"),
+    (RENDITIONS, b"smso rmso smul rmul rev sgr invis style font noattr"),
     (b"see setscrreg, scrl", b"csr ind ri"),
     (b"see addstr, which draws lines by + - and |", b"acsc smacs rmacs hr vr hl vl draw_line draw_border"),
     (b"no call reads a key", b"smkx rmkx waitkey wait_key press crmode nocrmode"),
@@ -61,26 +68,19 @@ const MORE: [Row; 36] = [
         memset fopen fclose fgets abort atexit perror signal sizeof len"),
 ];
 
-/// What is said of a name that has a part, and the part.
+/// What is said of names that have a part, and the parts, with a space between any two.
 #[rattlefmt::skip]
-const PARTS: [Row; 19] = [
-    (b"there are no menus or forms", b"menu"),
-    (b"there are no menus or forms", b"item"),
-    (b"there are no menus or forms", b"form"),
-    (b"there are no menus or forms", b"field"),
-    (b"no call formats: see addstr", b"printf"),
-    (b"no call formats: see addstr", b"printw"),
-    (b"see noutrefresh, doupdate", b"refresh"),
+const PARTS: [Row; 12] = [
+    (MENUS, b"menu item form field"),
+    (FORMATS, b"printf printw"),
+    (REFRESHED, b"refresh"),
     (b"see new_panel, del_panel, show_panel, hide_panel, top_panel, move_panel", b"panel"),
     (CURSOR_SHOWN, b"cursor"),
     (b"see scrl, setscrreg, scrollok", b"scroll"),
-    (b"see bkgdset, bkgdpair", b"bkgd"),
-    (b"see bkgdset, bkgdpair", b"background"),
-    (b"see init_pair, color_set", b"color"),
-    (b"see init_pair, color_set", b"colour"),
-    (b"see attrset, attron, attroff", b"attr"),
-    (b"see clear, erase, clrtoeol, clrtobot", b"clear"),
-    (b"see clear, erase, clrtoeol, clrtobot", b"erase"),
+    (BACKGROUNDS, b"bkgd background"),
+    (COLOURED, b"color colour"),
+    (RENDITIONS, b"attr"),
+    (b"see clear, erase, clrtoeol, clrtobot", b"clear erase"),
     (b"see newwin, delwin, mvwin", b"window"),
     (b"see touchwin, untouchwin, touchline", b"touch"),
 ];
@@ -93,12 +93,24 @@ pub fn more_advice(name: &[u8]) -> Option<&'static [u8]>
     look_up(&MORE, name)
 }
 
-/// What rows say of a name: the first of those whose part it has.
+/// Whether a name has some of the parts in a text.
+fn has_some_part(name: &[u8], parts: Option<&[u8]>) -> bool
+    ensures { result ≡ list_any (λ part. has_part part name.now) (pieces_of parts.entry) }
+{
+    let Some(parts) = parts else { return false };
+    let (first, rest) = split_at_space(parts);
+    if has_part(name, first) {
+        return true;
+    }
+    has_some_part(name, rest)
+}
+
+/// What rows say of a name: the first of those with a part that it has.
 fn look_for_part(mut rows: &[Row], name: &[u8]) -> Option<&'static [u8]>
     ensures { option_map (λ text. text.now) result ≡ part_in (rows_now rows.entry.now) name.now }
 {
-    while let [(text, part), rest @ ..] = rows {
-        if has_part(name, part) {
+    while let [(text, parts), rest @ ..] = rows {
+        if has_some_part(name, Some(parts)) {
             return Some(text);
         }
         rows = rest;
