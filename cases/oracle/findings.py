@@ -1,6 +1,6 @@
 """What check says of a script. Of a line that explains itself at length only its beginning is said here."""
 from .calls import CALLS
-from .script import BAD_ARGUMENT, BAD_BYTE, LONGEST_LINE, TOO_LONG, UNKNOWN_CALL, faults_of, is_stray, lines_of, pieces_of
+from .script import BAD_ARGUMENT, BAD_BYTE, LONGEST_LINE, TOO_LONG, UNKNOWN_CALL, faults_of, lines_of, pieces_of
 
 
 def finding(number, line, fault):
@@ -17,9 +17,7 @@ def finding(number, line, fault):
         forms = CALLS[word][0]
         pieces = pieces_of(line, forms)
         wanted = f'{len(forms)} argument' + ('' if len(forms) == 1 else 's')
-        has_more = any(is_stray(piece) or piece.decode() in CALLS for piece in pieces) or b',' in line
-        end = ': ' if forms or has_more else '\n'
-        what = f'{word} wants ' if fault.kind == BAD_ARGUMENT else f'{word} takes {wanted}, {len(pieces)} given{end}'
+        what = f'{word} wants ' if fault.kind == BAD_ARGUMENT else f'{word} takes {wanted}, {len(pieces)} given: '
     return f'line {number}, column {fault.column}: {what}'
 
 

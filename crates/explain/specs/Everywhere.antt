@@ -101,17 +101,17 @@ refusal_everywhere call = None
 
 -- what a refusal by the arguments alone means
 abbrev pub meaning : Refusal → List ℕ
-meaning NoSuchPanel = codes ": panels are numbered from 1 to 1000; panel_above and panel_below take none"
+meaning NoSuchPanel = codes ": panels are numbered from 1 to 1000, or \"none\" for panel_above and panel_below"
 meaning OffScreen = codes ": a screen has at most 999 lines and 999 columns"
 meaning OutsideParent = codes ": a screen has at most 999 lines and 999 columns"
 meaning OutsideWindow = codes ": a screen has at most 999 lines and 999 columns"
 meaning NotPad = codes ": window 0 is the standard screen, and no pad"
 meaning NotDerived = codes ": window 0 is the standard screen, and derives from no window"
 meaning BadSize = codes ": a pad has 1 to 1000 lines and 1 to 1000 columns"
-meaning BadRegion = codes ": the first line is after the last, or the last is past 998"
-meaning BadCharacter = codes ": characters are the space to the tilde; addch and addstr take \\n, \\r and \\b too"
+meaning BadRegion = codes ": the first line is after the last, or on window 0 the last is past 998"
+meaning BadCharacter = codes ": characters are the space to the tilde; addch and addstr take \\n, \\r and \\b too, but no control sequences"
 meaning StandardScreen = codes ": window 0 is the standard screen, which stays, and is in no panel"
-meaning BadPair = codes ": pairs are 0 to 63, of which 0 isn't set, and colours are 0 to 7"
+meaning BadPair = codes ": pairs are 0 to 63, colours are 0 to 7, and init_pair sets pairs from 1 on"
 meaning why = []
 
 -- the line about such a call, in a script's line with its number

@@ -1,16 +1,15 @@
 -- What a person reads about a faulty line. The texts are Curspan's own.
-use Rattle.std.specs.Prelude.{◌==◌, ◌&&◌, ℕ, Bool, is_some, nat_lt, List, [], ◌∷◌, ◌++◌, codes, decimal, drop, length, slice_index, Option, Some, None, if◌then◌else◌}
-use Rattle.std.specs.List.{list_any, slice_split}
-use Rattle.std.specs.Option.{option_map_or}
+use Rattle.std.specs.Prelude.{◌==◌, ℕ, Bool, nat_lt, List, [], ◌∷◌, ◌++◌, codes, decimal, drop, length, slice_index, Option, Some, None, if◌then◌else◌}
+use Rattle.std.specs.List.{slice_split}
+use Rattle.std.specs.Option.{option_map_or, unwrap_or}
 use Rattle.cell.specs.Attributes.{hex_digits}
 use Rattle.script.specs.Characters.{is_space, newline}
 use Rattle.script.specs.declared.fault.TextFault.{TextFault}
 use Rattle.script.specs.declared.fault.TextFault.TheVariants.{LineTooLong, BadByte, UnknownCall, WrongNumberOfArguments, BadArgument}
-use Rattle.script.specs.Words.{word_of}
 use Rattle.explain.specs.Advice.{begins_comment, begins_with, call_advice}
-use Rattle.explain.specs.Faults.{IllFormed, arguments_in, bad_place, column_of, find_ill_formed_in, find_stray_in, forms_of, word_in}
-use Rattle.explain.specs.Reasons.{byte_advice, has_byte, comma, reason_after, requirement_of}
-use Rattle.explain.specs.Signatures.{names_of_arguments}
+use Rattle.explain.specs.Faults.{IllFormed, arguments_in, bad_place, column_of, find_ill_formed_in, find_stray_in, first_column, forms_of, word_in}
+use Rattle.explain.specs.Numbers.{number_reason, signature_text}
+use Rattle.explain.specs.Reasons.{bad_text_advice, reason_after, requirement_of}
 
 abbrev pub byte_order_mark : List ℕ
 byte_order_mark = 239 ∷ 187 ∷ 191 ∷ []
@@ -34,12 +33,13 @@ count_text n = decimal n ++ (if n == 1 then codes " argument" else codes " argum
 
 -- what a word wants in place of an argument
 abbrev pub ill_formed_text : List ℕ → IllFormed → List ℕ
-ill_formed_text word ill = word ++ codes " wants " ++ requirement_of word ill.form ++ codes ", not " ++ quotation ill.argument ++ reason_after word ill.form ill.argument
+ill_formed_text word ill = word ++ codes " wants " ++ requirement_of word ill.form ++ codes ", not " ++ quotation ill.argument
+    ++ reason_after word (ill.column == first_column word) ill.form ill.argument
 
 -- what is said of a bad byte, of a word that is no call (of no word, since the line begins with a space), and of a
 -- wrong number of arguments
-abbrev pub bad_byte_text : ℕ → List ℕ
-bad_byte_text byte = codes "bad byte " ++ hex_digits byte ++ codes ": " ++ byte_advice byte
+abbrev pub bad_byte_text : ℕ → List ℕ → List ℕ
+bad_byte_text byte rest = codes "bad byte " ++ hex_digits byte ++ codes ": " ++ bad_text_advice byte rest
 
 abbrev pub unknown_text : List ℕ → List (List ℕ) → List ℕ
 unknown_text word pieces = if length word == 0 then codes "the line begins with a space, and not with a call or #; an empty line has no spaces"
@@ -54,28 +54,19 @@ stray_text argument = if length argument == 0 then codes ": single spaces separa
     else (if begins_comment argument then codes ": a comment has a line of its own, and begins with #"
     else codes ": a comment has a line of its own")
 
--- what a call's arguments are, if it takes some
-abbrev pub signature_text : List ℕ → List ℕ
-signature_text names = if length names == 0 then [] else codes ": " ++ names
-
--- some of the words is a call
-abbrev pub has_call : List (List ℕ) → Bool
-has_call pieces = list_any (λ piece. is_some (word_of piece)) pieces
-
--- What is said after the number of arguments, which may be too many: of the stray one; or else of another call, or of a
--- comma; or else what they are.
-abbrev pub number_advice : List ℕ → List ℕ → Bool → Option (ℕ × List ℕ) → List ℕ
-number_advice word line many None = if many && has_call (drop 1 (slice_split is_space line)) then codes ": a line has one call"
-    else (if has_byte comma line then codes ": spaces separate arguments, and no commas"
-    else signature_text (option_map_or names_of_arguments (word_of word) []))
-number_advice word line many (Some stray) = stray_text stray.1
+-- What is said after the number of arguments, which may be too many: of the stray one, or of the line, or else what they are.
+abbrev pub number_advice : List ℕ → Bool → Option (ℕ × List ℕ) → List ℕ
+number_advice line many None =
+    let pieces = slice_split is_space line in
+    unwrap_or (number_reason (word_in pieces) line (drop 1 pieces) many) (signature_text (word_in pieces))
+number_advice line many (Some stray) = stray_text stray.1
 
 -- what is said of a line with a bad byte
 abbrev pub bad_line_text : List ℕ → List ℕ
 bad_line_text line = if begins_with byte_order_mark line then codes "bad byte ef: a script has no byte order mark"
     else (if begins_with little_endian_mark line then codes "bad byte ff: the script is in UTF-16, and has to be in ASCII"
     else (if begins_with big_endian_mark line then codes "bad byte fe: the script is in UTF-16, and has to be in ASCII"
-    else bad_byte_text (slice_index line (bad_place line))))
+    else bad_byte_text (slice_index line (bad_place line)) (drop (bad_place line) line)))
 
 -- what is said of a fault
 abbrev pub explanation : TextFault → List ℕ → List ℕ
@@ -87,7 +78,7 @@ explanation UnknownCall line =
 explanation WrongNumberOfArguments line =
     let pieces = slice_split is_space line in
     number_text (word_in pieces) (length (forms_of (word_in pieces))) (length (arguments_in pieces))
-    ++ number_advice (word_in pieces) line (nat_lt (length (forms_of (word_in pieces))) (length (arguments_in pieces))) (find_stray_in pieces)
+    ++ number_advice line (nat_lt (length (forms_of (word_in pieces))) (length (arguments_in pieces))) (find_stray_in pieces)
 explanation BadArgument line =
     let pieces = slice_split is_space line in
     option_map_or (ill_formed_text (word_in pieces)) (find_ill_formed_in pieces) []

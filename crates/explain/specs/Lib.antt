@@ -4,5 +4,6 @@ pub mod Faults
 pub mod Everywhere
 pub mod Reasons
 pub mod Signatures
+pub mod Numbers
 pub mod Explanations
 pub mod steps

@@ -1,5 +1,5 @@
 -- What the arguments of each call are, in their order. The texts are Curspan's own.
-use Rattle.std.specs.Prelude.{ℕ, List, [], codes}
+use Rattle.std.specs.Prelude.{ℕ, List, codes}
 use Rattle.script.specs.declared.words.Word.{Word}
 use Rattle.script.specs.declared.words.Word.TheVariants as word
 use Rattle.script.specs.declared.words.MakingWord.TheVariants as making
@@ -11,10 +11,10 @@ use Rattle.script.specs.declared.words.RefreshWord.TheVariants as refresh
 
 abbrev pub names_of_arguments : Word → List ℕ
 -- making and placing
-names_of_arguments (word.Making making.Newwin) = codes "lines, columns, top line, left column"
+names_of_arguments (word.Making making.Newwin) = codes "lines, columns, top line, left column; the window's number is its answer"
 names_of_arguments (word.Making making.Subwin) = codes "window, lines, columns, top line, left column of the screen"
 names_of_arguments (word.Making making.Derwin) = codes "window, lines, columns, top line, left column of that window"
-names_of_arguments (word.Making making.Newpad) = codes "lines, columns"
+names_of_arguments (word.Making making.Newpad) = codes "lines, columns; the pad's number is its answer"
 names_of_arguments (word.Making making.Subpad) = codes "pad, lines, columns, top line, left column of that pad"
 names_of_arguments (word.Making making.Delwin) = codes "window"
 names_of_arguments (word.Making making.Mvwin) = codes "window, top line, left column"
@@ -38,7 +38,7 @@ names_of_arguments (word.Writing writing.Clearok) = codes "window (0 is the stan
 names_of_arguments (word.Writing writing.Attrset) = codes "window (0 is the standard screen), attributes as one sum"
 names_of_arguments (word.Writing writing.Attron) = codes "window (0 is the standard screen), attributes as one sum"
 names_of_arguments (word.Writing writing.Attroff) = codes "window (0 is the standard screen), attributes as one sum"
-names_of_arguments (word.Writing writing.Bkgdset) = codes "window (0 is the standard screen), attributes as one sum, character"
+names_of_arguments (word.Writing writing.Bkgdset) = codes "window (0 is the standard screen), attributes as one sum, character; bkgdpair sets a pair"
 names_of_arguments (word.Writing writing.ColorSet) = codes "window (0 is the standard screen), pair"
 names_of_arguments (word.Writing writing.Bkgdpair) = codes "window (0 is the standard screen), pair"
 -- copies and marks
@@ -75,6 +75,6 @@ names_of_arguments (word.Stacking stacking.PanelHidden) = codes "panel"
 -- refreshing
 names_of_arguments (word.Refresh refresh.Noutrefresh) = codes "window (0 is the standard screen)"
 names_of_arguments (word.Refresh refresh.Pnoutrefresh) = codes "pad, its line, its column, then top, left, bottom and right of the screen"
-names_of_arguments (word.Refresh refresh.UpdatePanels) = []
-names_of_arguments (word.Refresh refresh.Doupdate) = []
-names_of_arguments (word.Refresh refresh.InitPair) = codes "pair, foreground colour, background colour"
+names_of_arguments (word.Refresh refresh.UpdatePanels) = codes "its name is all of its line"
+names_of_arguments (word.Refresh refresh.Doupdate) = codes "its name is all of its line"
+names_of_arguments (word.Refresh refresh.InitPair) = codes "pair, foreground, background: 0 black 1 red 2 green 3 yellow 4 blue 5 magenta 6 cyan 7 white"

@@ -4,16 +4,19 @@ ghost use Rattle.std.specs.Prelude.{◌≡◌, ◌≤◌, IfSome, length, option
 ghost use Rattle.std.specs.List.{list_any};
 ghost use Rattle.std.specs.Str.{bytes_eq};
 ghost use Rattle.script.specs.Pieces.{pieces_of};
-ghost use Rattle.explain.specs.Advice.{advice_in, advice_on, names_in};
+ghost use Rattle.explain.specs.Advice.{advice_in, advice_on, names_in, table_advice};
 ghost use Rattle.explain.specs.steps.Tables.{letters_now, rows_now, rows_of};
 
+use crate::more_advice::more_advice;
 use script::split_at_space;
 
 /// What is said of names, and the names of which it is said, with a space between any two.
-type Row = (&'static [u8], &'static [u8]);
+pub type Row = (&'static [u8], &'static [u8]);
 
 // What is said of names of several letters.
 const KEYS: &[u8] = b"no call reads keys";
+
+pub const REFRESHED: &[u8] = b"see noutrefresh, doupdate";
 
 const TERMINAL: &[u8] = b"nothing is asked of the terminal, nor set there";
 
@@ -41,7 +44,7 @@ const SIZE: &[u8] = b"the screen keeps its size, which the command line gives";
 
 const ECHOED: &[u8] = b"see addch, noutrefresh, doupdate";
 
-const FORMATS: &[u8] = b"no call formats: see addstr";
+pub const FORMATS: &[u8] = b"no call formats: see addstr";
 
 const POINTERS: &[u8] = b"a panel has no pointer";
 
@@ -53,13 +56,13 @@ const TRACES: &[u8] = b"no call traces or names a version";
 
 const ATTRIBUTES: &[u8] = b"see attrset, attron, attroff, color_set";
 
-const COLOURED: &[u8] = b"see init_pair, color_set";
+pub const COLOURED: &[u8] = b"see init_pair, color_set";
 
 const TEXTS: &[u8] = b"see addstr";
 
-const CALLS_ALONE: &[u8] = b"a script has calls alone: no variables, loops or functions";
+pub const CALLS_ALONE: &[u8] = b"a script has calls alone: no variables, loops or functions";
 
-const MENUS: &[u8] = b"there are no menus or forms";
+pub const MENUS: &[u8] = b"there are no menus or forms";
 
 const BEGINNINGS: &[u8] = b"a line begins with a call";
 
@@ -83,7 +86,8 @@ const WAITS: &[u8] = b"no call waits";
 
 const SIZES: &[u8] = b"see getmaxyx";
 
-const SCREEN_SIZE: &[u8] = b"the command line gives the size, by --lines and --cols; see getmaxyx";
+pub const SCREEN_SIZE: &[u8] =
+    b"the command line gives the size, by --lines and --cols; see getmaxyx";
 
 const LINES_INSERTED: &[u8] = b"see insertln, deleteln";
 
@@ -95,7 +99,7 @@ const CHARACTERS: &[u8] = b"see addch";
 
 const LINE_ERASED: &[u8] = b"see clrtoeol";
 
-const PROGRAMS: &[u8] = b"a script runs no programs: each line of it is a call";
+pub const PROGRAMS: &[u8] = b"a script runs no programs: each line of it is a call";
 
 const COMMAND_LINE: &[u8] = b"this belongs on the command line: a script has calls alone";
 
@@ -135,7 +139,6 @@ const ADVICE: [(u8, &[Row]); 28] = [
             b"attr_set attr_on attr_off attr attribute attributes a_bold a_dim a_underline a_blink a_reverse \
             a_invis a_standout a_normal attrs"),
         (RENDITION, b"attr_get"),
-        (COLOURS, b"assume_default_colors"),
         (PAIRS, b"alloc_pair"),
         (CURSOR, b"at"),
         (ASCII, b"add_wch add_wchstr add_wchnstr addwstr addnwstr"),
@@ -166,13 +169,12 @@ const ADVICE: [(u8, &[Row]); 28] = [
         (SCREEN, b"close"),
         (TEXTS, b"cout"),
         (ATTRIBUTES, b"chgat"),
-        (COLOURS, b"can_change_color"),
         (CONTENTS, b"color_content"),
         (PAIRS, b"color_pair"),
-        (CURSOR, b"cursyncup cursor cup"),
+        (CURSOR, b"cursyncup cup"),
         (SCREEN_SIZE, b"cols columns"),
         (b"see panel_below, with none", b"ceiling_panel"),
-        (TERMINAL, b"curs_set cur_term civis cnorm"),
+        (TERMINAL, b"cur_term"),
         (TRACES, b"curses_trace curses_version"),
         (ERASED, b"cls clr clrscr clearscreen clear_screen clear_window clearscr"),
         (b"see clrtobot", b"clrtobottom clrtoeos"),
@@ -207,14 +209,14 @@ const ADVICE: [(u8, &[Row]); 28] = [
             destroywin"),
         (WAITS, b"delay delay_output"),
         (MENUS, b"dialog"),
-        (CALLS_ALONE, b"do done declare def del"),
+        (CALLS_ALONE, b"do done declare def"),
         (b"see subwin, derwin", b"derwindow"),
     ]),
     (b'e', &[
         (ECHOED, b"echochar"),
         (KEYS, b"erasechar"),
         (MOUSE, b"enclose"),
-        (SCREEN, b"endwin exit_curses exit end"),
+        (SCREEN, b"endwin exit_curses exit"),
         (CONTENTS, b"extended_color_content extended_pair_content"),
         (ASCII, b"echo_wchar erasewchar"),
         (LABELS, b"extended_slk_color"),
@@ -245,7 +247,7 @@ const ADVICE: [(u8, &[Row]); 28] = [
         (MOUSE, b"getmouse"),
         (b"no call answers a background: see inch", b"getbkgd"),
         (RENDITION, b"getattrs"),
-        (CURSOR, b"goto gotoxy go_to"),
+        (CURSOR, b"gotoxy go_to"),
         (b"see getyx", b"getcurx getcury getsyx getcursor get_cursor getpos"),
         (b"see getbegyx", b"getbegx getbegy"),
         (b"see getparyx", b"getparx getpary"),
@@ -266,7 +268,7 @@ const ADVICE: [(u8, &[Row]); 28] = [
         (COLOURS, b"has_colors"),
         (SCREEN_SIZE, b"height"),
         (HIDDEN, b"hidden"),
-        (TERMINAL, b"has_ic has_il hide_cursor"),
+        (TERMINAL, b"has_ic has_il"),
         (SHOWN, b"hide hide_window"),
         (HELP, b"help"),
     ]),
@@ -279,7 +281,7 @@ const ADVICE: [(u8, &[Row]); 28] = [
         (SIZE, b"is_term_resized"),
         (b"see attron, with 10", b"invert"),
         (ATTRIBUTES, b"inverse italic"),
-        (COLOURS, b"init_color init_extended_color init_extended_pair"),
+        (COLOURS, b"init_extended_pair"),
         (FLAGS, b"immedok idlok idcok"),
         (SETTINGS,
             b"is_cleared is_cbreak is_echo is_nl is_raw is_idcok is_idlok is_immedok is_keypad is_leaveok \
@@ -292,7 +294,7 @@ const ADVICE: [(u8, &[Row]); 28] = [
     ]),
     (b'k', &[
         (KEYS,
-            b"keypad keyname keyok keybound key_defined killchar key kbhit key_up key_down key_left key_right \
+            b"keypad keyname keyok keybound key_defined killchar kbhit key_up key_down key_left key_right \
             key_enter"),
         (ASCII, b"key_name killwchar"),
         (DELETED, b"killwin"),
@@ -300,7 +302,7 @@ const ADVICE: [(u8, &[Row]); 28] = [
     ]),
     (b'l', &[
         (LINES, b"line"),
-        (TEXTS, b"label log"),
+        (TEXTS, b"label"),
         (CURSOR, b"locate left"),
         (SCREEN_SIZE, b"lines"),
         (FLAGS, b"leaveok"),
@@ -313,7 +315,7 @@ const ADVICE: [(u8, &[Row]); 28] = [
     (b'm', &[
         (KEYS, b"meta"),
         (MOUSE, b"mousemask mouseinterval mouse_trafo mouse"),
-        (CURSOR, b"move_cursor movecursor mv moveto move_to"),
+        (CURSOR, b"move_cursor movecursor moveto move_to"),
         (SIZES, b"maxyx"),
         (TERMINAL, b"mcprint mvcur"),
         (WINDOWS, b"makewin mkwin"),
@@ -376,7 +378,7 @@ const ADVICE: [(u8, &[Row]); 28] = [
         (SCREEN, b"quit"),
     ]),
     (b'r', &[
-        (b"see noutrefresh, doupdate", b"refresh"),
+        (REFRESHED, b"refresh"),
         (KEYS, b"raw read readkey read_key"),
         (LINES, b"rect rectangle"),
         (b"a window keeps its size: see newwin, overwrite", b"resize"),
@@ -409,7 +411,7 @@ const ADVICE: [(u8, &[Row]); 28] = [
         (b"see attrset, with 00", b"standend sgr0"),
         (ATTRIBUTES, b"setattr set_attr"),
         (COLOURS, b"start_color start_colour"),
-        (b"see scrl", b"scroll scroll_up scroll_down scrollup scrolldown"),
+        (b"see scrl", b"scroll_up scroll_down scrollup scrolldown"),
         (CURSOR, b"setcursor set_cursor setsyx"),
         (SIZES, b"size"),
         (SCREEN_SIZE, b"screen"),
@@ -420,7 +422,7 @@ const ADVICE: [(u8, &[Row]); 28] = [
         (LABELS,
             b"slk_attr slk_attr_off slk_attr_on slk_attr_set slk_attroff slk_attron slk_attrset slk_clear \
             slk_color slk_init slk_label slk_noutrefresh slk_refresh slk_restore slk_set slk_touch slk_wset"),
-        (TERMINAL, b"savetty set_tabsize stty setupterm set_curterm smcup show_cursor"),
+        (TERMINAL, b"savetty set_tabsize stty setupterm set_curterm smcup"),
         (SAVED, b"scr_dump scr_init scr_restore scr_set save"),
         (UPDATES, b"show_screen sync"),
         (SHOWN, b"show show_window"),
@@ -437,7 +439,7 @@ const ADVICE: [(u8, &[Row]); 28] = [
         (ESCAPES, b"tab"),
         (TEXTS, b"text type title"),
         (TERMINAL,
-            b"termname tigetflag tigetnum tigetstr tiparm tparm tput tputs tgetent tgetflag tgetnum tgetstr \
+            b"termname tigetflag tigetnum tigetstr tiparm tparm tputs tgetent tgetflag tgetnum tgetstr \
             tgoto termattrs term_attrs"),
         (TRACES, b"trace"),
         (RAISED, b"top"),
@@ -453,7 +455,6 @@ const ADVICE: [(u8, &[Row]); 28] = [
         (MOUSE, b"ungetmouse"),
         (SCREEN, b"use_screen use_window"),
         (ATTRIBUTES, b"underline"),
-        (COLOURS, b"use_default_colors"),
         (CURSOR, b"up"),
         (POINTERS, b"userptr"),
         (ASCII, b"unctrl"),
@@ -516,7 +517,7 @@ pub fn is_among(name: &[u8], names: &[u8]) -> bool
 }
 
 /// What a table says of a name: the first of its rows that has the name.
-fn look_up(mut rows: &[Row], name: &[u8]) -> Option<&'static [u8]>
+pub fn look_up(mut rows: &[Row], name: &[u8]) -> Option<&'static [u8]>
     ensures { option_map (λ text. text.now) result ≡ advice_in (rows_now rows.entry.now) name.now }
 {
     while let [(text, names), rest @ ..] = rows {
@@ -541,13 +542,24 @@ fn rows_of(mut letters: &[(u8, &'static [Row])], letter: u8) -> &'static [Row]
     &[]
 }
 
-/// What is said of a name of curses, if something is.
-pub fn advice_on(name: &[u8]) -> Option<&'static [u8]>
-    ensures text { option_map (λ text. text.now) result ≡ advice_on name.now }
+/// What the table says of a name, if something is.
+fn table_advice(name: &[u8]) -> Option<&'static [u8]>
+    ensures text { option_map (λ text. text.now) result ≡ table_advice name.now }
     ensures short { IfSome result (λ text. length text.now ≤ 80) }
 {
     match name.first() {
         Some(first) => look_up(rows_of(&ADVICE, *first), name),
         None => None,
+    }
+}
+
+/// What is said of a name of curses, if something is.
+pub fn advice_on(name: &[u8]) -> Option<&'static [u8]>
+    ensures text { option_map (λ text. text.now) result ≡ advice_on name.now }
+    ensures short { IfSome result (λ text. length text.now ≤ 80) }
+{
+    match table_advice(name) {
+        Some(text) => Some(text),
+        None => more_advice(name),
     }
 }

@@ -1,6 +1,6 @@
 //! Where a fault is.
 
-ghost use Rattle.std.specs.Prelude.{◌≡◌, ◌≤◌, ◌+◌, ◌<◌, IfSome, length, position, slice_index};
+ghost use Rattle.std.specs.Prelude.{◌≡◌, ◌≤◌, ◌+◌, ◌<◌, IfSome, drop, length, position, slice_index};
 ghost use Rattle.script.specs.Characters.{is_bad_byte};
 ghost use Rattle.script.specs.Pieces.{pieces_of};
 ghost use Rattle.script.specs.Readings.{arguments};
@@ -37,6 +37,13 @@ pub fn bad_byte(line: &[u8]) -> u8
         Some(byte) => *byte,
         None => 0,
     }
+}
+
+/// A line from that byte on.
+pub fn from_bad_byte(line: &[u8]) -> &[u8]
+    ensures { result.now ≡ drop (bad_place line.now) line.now }
+{
+    &line[bad_place(line)..]
 }
 
 /// The column after as many arguments as there are forms, of which the first begins in a column.

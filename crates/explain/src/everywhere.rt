@@ -212,23 +212,25 @@ pub fn refusal_everywhere(call: &Call<'_>) -> Option<Refusal>
 /// What a refusal by the arguments alone means.
 fn meaning(why: Refusal) -> &'static [u8]
     ensures text { result.now ≡ meaning why }
-    ensures short { length result.now ≤ 80 }
+    ensures short { length result.now ≤ 112 }
 {
     match why {
         Refusal::NoSuchPanel => {
-            b": panels are numbered from 1 to 1000; panel_above and panel_below take none"
+            b": panels are numbered from 1 to 1000, or \"none\" for panel_above and panel_below"
         }
         Refusal::OffScreen | Refusal::OutsideParent | Refusal::OutsideWindow =>
             b": a screen has at most 999 lines and 999 columns",
         Refusal::NotPad => b": window 0 is the standard screen, and no pad",
         Refusal::NotDerived => b": window 0 is the standard screen, and derives from no window",
         Refusal::BadSize => b": a pad has 1 to 1000 lines and 1 to 1000 columns",
-        Refusal::BadRegion => b": the first line is after the last, or the last is past 998",
+        Refusal::BadRegion =>
+            b": the first line is after the last, or on window 0 the last is past 998",
         Refusal::BadCharacter =>
-            b": characters are the space to the tilde; addch and addstr take \\n, \\r and \\b too",
+            b": characters are the space to the tilde; addch and addstr take \\n, \\r and \\b too, but no control sequences",
         Refusal::StandardScreen =>
             b": window 0 is the standard screen, which stays, and is in no panel",
-        Refusal::BadPair => b": pairs are 0 to 63, of which 0 isn't set, and colours are 0 to 7",
+        Refusal::BadPair =>
+            b": pairs are 0 to 63, colours are 0 to 7, and init_pair sets pairs from 1 on",
         _ => b"",
     }
 }

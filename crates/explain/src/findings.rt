@@ -4,14 +4,16 @@ ghost use Rattle.std.specs.Prelude.{◌≡◌, ◌≤◌, ◌+◌, ◌++◌, ◌
 ghost use Rattle.explain.specs.Advice.{call_advice, line_advice, said_of};
 ghost use Rattle.script.specs.Pieces.{pieces_of};
 ghost use Rattle.explain.specs.Faults.{IllFormed as Ill};
-ghost use Rattle.explain.specs.Explanations.{bad_byte_text, bad_line_text, count_text, explanation, finding, has_call, ill_formed_text, number_advice, number_text, quotation, signature_text, stray_text, unknown_text};
+ghost use Rattle.explain.specs.Numbers.{signature_text};
+ghost use Rattle.explain.specs.Explanations.{bad_byte_text, bad_line_text, count_text, explanation, finding, ill_formed_text, number_advice, number_text, quotation, stray_text, unknown_text};
 
 use crate::arguments::{IllFormed, Stray, count, find_ill_formed, find_stray, forms_of};
-use crate::column::{bad_byte, column_of};
-use crate::names::{after_dot, begins_comment, has_value, name_of};
-use crate::reasons::{byte_advice, has_byte, reason_after, requirement_of};
+use crate::column::{bad_byte, column_of, from_bad_byte};
+use crate::names::{after_dot, begins_comment, name_of};
+use crate::numbers::number_reason;
+use crate::reasons::{bad_text_advice, reason_after, requirement_of};
 use crate::signatures::names_of_arguments;
-use crate::suggestions::{no_variables, said_of};
+use crate::suggestions::{said_of, said_of_line};
 use arrayvec::ArrayVec;
 use cell::hex_digits;
 use script::{LONGEST_LINE, TextFault, Word, split_at_space};
@@ -64,19 +66,22 @@ fn append_ill_formed(text: &mut Finding, word: &[u8], ill: IllFormed<'_>)
     append(text, requirement_of(word, ill.form));
     append(text, b", not ");
     append_quoted(text, ill.argument);
-    append(text, reason_after(word, ill.form, ill.argument));
+    append(
+        text,
+        reason_after(word, ill.column == word.len() + 2, ill.form, ill.argument),
+    );
 }
 
-/// Appends what is said of a bad byte.
-fn append_bad_byte(text: &mut Finding, byte: u8)
+/// Appends what is said of a bad byte, which begins a text.
+fn append_bad_byte(text: &mut Finding, byte: u8, rest: &[u8])
     requires { length text.old.items ≤ 64 }
-    ensures text { text.new.items ≡ text.old.items ++ bad_byte_text byte }
+    ensures text { text.new.items ≡ text.old.items ++ bad_byte_text byte rest.now }
     ensures short { length text.new.items < FINDING_ROOM }
 {
     append(text, b"bad byte ");
     append(text, &hex_digits(byte));
     append(text, b": ");
-    append(text, byte_advice(byte));
+    append(text, bad_text_advice(byte, rest));
 }
 
 /// What is said where nothing else is.
@@ -105,8 +110,7 @@ fn append_said(text: &mut Finding, word: &[u8])
     }
 }
 
-/// Appends what to write for a word that is no call, or what stands in place of variables where the words after it would
-/// give it a value.
+/// Appends what is said of a word that is no call and the words after it, or else of the word alone.
 fn append_advice(text: &mut Finding, word: &[u8], arguments: Option<&[u8]>)
     requires room { length text.old.items ≤ 600 }
     requires word { length word.now ≤ LONGEST_LINE }
@@ -114,10 +118,9 @@ fn append_advice(text: &mut Finding, word: &[u8], arguments: Option<&[u8]>)
     ensures short { length text.new.items < FINDING_ROOM }
 {
     append(text, b": ");
-    if has_value(word, arguments) {
-        append(text, no_variables());
-    } else {
-        append_said(text, word);
+    match said_of_line(word, arguments) {
+        Some(said) => append(text, said),
+        None => append_said(text, word),
     }
 }
 
@@ -169,54 +172,32 @@ fn stray_text(argument: &[u8]) -> &'static [u8]
     }
 }
 
-/// Appends what a call's arguments are, if it takes some.
-fn append_signature(text: &mut Finding, names: &[u8])
+/// Appends what a call's arguments are.
+fn append_signature(text: &mut Finding, word: &[u8])
     requires room { length text.old.items ≤ 1024 }
-    requires names { length names.now ≤ 96 }
-    ensures text { text.new.items ≡ text.old.items ++ signature_text names.now }
+    ensures text { text.new.items ≡ text.old.items ++ signature_text word.now }
     ensures short { length text.new.items < FINDING_ROOM }
 {
-    if !names.is_empty() {
+    if let Some(word) = Word::of(word) {
         append(text, b": ");
-        append(text, names);
+        append(text, names_of_arguments(word));
     }
-}
-
-/// Whether some of the words in a text is a call.
-fn has_call(text: Option<&[u8]>) -> bool
-    ensures { result ≡ has_call (pieces_of text.entry) }
-{
-    let Some(text) = text else { return false };
-    let (first, rest) = split_at_space(text);
-    if Word::of(first).is_some() {
-        return true;
-    }
-    has_call(rest)
 }
 
 /// Appends what is said after the number of a word's arguments, which may be too many.
-fn append_number_advice(
-    text: &mut Finding,
-    word: &[u8],
-    line: &[u8],
-    many: bool,
-    stray: Option<Stray<'_>>,
-)
-    requires { length text.old.items ≤ 1024 }
-    ensures text { text.new.items ≡ text.old.items ++ number_advice word.now line.now many (option_map (λ s. (s.column, s.argument.now)) stray.entry) }
+fn append_number_advice(text: &mut Finding, line: &[u8], many: bool, stray: Option<Stray<'_>>)
+    requires room { length text.old.items ≤ 1024 }
+    requires line { length line.now ≤ LONGEST_LINE }
+    ensures text { text.new.items ≡ text.old.items ++ number_advice line.now many (option_map (λ s. (s.column, s.argument.now)) stray.entry) }
     ensures short { length text.new.items < FINDING_ROOM }
 {
     if let Some(stray) = stray {
         return append(text, stray_text(stray.argument));
     }
-    if many && has_call(split_at_space(line).1) {
-        return append(text, b": a line has one call");
-    }
-    if has_byte(line, b',') {
-        return append(text, b": spaces separate arguments, and no commas");
-    }
-    if let Some(word) = Word::of(word) {
-        append_signature(text, names_of_arguments(word));
+    let (word, arguments) = split_at_space(line);
+    match number_reason(word, line, arguments, many) {
+        Some(said) => append(text, said),
+        None => append_signature(text, word),
     }
 }
 
@@ -241,7 +222,7 @@ fn append_bad_line(text: &mut Finding, line: &[u8])
             b"bad byte fe: the script is in UTF-16, and has to be in ASCII",
         );
     }
-    append_bad_byte(text, bad_byte(line));
+    append_bad_byte(text, bad_byte(line), from_bad_byte(line));
 }
 
 /// Appends what is said of a fault.
@@ -261,7 +242,7 @@ fn append_explanation(text: &mut Finding, fault: TextFault, line: &[u8])
             let given = count(forms, arguments);
             append_number(text, word, forms.len(), given);
             let stray = find_stray(word.len() + 2, forms, arguments);
-            append_number_advice(text, word, line, forms.len() < given, stray);
+            append_number_advice(text, line, forms.len() < given, stray);
         }
         TextFault::BadArgument => {
             if let Some(ill) = find_ill_formed(word.len() + 2, forms_of(word), arguments) {

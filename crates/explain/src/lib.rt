@@ -6,8 +6,10 @@
 //! - `everywhere`: the calls that every screen refuses
 //! - `findings`: the line on a fault
 //! - `laws`: the numerals that are printed are the limits
+//! - `more_advice`: further names, and parts of names
 //! - `names`: the name that a word begins with, and what begins a comment elsewhere
 //! - `nearest`: the call that a word was meant to be
+//! - `numbers`: what is said of too many or too few arguments
 //! - `reasons`: what an argument has to be, and why it is not
 //! - `signatures`: what the arguments of each call are
 //! - `suggestions`: what to write for a word that is no call
@@ -19,8 +21,10 @@ mod column;
 mod everywhere;
 mod findings;
 mod laws;
+mod more_advice;
 mod names;
 mod nearest;
+mod numbers;
 mod reasons;
 mod signatures;
 mod suggestions;

@@ -3,7 +3,7 @@
 ghost use Rattle.std.specs.Prelude.{◌≡◌, ◌≤◌, length};
 ghost use Rattle.std.specs.List.{list_any};
 ghost use Rattle.script.specs.Pieces.{pieces_of};
-ghost use Rattle.explain.specs.Advice.{after_dot, after_name, begins_comment, begins_with_digit, ends_with_comma, gives_value, has_part, has_value, is_name_byte, is_of_menus, is_quoted, name_in};
+ghost use Rattle.explain.specs.Advice.{after_dot, after_name, begins_comment, begins_with_digit, ends_with, gives_value, has_part, has_value, is_name_byte, is_quoted, name_in};
 
 use arrayvec::ArrayVec;
 use script::{LONGEST_LINE, split_at_space};
@@ -30,12 +30,12 @@ pub fn begins_with_digit(text: &[u8]) -> bool
     }
 }
 
-/// Whether a text ends with a comma.
-fn ends_with_comma(text: &[u8]) -> bool
-    ensures { result ≡ ends_with_comma text.now }
+/// Whether a text ends with a byte.
+pub fn ends_with(text: &[u8], byte: u8) -> bool
+    ensures { result ≡ ends_with byte text.now }
 {
     match text.last() {
-        Some(last) => *last == b',',
+        Some(last) => *last == byte,
         None => false,
     }
 }
@@ -70,7 +70,7 @@ pub fn has_value(word: &[u8], text: Option<&[u8]>) -> bool
 {
     let Some(text) = text else { return false };
     let (first, rest) = split_at_space(text);
-    gives_value(first) || ends_with_comma(word) && has_some_value(rest)
+    gives_value(first) || ends_with(word, b',') && has_some_value(rest)
 }
 
 /// Whether a text begins with a quote.
@@ -81,7 +81,7 @@ pub fn is_quoted(text: &[u8]) -> bool
 }
 
 /// Whether a text has another in it.
-fn has_part(text: &[u8], part: &[u8]) -> bool
+pub fn has_part(text: &[u8], part: &[u8]) -> bool
     ensures { result ≡ has_part part.now text.now }
 {
     let mut left = text;
@@ -92,16 +92,6 @@ fn has_part(text: &[u8], part: &[u8]) -> bool
         left = rest;
     }
     false
-}
-
-/// Whether a name is one of menus or forms.
-pub fn is_of_menus(name: &[u8]) -> bool
-    ensures { result ≡ is_of_menus name.now }
-{
-    has_part(name, b"menu")
-        || has_part(name, b"item")
-        || has_part(name, b"form")
-        || has_part(name, b"field")
 }
 
 /// Whether a name may have a byte.

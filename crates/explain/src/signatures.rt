@@ -12,10 +12,11 @@ fn making_arguments(word: MakingWord) -> &'static [u8]
     ensures short { length result.now ≤ 96 }
 {
     match word {
-        MakingWord::Newwin => b"lines, columns, top line, left column",
+        MakingWord::Newwin =>
+            b"lines, columns, top line, left column; the window's number is its answer",
         MakingWord::Subwin => b"window, lines, columns, top line, left column of the screen",
         MakingWord::Derwin => b"window, lines, columns, top line, left column of that window",
-        MakingWord::Newpad => b"lines, columns",
+        MakingWord::Newpad => b"lines, columns; the pad's number is its answer",
         MakingWord::Subpad => b"pad, lines, columns, top line, left column of that pad",
         MakingWord::Delwin => b"window",
         MakingWord::Mvwin => b"window, top line, left column",
@@ -46,7 +47,7 @@ fn writing_arguments(word: WritingWord) -> &'static [u8]
         WritingWord::Attrset | WritingWord::Attron | WritingWord::Attroff =>
             b"window (0 is the standard screen), attributes as one sum",
         WritingWord::Bkgdset =>
-            b"window (0 is the standard screen), attributes as one sum, character",
+            b"window (0 is the standard screen), attributes as one sum, character; bkgdpair sets a pair",
         WritingWord::ColorSet | WritingWord::Bkgdpair => b"window (0 is the standard screen), pair",
     }
 }
@@ -101,8 +102,9 @@ fn refresh_arguments(word: RefreshWord) -> &'static [u8]
         RefreshWord::Noutrefresh => b"window (0 is the standard screen)",
         RefreshWord::Pnoutrefresh =>
             b"pad, its line, its column, then top, left, bottom and right of the screen",
-        RefreshWord::UpdatePanels | RefreshWord::Doupdate => b"",
-        RefreshWord::InitPair => b"pair, foreground colour, background colour",
+        RefreshWord::UpdatePanels | RefreshWord::Doupdate => b"its name is all of its line",
+        RefreshWord::InitPair =>
+            b"pair, foreground, background: 0 black 1 red 2 green 3 yellow 4 blue 5 magenta 6 cyan 7 white",
     }
 }
 

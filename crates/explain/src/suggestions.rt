@@ -2,16 +2,19 @@
 
 ghost use Rattle.std.specs.Prelude.{◌≡◌, ◌≤◌, ◌+◌, ◌++◌, IfSome, codes, length, option_map, take};
 ghost use Rattle.std.specs.List.{list_any};
-ghost use Rattle.explain.specs.Advice.{advice_on_rest, after_prefix, called_name, is_name_byte, no_variables, number_first, said_near_name, said_of, said_of_marks, said_of_menus, said_of_name, said_of_near, said_of_written, say_call, see_longer, see_nearest};
+ghost use Rattle.script.specs.Pieces.{pieces_of};
+ghost use Rattle.explain.specs.Advice.{advice_on_rest, after_prefix, called_name, is_name_byte, is_of_log, is_of_shell, is_statement, no_variables, number_first, said_near_name, said_of, said_of_backslash, said_of_beginning, said_of_given, said_of_line, said_of_marks, said_of_name, said_of_near, said_of_value, said_of_written, say_call, see_longer, see_nearest, written_advice};
 ghost use Rattle.explain.specs.steps.Suggestions.{said_now};
 
-use crate::advice::advice_on;
+use crate::advice::{CALLS_ALONE, PROGRAMS, SCREEN_SIZE, advice_on, is_among};
+use crate::more_advice::advice_by_part;
 use crate::names::{
-    after_name, begins_comment, begins_with_digit, gives_value, is_name_byte, is_of_menus,
-    is_quoted,
+    after_name, begins_comment, begins_with_digit, ends_with, gives_value, has_value, is_name_byte,
+    is_quoted, name_of,
 };
 use crate::nearest::{nearest, nearest_other};
-use script::Word;
+use crate::reasons::{begins_with_letter, has_byte};
+use script::{LONGEST_LINE, Word, split_at_space};
 
 /// What is said of a word, and a call that ends it, if it names one.
 #[derive(Clone, Copy)]
@@ -135,7 +138,7 @@ fn begins_with_name(word: &[u8]) -> bool
 }
 
 /// What a script has in place of variables.
-pub fn no_variables() -> &'static [u8]
+fn no_variables() -> &'static [u8]
     ensures text { result.now ≡ no_variables }
     ensures short { length result.now ≤ 80 }
 {
@@ -150,28 +153,104 @@ fn number_first() -> &'static [u8]
     b"a line begins with the name of its call, and numbers come after it"
 }
 
-/// What is said of a name of menus or forms.
-fn said_of_menus<'a>(name: &[u8]) -> Option<Said<'a>>
-    ensures said { said_now result ≡ said_of_menus name.now }
-    ensures short { IfSome result (λ s. length s.text.now ≤ 80) }
-    ensures call { IfSome result (λ s. length s.call.now ≤ 80) }
+/// What is said of a name that is given a value.
+fn said_of_value(name: &[u8]) -> &'static [u8]
+    ensures text { result.now ≡ said_of_value name.now }
+    ensures short { length result.now ≤ 80 }
 {
-    if is_of_menus(name) {
-        return Some(Said {
-            text: b"there are no menus or forms",
-            call: b"",
-        });
+    if is_among(name, b"lines cols columns rows") {
+        SCREEN_SIZE
+    } else {
+        no_variables()
+    }
+}
+
+/// What is said of a word that gives a value to its name, which is no call.
+fn said_of_given(word: &[u8]) -> Option<&'static [u8]>
+    requires { length word.now ≤ LONGEST_LINE }
+    ensures said { option_map (λ text. text.now) result ≡ said_of_given word.now }
+    ensures short { IfSome result (λ text. length text.now ≤ 80) }
+{
+    let name = name_of(word);
+    if begins_with_name(word)
+        && gives_value(after_name(word))
+        && Word::of(name.as_slice()).is_none()
+    {
+        return Some(said_of_value(name.as_slice()));
     }
     None
 }
 
-/// What is said of a word that begins with no letter, or that gives a value to a name.
+/// Whether a word and those after it are a line of the log, or of check.
+fn is_of_log(word: &[u8], text: Option<&[u8]>) -> bool
+    ensures { result ≡ is_of_log word.now (pieces_of text.entry) }
+{
+    let Some(text) = text else { return false };
+    let (first, _) = split_at_space(text);
+    word == b"line".as_slice()
+        && begins_with_digit(first)
+        && (ends_with(first, b':') || ends_with(first, b','))
+}
+
+/// Whether a word and those after it are a statement of other languages.
+fn is_statement(word: &[u8], text: Option<&[u8]>) -> bool
+    ensures { result ≡ is_statement word.now (pieces_of text.entry) }
+{
+    let Some(text) = text else { return false };
+    let (first, _) = split_at_space(text);
+    is_among(word, b"raise goto GOTO DIM Dim END End") && begins_with_letter(first)
+}
+
+/// What is said of a word that is no call and of the words after it.
+pub fn said_of_line(word: &[u8], text: Option<&[u8]>) -> Option<&'static [u8]>
+    requires { length word.now ≤ LONGEST_LINE }
+    ensures said { option_map (λ text. text.now) result ≡ said_of_line word.now (pieces_of text.entry) }
+    ensures short { IfSome result (λ text. length text.now ≤ 80) }
+{
+    if is_of_log(word, text) {
+        return Some(b"a line of the log or of check is no line of a script");
+    }
+    if is_statement(word, text) {
+        return Some(CALLS_ALONE);
+    }
+    if has_value(word, text) && !has_byte(word, b'(') {
+        return Some(said_of_value(name_of(word).as_slice()));
+    }
+    None
+}
+
+/// What is said of a word that begins with a backslash.
+fn said_of_backslash(word: &[u8]) -> &'static [u8]
+    ensures text { result.now ≡ said_of_backslash word.now }
+    ensures short { length result.now ≤ 80 }
+{
+    if word.len() == 1 {
+        b"no line goes on in the next: a call has one line"
+    } else if has_byte(word, b'[') {
+        b"a script has no control sequences: see attrset, color_set, move, clear"
+    } else {
+        b"a line begins with the name of a call, and a comment with #"
+    }
+}
+
+/// Whether a word is one of shells: a variable, a redirection, a pipe, or a prompt.
+fn is_of_shell(word: &[u8]) -> bool
+    ensures { result ≡ is_of_shell word.now }
+{
+    word.strip_prefix(b"$").is_some()
+        || word.strip_prefix(b">").is_some()
+        || word.strip_prefix(b"<<").is_some()
+        || is_among(word, b"< | & && ||")
+        || begins_with_digit(word) && has_byte(word, b'>')
+}
+
+/// What is said of a word that begins with no letter.
 fn said_of_marks(word: &[u8]) -> Option<&'static [u8]>
     ensures said { option_map (λ text. text.now) result ≡ said_of_marks word.now }
     ensures short { IfSome result (λ text. length text.now ≤ 80) }
 {
     if word.strip_prefix(b"\\").is_some() {
-        return Some(b"a script has no control sequences: see attrset, color_set, move, clear");
+        return Some(said_of_backslash(word));
     }
     if let Some(rest) = word.strip_prefix(b"-") {
         if begins_with_digit(rest) {
@@ -179,7 +258,7 @@ fn said_of_marks(word: &[u8]) -> Option<&'static [u8]>
         }
         return Some(b"an option belongs on the command line, and a comment begins with #");
     }
-    if word.strip_prefix(b"$").is_some() || word.strip_prefix(b">").is_some() {
+    if is_of_shell(word) {
         return Some(
             b"a script has no variables, prompts or redirections: a line begins with a call",
         );
@@ -187,17 +266,17 @@ fn said_of_marks(word: &[u8]) -> Option<&'static [u8]>
     if is_quoted(word) {
         return Some(b"a text is an argument of addstr, without quotes; a comment begins with #");
     }
+    if word.strip_prefix(b"```").is_some() {
+        return Some(b"marks of Markdown are no part of a script");
+    }
     if word.strip_prefix(b"/").is_some() || word.strip_prefix(b"./").is_some() {
-        return Some(b"a script runs no programs: each line of it is a call");
+        return Some(PROGRAMS);
     }
     if begins_with_digit(word) {
         return Some(number_first());
     }
     if !begins_with_name(word) {
         return Some(b"a line begins with the name of a call, and a comment with #");
-    }
-    if gives_value(after_name(word)) {
-        return Some(no_variables());
     }
     None
 }
@@ -231,6 +310,21 @@ fn say_call<'a>(said: &'static [u8], name: &'a [u8]) -> Option<Said<'a>>
     None
 }
 
+/// How a call is written whose name has marks after it.
+fn written_advice(word: &[u8]) -> &'static [u8]
+    ensures text { result.now ≡ written_advice word.now }
+    ensures short { length result.now ≤ 80 }
+{
+    let rest = after_name(word);
+    if rest.strip_prefix(b";").is_some() {
+        b"a line has one call, and no semicolon: see "
+    } else if rest.strip_prefix(b"\\").is_some() {
+        b"only texts and characters have escapes: see "
+    } else {
+        b"a line is a call's name, and arguments after single spaces, as addstr 0 hi: see "
+    }
+}
+
 /// How the call is written whose name is in a word, among marks or in upper case.
 #[tactic(auto, unfolding(crate::specs::Advice::said_of_written))]
 fn said_of_written<'a>(word: &[u8], name: &'a [u8]) -> Option<Said<'a>>
@@ -245,30 +339,42 @@ fn said_of_written<'a>(word: &[u8], name: &'a [u8]) -> Option<Said<'a>>
     if let Some(said) = see_longer(word, name) {
         return Some(said);
     }
-    say_call(
-        b"a line is a call's name, and arguments after single spaces, as addstr 0 hi: see ",
-        name,
-    )
+    say_call(written_advice(word), name)
+}
+
+/// What is said of how a word begins.
+fn said_of_beginning(word: &[u8]) -> Option<&'static [u8]>
+    ensures said { option_map (λ text. text.now) result ≡ said_of_beginning word.now }
+    ensures short { IfSome result (λ text. length text.now ≤ 80) }
+{
+    if begins_comment(word) {
+        return Some(b"a comment begins with #");
+    }
+    if word.strip_prefix(b"panel.move").is_some() {
+        return Some(b"see move_panel");
+    }
+    if word.strip_prefix(b"subprocess.").is_some() || word.strip_prefix(b"os.").is_some() {
+        return Some(PROGRAMS);
+    }
+    None
 }
 
 /// What is said of a word that is no call, with the name of what it calls.
 #[tactic(auto, unfolding(crate::specs::Advice::said_of))]
 pub fn said_of<'a>(word: &[u8], name: &'a [u8]) -> Option<Said<'a>>
-    requires { name.now ≡ called_name word.now }
+    requires name { name.now ≡ called_name word.now }
+    requires short { length word.now ≤ LONGEST_LINE }
     ensures said { said_now result ≡ said_of word.now }
     ensures short { IfSome result (λ s. length s.text.now ≤ 80) }
     ensures call { IfSome result (λ s. length s.call.now ≤ length name.now + 80) }
 {
-    if begins_comment(word) {
-        return Some(Said {
-            text: b"a comment begins with #",
-            call: b"",
-        });
-    }
-    if word.strip_prefix(b"panel.move").is_some() {
-        return Some(see(b"move_panel"));
+    if let Some(text) = said_of_beginning(word) {
+        return Some(Said { text, call: b"" });
     }
     if let Some(text) = advice_on(word) {
+        return Some(Said { text, call: b"" });
+    }
+    if let Some(text) = said_of_given(word) {
         return Some(Said { text, call: b"" });
     }
     if let Some(said) = said_of_written(word, name) {
@@ -280,8 +386,8 @@ pub fn said_of<'a>(word: &[u8], name: &'a [u8]) -> Option<Said<'a>>
     if let Some(said) = said_of_near(word) {
         return Some(said);
     }
-    if let Some(said) = said_of_menus(name) {
-        return Some(said);
+    if let Some(text) = advice_by_part(name) {
+        return Some(Said { text, call: b"" });
     }
     if let Some(text) = said_of_marks(word) {
         return Some(Said { text, call: b"" });

@@ -15,4 +15,4 @@ returns-clause-said c =
     unfold said_of_written in rw (
       ne_eqb (length (called_name word)) (length word) (λ same. c.if-word-name.false (sym (ap length c.requires ∙ same))),
       sym c.see_longer.ensures.said ∙ ap said_now c.in_default.is,
-    ) (rw c.requires at c.say_call-2.ensures.said)
+    ) (rw (c.requires, c.written_advice.ensures.text) at c.say_call-2.ensures.said)

@@ -1,10 +1,10 @@
--- `advice_on`: the rows of each letter are those of the definition (`Letters`), and its texts are short (`TableLemmas`).
+-- `table_advice`: the rows of each letter are those of the definition (`Letters`), and its texts are short (`TableLemmas`).
 use Rattle.std.proofs.Common.{ap, ◌∙◌}
 use Rattle.explain.specs.Advice.{advice_in}
 use Rattle.explain.proofs.Letters.{first-advises, none-advises}
 use Rattle.explain.proofs.LetterTable.{letters, table-all, table-rows}
 use Rattle.explain.proofs.TableLemmas.{advice-short}
-use Rattle.explain.proofs.advice.advice_on.Goals as goal
+use Rattle.explain.proofs.advice.table_advice.Goals as goal
 
 pub returns-in-Some-clause-text : goal.returns-in-Some-clause-text
 returns-in-Some-clause-text c =

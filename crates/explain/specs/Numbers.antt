@@ -1,0 +1,77 @@
+-- What is said where a call has too many or too few arguments. The texts are Curspan's own.
+use Rattle.std.specs.Prelude.{◌==◌, ◌&&◌, ◌||◌, ℕ, Bool, false, not, is_some, List, [], ◌∷◌, ◌++◌, codes, length, Option, Some, None, if◌then◌else◌}
+use Rattle.std.specs.List.{list_any}
+use Rattle.std.specs.Option.{option_map_or}
+use Rattle.std.specs.Str.{bytes_eq}
+use Rattle.script.specs.Characters.{backslash}
+use Rattle.script.specs.Words.{word_of}
+use Rattle.explain.specs.Advice.{begins_with_digit, ends_with, name_in}
+use Rattle.explain.specs.Nearest.{or_else}
+use Rattle.explain.specs.Reasons.{are_digits, are_two_digits, comma, has_byte, is_bracketed, is_one_of, no_brackets, no_commas, one_sum, semicolon}
+use Rattle.explain.specs.Signatures.{names_of_arguments}
+
+-- the first word begins with a bracket, and goes on
+abbrev pub begins_bracketed : List (List ℕ) → Bool
+begins_bracketed [] = false
+begins_bracketed (piece ∷ pieces) = is_bracketed piece && not (length piece == 1)
+
+-- a word begins with the name of a call, or with one that curses has
+abbrev pub begins_call : List ℕ → Bool
+begins_call piece = is_some (word_of (name_in piece)) || is_one_of (codes "refresh wrefresh getch endwin mvaddstr mvaddch mvprintw printw") (name_in piece)
+
+abbrev pub has_call : List (List ℕ) → Bool
+has_call pieces = list_any begins_call pieces
+
+-- a word of shells: a redirection, a pipe, or what joins commands
+abbrev pub is_of_shells : List ℕ → Bool
+is_of_shells piece = is_one_of (codes "> >> < << | & && || 2>&1 >&2") piece
+
+abbrev pub has_word_of_shells : List (List ℕ) → Bool
+has_word_of_shells pieces = list_any is_of_shells pieces
+
+-- several arguments as one, as `3x4` and `2-5`: a digit begins it, and it is no number and no attributes
+abbrev pub is_joined : List ℕ → Bool
+is_joined piece = begins_with_digit piece && not (are_digits piece || are_two_digits piece)
+
+abbrev pub has_joined : List (List ℕ) → Bool
+has_joined pieces = list_any is_joined pieces
+
+-- a call with a text or a character, in which most marks may be, takes what is after its other arguments
+abbrev pub takes_text : List ℕ → Bool
+takes_text word = is_one_of (codes "addstr addch insch bkgdset") word
+
+-- by the words after the first, which may be too many, and by the marks of the line
+abbrev pub marks_reason : List ℕ → List (List ℕ) → Bool → Option (List ℕ)
+marks_reason line pieces many = if many && has_call pieces then Some (codes ": a line has one call")
+    else (if has_byte semicolon line then Some (codes ": a line has one call, and no semicolon")
+    else (if ends_with backslash line then Some (codes ": no line goes on in the next")
+    else None))
+
+-- of a call with too many
+abbrev pub too_many_reason : List ℕ → Option (List ℕ)
+too_many_reason word = if is_one_of (codes "attrset attron attroff") word then Some one_sum
+    else (if is_one_of (codes "color_set bkgdpair") word then Some (codes ": one pair, which has its colours by init_pair, and no NULL after it")
+    else (if is_one_of (codes "getyx getbegyx getmaxyx getparyx") word then Some (codes ": the answer is in the log, and no variables take it")
+    else (if bytes_eq word (codes "inch") then Some (codes ": one window, in which move sets the place first")
+    else (if bytes_eq word (codes "move") then Some (codes ": window, line, column; addstr writes a text after it")
+    else None))))
+
+-- of a line with a comma
+abbrev pub comma_reason : List ℕ → Option (List ℕ)
+comma_reason line = if has_byte comma line then Some no_commas else None
+
+-- by what separates the words
+abbrev pub separation_reason : List ℕ → List (List ℕ) → Bool → Option (List ℕ)
+separation_reason line pieces many = if has_word_of_shells pieces then Some (codes ": a script has no redirections or pipes")
+    else or_else (comma_reason line)
+    (if not many && has_joined pieces then Some (codes ": single spaces separate arguments, and numbers have digits alone") else None)
+
+abbrev pub number_reason : List ℕ → List ℕ → List (List ℕ) → Bool → Option (List ℕ)
+number_reason word line pieces many = if begins_bracketed pieces then Some no_brackets
+    else (if takes_text word then comma_reason line
+    else or_else (marks_reason line pieces many)
+    (or_else (if many then too_many_reason word else None) (separation_reason line pieces many)))
+
+-- what a call's arguments are
+abbrev pub signature_text : List ℕ → List ℕ
+signature_text word = option_map_or (λ w. codes ": " ++ names_of_arguments w) (word_of word) []

@@ -1,0 +1,127 @@
+//! What to write for further names, and for parts of names.
+
+ghost use Rattle.std.specs.Prelude.{◌≡◌, ◌≤◌, IfSome, length, option_map};
+ghost use Rattle.std.specs.List.{list_any};
+ghost use Rattle.script.specs.Pieces.{pieces_of};
+ghost use Rattle.explain.specs.Advice.{advice_by_part, has_part, more_advice, part_in};
+ghost use Rattle.explain.specs.steps.Tables.{rows_now};
+
+use crate::advice::{CALLS_ALONE, COLOURED, FORMATS, MENUS, PROGRAMS, REFRESHED, Row, look_up};
+use crate::names::has_part;
+use script::split_at_space;
+
+const BACKGROUNDS: &[u8] = b"see bkgdset, bkgdpair";
+
+const RENDITIONS: &[u8] = b"see attrset, attron, attroff";
+
+const CURSOR_SHOWN: &[u8] =
+    b"see move; the shell's tput civis hides the cursor, and tput cnorm shows it";
+
+/// Names that the table of `advice` has no room for.
+#[rattlefmt::skip]
+const MORE: [Row; 36] = [
+    (CURSOR_SHOWN,
+        b"cursor curs_set civis cnorm hide_cursor show_cursor hidecursor showcursor cursor_hide cursor_show \
+        nocursor"),
+    (b"see move; a script has no jumps", b"goto gosub"),
+    (b"see move; a script runs no programs", b"mv more"),
+    (b"a script runs no programs: see move, clear, attrset", b"tput"),
+    (b"pairs have the terminal's colours until they are set: see init_pair",
+        b"use_default_colors assume_default_colors"),
+    (b"the eight colours can't be changed: see init_pair",
+        b"init_color init_colour initcolor init_extended_color can_change_color"),
+    (b"see delwin, del_panel", b"del remove"),
+    (b"see scrl, scrollok", b"scroll"),
+    (b"see addstr; --log belongs on the command line", b"log"),
+    (b"the end of a here-document stands alone; the screen ends with the script", b"end eod here end_of_script"),
+    (b"see move_panel", b"mvpanel mv_panel"),
+    (b"see mvwin", b"mvwindow mv_window"),
+    (b"see newwin", b"create_newwin newwindows"),
+    (b"see delch, deleteln", b"dellin delln deleln deletelines delete_lines dl1 dch1"),
+    (b"see insertln", b"insln insertlines insert_line insert_lines il1"),
+    (b"see insch, for each character", b"ich1 insstring insertstr inserttext"),
+    (b"see addstr, noutrefresh", b"display-message append"),
+    (b"each call names its window or panel", b"setwin set_window select_window current"),
+    (b"see pnoutrefresh", b"refresh_pad refreshpad pad_refresh padrefresh"),
+    (b"a window is hidden with its panel: see hide_panel, show_panel", b"hidewin showwin hide_win show_win"),
+    (b"a window keeps its size: see newwin, copywin", b"resizewin resize_win resize_window"),
+    (BACKGROUNDS, b"bgset bgpair bkpair bkg"),
+    (b"see color_set, init_pair", b"op oc setfg setbg set_fg set_bg"),
+    (b"see getyx, getbegyx, getmaxyx", b"wherexy wherex getbeg getwinsize getxmaxy"),
+    (b"see noutrefresh, update_panels, doupdate",
+        b"updateall update_all updatewin update_win flip swap present blit commit"),
+    (b"see getmaxyx, move, addstr", b"center print_center"),
+    (b"a comment begins with #, and has a line of its own", b"todo fixme note nb dnl"),
+    (b"see move, which takes a line and a column", b"home hpa vpa cuu1 cub1 cuf1 cud1 setpos go"),
+    (b"see clrtoeol, clrtobot", b"el el1 ed clrline"),
+    (RENDITIONS, b"smso rmso smul rmul rev sgr invis style font noattr"),
+    (b"see setscrreg, scrl", b"csr ind ri"),
+    (b"see addstr, which draws lines by + - and |", b"acsc smacs rmacs hr vr hl vl draw_line draw_border"),
+    (b"no call reads a key", b"smkx rmkx waitkey wait_key press crmode nocrmode"),
+    (b"zsh's module has names of its own: see newwin, addstr", b"zcurses"),
+    (PROGRAMS,
+        b"python3 perl ruby lua node git less gcc cc vi vim nano ssh curl wget find head tail date time env \
+        who xargs sort tr cut seq tee jobs yes which xterm apt pip npm docker"),
+    (CALLS_ALONE,
+        b"assert async yield finally default extern public private package program procedure module proc match \
+        impl mod pub defer not typeset readonly getopts shift setenv nil self super free malloc strlen \
+        memset fopen fclose fgets abort atexit perror signal sizeof len"),
+];
+
+/// What is said of names that have a part, and the parts, with a space between any two.
+#[rattlefmt::skip]
+const PARTS: [Row; 12] = [
+    (MENUS, b"menu item form field"),
+    (FORMATS, b"printf printw"),
+    (REFRESHED, b"refresh"),
+    (b"see new_panel, del_panel, show_panel, hide_panel, top_panel, move_panel", b"panel"),
+    (CURSOR_SHOWN, b"cursor"),
+    (b"see scrl, setscrreg, scrollok", b"scroll"),
+    (BACKGROUNDS, b"bkgd background"),
+    (COLOURED, b"color colour"),
+    (RENDITIONS, b"attr"),
+    (b"see clear, erase, clrtoeol, clrtobot", b"clear erase"),
+    (b"see newwin, delwin, mvwin", b"window"),
+    (b"see touchwin, untouchwin, touchline", b"touch"),
+];
+
+/// What is said of a further name, if something is.
+pub fn more_advice(name: &[u8]) -> Option<&'static [u8]>
+    ensures text { option_map (λ text. text.now) result ≡ more_advice name.now }
+    ensures short { IfSome result (λ text. length text.now ≤ 80) }
+{
+    look_up(&MORE, name)
+}
+
+/// Whether a name has some of the parts in a text.
+fn has_some_part(name: &[u8], parts: Option<&[u8]>) -> bool
+    ensures { result ≡ list_any (λ part. has_part part name.now) (pieces_of parts.entry) }
+{
+    let Some(parts) = parts else { return false };
+    let (first, rest) = split_at_space(parts);
+    if has_part(name, first) {
+        return true;
+    }
+    has_some_part(name, rest)
+}
+
+/// What rows say of a name: the first of those with a part that it has.
+fn look_for_part(mut rows: &[Row], name: &[u8]) -> Option<&'static [u8]>
+    ensures { option_map (λ text. text.now) result ≡ part_in (rows_now rows.entry.now) name.now }
+{
+    while let [(text, parts), rest @ ..] = rows {
+        if has_some_part(name, Some(parts)) {
+            return Some(text);
+        }
+        rows = rest;
+    }
+    None
+}
+
+/// What is said of a name by a part of it, if something is.
+pub fn advice_by_part(name: &[u8]) -> Option<&'static [u8]>
+    ensures text { option_map (λ text. text.now) result ≡ advice_by_part name.now }
+    ensures short { IfSome result (λ text. length text.now ≤ 80) }
+{
+    look_for_part(&PARTS, name)
+}

@@ -1,0 +1,189 @@
+//! What is said where a call has too many or too few arguments.
+
+ghost use Rattle.std.specs.Prelude.{◌≡◌, ◌≤◌, ◌+◌, IfSome, length, option_map};
+ghost use Rattle.script.specs.Pieces.{pieces_of, room_of};
+ghost use Rattle.explain.specs.Numbers.{begins_bracketed, begins_call, comma_reason, has_call, has_joined, has_word_of_shells, is_joined, is_of_shells, marks_reason, number_reason, separation_reason, takes_text, too_many_reason};
+
+use crate::advice::is_among;
+use crate::names::{begins_with_digit, ends_with, name_of};
+use crate::reasons::{
+    are_digits, are_two_digits, has_byte, is_bracketed, no_brackets, no_commas, one_sum,
+};
+use script::{LONGEST_LINE, Word, split_at_space};
+
+/// Whether the first word of a text begins with a bracket, and goes on.
+fn begins_bracketed(text: Option<&[u8]>) -> bool
+    ensures { result ≡ begins_bracketed (pieces_of text.entry) }
+{
+    let Some(text) = text else { return false };
+    let (first, _) = split_at_space(text);
+    is_bracketed(first) && first.len() != 1
+}
+
+/// Whether a word begins with the name of a call, or with one that curses has.
+fn begins_call(piece: &[u8]) -> bool
+    requires { length piece.now ≤ LONGEST_LINE }
+    ensures { result ≡ begins_call piece.now }
+{
+    let name = name_of(piece);
+    Word::of(name.as_slice()).is_some()
+        || is_among(
+            name.as_slice(),
+            b"refresh wrefresh getch endwin mvaddstr mvaddch mvprintw printw",
+        )
+}
+
+/// Whether some of the words in a text does.
+fn has_call(text: Option<&[u8]>) -> bool
+    requires { room_of text ≤ LONGEST_LINE + 1 }
+    ensures { result ≡ has_call (pieces_of text.entry) }
+{
+    let Some(text) = text else { return false };
+    let (first, rest) = split_at_space(text);
+    if begins_call(first) {
+        return true;
+    }
+    has_call(rest)
+}
+
+/// Whether a word is one of shells: a redirection, a pipe, or what joins commands.
+fn is_of_shells(piece: &[u8]) -> bool
+    ensures { result ≡ is_of_shells piece.now }
+{
+    is_among(piece, b"> >> < << | & && || 2>&1 >&2")
+}
+
+/// Whether some of the words in a text is.
+fn has_word_of_shells(text: Option<&[u8]>) -> bool
+    ensures { result ≡ has_word_of_shells (pieces_of text.entry) }
+{
+    let Some(text) = text else { return false };
+    let (first, rest) = split_at_space(text);
+    if is_of_shells(first) {
+        return true;
+    }
+    has_word_of_shells(rest)
+}
+
+/// Whether a word is several arguments as one.
+fn is_joined(piece: &[u8]) -> bool
+    ensures { result ≡ is_joined piece.now }
+{
+    begins_with_digit(piece) && !(are_digits(piece) || are_two_digits(piece))
+}
+
+/// Whether some of the words in a text is.
+fn has_joined(text: Option<&[u8]>) -> bool
+    ensures { result ≡ has_joined (pieces_of text.entry) }
+{
+    let Some(text) = text else { return false };
+    let (first, rest) = split_at_space(text);
+    if is_joined(first) {
+        return true;
+    }
+    has_joined(rest)
+}
+
+/// Whether a call has a text or a character, in which most marks may be.
+fn takes_text(word: &[u8]) -> bool
+    ensures { result ≡ takes_text word.now }
+{
+    is_among(word, b"addstr addch insch bkgdset")
+}
+
+/// What is said by the words after the first, which may be too many, and by the marks of the line.
+fn marks_reason(line: &[u8], text: Option<&[u8]>, many: bool) -> Option<&'static [u8]>
+    requires { room_of text ≤ LONGEST_LINE + 1 }
+    ensures text { option_map (λ text. text.now) result ≡ marks_reason line.now (pieces_of text.entry) many }
+    ensures short { IfSome result (λ text. length text.now ≤ 80) }
+{
+    if many && has_call(text) {
+        return Some(b": a line has one call");
+    }
+    if has_byte(line, b';') {
+        return Some(b": a line has one call, and no semicolon");
+    }
+    if ends_with(line, b'\\') {
+        return Some(b": no line goes on in the next");
+    }
+    None
+}
+
+/// What is said of a call with too many arguments.
+fn too_many_reason(word: &[u8]) -> Option<&'static [u8]>
+    ensures text { option_map (λ text. text.now) result ≡ too_many_reason word.now }
+    ensures short { IfSome result (λ text. length text.now ≤ 80) }
+{
+    if is_among(word, b"attrset attron attroff") {
+        return Some(one_sum());
+    }
+    if is_among(word, b"color_set bkgdpair") {
+        return Some(b": one pair, which has its colours by init_pair, and no NULL after it");
+    }
+    if is_among(word, b"getyx getbegyx getmaxyx getparyx") {
+        return Some(b": the answer is in the log, and no variables take it");
+    }
+    if word == b"inch".as_slice() {
+        return Some(b": one window, in which move sets the place first");
+    }
+    if word == b"move".as_slice() {
+        return Some(b": window, line, column; addstr writes a text after it");
+    }
+    None
+}
+
+/// What is said of a line with a comma.
+fn comma_reason(line: &[u8]) -> Option<&'static [u8]>
+    ensures text { option_map (λ text. text.now) result ≡ comma_reason line.now }
+    ensures short { IfSome result (λ text. length text.now ≤ 80) }
+{
+    if has_byte(line, b',') {
+        return Some(no_commas());
+    }
+    None
+}
+
+/// What is said of what separates the words.
+fn separation_reason(line: &[u8], text: Option<&[u8]>, many: bool) -> Option<&'static [u8]>
+    ensures text { option_map (λ text. text.now) result ≡ separation_reason line.now (pieces_of text.entry) many }
+    ensures short { IfSome result (λ text. length text.now ≤ 80) }
+{
+    if has_word_of_shells(text) {
+        return Some(b": a script has no redirections or pipes");
+    }
+    if let Some(said) = comma_reason(line) {
+        return Some(said);
+    }
+    if !many && has_joined(text) {
+        return Some(b": single spaces separate arguments, and numbers have digits alone");
+    }
+    None
+}
+
+/// What more is said of a wrong number of arguments, which may be too many.
+pub fn number_reason(
+    word: &[u8],
+    line: &[u8],
+    text: Option<&[u8]>,
+    many: bool,
+) -> Option<&'static [u8]>
+    requires { room_of text ≤ LONGEST_LINE + 1 }
+    ensures text { option_map (λ text. text.now) result ≡ number_reason word.now line.now (pieces_of text.entry) many }
+    ensures short { IfSome result (λ text. length text.now ≤ 80) }
+{
+    if begins_bracketed(text) {
+        return Some(no_brackets());
+    }
+    if takes_text(word) {
+        return comma_reason(line);
+    }
+    if let Some(said) = marks_reason(line, text, many) {
+        return Some(said);
+    }
+    if many {
+        if let Some(said) = too_many_reason(word) {
+            return Some(said);
+        }
+    }
+    separation_reason(line, text, many)
+}
