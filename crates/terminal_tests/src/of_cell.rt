@@ -7,22 +7,31 @@ use cell::{
     Attr, Cell, Colour, ColourPair, Grid, LARGEST_PAD, LARGEST_SCREEN, PairId, Pairs, Refusal,
     Rendition, Shown, have_rendition, hex_digits, is_no_size, is_printable, show_cells,
 };
-use std::alloc::{AllocError, Global};
+use std::alloc::AllocError;
 use std::test::Fail;
 
 mod differences;
 
-/// The characters of a grid of four lines, line after line.
-fn characters(alloc: Global, grid: &Grid<Cell>) -> Result<Vec<u8>, AllocError>
-    requires { length grid.now ≡ 4 }
-{
-    let mut characters = Vec::new(alloc);
-    for y in 0..4 {
-        for cell in grid.row(y) {
-            characters.push(cell.ch())?;
+/// Whether cells have these characters.
+fn have_characters(cells: &[Cell], characters: &[u8]) -> bool {
+    for (cell, character) in cells.iter().zip(characters) {
+        if cell.ch() != *character {
+            return false;
         }
     }
-    Ok(characters)
+    cells.len() == characters.len()
+}
+
+/// Whether the lines of a grid have these characters.
+fn has_characters(grid: &Grid<Cell>, lines: [&[u8]; 4]) -> bool
+    requires { length grid.now ≡ 4 }
+{
+    for (y, characters) in lines.iter().enumerate() {
+        if !have_characters(grid.row(y), characters) {
+            return false;
+        }
+    }
+    true
 }
 
 fn letter() -> Result<Cell, Fail> {
@@ -35,9 +44,8 @@ fn cells_are_set_and_filled_in_their_lines(rt: HostRuntime) -> Result<(), Fail> 
     let mut grid = Grid::new(rt.alloc(), 4, 3)?;
     grid.set(1, 0, letter);
     grid.fill(2, 1, 3, letter);
-    let wanted = b"   A   AA   ".as_slice();
-    assert_eq!(rt; characters(rt.alloc(), &grid)?.as_slice(), wanted);
-    assert_eq!(rt; grid.row(1), [letter, Cell::BLANK, Cell::BLANK].as_slice());
+    assert!(rt; has_characters(&grid, [b"   ", b"A  ", b" AA", b"   "]));
+    assert!(rt; grid.row(1) == [letter, Cell::BLANK, Cell::BLANK].as_slice());
     Ok(())
 }
 
@@ -45,8 +53,7 @@ fn cells_are_set_and_filled_in_their_lines(rt: HostRuntime) -> Result<(), Fail> 
 fn put_cells_stand_one_after_another(rt: HostRuntime) -> Result<(), Fail> {
     let mut grid = Grid::new(rt.alloc(), 4, 3)?;
     grid.put_cells(3, 1, &[letter()?, Cell::BLANK]);
-    let wanted = b"          A ".as_slice();
-    assert_eq!(rt; characters(rt.alloc(), &grid)?.as_slice(), wanted);
+    assert!(rt; has_characters(&grid, [b"   ", b"   ", b"   ", b" A "]));
     Ok(())
 }
 
@@ -58,8 +65,7 @@ fn copied_grid_has_every_cell(rt: HostRuntime) -> Result<(), Fail> {
     let mut to = Grid::new(rt.alloc(), 4, 3)?;
     to.set(1, 0, letter);
     to.copy_from(&from);
-    let wanted = b" A          ".as_slice();
-    assert_eq!(rt; characters(rt.alloc(), &to)?.as_slice(), wanted);
+    assert!(rt; has_characters(&to, [b" A ", b"   ", b"   ", b"   "]));
     Ok(())
 }
 
@@ -122,21 +128,25 @@ fn cells_are_shown_in_the_colours_of_their_pair(rt: HostRuntime) -> Result<(), F
     Ok(())
 }
 
+/// A line of 50 cells, with others in its columns 31 and 49.
+fn line_with<T: Copy>(cell: T, other: T) -> [T; 50] {
+    let mut line = [cell; 50];
+    line[31] = other;
+    line[49] = other;
+    line
+}
+
 #[test]
 fn many_cells_are_shown_each_in_the_colours_of_its_pair(rt: HostRuntime) -> Result<(), Fail> {
     let pair = PairId::new(2).ok_or("no pair")?;
     let mut pairs = Pairs::new();
     pairs.set(pair, Colour::RED, Colour::BLUE);
     let letter = letter()?;
-    let mut cells = [letter; 50];
-    cells[31] = letter.with_pair(pair);
-    cells[49] = letter.with_pair(pair);
+    let coloured = letter.with_pair(pair);
     let mut picture = Grid::new(rt.alloc(), 1, 50)?;
-    show_cells(&cells, &pairs, 0, 0, &mut picture);
-    let mut wanted = [pairs.show_cell(letter); 50];
-    wanted[31] = pairs.show_cell(letter.with_pair(pair));
-    wanted[49] = pairs.show_cell(letter.with_pair(pair));
-    assert_eq!(rt; picture.row(0), wanted.as_slice());
+    show_cells(&line_with(letter, coloured), &pairs, 0, 0, &mut picture);
+    let wanted = line_with(pairs.show_cell(letter), pairs.show_cell(coloured));
+    assert!(rt; picture.row(0) == wanted.as_slice());
     Ok(())
 }
 
@@ -175,18 +185,19 @@ fn colours_are_numbered_from_0_to_7(rt: HostRuntime) -> Result<(), Fail> {
 }
 
 #[test]
-fn bytes_are_spelled_in_hexadecimal_and_faults_by_name(rt: HostRuntime) {
+fn bytes_and_attributes_are_spelled_in_hexadecimal(rt: HostRuntime) {
     let all = Attr::from_bits_retain(0xff);
-    assert_eq!(rt; all.valid_attributes().bits(), 0x3f);
     let spelled = [
         hex_digits(0xab),
         (Attr::BOLD | Attr::REVERSE).hex_digits(),
         all.hex_digits(),
     ];
-    assert_eq!(rt; spelled, [*b"ab", *b"11", *b"3f"]);
-    let texts = [
-        Refusal::from(AllocError).text(),
-        Refusal::NoSuchWindow.text(),
-    ];
-    assert_eq!(rt; texts, ["E18 NoMemory", "E1 NoSuchWindow"]);
+    assert!(rt; spelled == [*b"ab", *b"11", *b"3f"]);
+    assert_eq!(rt; all.valid_attributes().bits(), 0x3f);
+}
+
+#[test]
+fn refusals_have_their_names(rt: HostRuntime) {
+    assert_eq!(rt; Refusal::from(AllocError).text(), "E18 NoMemory");
+    assert_eq!(rt; Refusal::NoSuchWindow.text(), "E1 NoSuchWindow");
 }

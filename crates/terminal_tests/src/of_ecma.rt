@@ -7,7 +7,6 @@ use bitflags::Flags;
 use cell::{Attr, Colour, ColourPair, LARGEST_SCREEN, Refusal, Rendition, Shown, is_printable};
 use ecma::{Erase, LONGEST_SPELLING, NotInProfile, Terminal, Token, spell};
 use std::alloc::Global;
-use std::test::Fail;
 
 fn has_spelling(token: Token, bytes: &[u8]) -> bool
     requires { IsToken token }
@@ -91,142 +90,139 @@ fn is_selected(
 
 #[test]
 fn tokens_have_their_bytes(rt: HostRuntime) {
-    for (token, bytes) in SPELLINGS {
-        assert!(rt; is_spelled(token, bytes), "at {bytes:?}");
-    }
-    for (bits, foreground, background, bytes) in SELECTIONS {
-        assert!(rt;
-            is_selected(bits, foreground, background, bytes),
-            "at {bits}"
-        );
+    for (token, bytes) in &SPELLINGS {
+        assert!(rt; is_spelled(*token, bytes), "at {bytes:?}");
     }
     assert_eq!(rt; LONGEST_SPELLING, 22);
 }
 
+#[test]
+fn renditions_have_their_bytes(rt: HostRuntime) {
+    for (bits, foreground, background, bytes) in &SELECTIONS {
+        assert!(rt;
+            is_selected(*bits, *foreground, *background, bytes),
+            "at {bytes:?}"
+        );
+    }
+}
+
 /// A terminal that has read a stream.
-fn read(alloc: Global, stream: &[u8]) -> Result<Terminal, Fail> {
+fn read(alloc: Global, stream: &[u8]) -> Result<Terminal, Refusal> {
     let mut terminal = Terminal::new(alloc, 4, 10)?;
     let _ = terminal.feed(stream);
     Ok(terminal)
 }
 
-/// The fault and the cursor of a terminal, a cell, and whether its 4 lines are there and no rendition is selected.
+/// Whether a terminal has a character in no rendition at a place, or no cell there.
+fn has_character(terminal: &Terminal, (y, x): (u16, u16), character: Option<u8>) -> bool {
+    let cell = match character {
+        Some(ch) => Shown::new(ch, Rendition::NONE),
+        None => None,
+    };
+    terminal.cell(y, x) == cell
+}
+
+/// The fault and the cursor of a terminal, a character, and whether no rendition is selected.
 type Seen = (
     Option<NotInProfile>,
     Option<(u16, u16)>,
-    Option<Shown>,
+    Option<u8>,
     bool,
 );
 
-fn cell_and_pen(terminal: &Terminal, y: u16, x: u16) -> Seen {
-    (
-        terminal.fault(),
-        terminal.cursor(),
-        terminal.cell(y, x),
-        terminal.lines() == 4 && terminal.rendition() == Rendition::NONE,
-    )
+/// Whether that is seen of a terminal, with the character at a place, and its 4 lines are there.
+fn is_seen(terminal: &Terminal, place: (u16, u16), seen: &Seen) -> bool {
+    let (fault, cursor, character, is_plain) = *seen;
+    terminal.fault() == fault
+        && terminal.cursor() == cursor
+        && has_character(terminal, place, character)
+        && (terminal.rendition() == Rendition::NONE) == is_plain
+        && terminal.lines() == 4
 }
 
-/// What is seen after two pieces of a stream.
-fn seen_after(alloc: Global, pieces: [&[u8]; 2], y: u16, x: u16) -> Result<Seen, Fail> {
+/// Whether that is seen after two pieces of a stream.
+fn is_seen_after(
+    alloc: Global,
+    pieces: &[&[u8]; 2],
+    place: (u16, u16),
+    seen: &Seen,
+) -> Result<bool, Refusal> {
     let mut terminal = read(alloc, pieces[0])?;
     let _ = terminal.feed(pieces[1]);
-    Ok(cell_and_pen(&terminal, y, x))
+    Ok(is_seen(&terminal, place, seen))
 }
 
-fn letter(ch: u8) -> Option<Shown> {
-    Shown::new(ch, Rendition::NONE)
-}
+const HOME: Option<(u16, u16)> = Some((0, 0));
+
+/// Two pieces of a stream, a place, and what is seen after them.
+#[rattlefmt::skip]
+static PIECES: [([&[u8]; 2], (u16, u16), Seen); 6] = [
+    ([b"", b""], (3, 9), (None, HOME, Some(b' '), true)),
+    ([b"", b""], (3, 10), (None, HOME, None, true)),
+    ([b"", b""], (4, 0), (None, HOME, None, true)),
+    ([b"\x1b[5\x1b[2;3Hx", b""], (1, 2), (None, Some((1, 3)), Some(b'x'), true)),
+    ([b"ab\x1b[9;9H", b"\x1b[1;1Hx"], (0, 0), (Some(NotInProfile { at: 2 }), Some((0, 2)), Some(b'a'), true)),
+    ([b"a", b"\x1b[0;7m"], (0, 0), (None, Some((0, 1)), Some(b'a'), false)),
+];
 
 #[test]
-fn a_stream_is_shown_up_to_its_fault(rt: HostRuntime) -> Result<(), Fail> {
-    let blank = Some(Shown::BLANK);
-    let home = Some((0, 0));
-    let failed = Some(NotInProfile { at: 2 });
-    let streams: [([&[u8]; 2], (u16, u16), Seen); 6] = [
-        ([b"", b""], (3, 9), (None, home, blank, true)),
-        ([b"", b""], (3, 10), (None, home, None, true)),
-        ([b"", b""], (4, 0), (None, home, None, true)),
-        (
-            [b"\x1b[5\x1b[2;3Hx", b""],
-            (1, 2),
-            (None, Some((1, 3)), letter(b'x'), true),
-        ),
-        (
-            [b"ab\x1b[9;9H", b"\x1b[1;1Hx"],
-            (0, 0),
-            (failed, Some((0, 2)), letter(b'a'), true),
-        ),
-        (
-            [b"a", b"\x1b[0;7m"],
-            (0, 0),
-            (None, Some((0, 1)), letter(b'a'), false),
-        ),
-    ];
-    for (pieces, (y, x), wanted) in streams {
-        assert!(rt;
-            seen_after(rt.alloc(), pieces, y, x)? == wanted,
-            "at {y}, {x}"
-        );
+fn a_stream_is_shown_up_to_its_fault(rt: HostRuntime) {
+    for (pieces, place, seen) in &PIECES {
+        let is_seen = is_seen_after(rt.alloc(), pieces, *place, seen);
+        assert!(rt; is_seen == Ok(true), "after {pieces:?}, at {place:?}");
     }
-    Ok(())
 }
 
-/// Streams that erase, print and erase again: a place, and what is there then.
+/// Streams that erase, print and erase again: a place, and the character that is there then.
+#[rattlefmt::skip]
+static ERASED: [(&[u8], (u16, u16), u8); 14] = [
+    (b"ab\x1b[2Jcd", (0, 1), b' '),
+    (b"ab\x1b[2Jcd", (0, 2), b'c'),
+    (b"ab\x1b[2Jcd\x1b[2J", (0, 2), b' '),
+    (b"abcdef\x1b[1;4H\x1b[K\x1b[K", (0, 2), b'c'),
+    (b"abcdef\x1b[1;4H\x1b[K\x1b[K", (0, 3), b' '),
+    (b"abcdef\x1b[1;4H\x1b[K\x1b[1;2H\x1b[K", (0, 1), b' '),
+    (b"abc\x1b[1;2H\x1b[K\x1b[1;6Hx\x1b[1;5H\x1b[K", (0, 5), b' '),
+    (b"abc\x1b[1;2H\x1b[K\x1b[1;6Hx\x1b[1;5H\x1b[1K", (0, 5), b'x'),
+    (b"abc\x1b[1;2H\x1b[1K\x1b[1K", (0, 1), b' '),
+    (b"abc\x1b[1;2H\x1b[1K\x1b[1K", (0, 2), b'c'),
+    (b"\x1b[3;1Hab\x1b[2;1H\x1b[J\x1b[J", (2, 1), b' '),
+    (b"\x1b[3;1Hab\x1b[2;1H\x1b[J\x1b[3;2Hx\x1b[1;1H\x1b[J", (2, 1), b' '),
+    (b"\x1b[3;1Hab\x1b[2;1H\x1b[J\x1b[3;2Hx\x1b[4;1H\x1b[J", (2, 1), b'x'),
+    (b"\x1b[4;10Hx\x1b[4;10H\x1b[1J", (3, 9), b' '),
+];
+
+/// Whether a stream has no fault, and leaves a character at a place.
+fn leaves(
+    alloc: Global,
+    stream: &[u8],
+    place: (u16, u16),
+    character: u8,
+) -> Result<bool, Refusal> {
+    let terminal = read(alloc, stream)?;
+    Ok(terminal.fault().is_none() && has_character(&terminal, place, Some(character)))
+}
+
 #[test]
-fn what_is_printed_after_an_erasure_is_erased_too(rt: HostRuntime) -> Result<(), Fail> {
-    let blank = Some(Shown::BLANK);
-    let streams: [(&[u8], (u16, u16), Option<Shown>); 14] = [
-        (b"ab\x1b[2Jcd", (0, 1), blank),
-        (b"ab\x1b[2Jcd", (0, 2), letter(b'c')),
-        (b"ab\x1b[2Jcd\x1b[2J", (0, 2), blank),
-        (b"abcdef\x1b[1;4H\x1b[K\x1b[K", (0, 2), letter(b'c')),
-        (b"abcdef\x1b[1;4H\x1b[K\x1b[K", (0, 3), blank),
-        (b"abcdef\x1b[1;4H\x1b[K\x1b[1;2H\x1b[K", (0, 1), blank),
-        (
-            b"abc\x1b[1;2H\x1b[K\x1b[1;6Hx\x1b[1;5H\x1b[K",
-            (0, 5),
-            blank,
-        ),
-        (
-            b"abc\x1b[1;2H\x1b[K\x1b[1;6Hx\x1b[1;5H\x1b[1K",
-            (0, 5),
-            letter(b'x'),
-        ),
-        (b"abc\x1b[1;2H\x1b[1K\x1b[1K", (0, 1), blank),
-        (b"abc\x1b[1;2H\x1b[1K\x1b[1K", (0, 2), letter(b'c')),
-        (b"\x1b[3;1Hab\x1b[2;1H\x1b[J\x1b[J", (2, 1), blank),
-        (
-            b"\x1b[3;1Hab\x1b[2;1H\x1b[J\x1b[3;2Hx\x1b[1;1H\x1b[J",
-            (2, 1),
-            blank,
-        ),
-        (
-            b"\x1b[3;1Hab\x1b[2;1H\x1b[J\x1b[3;2Hx\x1b[4;1H\x1b[J",
-            (2, 1),
-            letter(b'x'),
-        ),
-        (b"\x1b[4;10Hx\x1b[4;10H\x1b[1J", (3, 9), blank),
-    ];
-    for (stream, (y, x), wanted) in streams {
-        let terminal = read(rt.alloc(), stream)?;
-        assert!(rt;
-            terminal.fault().is_none() && terminal.cell(y, x) == wanted,
-            "after {stream:?}"
-        );
+fn what_is_printed_after_an_erasure_is_erased_too(rt: HostRuntime) {
+    for (stream, place, character) in &ERASED {
+        let leaves = leaves(rt.alloc(), stream, *place, *character);
+        assert!(rt; leaves == Ok(true), "after {stream:?}, at {place:?}");
     }
-    Ok(())
+}
+
+/// Whether a new terminal has its lines, if its size is not refused.
+fn has_lines(alloc: Global, lines: u16, columns: u16) -> Result<bool, Refusal> {
+    Ok(Terminal::new(alloc, lines, columns)?.lines() == lines)
 }
 
 #[test]
-fn a_terminal_has_1_to_999_lines_and_columns(rt: HostRuntime) -> Result<(), Fail> {
+fn a_terminal_has_1_to_999_lines_and_columns(rt: HostRuntime) {
     for (lines, columns) in [(0, 10), (4, 0), (1000, 10), (4, 1000)] {
-        let refusal = Terminal::new(rt.alloc(), lines, columns).err();
-        assert_eq!(rt; refusal, Some(Refusal::BadSize));
+        let refusal = has_lines(rt.alloc(), lines, columns);
+        assert!(rt; refusal == Err(Refusal::BadSize), "of {lines}, {columns}");
     }
-    let largest = Terminal::new(rt.alloc(), 999, 999)?;
-    assert_eq!(rt; largest.lines(), 999);
-    Ok(())
+    assert_eq!(rt; has_lines(rt.alloc(), 999, 999), Ok(true));
 }
 
 /// Whether two terminals show the same.
@@ -243,11 +239,23 @@ fn is_same(one: &Terminal, other: &Terminal) -> bool {
 }
 
 /// Whether a stream is read in two pieces as it is as a whole.
-fn is_cut_at(alloc: Global, stream: &[u8], cut: usize, whole: &Terminal) -> Result<bool, Fail> {
-    let (first, second) = stream.split_at_checked(cut).ok_or("no such cut")?;
+fn is_cut_at(alloc: Global, stream: &[u8], cut: usize, whole: &Terminal) -> Result<bool, Refusal> {
+    let Some((first, second)) = stream.split_at_checked(cut) else {
+        return Ok(false);
+    };
     let mut terminal = read(alloc, first)?;
     let fed = terminal.feed(second);
     Ok(fed.err() == whole.fault() && is_same(&terminal, whole))
+}
+
+/// Whether a stream is read so wherever it is cut.
+fn is_cut_anywhere(alloc: Global, stream: &[u8], whole: &Terminal) -> Result<bool, Refusal> {
+    for cut in 0..stream.len() {
+        if !is_cut_at(alloc, stream, cut, whole)? {
+            return Ok(false);
+        }
+    }
+    Ok(true)
 }
 
 /// Feeds a stream byte by byte, and says whether each fault on the way is the last one, and what is answered.
@@ -262,12 +270,12 @@ fn feed_bytes(terminal: &mut Terminal, stream: &[u8], last: Option<NotInProfile>
 }
 
 /// Whether a stream is read byte by byte as it is as a whole.
-fn is_read_in_bytes(alloc: Global, stream: &[u8], whole: &Terminal) -> Result<bool, Fail> {
+fn is_read_in_bytes(alloc: Global, stream: &[u8], whole: &Terminal) -> Result<bool, Refusal> {
     let mut terminal = Terminal::new(alloc, 4, 10)?;
     Ok(feed_bytes(&mut terminal, stream, whole.fault()) && is_same(&terminal, whole))
 }
 
-const STREAMS: [&[u8]; 11] = [
+static STREAMS: [&[u8]; 11] = [
     b"a\x1b[5\x1b[2;3Hx\x1b[0;7mend\x1b[m\x1b[1K",
     b"\x1b[31mc\x1b[1;10Hxy\x1b[H",
     b"\x1b[2;2\x1b[12;;J",
@@ -281,15 +289,15 @@ const STREAMS: [&[u8]; 11] = [
     b"a\x1b[5;1Hb",
 ];
 
+/// Whether a stream is read in bytes and in two pieces as it is as a whole.
+fn is_read_in_pieces(alloc: Global, stream: &[u8]) -> Result<bool, Refusal> {
+    let whole = read(alloc, stream)?;
+    Ok(is_read_in_bytes(alloc, stream, &whole)? && is_cut_anywhere(alloc, stream, &whole)?)
+}
+
 #[test]
-fn a_stream_is_cut_anywhere(rt: HostRuntime) -> Result<(), Fail> {
-    for stream in STREAMS {
-        let whole = read(rt.alloc(), stream)?;
-        let mut is_read = is_read_in_bytes(rt.alloc(), stream, &whole)?;
-        for cut in 0..stream.len() {
-            is_read = is_read && is_cut_at(rt.alloc(), stream, cut, &whole)?;
-        }
-        assert!(rt; is_read, "at {stream:?}");
+fn a_stream_is_cut_anywhere(rt: HostRuntime) {
+    for stream in &STREAMS {
+        assert_eq!(rt; is_read_in_pieces(rt.alloc(), stream), Ok(true), "at {stream:?}");
     }
-    Ok(())
 }

@@ -3,8 +3,7 @@
 use cell::{Refusal, WinId};
 use explain::{finding, refusal_everywhere, refused_line};
 use script::{LONGEST_LINE, TextFault};
-use std::test::Fail;
-use world::Call;
+use world::{Call, Making, Writing};
 
 /// Faulty lines, and what is said of each.
 #[rattlefmt::skip]
@@ -33,40 +32,40 @@ static FINDINGS: [(TextFault, &[u8], &str); 14] = [
     ),
 ];
 
+/// Whether that is said of a faulty line, the 12th.
+fn is_explained(fault: TextFault, line: &[u8], text: &str) -> bool {
+    line.len() <= LONGEST_LINE && finding(12, fault, line).as_slice() == text.as_bytes()
+}
+
 #[test]
-fn faults_are_explained(rt: HostRuntime) -> Result<(), Fail> {
+fn faults_are_explained(rt: HostRuntime) {
     for (fault, line, text) in &FINDINGS {
-        if line.len() > LONGEST_LINE {
-            return Err(Fail::new("the test's line is too long"));
-        }
-        assert_eq!(rt; finding(12, *fault, line).as_slice(), text.as_bytes());
+        assert!(rt; is_explained(*fault, line, text), "at {text}");
     }
-    Ok(())
+}
+
+/// Calls, and why every screen refuses each, if each does.
+#[rattlefmt::skip]
+static REFUSED: [(Call<'static>, Option<Refusal>); 6] = [
+    (Call::Making(Making::Newpad { lines: 0, columns: 0 }), Some(Refusal::BadSize)),
+    (Call::Making(Making::Newwin { lines: 1000, columns: 1, y: 0, x: 0 }), Some(Refusal::OffScreen)),
+    (Call::Making(Making::Delwin { win: WinId::STANDARD }), Some(Refusal::StandardScreen)),
+    (Call::Making(Making::Newwin { lines: 999, columns: 999, y: 0, x: 0 }), None),
+    (Call::Making(Making::Delwin { win: WinId(1) }), None),
+    (Call::Writing(Writing::ColorSet { win: WinId(1), pair: 64 }), Some(Refusal::BadPair)),
+];
+
+/// Whether that is said of a call in line 7 that every screen refuses.
+fn is_told(why: Refusal, text: &str) -> bool {
+    refused_line(7, why).as_slice() == text.as_bytes()
 }
 
 #[test]
 fn calls_that_every_screen_refuses_are_told(rt: HostRuntime) {
-    let why = [
-        refusal_everywhere(&Call::newpad(0, 0)),
-        refusal_everywhere(&Call::newwin(1000, 1, 0, 0)),
-        refusal_everywhere(&Call::delwin(WinId::STANDARD)),
-        refusal_everywhere(&Call::newwin(999, 999, 0, 0)),
-        refusal_everywhere(&Call::delwin(WinId(1))),
-        refusal_everywhere(&Call::wcolor_set(WinId(1), 64)),
-    ];
-    let wanted = [
-        Some(Refusal::BadSize),
-        Some(Refusal::OffScreen),
-        Some(Refusal::StandardScreen),
-        None,
-        None,
-        Some(Refusal::BadPair),
-    ];
-    assert_eq!(rt; why, wanted);
+    for (call, why) in &REFUSED {
+        assert!(rt; refusal_everywhere(call) == *why, "at {call:?}");
+    }
     let line =
         "line 7, column 1: every screen refuses this call: E11 BadSize: a pad has 1 to 1000 lines and 1 to 1000 columns\n";
-    assert_eq!(rt;
-        refused_line(7, Refusal::BadSize).as_slice(),
-        line.as_bytes()
-    );
+    assert!(rt; is_told(Refusal::BadSize, line));
 }

@@ -32,14 +32,20 @@ impl VirtualScreen for Plain {
     }
 }
 
+/// A cell of a character.
+fn cell(character: u8, rendition: Rendition) -> Result<Shown, Refusal> {
+    Shown::new(character, rendition).ok_or(Refusal::BadCharacter)
+}
+
 /// The screen of 4 lines and 10 columns with the word hi at its top, the cursor after it, and the text that shows it.
-fn greeting(alloc: Global) -> Result<Plain, Fail>
+fn greeting(alloc: Global) -> Result<Plain, Refusal>
     ensures size { IfOk result (λ plain. HasSize 4 10 plain.picture) }
     ensures cursor { IfOk result (λ plain. plain.cursor ≡ (0, 2)) }
 {
+    let (h, i) = (cell(b'h', Rendition::NONE)?, cell(b'i', Rendition::NONE)?);
     let mut picture = Grid::new(alloc, 4, 10)?;
-    picture.set(0, 0, Shown::new(b'h', Rendition::NONE).ok_or("no cell")?);
-    picture.set(0, 1, Shown::new(b'i', Rendition::NONE).ok_or("no cell")?);
+    picture.set(0, 0, h);
+    picture.set(0, 1, i);
     Ok(Plain {
         picture,
         cursor: (0, 2),
@@ -47,7 +53,7 @@ fn greeting(alloc: Global) -> Result<Plain, Fail>
 }
 
 /// Sets two cells of line 2 to letters in colours.
-fn colour(screen: &mut Plain) -> Result<(), Fail>
+fn colour(screen: &mut Plain) -> Result<(), Refusal>
     requires { HasSize 4 10 screen.old.picture }
     ensures size { HasSize 4 10 screen.new.picture }
     ensures cursor { IfOk result (λ nothing. screen.new.cursor ≡ (2, 6)) }
@@ -57,10 +63,9 @@ fn colour(screen: &mut Plain) -> Result<(), Fail>
         background: Some(Colour::BLUE),
     };
     let rendition = Rendition::new(Attr::REVERSE, pair);
-    let first = Shown::new(b'a', rendition).ok_or("no cell")?;
-    let second = Shown::new(b'b', rendition).ok_or("no cell")?;
-    screen.picture.set(2, 4, first);
-    screen.picture.set(2, 5, second);
+    let (a, b) = (cell(b'a', rendition)?, cell(b'b', rendition)?);
+    screen.picture.set(2, 4, a);
+    screen.picture.set(2, 5, b);
     screen.cursor = (2, 6);
     Ok(())
 }
@@ -86,73 +91,84 @@ fn update_four_times<W: Sink>(
     Ok([first, drawn, moved, again])
 }
 
-/// The same, with all bytes.
-fn stream(alloc: Global) -> Result<([Sent; 4], Vec<u8>), Fail> {
-    let mut screen = greeting(alloc)?;
+/// The same by a new painter.
+fn update_new(alloc: Global, sink: &mut Counted<Vec<u8>>) -> Result<[Sent; 4], Fail> {
     let mut painter = Painter::new(alloc, 4, 10)?;
-    let mut sink = Counted::new(Vec::new(alloc));
-    let sent = update_four_times(&mut painter, &mut screen, &mut sink)?;
-    Ok((sent, sink.into_inner()))
+    let mut screen = greeting(alloc)?;
+    update_four_times(&mut painter, &mut screen, sink)
 }
 
 #[test]
 fn what_differs_is_drawn_and_all_where_nothing_is_known(rt: HostRuntime) -> Result<(), Fail> {
-    let (sent, stream) = stream(rt.alloc())?;
-    let bytes = [16, 24, 6, 46];
-    assert_eq!(rt; sent, bytes.map(|bytes| Sent { bytes }));
+    let mut sink = Counted::new(Vec::new(rt.alloc()));
+    let sent = update_new(rt.alloc(), &mut sink)?;
+    assert_eq!(rt; [sent[0].bytes, sent[1].bytes, sent[2].bytes, sent[3].bytes], [16, 24, 6, 46]);
     let frames = b"\x1b[0m\x1b[2J\x1b[1;1Hhi\
         \x1b[3;5H\x1b[0;7;31;44mab\x1b[0m\
         \x1b[1;1H\
         \x1b[0m\x1b[2J\x1b[1;1Hhi\x1b[3;5H\x1b[0;7;31;44mab\x1b[0m\x1b[1;1H";
-    assert_eq!(rt; stream.as_slice(), frames.as_slice());
+    assert!(rt; sink.get_ref().as_slice() == frames.as_slice());
     Ok(())
 }
 
-/// What a sink takes of two updates, and what each answers.
-type Taken = ([Result<Sent, WriteFault>; 2], Vec<u8>);
+/// What two updates of a sink answer.
+type Updates = [Result<Sent, WriteFault>; 2];
 
-fn update_faulty(alloc: Global, writer: Halting) -> Result<Taken, Fail> {
-    let screen = greeting(alloc)?;
+/// Makes two updates of a screen.
+fn update_twice(painter: &mut Painter, screen: &Plain, sink: &mut Counted<Halting>) -> Updates
+    requires lines { painter.old.lines ≡ 4 }
+    requires columns { painter.old.columns ≡ 10 }
+    requires size { HasSize 4 10 screen.now.picture }
+    requires cursor { screen.now.cursor ≡ (0, 2) }
+{
+    [painter.doupdate(screen, sink), painter.doupdate(screen, sink)]
+}
+
+/// The same by a new painter.
+fn update_faulty(alloc: Global, sink: &mut Counted<Halting>) -> Result<Updates, Refusal> {
     let mut painter = Painter::new(alloc, 4, 10)?;
-    let mut sink = Counted::new(writer);
-    let first = painter.doupdate(&screen, &mut sink);
-    let second = painter.doupdate(&screen, &mut sink);
-    Ok(([first, second], sink.into_inner().taken))
+    let screen = greeting(alloc)?;
+    Ok(update_twice(&mut painter, &screen, sink))
+}
+
+/// Whether all is shown after a write that fails, or takes nothing, once five bytes are sent.
+fn is_shown_again(alloc: Global, fails: bool) -> Result<bool, Refusal> {
+    let mut sink = Counted::new(Halting::until(alloc, 5, fails));
+    let sent = update_faulty(alloc, &mut sink)?;
+    let stream = b"\x1b[0m\x1b\x1b[0m\x1b[2J\x1b[1;1Hhi";
+    Ok(
+        sent == [Err(WriteFault { sent: 5 }), Ok(Sent { bytes: 16 })]
+            && sink.get_ref().taken.as_slice() == stream.as_slice(),
+    )
 }
 
 #[test]
-fn all_is_shown_after_a_fault(rt: HostRuntime) -> Result<(), Fail> {
+fn all_is_shown_after_a_fault(rt: HostRuntime) {
     for fails in [true, false] {
-        let (sent, stream) = update_faulty(rt.alloc(), Halting::until(rt.alloc(), 5, fails))?;
-        assert_eq!(rt; sent, [Err(WriteFault { sent: 5 }), Ok(Sent { bytes: 16 })]);
-        assert_eq!(rt;
-            stream.as_slice(),
-            b"\x1b[0m\x1b\x1b[0m\x1b[2J\x1b[1;1Hhi".as_slice()
-        );
+        assert!(rt; is_shown_again(rt.alloc(), fails) == Ok(true), "fails: {fails}");
     }
-    Ok(())
 }
 
 #[test]
 fn a_flush_that_fails_is_a_fault(rt: HostRuntime) -> Result<(), Fail> {
-    let (sent, stream) = update_faulty(
-        rt.alloc(),
-        Halting::in_pieces(rt.alloc(), usize::MAX, true),
-    )?;
-    assert_eq!(rt; sent, [Err(WriteFault { sent: 16 }); 2]);
-    assert_eq!(rt;
-        stream.get(..16),
-        Some(b"\x1b[0m\x1b[2J\x1b[1;1Hhi".as_slice())
-    );
+    let mut sink = Counted::new(Halting::in_pieces(rt.alloc(), usize::MAX, true));
+    let sent = update_faulty(rt.alloc(), &mut sink)?;
+    assert!(rt; sent == [Err(WriteFault { sent: 16 }); 2]);
+    let shown = b"\x1b[0m\x1b[2J\x1b[1;1Hhi".as_slice();
+    assert!(rt; sink.get_ref().taken.get(..16) == Some(shown));
     Ok(())
 }
 
+/// Why there is no painter of a size, if there is none.
+fn refusal(alloc: Global, lines: u16, columns: u16) -> Option<Refusal> {
+    Painter::new(alloc, lines, columns).err()
+}
+
 #[test]
-fn a_painter_has_1_to_999_lines_and_columns(rt: HostRuntime) -> Result<(), Fail> {
+fn a_painter_has_1_to_999_lines_and_columns(rt: HostRuntime) {
     for (lines, columns) in [(0, 1), (1, 0), (1000, 1), (1, 1000)] {
-        let refusal = Painter::new(rt.alloc(), lines, columns).err();
-        assert_eq!(rt; refusal, Some(Refusal::BadSize));
+        let refusal = refusal(rt.alloc(), lines, columns);
+        assert!(rt; refusal == Some(Refusal::BadSize), "of {lines}, {columns}");
     }
-    let _ = Painter::new(rt.alloc(), 999, 999)?;
-    Ok(())
+    assert_eq!(rt; refusal(rt.alloc(), 999, 999), None);
 }

@@ -7,17 +7,18 @@ use std::cell::Cell;
 use std::io;
 use std::io::{ErrorKind, Read, Write};
 
-/// What three reads of two bytes answer, and what is in their room then.
-fn read_three<R: Read>(mut reader: R) -> ([Result<usize, ErrorKind>; 3], [u8; 2])
+/// Whether three reads of two bytes answer that, and leave these in their room.
+fn gives<R: Read>(mut reader: R, answers: [Result<usize, ErrorKind>; 3], left: &[u8]) -> bool
 where
     R: Drop,
 {
     let mut room = [b'.'; 2];
-    let mut answers = [Ok(9); 3];
-    for answer in &mut answers {
-        *answer = reader.read(&mut room).map_err(|error| error.kind());
+    for answer in answers {
+        if reader.read(&mut room).map_err(|error| error.kind()) != answer {
+            return false;
+        }
     }
-    (answers, room)
+    room.as_slice() == left
 }
 
 /// Three bytes, and then the end or a fault, where two of three reads are interrupted.
@@ -32,26 +33,25 @@ fn interrupted(fails: bool) -> Interrupted<Pieces<'static>> {
     }
 }
 
-#[test]
-fn interrupted_reads_are_made_again(rt: HostRuntime) {
-    let ended = ([Ok(2), Ok(1), Ok(0)], *b"cb");
-    assert!(rt;
-        read_three(Patient {
-            stream: interrupted(false)
-        }) == ended
-    );
-    let failed = ([Ok(2), Ok(1), Err(ErrorKind::Other)], *b"cb");
-    assert!(rt;
-        read_three(Patient {
-            stream: interrupted(true)
-        }) == failed
-    );
-    let impatient = Err(ErrorKind::Interrupted);
-    assert!(rt; read_three(interrupted(false)) == ([impatient, impatient, Ok(2)], *b"ab"));
+/// The same, read with patience.
+fn patient(fails: bool) -> Patient<Interrupted<Pieces<'static>>> {
+    Patient {
+        stream: interrupted(fails),
+    }
 }
 
-/// How many writes there were where two were made, what was taken, and what the second one answers.
-fn write_two(writer: Halting) -> (u32, Vec<u8>, Result<usize, ErrorKind>) {
+#[test]
+fn interrupted_reads_are_made_again(rt: HostRuntime) {
+    assert!(rt; gives(patient(false), [Ok(2), Ok(1), Ok(0)], b"cb"));
+    let failed = Err(ErrorKind::Other);
+    assert!(rt; gives(patient(true), [Ok(2), Ok(1), failed], b"cb"));
+    let interruption = Err(ErrorKind::Interrupted);
+    assert!(rt; gives(interrupted(false), [interruption, interruption, Ok(2)], b"ab"));
+}
+
+/// Whether two writes are six where two of three are interrupted, the writer takes these bytes, and the second answers
+/// that.
+fn takes(writer: Halting, bytes: &[u8], second: Result<usize, ErrorKind>) -> bool {
     let mut patient = Patient {
         stream: Interrupted {
             stream: writer,
@@ -60,24 +60,25 @@ fn write_two(writer: Halting) -> (u32, Vec<u8>, Result<usize, ErrorKind>) {
     };
     let _ = patient.write(b"abc");
     let answer = patient.write(b"xyz").map_err(|error| error.kind());
-    let Patient {
-        stream: Interrupted { stream, calls },
-    } = patient;
-    (calls, stream.taken, answer)
+    let Interrupted { stream, calls } = &patient.stream;
+    *calls == 6 && stream.taken.as_slice() == bytes && answer == second
 }
 
 #[test]
 fn interrupted_writes_are_made_again(rt: HostRuntime) {
-    let (calls, taken, answer) = write_two(Halting::in_pieces(rt.alloc(), 2, false));
-    assert!(rt; calls == 6 && taken.as_slice() == b"abxy".as_slice() && answer == Ok(2));
-    let (calls, taken, answer) = write_two(Halting::until(rt.alloc(), 3, true));
-    assert!(rt;
-        calls == 6 && taken.as_slice() == b"abc".as_slice() && answer == Err(ErrorKind::Other)
-    );
+    assert!(rt; takes(Halting::in_pieces(rt.alloc(), 2, false), b"abxy", Ok(2)));
+    let failed = Err(ErrorKind::Other);
+    assert!(rt; takes(Halting::until(rt.alloc(), 3, true), b"abc", failed));
 }
 
-/// Logs a line, writes an answer and flushes it, and logs another line. Gives the log, and the second line's answer.
-fn answer_and_log<W: Write>(alloc: Global, writer: W) -> (Vec<u8>, Result<usize, ErrorKind>)
+/// Logs a line, writes an answer and flushes it, and logs another line. Whether the log is these bytes then, and the
+/// second line answers that.
+fn logs<W: Write>(
+    alloc: Global,
+    writer: W,
+    bytes: &[u8],
+    second: Result<usize, ErrorKind>,
+) -> bool
 where
     W: Drop,
 {
@@ -92,23 +93,26 @@ where
     };
     let _ = log.write(b"first ");
     let _ = out.write(b"answer").and_then(|_| out.flush());
-    let second = log.write(b"second").map_err(|error| error.kind());
-    (log.writer, second)
+    let answer = log.write(b"second").map_err(|error| error.kind());
+    log.writer.as_slice() == bytes && answer == second
 }
 
 #[test]
 fn a_log_is_silent_once_nobody_reads_the_output(rt: HostRuntime) {
+    let closed = Err(ErrorKind::BrokenPipe);
     for is_buffered in [false, true] {
-        let (log, second) = answer_and_log(rt.alloc(), Unread { is_buffered });
-        assert!(rt; log.as_slice() == b"first ".as_slice() && second == Err(ErrorKind::BrokenPipe));
+        assert!(rt; logs(rt.alloc(), Unread { is_buffered }, b"first ", closed));
     }
-    let writers = [
-        Halting::in_pieces(rt.alloc(), 100, false),
-        Halting::until(rt.alloc(), 0, true),
-        Halting::in_pieces(rt.alloc(), 100, true),
-    ];
-    for writer in writers {
-        let (log, second) = answer_and_log(rt.alloc(), writer);
-        assert!(rt; log.as_slice() == b"first second".as_slice() && second == Ok(6));
-    }
+}
+
+/// Whether both lines are logged where answers go to a writer.
+fn logs_all(alloc: Global, writer: Halting) -> bool {
+    logs(alloc, writer, b"first second", Ok(6))
+}
+
+#[test]
+fn a_log_goes_on_where_the_output_fails(rt: HostRuntime) {
+    assert!(rt; logs_all(rt.alloc(), Halting::in_pieces(rt.alloc(), 100, false)));
+    assert!(rt; logs_all(rt.alloc(), Halting::until(rt.alloc(), 0, true)));
+    assert!(rt; logs_all(rt.alloc(), Halting::in_pieces(rt.alloc(), 100, true)));
 }

@@ -6,23 +6,32 @@ use script::{
     Arguments, LONGEST_LINE, LineEnd, Lines, ScriptFault, TextFault, last_line, log_answer,
     read_line,
 };
-use std::alloc::Global;
+use std::alloc::{AllocError, Global};
 use std::test::Fail;
 use streams::{Counted, CountedReader, Sent, WriteFault};
-use world::{Composed, PanelId, Reply};
+use world::{Call, Composed, PanelId, Reply};
 
-/// What a line says: its call, its fault, or nothing.
-fn meaning(alloc: Global, line: &str) -> Result<String, Fail> {
+/// Whether a call is written so.
+fn is_call(alloc: Global, call: &Call<'_>, text: &str) -> Result<bool, AllocError> {
+    Ok(format!(in alloc; "{call:?}")?.as_str() == text)
+}
+
+/// Whether a fault is written so.
+fn is_fault(alloc: Global, fault: TextFault, text: &str) -> Result<bool, AllocError> {
+    Ok(format!(in alloc; "{fault}")?.as_str() == text)
+}
+
+/// Whether a line says that: its call, its fault, or nothing.
+fn says(alloc: Global, line: &str, text: &str) -> Result<bool, AllocError> {
     if line.len() > LONGEST_LINE {
-        return Err(Fail::new("the test's line is too long"));
+        return Ok(false);
     }
     let mut arguments = Arguments::new();
-    let text = match read_line(line.as_bytes(), &mut arguments) {
-        Ok(Some(word)) => format!(in alloc; "{:?}", word.call(&arguments))?,
-        Ok(None) => format!(in alloc; "nothing")?,
-        Err(fault) => format!(in alloc; "{fault}")?,
-    };
-    Ok(text)
+    match read_line(line.as_bytes(), &mut arguments) {
+        Ok(Some(word)) => is_call(alloc, &word.call(&arguments), text),
+        Ok(None) => Ok(text == "nothing"),
+        Err(fault) => is_fault(alloc, fault, text),
+    }
 }
 
 /// Lines with their calls.
@@ -122,18 +131,16 @@ static OTHERS: [(&str, &[&str]); 5] = [
 #[test]
 fn words_make_their_calls(rt: HostRuntime) -> Result<(), Fail> {
     for (line, call) in &CALLS {
-        let answer = meaning(rt.alloc(), line)?;
-        assert_eq!(rt; answer.as_str(), *call, "at {line}");
+        assert!(rt; says(rt.alloc(), line, call)?, "at {line}");
     }
     Ok(())
 }
 
 #[test]
 fn other_lines_have_their_faults(rt: HostRuntime) -> Result<(), Fail> {
-    for (wanted, lines) in &OTHERS {
+    for (fault, lines) in &OTHERS {
         for line in *lines {
-            let answer = meaning(rt.alloc(), line)?;
-            assert_eq!(rt; answer.as_str(), *wanted, "at {line}");
+            assert!(rt; says(rt.alloc(), line, fault)?, "at {line}");
         }
     }
     Ok(())
@@ -201,20 +208,22 @@ static LAST_LINES: [(ScriptFault, &str); 4] = [
     (ScriptFault::Log, "writing failed\n"),
 ];
 
+/// Whether that is the last line where a script has a fault.
+fn is_last_line(fault: ScriptFault, text: &str) -> bool {
+    last_line(fault).as_slice() == text.as_bytes()
+}
+
 #[test]
 fn faults_have_their_last_lines(rt: HostRuntime) {
     for (fault, text) in &LAST_LINES {
-        assert_eq!(rt; last_line(*fault).as_slice(), text.as_bytes());
+        assert!(rt; is_last_line(*fault, text), "at {text}");
     }
 }
 
-/// What a log is given of an answer.
-fn log_of(alloc: Global, number: u64, answer: Result<Reply, Refusal>) -> Result<Vec<u8>, Fail> {
+/// Whether a log is given that of an answer.
+fn is_logged(alloc: Global, number: u64, answer: Result<Reply, Refusal>, text: &str) -> bool {
     let mut log = Counted::new(Vec::new(alloc));
-    match log_answer(&mut log, number, answer) {
-        Ok(()) => Ok(log.into_inner()),
-        Err(_) => Err("the log failed".into()),
-    }
+    log_answer(&mut log, number, answer).is_ok() && log.get_ref().as_slice() == text.as_bytes()
 }
 
 /// Answers, with their lines.
@@ -232,26 +241,27 @@ const ANSWERS: [(u64, Result<Reply, Refusal>, &str); 9] = [
 ];
 
 #[test]
-fn answers_have_their_lines(rt: HostRuntime) -> Result<(), Fail> {
-    for (number, answer, line) in ANSWERS {
-        let log = log_of(rt.alloc(), number, answer)?;
-        assert_eq!(rt; log.as_slice(), line.as_bytes());
+fn answers_have_their_lines(rt: HostRuntime) {
+    for (number, answer, line) in &ANSWERS {
+        assert!(rt; is_logged(rt.alloc(), *number, *answer, line), "at {number}");
     }
-    Ok(())
 }
 
 #[test]
 fn a_cell_is_logged_as_its_numbers(rt: HostRuntime) -> Result<(), Fail> {
     let cell = Cell::new(b'A', Attr::REVERSE, 63).ok_or("no cell")?;
-    let log = log_of(rt.alloc(), 7, Ok(Reply::Cell(cell)))?;
-    assert_eq!(rt; log.as_slice(), b"line 7: 65 10 63\n".as_slice());
+    assert!(rt; is_logged(rt.alloc(), 7, Ok(Reply::Cell(cell)), "line 7: 65 10 63\n"));
     Ok(())
+}
+
+/// Logs a refusal.
+fn log_refusal(log: &mut Counted<Halting>) -> Result<(), WriteFault> {
+    log_answer(log, 4, Err(Refusal::HasDerived))
 }
 
 #[test]
 fn a_full_log_fails(rt: HostRuntime) {
     let mut log = Counted::new(Halting::until(rt.alloc(), 6, true));
-    let answer = log_answer(&mut log, 4, Err(Refusal::HasDerived));
-    assert_eq!(rt; answer, Err(WriteFault { sent: 6 }));
-    assert_eq!(rt; log.get_ref().taken.as_slice(), b"line 4".as_slice());
+    assert!(rt; log_refusal(&mut log) == Err(WriteFault { sent: 6 }));
+    assert!(rt; log.get_ref().taken.as_slice() == b"line 4".as_slice());
 }
