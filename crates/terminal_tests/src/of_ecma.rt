@@ -123,12 +123,7 @@ fn has_character(terminal: &Terminal, (y, x): (u16, u16), character: Option<u8>)
 }
 
 /// The fault and the cursor of a terminal, a character, and whether no rendition is selected.
-type Seen = (
-    Option<NotInProfile>,
-    Option<(u16, u16)>,
-    Option<u8>,
-    bool,
-);
+type Seen = (Option<NotInProfile>, Option<(u16, u16)>, Option<u8>, bool);
 
 /// Whether that is seen of a terminal, with the character at a place, and its 4 lines are there.
 fn is_seen(terminal: &Terminal, place: (u16, u16), seen: &Seen) -> bool {
@@ -193,12 +188,7 @@ static ERASED: [(&[u8], (u16, u16), u8); 14] = [
 ];
 
 /// Whether a stream has no fault, and leaves a character at a place.
-fn leaves(
-    alloc: Global,
-    stream: &[u8],
-    place: (u16, u16),
-    character: u8,
-) -> Result<bool, Refusal> {
+fn leaves(alloc: Global, stream: &[u8], place: (u16, u16), character: u8) -> Result<bool, Refusal> {
     let terminal = read(alloc, stream)?;
     Ok(terminal.fault().is_none() && has_character(&terminal, place, Some(character)))
 }
@@ -298,6 +288,10 @@ fn is_read_in_pieces(alloc: Global, stream: &[u8]) -> Result<bool, Refusal> {
 #[test]
 fn a_stream_is_cut_anywhere(rt: HostRuntime) {
     for stream in &STREAMS {
-        assert_eq!(rt; is_read_in_pieces(rt.alloc(), stream), Ok(true), "at {stream:?}");
+        assert_eq!(rt;
+            is_read_in_pieces(rt.alloc(), stream),
+            Ok(true),
+            "at {stream:?}"
+        );
     }
 }

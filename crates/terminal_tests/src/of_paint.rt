@@ -102,7 +102,10 @@ fn update_new(alloc: Global, sink: &mut Counted<Vec<u8>>) -> Result<[Sent; 4], F
 fn what_differs_is_drawn_and_all_where_nothing_is_known(rt: HostRuntime) -> Result<(), Fail> {
     let mut sink = Counted::new(Vec::new(rt.alloc()));
     let sent = update_new(rt.alloc(), &mut sink)?;
-    assert_eq!(rt; [sent[0].bytes, sent[1].bytes, sent[2].bytes, sent[3].bytes], [16, 24, 6, 46]);
+    assert_eq!(rt;
+        [sent[0].bytes, sent[1].bytes, sent[2].bytes, sent[3].bytes],
+        [16, 24, 6, 46]
+    );
     let frames = b"\x1b[0m\x1b[2J\x1b[1;1Hhi\
         \x1b[3;5H\x1b[0;7;31;44mab\x1b[0m\
         \x1b[1;1H\
@@ -121,7 +124,10 @@ fn update_twice(painter: &mut Painter, screen: &Plain, sink: &mut Counted<Haltin
     requires size { HasSize 4 10 screen.now.picture }
     requires cursor { screen.now.cursor ≡ (0, 2) }
 {
-    [painter.doupdate(screen, sink), painter.doupdate(screen, sink)]
+    [
+        painter.doupdate(screen, sink),
+        painter.doupdate(screen, sink),
+    ]
 }
 
 /// The same by a new painter.
@@ -145,7 +151,10 @@ fn is_shown_again(alloc: Global, fails: bool) -> Result<bool, Refusal> {
 #[test]
 fn all_is_shown_after_a_fault(rt: HostRuntime) {
     for fails in [true, false] {
-        assert!(rt; is_shown_again(rt.alloc(), fails) == Ok(true), "fails: {fails}");
+        assert!(rt;
+            is_shown_again(rt.alloc(), fails) == Ok(true),
+            "fails: {fails}"
+        );
     }
 }
 

@@ -46,7 +46,13 @@ fn interrupted_reads_are_made_again(rt: HostRuntime) {
     let failed = Err(ErrorKind::Other);
     assert!(rt; gives(patient(true), [Ok(2), Ok(1), failed], b"cb"));
     let interruption = Err(ErrorKind::Interrupted);
-    assert!(rt; gives(interrupted(false), [interruption, interruption, Ok(2)], b"ab"));
+    assert!(rt;
+        gives(
+            interrupted(false),
+            [interruption, interruption, Ok(2)],
+            b"ab"
+        )
+    );
 }
 
 /// Whether two writes are six where two of three are interrupted, the writer takes these bytes, and the second answers
@@ -73,12 +79,7 @@ fn interrupted_writes_are_made_again(rt: HostRuntime) {
 
 /// Logs a line, writes an answer and flushes it, and logs another line. Whether the log is these bytes then, and the
 /// second line answers that.
-fn logs<W: Write>(
-    alloc: Global,
-    writer: W,
-    bytes: &[u8],
-    second: Result<usize, ErrorKind>,
-) -> bool
+fn logs<W: Write>(alloc: Global, writer: W, bytes: &[u8], second: Result<usize, ErrorKind>) -> bool
 where
     W: Drop,
 {

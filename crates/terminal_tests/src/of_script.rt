@@ -243,7 +243,10 @@ const ANSWERS: [(u64, Result<Reply, Refusal>, &str); 9] = [
 #[test]
 fn answers_have_their_lines(rt: HostRuntime) {
     for (number, answer, line) in &ANSWERS {
-        assert!(rt; is_logged(rt.alloc(), *number, *answer, line), "at {number}");
+        assert!(rt;
+            is_logged(rt.alloc(), *number, *answer, line),
+            "at {number}"
+        );
     }
 }
 

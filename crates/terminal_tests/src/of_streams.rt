@@ -78,6 +78,12 @@ fn pieces(step: usize, fails: bool) -> CountedReader<Pieces<'static>> {
 
 #[test]
 fn pieces_are_read_until_the_end_or_a_fault(rt: HostRuntime) {
-    assert!(rt; gives(pieces(600, false), [Some(2), Some(1), Some(0), Some(0)], b"cb"));
+    assert!(rt;
+        gives(
+            pieces(600, false),
+            [Some(2), Some(1), Some(0), Some(0)],
+            b"cb"
+        )
+    );
     assert!(rt; gives(pieces(1, true), [Some(1), Some(1), Some(1), None], b"c."));
 }

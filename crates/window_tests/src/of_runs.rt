@@ -1,116 +1,164 @@
 //! Runs of calls, methods, and writers that fail.
 
-use crate::screens::{HI, SHOW, Tried, UPDATE, addstr, call, is_shown, run, screen, stream};
+use crate::screens::{
+    ERASE_NONE, HI, SHOW, Tried, UPDATE, WRITE_HI, WRITE_MARK, call, is_shown, run, screen,
+    screen_of, stream,
+};
 use cell::Attr;
 use desk::{
-    Call, Calls, Counted, Fault, PanelId, Refusal, RunEnd, Screen, VirtualScreen, WinId, WriteFault,
+    Call, Calls, Counted, Desk, Fault, PanelId, Refusal, RunEnd, VirtualScreen, WinId, WriteFault,
+    Writing,
 };
 use faulty::Halting;
 use std::alloc::Global;
-use std::test::Fail;
 
-/// A run of calls on a new screen, another, and all that the writer took.
-fn run_twice(
-    alloc: Global,
-    stop: usize,
-    first: &[Call<'_>],
-    second: &[Call<'_>],
-) -> Result<([RunEnd; 2], Vec<u8>), Refusal> {
-    let mut screen = screen(alloc, stop)?;
-    let ends = [run(&mut screen, first), run(&mut screen, second)];
-    Ok((ends, stream(screen)))
+/// Runs of calls, one after another, how each ends, and all that the writer takes.
+struct Runs {
+    first: &'static [Call<'static>],
+    first_end: RunEnd,
+    second: &'static [Call<'static>],
+    second_end: RunEnd,
+    stream: &'static [u8],
 }
 
-/// Runs of calls of which one is refused, and of two that find nothing changed.
-fn run_and_again(alloc: Global) -> Result<([RunEnd; 2], Vec<u8>), Refusal> {
-    let win = WinId(9);
-    let nowhere = Call::werase(win);
-    let calls = [UPDATE, addstr(b"hi"), nowhere, UPDATE, SHOW];
-    run_twice(alloc, usize::MAX, &calls, &[UPDATE, SHOW])
+/// Whether runs end so on a screen.
+fn are_met(screen: &mut Tried, runs: &Runs) -> bool {
+    run(screen, runs.first) == runs.first_end
+        && run(screen, runs.second) == runs.second_end
+        && stream(screen) == runs.stream
 }
 
-#[test]
-fn a_run_sends_what_it_shows_and_counts(rt: HostRuntime) -> Result<(), Fail> {
-    let (ends, stream) = run_and_again(rt.alloc())?;
-    let first = RunEnd {
+/// The same on a new screen over a writer that fails once, where it has taken so many bytes.
+fn are_met_until(alloc: Global, stop: usize, runs: &Runs) -> Result<bool, Refusal> {
+    match &mut screen(alloc, stop) {
+        Ok(screen) => Ok(are_met(screen, runs)),
+        Err(refusal) => Err(*refusal),
+    }
+}
+
+/// Of the first calls one is refused, and the second ones find nothing changed.
+static COUNTED: Runs = Runs {
+    first: &[UPDATE, WRITE_HI, ERASE_NONE, UPDATE, SHOW],
+    first_end: RunEnd {
         done: 4,
         refused: 1,
         composed: 2,
         fault: None,
-    };
-    let second = RunEnd {
+    },
+    second: &[UPDATE, SHOW],
+    second_end: RunEnd {
         done: 2,
         refused: 0,
         composed: 0,
         fault: None,
-    };
-    assert!(rt; ends == [first, second]);
-    assert_eq!(rt; stream.as_slice(), HI);
-    Ok(())
+    },
+    stream: HI,
+};
+
+#[test]
+fn a_run_sends_what_it_shows_and_counts(rt: HostRuntime) {
+    let are_met = are_met_until(rt.alloc(), usize::MAX, &COUNTED);
+    assert_eq!(rt; are_met, Ok(true));
 }
 
-/// Runs of which the first ends at a write that fails after five bytes.
-fn run_after_fault(alloc: Global) -> Result<([RunEnd; 2], Vec<u8>), Refusal> {
-    let first = [addstr(b"hi"), UPDATE, SHOW];
-    run_twice(alloc, 5, &first, &[addstr(b"!"), UPDATE, SHOW])
+static SHOW_HI: [Call<'static>; 3] = [WRITE_HI, UPDATE, SHOW];
+
+/// Whether a run goes on after one that ends at a write that fails after five bytes.
+fn goes_on(screen: &mut Tried) -> bool {
+    let first = run(screen, &SHOW_HI);
+    let second = run(screen, &[WRITE_MARK, UPDATE, SHOW]);
+    (first.done, first.refused, first.fault) == (2, 0, Some(WriteFault { sent: 5 }))
+        && (second.done, second.refused, second.fault) == (3, 0, None)
+        && stream(screen).len() == 5 + 17
+}
+
+/// The same on a new screen.
+fn goes_on_after_fault(alloc: Global) -> Result<bool, Refusal> {
+    match &mut screen(alloc, 5) {
+        Ok(screen) => Ok(goes_on(screen)),
+        Err(refusal) => Err(*refusal),
+    }
 }
 
 #[test]
-fn a_run_goes_on_after_one_that_a_failed_write_ended(rt: HostRuntime) -> Result<(), Fail> {
-    let (ends, stream) = run_after_fault(rt.alloc())?;
-    let [first, second] = ends;
-    let fault = Some(WriteFault { sent: 5 });
-    assert!(rt; (first.done, first.refused, first.fault) == (2, 0, fault));
-    assert!(rt; (second.done, second.refused, second.fault) == (3, 0, None));
-    assert_eq!(rt; stream.len(), 5 + 17);
-    Ok(())
+fn a_run_goes_on_after_one_that_a_failed_write_ended(rt: HostRuntime) {
+    assert_eq!(rt; goes_on_after_fault(rt.alloc()), Ok(true));
 }
 
-/// Whether a run ends at a write that fails after so many bytes of its last text, once the writer has taken `stop`, and
-/// the next `doupdate` sends a text that shows all.
-fn is_repaired(
-    alloc: Global,
-    stop: usize,
+/// Calls of which the last one sends a text, which a terminal shows from its column 14 on, and so many bytes of it
+/// until a write fails.
+#[derive(Drop)]
+struct Cut {
+    calls: &'static [Call<'static>],
+    text: &'static [u8],
     sent: u32,
-    calls: &[Call<'_>],
-    text: &[u8],
-) -> Result<bool, Refusal> {
-    let (ends, stream) = run_twice(alloc, stop, calls, &[SHOW])?;
-    let faults = [ends[0].fault, ends[1].fault];
+}
+
+/// Whether a run on a screen ends so, once its writer has taken `stop` bytes, and the next `doupdate` shows all.
+fn is_repaired(screen: &mut Tried, alloc: Global, stop: usize, cut: &Cut) -> Result<bool, Refusal> {
+    let first = run(screen, cut.calls);
+    let second = run(screen, &[SHOW]);
+    let stream = stream(screen);
     Ok(
-        faults == [Some(WriteFault { sent }), None]
-            && ends[0].done.saturating_add(1) == calls.len()
-            && stream.get(stop..) == Some(text)
-            && is_shown(alloc, &stream, text.get(14..).unwrap_or(&[]))?,
+        [first.fault, second.fault] == [Some(WriteFault { sent: cut.sent }), None]
+            && first.done.saturating_add(1) == cut.calls.len()
+            && stream.get(stop..) == Some(cut.text)
+            && is_shown(alloc, stream, cut.text.get(14..).unwrap_or(&[]))?,
     )
 }
 
-#[test]
-fn a_writer_that_fails_anywhere_is_shown_all_again(rt: HostRuntime) -> Result<(), Fail> {
-    let first = [addstr(b"hi"), UPDATE, SHOW];
-    for stop in 0..=16u8 {
-        let is_repaired = is_repaired(rt.alloc(), usize::from(stop), u32::from(stop), &first, HI)?;
-        assert!(rt; is_repaired, "after {stop} bytes");
+/// The same on a new screen.
+fn is_repaired_after(alloc: Global, stop: usize, cut: &Cut) -> Result<bool, Refusal> {
+    match &mut screen(alloc, stop) {
+        Ok(screen) => is_repaired(screen, alloc, stop, cut),
+        Err(refusal) => Err(*refusal),
     }
-    Ok(())
 }
 
 #[test]
-fn a_later_update_that_fails_is_shown_all_again(rt: HostRuntime) -> Result<(), Fail> {
-    let later = [addstr(b"hi"), UPDATE, SHOW, addstr(b"there"), UPDATE, SHOW];
+fn a_writer_that_fails_anywhere_is_shown_all_again(rt: HostRuntime) {
+    let (calls, text) = (&SHOW_HI, HI);
+    for stop in 0..=16u8 {
+        let sent = u32::from(stop);
+        let is_repaired = is_repaired_after(
+            rt.alloc(),
+            usize::from(stop),
+            &Cut { calls, text, sent },
+        );
+        assert!(rt; is_repaired == Ok(true), "after {stop} bytes");
+    }
+}
+
+/// Writes `there` on the standard screen.
+const WRITE_THERE: Call<'static> = Call::Writing(Writing::Addstr {
+    win: WinId::STANDARD,
+    text: b"there",
+});
+
+static SHOW_TWICE: [Call<'static>; 6] = [WRITE_HI, UPDATE, SHOW, WRITE_THERE, UPDATE, SHOW];
+
+#[test]
+fn a_later_update_that_fails_is_shown_all_again(rt: HostRuntime) {
+    let calls = &SHOW_TWICE;
     let text = b"\x1b[0m\x1b[2J\x1b[1;1Hhithere";
     for sent in 1..=5u8 {
         let stop = 16 + usize::from(sent);
-        let is_repaired = is_repaired(rt.alloc(), stop, u32::from(sent), &later, text)?;
-        assert!(rt; is_repaired, "after {stop} bytes");
+        let sent = u32::from(sent);
+        let is_repaired = is_repaired_after(rt.alloc(), stop, &Cut { calls, text, sent });
+        assert!(rt; is_repaired == Ok(true), "after {stop} bytes");
     }
-    Ok(())
 }
+
+static CLEAR: [Call<'static>; 2] = [
+    Call::Writing(Writing::Clear {
+        win: WinId::STANDARD,
+    }),
+    UPDATE,
+];
 
 /// Whether a clear screen is wanted once it is asked for, after a `doupdate` that fails, and after one that doesn't.
 fn clear_wanted(screen: &mut Tried) -> [bool; 3] {
-    let win = WinId::STANDARD;
-    run(screen, &[Call::wclear(win), UPDATE]);
+    run(screen, &CLEAR);
     let asked = screen.desk().clear_wanted();
     let failed = call(screen, &SHOW).is_err() && screen.desk().clear_wanted();
     let shown = call(screen, &SHOW).is_err() || screen.desk().clear_wanted();
@@ -118,8 +166,10 @@ fn clear_wanted(screen: &mut Tried) -> [bool; 3] {
 }
 
 fn wanted_of_screen(alloc: Global) -> Result<[bool; 3], Refusal> {
-    let mut screen = screen(alloc, 0)?;
-    Ok(clear_wanted(&mut screen))
+    match &mut screen(alloc, 0) {
+        Ok(screen) => Ok(clear_wanted(screen)),
+        Err(refusal) => Err(*refusal),
+    }
 }
 
 #[test]
@@ -138,69 +188,86 @@ fn panel_that_says_hi(screen: &mut Tried) -> Result<WinId, Fault> {
 /// The cursor of a window, and the panel at the bottom.
 type Answers = ((u16, u16), Option<PanelId>);
 
-/// What a screen answers, and what its desk does.
-fn ask(screen: &Tried, win: WinId) -> Result<[Answers; 2], Fault> {
-    let answers = (screen.getyx(win)?, screen.panel_above(None)?);
-    let desk = screen.desk();
-    Ok([answers, (desk.getyx(win)?, desk.panel_above(None)?)])
+/// What a screen answers.
+fn ask_screen(screen: &Tried, win: WinId) -> Result<Answers, Fault> {
+    Ok((screen.getyx(win)?, screen.panel_above(None)?))
 }
 
-/// What is asked of a window in a panel, which is shown.
-fn ask_all(screen: &mut Tried) -> Result<[Answers; 2], Fault> {
+/// What a desk answers.
+fn ask_desk(desk: &Desk, win: WinId) -> Result<Answers, Refusal> {
+    Ok((desk.getyx(win)?, desk.panel_above(None)?))
+}
+
+/// Whether a screen and its desk answer so of a window in a panel, which is shown.
+fn answers(screen: &mut Tried, answers: Answers) -> Result<bool, Fault> {
     let win = panel_that_says_hi(screen)?;
     run(screen, &[UPDATE, SHOW]);
-    ask(screen, win)
+    Ok(
+        ask_screen(screen, win)? == answers
+            && ask_desk(screen.desk(), win)? == answers
+            && stream(screen) == HI,
+    )
 }
 
-fn asked_of_screen(alloc: Global) -> Result<(Result<[Answers; 2], Fault>, Vec<u8>), Refusal> {
-    let mut screen = screen(alloc, usize::MAX)?;
-    let answers = ask_all(&mut screen);
-    Ok((answers, stream(screen)))
+/// The same of a new screen.
+fn is_answered(alloc: Global, wanted: Answers) -> Result<bool, Fault> {
+    match &mut screen(alloc, usize::MAX) {
+        Ok(screen) => answers(screen, wanted),
+        Err(refusal) => Err(Fault::from(*refusal)),
+    }
 }
 
 #[test]
-fn each_method_answers_what_its_call_does(rt: HostRuntime) -> Result<(), Fail> {
-    let (answers, stream) = asked_of_screen(rt.alloc())?;
-    let both = [((0, 2), Some(PanelId(1))); 2];
-    assert!(rt; answers == Ok(both));
-    assert_eq!(rt; stream.as_slice(), HI);
-    Ok(())
+fn each_method_answers_what_its_call_does(rt: HostRuntime) {
+    let wanted = ((0, 2), Some(PanelId(1)));
+    assert_eq!(rt; is_answered(rt.alloc(), wanted), Ok(true));
 }
 
-/// What another writer, which takes one byte a call, takes of a screen that was shown.
-fn shown_again(alloc: Global) -> Result<Vec<u8>, Refusal> {
-    let mut screen = screen(alloc, usize::MAX)?;
-    run(&mut screen, &[addstr(b"hi"), UPDATE, SHOW]);
+/// Whether another writer, which takes one byte a call, is shown all.
+fn is_shown_again(mut screen: Tried, alloc: Global) -> bool {
+    run(&mut screen, &SHOW_HI);
     let mut screen = screen.with_writer(Counted::new(Halting::in_pieces(alloc, 1, false)));
     run(&mut screen, &[SHOW]);
-    Ok(stream(screen))
+    stream(&screen) == HI
 }
 
 #[test]
-fn another_writer_is_shown_all_again(rt: HostRuntime) -> Result<(), Fail> {
-    assert_eq!(rt; shown_again(rt.alloc())?.as_slice(), HI);
+fn another_writer_is_shown_all_again(rt: HostRuntime) -> Result<(), Refusal> {
+    assert!(rt; is_shown_again(screen(rt.alloc(), usize::MAX)?, rt.alloc()));
     Ok(())
 }
 
 /// Shows a letter in each cell of a screen.
-fn fill(screen: &mut Tried) {
-    let win = WinId::STANDARD;
-    let (attrs, ch) = (Attr::NONE, b'x');
-    let background = Call::wbkgdset(win, attrs, ch);
-    let erase = Call::werase(win);
-    run(screen, &[background, erase, UPDATE, SHOW]);
+static FILL: [Call<'static>; 4] = [
+    Call::Writing(Writing::Bkgdset {
+        win: WinId::STANDARD,
+        attrs: Attr::NONE,
+        ch: b'x',
+    }),
+    Call::Writing(Writing::Erase {
+        win: WinId::STANDARD,
+    }),
+    UPDATE,
+    SHOW,
+];
+
+/// How many writes that takes.
+fn writes_to_fill(screen: &mut Tried) -> u32 {
+    run(screen, &FILL);
+    screen.writer().get_ref().writes
 }
 
-/// How many writes that takes of so many lines of 400 columns.
+/// The same of so many lines of 400 columns.
 fn writes_of(alloc: Global, lines: u16) -> Result<u32, Refusal> {
-    let writer = Counted::new(Halting::in_pieces(alloc, usize::MAX, false));
-    let mut screen = Screen::new(alloc, lines, 400, writer)?;
-    fill(&mut screen);
-    Ok(screen.writer().get_ref().writes)
+    let writer = Halting::in_pieces(alloc, usize::MAX, false);
+    match &mut screen_of(alloc, lines, 400, writer) {
+        Ok(screen) => Ok(writes_to_fill(screen)),
+        Err(refusal) => Err(*refusal),
+    }
 }
 
 #[test]
 fn a_doupdate_writes_once_up_to_65536_bytes(rt: HostRuntime) {
-    let writes = [writes_of(rt.alloc(), 150), writes_of(rt.alloc(), 170)];
-    assert_eq!(rt; writes, [Ok(1), Ok(2)]);
+    assert_eq!(rt; writes_of(rt.alloc(), 150), Ok(1));
+    assert_eq!(rt; writes_of(rt.alloc(), 170), Ok(2));
 }
