@@ -83,10 +83,8 @@ fn leaves(desk: &mut Desk, case: &Case) -> bool {
 
 /// The same on a new screen.
 fn is_met(alloc: Global, case: &Case) -> Result<bool, Refusal> {
-    match &mut new_desk(alloc, 2, 5) {
-        Ok(desk) => Ok(leaves(desk, case)),
-        Err(refusal) => Err(*refusal),
-    }
+    let mut desk = new_desk(alloc, 2, 5)?;
+    Ok(leaves(&mut desk, case))
 }
 
 #[test]
@@ -175,10 +173,8 @@ fn finds(desk: &mut Desk, search: &Search) -> bool {
 
 /// The same on a new screen of 4 lines and 10 columns.
 fn is_found(alloc: Global, search: &Search) -> Result<bool, Refusal> {
-    match &mut new_desk(alloc, 4, 10) {
-        Ok(desk) => Ok(finds(desk, search)),
-        Err(refusal) => Err(*refusal),
-    }
+    let mut desk = new_desk(alloc, 4, 10)?;
+    Ok(finds(&mut desk, search))
 }
 
 #[test]

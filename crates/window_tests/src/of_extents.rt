@@ -81,7 +81,7 @@ fn columns_are_added_and_taken_away(rt: HostRuntime) -> Result<(), Fail> {
     Ok(())
 }
 
-/// Whether lines with columns are found from each line on, and columns below the seventh.
+/// Whether the next line with columns is found from each line on, and of the first six columns those of two lines.
 fn finds(extents: &mut Extents) -> bool {
     if extents.height() != 3 {
         return false;

@@ -22,10 +22,8 @@ fn is_met(screen: &mut Tried, alloc: Global, history: &History) -> Result<bool, 
 
 /// The same on a new screen over a writer.
 fn is_met_over(alloc: Global, writer: Halting, history: &History) -> Result<bool, Refusal> {
-    match &mut screen_over(alloc, writer) {
-        Ok(screen) => is_met(screen, alloc, history),
-        Err(refusal) => Err(*refusal),
-    }
+    let mut screen = screen_over(alloc, writer)?;
+    is_met(&mut screen, alloc, history)
 }
 
 static ONE_FAULT: History = History {
@@ -99,10 +97,8 @@ fn is_fault_told(screen: &mut Tried) -> bool {
 
 /// The same on a new screen.
 fn is_fault_told_over(alloc: Global, writer: Halting) -> Result<bool, Refusal> {
-    match &mut screen_over(alloc, writer) {
-        Ok(screen) => Ok(is_fault_told(screen)),
-        Err(refusal) => Err(*refusal),
-    }
+    let mut screen = screen_over(alloc, writer)?;
+    Ok(is_fault_told(&mut screen))
 }
 
 #[test]

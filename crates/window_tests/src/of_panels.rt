@@ -43,10 +43,8 @@ fn is_logged(desk: &mut Desk, alloc: Global, case: &Case) -> bool {
 
 /// The same on a new screen of 4 lines and 10 columns.
 fn is_met(alloc: Global, case: &Case) -> Result<bool, Refusal> {
-    match &mut new_desk(alloc, 4, 10) {
-        Ok(desk) => Ok(is_logged(desk, alloc, case)),
-        Err(refusal) => Err(*refusal),
-    }
+    let mut desk = new_desk(alloc, 4, 10)?;
+    Ok(is_logged(&mut desk, alloc, case))
 }
 
 #[test]

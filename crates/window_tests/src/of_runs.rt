@@ -30,10 +30,8 @@ fn are_met(screen: &mut Tried, runs: &Runs) -> bool {
 
 /// The same on a new screen over a writer that fails once, where it has taken so many bytes.
 fn are_met_until(alloc: Global, stop: usize, runs: &Runs) -> Result<bool, Refusal> {
-    match &mut screen(alloc, stop) {
-        Ok(screen) => Ok(are_met(screen, runs)),
-        Err(refusal) => Err(*refusal),
-    }
+    let mut screen = screen(alloc, stop)?;
+    Ok(are_met(&mut screen, runs))
 }
 
 /// Of the first calls one is refused, and the second ones find nothing changed.
@@ -74,10 +72,8 @@ fn goes_on(screen: &mut Tried) -> bool {
 
 /// The same on a new screen.
 fn goes_on_after_fault(alloc: Global) -> Result<bool, Refusal> {
-    match &mut screen(alloc, 5) {
-        Ok(screen) => Ok(goes_on(screen)),
-        Err(refusal) => Err(*refusal),
-    }
+    let mut screen = screen(alloc, 5)?;
+    Ok(goes_on(&mut screen))
 }
 
 #[test]
@@ -109,10 +105,8 @@ fn is_repaired(screen: &mut Tried, alloc: Global, stop: usize, cut: &Cut) -> Res
 
 /// The same on a new screen.
 fn is_repaired_after(alloc: Global, stop: usize, cut: &Cut) -> Result<bool, Refusal> {
-    match &mut screen(alloc, stop) {
-        Ok(screen) => is_repaired(screen, alloc, stop, cut),
-        Err(refusal) => Err(*refusal),
-    }
+    let mut screen = screen(alloc, stop)?;
+    is_repaired(&mut screen, alloc, stop, cut)
 }
 
 #[test]
@@ -166,10 +160,8 @@ fn clear_wanted(screen: &mut Tried) -> [bool; 3] {
 }
 
 fn wanted_of_screen(alloc: Global) -> Result<[bool; 3], Refusal> {
-    match &mut screen(alloc, 0) {
-        Ok(screen) => Ok(clear_wanted(screen)),
-        Err(refusal) => Err(*refusal),
-    }
+    let mut screen = screen(alloc, 0)?;
+    Ok(clear_wanted(&mut screen))
 }
 
 #[test]
@@ -211,10 +203,8 @@ fn answers(screen: &mut Tried, answers: Answers) -> Result<bool, Fault> {
 
 /// The same of a new screen.
 fn is_answered(alloc: Global, wanted: Answers) -> Result<bool, Fault> {
-    match &mut screen(alloc, usize::MAX) {
-        Ok(screen) => answers(screen, wanted),
-        Err(refusal) => Err(Fault::from(*refusal)),
-    }
+    let mut screen = screen(alloc, usize::MAX)?;
+    answers(&mut screen, wanted)
 }
 
 #[test]
@@ -260,10 +250,8 @@ fn writes_to_fill(screen: &mut Tried) -> u32 {
 /// The same of so many lines of 400 columns.
 fn writes_of(alloc: Global, lines: u16) -> Result<u32, Refusal> {
     let writer = Halting::in_pieces(alloc, usize::MAX, false);
-    match &mut screen_of(alloc, lines, 400, writer) {
-        Ok(screen) => Ok(writes_to_fill(screen)),
-        Err(refusal) => Err(*refusal),
-    }
+    let mut screen = screen_of(alloc, lines, 400, writer)?;
+    Ok(writes_to_fill(&mut screen))
 }
 
 #[test]

@@ -81,11 +81,9 @@ fn is_met(screen: &mut Tried, log: &mut Counted<Halting>, case: &Case) -> bool {
 
 /// The same on a new screen.
 fn is_met_on_new(alloc: Global, case: &Case) -> Result<bool, Refusal> {
+    let mut screen = screen(alloc, case.1.writer)?;
     let mut log = Counted::new(Halting::until(alloc, case.1.log, true));
-    match &mut screen(alloc, case.1.writer) {
-        Ok(screen) => Ok(is_met(screen, &mut log, case)),
-        Err(refusal) => Err(*refusal),
-    }
+    Ok(is_met(&mut screen, &mut log, case))
 }
 
 #[test]
@@ -118,11 +116,9 @@ fn cut_after(
 
 /// The same on a new screen.
 fn fault_after(alloc: Global, letters: usize) -> Result<Option<ScriptFault>, Refusal> {
+    let mut screen = screen(alloc, NO_LIMIT)?;
     let mut log = Counted::new(Halting::until(alloc, NO_LIMIT, true));
-    match &mut screen(alloc, NO_LIMIT) {
-        Ok(screen) => Ok(cut_after(screen, &mut log, letters)),
-        Err(refusal) => Err(*refusal),
-    }
+    Ok(cut_after(&mut screen, &mut log, letters))
 }
 
 /// How many letters, and the fault after them.

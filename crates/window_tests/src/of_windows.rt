@@ -132,10 +132,8 @@ fn leaves(desk: &mut Desk, alloc: Global, case: &Case) -> bool {
 
 /// The same on a new screen of 4 lines and 10 columns.
 fn is_met(alloc: Global, case: &Case) -> Result<bool, Refusal> {
-    match &mut new_desk(alloc, 4, 10) {
-        Ok(desk) => Ok(leaves(desk, alloc, case)),
-        Err(refusal) => Err(*refusal),
-    }
+    let mut desk = new_desk(alloc, 4, 10)?;
+    Ok(leaves(&mut desk, alloc, case))
 }
 
 #[test]

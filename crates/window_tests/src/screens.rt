@@ -101,8 +101,6 @@ fn is_after(text: &[u8], cursor: Option<(u16, u16)>) -> bool {
 
 /// The same, on a terminal of the size of these screens.
 pub(crate) fn is_shown(alloc: Global, stream: &[u8], text: &[u8]) -> Result<bool, Refusal> {
-    match &mut Terminal::new(alloc, 4, 10) {
-        Ok(terminal) => Ok(shows(terminal, stream, text)),
-        Err(refusal) => Err(*refusal),
-    }
+    let mut terminal = Terminal::new(alloc, 4, 10)?;
+    Ok(shows(&mut terminal, stream, text))
 }
