@@ -55,30 +55,33 @@ static COUNTED: Runs = Runs {
 
 #[test]
 fn a_run_sends_what_it_shows_and_counts(rt: HostRuntime) {
-    let are_met = are_met_until(rt.alloc(), usize::MAX, &COUNTED);
-    assert_eq!(rt; are_met, Ok(true));
+    assert_eq!(rt; are_met_until(rt.alloc(), usize::MAX, &COUNTED), Ok(true));
 }
 
 static SHOW_HI: [Call<'static>; 3] = [WRITE_HI, UPDATE, SHOW];
 
-/// Whether a run goes on after one that ends at a write that fails after five bytes.
-fn goes_on(screen: &mut Tried) -> bool {
-    let first = run(screen, &SHOW_HI);
-    let second = run(screen, &[WRITE_MARK, UPDATE, SHOW]);
-    (first.done, first.refused, first.fault) == (2, 0, Some(WriteFault { sent: 5 }))
-        && (second.done, second.refused, second.fault) == (3, 0, None)
-        && stream(screen).len() == 5 + 17
-}
-
-/// The same on a new screen.
-fn goes_on_after_fault(alloc: Global) -> Result<bool, Refusal> {
-    let mut screen = screen(alloc, 5)?;
-    Ok(goes_on(&mut screen))
-}
+/// The first calls end at a write that fails after five bytes, and the second ones go on.
+static CUT: Runs = Runs {
+    first: &[WRITE_HI, UPDATE, SHOW],
+    first_end: RunEnd {
+        done: 2,
+        refused: 0,
+        composed: 2,
+        fault: Some(WriteFault { sent: 5 }),
+    },
+    second: &[WRITE_MARK, UPDATE, SHOW],
+    second_end: RunEnd {
+        done: 3,
+        refused: 0,
+        composed: 1,
+        fault: None,
+    },
+    stream: b"\x1b[0m\x1b\x1b[0m\x1b[2J\x1b[1;1Hhi!",
+};
 
 #[test]
 fn a_run_goes_on_after_one_that_a_failed_write_ended(rt: HostRuntime) {
-    assert_eq!(rt; goes_on_after_fault(rt.alloc()), Ok(true));
+    assert_eq!(rt; are_met_until(rt.alloc(), 5, &CUT), Ok(true));
 }
 
 /// Calls of which the last one sends a text, which a terminal shows from its column 14 on, and so many bytes of it
