@@ -21,11 +21,16 @@ struct Runs {
     stream: &'static [u8],
 }
 
+/// Whether the writer of a screen took these bytes.
+fn has_taken(screen: &Tried, bytes: &[u8]) -> bool {
+    stream(screen) == bytes
+}
+
 /// Whether runs end so on a screen.
 fn are_met(screen: &mut Tried, runs: &Runs) -> bool {
     run(screen, runs.first) == runs.first_end
         && run(screen, runs.second) == runs.second_end
-        && stream(screen) == runs.stream
+        && has_taken(screen, runs.stream)
 }
 
 /// The same on a new screen over a writer that fails once, where it has taken so many bytes.
