@@ -1,23 +1,22 @@
 //! What calls take into the virtual screen, and what a search from the top finds.
 
-use crate::scripts::{after_line, new_desk, run};
+use crate::scripts::run;
 use calls::Calls;
-use cell::{Refusal, VirtualScreen};
+use cell::VirtualScreen;
 use compose::{Desk, Span};
 use std::alloc::Global;
 use std::test::Fail;
 use world::{Composed, PanelId};
 
-/// Whether the virtual screen has these characters, line after line.
-fn shows(desk: &Desk, text: &str) -> bool {
-    let mut rest = text.as_bytes();
+/// The characters of the virtual screen, line after line.
+fn shown(desk: &Desk, alloc: Global) -> Result<Vec<u8>, Fail> {
+    let mut shown = Vec::new(alloc);
     for y in 0..desk.size().0 {
-        match after_line(desk.virtual_row(y), rest) {
-            Some(left) => rest = left,
-            None => return false,
+        for cell in desk.virtual_row(y) {
+            shown.push(cell.ch())?;
         }
     }
-    rest.is_empty()
+    Ok(shown)
 }
 
 /// A script, and of a virtual screen of 2 lines and 5 columns the characters, the cursor and whether it is cleared.
@@ -73,65 +72,69 @@ static PICTURES: [Case; 8] = [
 ];
 
 /// Whether a script leaves its picture on a desk.
-fn leaves(desk: &mut Desk, case: &Case) -> bool {
-    let (script, text, cursor, clear) = *case;
-    run(desk, script)
-        && shows(desk, text)
-        && desk.wanted_cursor() == cursor
-        && desk.clear_wanted() == clear
+fn leaves(
+    desk: &mut Desk,
+    alloc: Global,
+    (script, text, cursor, clear): Case,
+) -> Result<bool, Fail> {
+    run(desk, alloc, script)?;
+    Ok(
+        shown(desk, alloc)?.as_slice() == text.as_bytes()
+            && desk.wanted_cursor() == cursor
+            && desk.clear_wanted() == clear,
+    )
 }
 
-/// The same on a new screen.
-fn is_met(alloc: Global, case: &Case) -> Result<bool, Refusal> {
-    let mut desk = new_desk(alloc, 2, 5)?;
-    Ok(leaves(&mut desk, case))
+fn is_met(alloc: Global, case: Case) -> Result<bool, Fail> {
+    let mut desk = Desk::new(alloc, 2, 5)?;
+    leaves(&mut desk, alloc, case)
 }
 
 #[test]
-fn pictures_are_taken(rt: HostRuntime) {
+fn pictures_are_taken(rt: HostRuntime) -> Result<(), Fail> {
     for case in &PICTURES {
-        assert!(rt; is_met(rt.alloc(), case) == Ok(true), "at {}", case.0);
+        assert!(rt; is_met(rt.alloc(), *case)?, "at {}", case.0);
     }
+    Ok(())
 }
 
-/// How many cells an update reads after a script, and whether a clear screen is wanted then.
-fn update(desk: &mut Desk, script: &str) -> Option<(Composed, bool)> {
-    if !run(desk, script) {
-        return None;
-    }
-    let composed = desk.update_panels();
-    Some((composed, desk.clear_wanted()))
-}
-
-/// The same after a character was written and a clear screen asked for, and once it is done, and no more asked for.
-fn update_twice(desk: &mut Desk) -> [Option<(Composed, bool)>; 2] {
-    let first = update(desk, "addch 0 a\nclearok 0 on");
+/// How many cells two updates read after a character was written, and whether a clear screen is wanted after each, once
+/// it is asked for, done, and no more asked for.
+fn update_twice(desk: &mut Desk, alloc: Global) -> Result<([Composed; 2], [bool; 2]), Fail> {
+    run(desk, alloc, "addch 0 a\nclearok 0 on")?;
+    let first = desk.update_panels();
+    let asked = desk.clear_wanted();
     desk.mark_taken();
-    [first, update(desk, "clearok 0 on\nclearok 0 off")]
+    run(desk, alloc, "clearok 0 on\nclearok 0 off")?;
+    let second = desk.update_panels();
+    Ok(([first, second], [asked, desk.clear_wanted()]))
+}
+
+fn updated_screen(alloc: Global) -> Result<([Composed; 2], [bool; 2]), Fail> {
+    let mut desk = Desk::new(alloc, 2, 5)?;
+    update_twice(&mut desk, alloc)
 }
 
 #[test]
 fn an_update_reads_what_changed(rt: HostRuntime) -> Result<(), Fail> {
-    let mut desk = new_desk(rt.alloc(), 2, 5)?;
-    let first = Some((Composed { cells: 1 }, true));
-    let second = Some((Composed { cells: 0 }, false));
-    assert!(rt; update_twice(&mut desk) == [first, second]);
+    let (composed, clear) = updated_screen(rt.alloc())?;
+    assert_eq!(rt; composed, [Composed { cells: 1 }, Composed { cells: 0 }]);
+    assert_eq!(rt; clear, [true, false]);
     Ok(())
 }
 
-/// The line after the last that an update changed, and that once its changes are taken.
-fn lines_changed(desk: &mut Desk) -> [u16; 2] {
-    run(desk, "addch 0 a");
+fn lines_changed(alloc: Global) -> Result<[u16; 2], Fail> {
+    let mut desk = Desk::new(alloc, 2, 5)?;
+    run(&mut desk, alloc, "addch 0 a")?;
     desk.update_panels();
     let changed = desk.changes().end();
     desk.mark_taken();
-    [changed, desk.changes().end()]
+    Ok([changed, desk.changes().end()])
 }
 
 #[test]
 fn changes_are_kept_until_they_are_taken(rt: HostRuntime) -> Result<(), Fail> {
-    let mut desk = new_desk(rt.alloc(), 2, 5)?;
-    assert!(rt; lines_changed(&mut desk) == [1, 0]);
+    assert_eq!(rt; lines_changed(rt.alloc())?, [1, 0]);
     Ok(())
 }
 
@@ -139,7 +142,7 @@ fn changes_are_kept_until_they_are_taken(rt: HostRuntime) -> Result<(), Fail> {
 /// last column up to which that is found.
 type Found = (u8, Option<PanelId>, u16);
 
-fn find_at(desk: &Desk, (y, x): (u16, u16)) -> Option<Found> {
+fn find_at(desk: &Desk, y: u16, x: u16) -> Option<Found> {
     let (lines, columns) = desk.size();
     if y < lines && x < columns {
         let Span { panel, end } = desk.owner_span(y, x);
@@ -149,12 +152,9 @@ fn find_at(desk: &Desk, (y, x): (u16, u16)) -> Option<Found> {
     }
 }
 
-/// A script, a place, and what is found there.
-type Search = (&'static str, (u16, u16), Found);
-
-/// One panel is in the middle of another, and two are at one place.
+/// Scripts, a place, and what is found there. One panel is in the middle of another, and two are at one place.
 #[rattlefmt::skip]
-static SEARCHES: [Search; 8] = [
+static SEARCHES: [(&str, (u16, u16), Found); 8] = [
     ("newwin 1 6 0 0\naddstr 1 abcdef\nnew_panel 1\nnewwin 1 2 0 2\naddstr 2 xy\nnew_panel 2", (0, 0), (b'a', Some(PanelId(1)), 1)),
     ("newwin 1 6 0 0\naddstr 1 abcdef\nnew_panel 1\nnewwin 1 2 0 2\naddstr 2 xy\nnew_panel 2", (0, 2), (b'x', Some(PanelId(2)), 3)),
     ("newwin 1 6 0 0\naddstr 1 abcdef\nnew_panel 1\nnewwin 1 2 0 2\naddstr 2 xy\nnew_panel 2", (0, 4), (b'e', Some(PanelId(1)), 5)),
@@ -165,27 +165,27 @@ static SEARCHES: [Search; 8] = [
     ("newwin 2 3 1 2\nnew_panel 1\nnewwin 2 3 1 2\naddch 2 x\nnew_panel 2", (1, 5), (b' ', None, 9)),
 ];
 
-/// Whether that is found on a desk after the script.
-fn finds(desk: &mut Desk, search: &Search) -> bool {
-    let (script, place, found) = *search;
-    run(desk, script) && find_at(desk, place) == Some(found)
+fn found_after(
+    desk: &mut Desk,
+    alloc: Global,
+    script: &str,
+    place: (u16, u16),
+) -> Result<Option<Found>, Fail> {
+    run(desk, alloc, script)?;
+    Ok(find_at(desk, place.0, place.1))
 }
 
-/// The same on a new screen of 4 lines and 10 columns.
-fn is_found(alloc: Global, search: &Search) -> Result<bool, Refusal> {
-    let mut desk = new_desk(alloc, 4, 10)?;
-    Ok(finds(&mut desk, search))
+/// What is found on a new screen of 4 lines and 10 columns after a script.
+fn search(alloc: Global, script: &str, place: (u16, u16)) -> Result<Option<Found>, Fail> {
+    let mut desk = Desk::new(alloc, 4, 10)?;
+    found_after(&mut desk, alloc, script, place)
 }
 
 #[test]
-fn a_span_is_of_the_upper_panel_and_ends_before_another(rt: HostRuntime) {
-    for search in &SEARCHES {
-        let is_found = is_found(rt.alloc(), search);
-        assert!(rt;
-            is_found == Ok(true),
-            "at {:?} after {}",
-            search.1,
-            search.0
-        );
+fn a_span_is_of_the_upper_panel_and_ends_before_another(rt: HostRuntime) -> Result<(), Fail> {
+    for (script, place, wanted) in &SEARCHES {
+        let found = search(rt.alloc(), script, *place)?;
+        assert_eq!(rt; found, Some(*wanted), "at {script}");
     }
+    Ok(())
 }

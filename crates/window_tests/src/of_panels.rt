@@ -1,19 +1,17 @@
 //! What calls do to the order of panels.
 
-use crate::scripts::{has_log, new_desk, run};
-use cell::Refusal;
+use crate::scripts::run;
 use compose::Desk;
 use std::alloc::Global;
+use std::test::Fail;
 
 /// Makes panels 1 to 3, with windows 1 to 3, and a window 4.
 const PANELS: &str =
     "newwin 1 1 0 0\nnew_panel 1\nnewwin 1 1 0 0\nnew_panel 2\nnewwin 1 1 0 0\nnew_panel 3\nnewwin 1 1 0 0";
 
 /// A script after that, and its log.
-type Case = (&'static str, &'static str);
-
 #[rattlefmt::skip]
-static CASES: [Case; 10] = [
+static CASES: [(&str, &str); 10] = [
     (
         "panel_above none\npanel_above 1\npanel_above 2\npanel_above 3\npanel_below none\npanel_below 3\npanel_below 2\npanel_below 1",
         "line 1: 1\nline 2: 2\nline 3: 3\nline 4: none\nline 5: 3\nline 6: 2\nline 7: 1\nline 8: none\n",
@@ -36,20 +34,21 @@ static CASES: [Case; 10] = [
     ),
 ];
 
-/// Whether a script after that has its log on a desk.
-fn is_logged(desk: &mut Desk, alloc: Global, case: &Case) -> bool {
-    run(desk, PANELS) && has_log(desk, alloc, case.0, case.1)
+fn log(desk: &mut Desk, alloc: Global, script: &str) -> Result<Vec<u8>, Fail> {
+    run(desk, alloc, PANELS)?;
+    run(desk, alloc, script)
 }
 
-/// The same on a new screen of 4 lines and 10 columns.
-fn is_met(alloc: Global, case: &Case) -> Result<bool, Refusal> {
-    let mut desk = new_desk(alloc, 4, 10)?;
-    Ok(is_logged(&mut desk, alloc, case))
+fn log_of_new(alloc: Global, script: &str) -> Result<Vec<u8>, Fail> {
+    let mut desk = Desk::new(alloc, 4, 10)?;
+    log(&mut desk, alloc, script)
 }
 
 #[test]
-fn panels_are_ordered(rt: HostRuntime) {
-    for case in &CASES {
-        assert!(rt; is_met(rt.alloc(), case) == Ok(true), "at {}", case.0);
+fn panels_are_ordered(rt: HostRuntime) -> Result<(), Fail> {
+    for (script, log) in &CASES {
+        let made = log_of_new(rt.alloc(), script)?;
+        assert!(rt; made.as_slice() == log.as_bytes(), "at {script}");
     }
+    Ok(())
 }

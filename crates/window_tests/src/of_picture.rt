@@ -6,12 +6,12 @@ ghost use Rattle.world.specs.Sound.{AreSoundPanels};
 ghost use Rattle.grids.specs.Tables.{windows as windows_of};
 ghost use Rattle.stack.specs.Tables.{panels};
 
-use crate::scripts::after_line;
-use cell::{Attr, Cell, Grid, Pairs, Refusal, Shown, WinId};
+use cell::{Attr, Cell, Grid, Pairs, Shown, WinId};
 use grids::{Grids, Place};
 use picture::{TableRows, compose_row, show_piece};
 use stack::Stack;
 use std::alloc::Global;
+use std::test::Fail;
 
 /// The window in a panel, and the one in none.
 const IN_PANEL: WinId = WinId(1);
@@ -19,35 +19,32 @@ const IN_PANEL: WinId = WinId(1);
 const DASHES: WinId = WinId(2);
 
 /// Sets the cell of a column of a window's first line to a character.
-fn put(table: &mut Grids, win: WinId, x: u16, character: u8) -> Result<(), Refusal> {
+fn put(table: &mut Grids, win: WinId, x: u16, character: u8) -> Result<(), Fail> {
     let (lines, columns) = table.getmaxyx(win)?;
-    let cell = Cell::new(character, Attr::NONE, 0).ok_or(Refusal::BadCharacter)?;
+    let cell = Cell::new(character, Attr::NONE, 0).ok_or("no cell")?;
     if lines == 0 || columns <= x {
-        return Err(Refusal::OutsideWindow);
+        return Err("no such place".into());
     }
     table.fill(win, 0, x, x, cell);
     Ok(())
 }
 
-/// Makes two windows on a screen of 1 line and 4 columns: one at its column 1.
-fn make_windows(table: &mut Grids) -> Result<(), Refusal> {
+/// A screen of 1 line and 4 columns that shows `abcd`. One window, at its column 1, shows `XY`, and one `----`.
+fn windows(alloc: Global) -> Result<Grids, Fail> {
+    let mut table = Grids::new(alloc, 1, 4)?;
     table.newwin(1, 2, 0, 1)?;
     table.newwin(1, 4, 0, 0)?;
-    Ok(())
-}
-
-/// Writes `abcd` on the screen, `XY` on one window and `----` on the other.
-fn write_windows(table: &mut Grids) -> Result<(), Refusal> {
     for (x, character) in [(0, b'a'), (1, b'b'), (2, b'c'), (3, b'd')] {
-        put(table, WinId::STANDARD, x, character)?;
-        put(table, DASHES, x, b'-')?;
+        put(&mut table, WinId::STANDARD, x, character)?;
+        put(&mut table, DASHES, x, b'-')?;
     }
-    put(table, IN_PANEL, 0, b'X')?;
-    put(table, IN_PANEL, 1, b'Y')
+    put(&mut table, IN_PANEL, 0, b'X')?;
+    put(&mut table, IN_PANEL, 1, b'Y')?;
+    Ok(table)
 }
 
 /// The one window in a panel.
-fn one_panel(alloc: Global, table: &Grids) -> Result<Stack, Refusal>
+fn one_panel(alloc: Global, table: &Grids) -> Result<Stack, Fail>
     ensures { IfOk result (λ stack. AreSoundPanels (windows_of table.now).window (panels stack)) }
 {
     table.getbegyx(IN_PANEL)?;
@@ -57,11 +54,11 @@ fn one_panel(alloc: Global, table: &Grids) -> Result<Stack, Refusal>
 }
 
 /// A picture of the screen's size that shows `----`.
-fn dashes(alloc: Global, table: &Grids) -> Result<Grid<Shown>, Refusal>
+fn dashes(alloc: Global, table: &Grids) -> Result<Grid<Shown>, Fail>
     ensures { IfOk result (λ picture. HasSize table.now.lines table.now.columns picture) }
 {
     if table.getmaxyx(WinId::STANDARD)? != (1, 4) || table.getmaxyx(DASHES)? != (1, 4) {
-        return Err(Refusal::BadSize);
+        return Err("another size".into());
     }
     let mut picture = Grid::new(alloc, 1, 4)?;
     let source = Place {
@@ -73,22 +70,20 @@ fn dashes(alloc: Global, table: &Grids) -> Result<Grid<Shown>, Refusal>
     Ok(picture)
 }
 
-/// Composes the columns from `left` to `right` over dashes: whether the picture has these characters then, and how many
-/// cells were read.
+/// Composes the columns from `left` to `right` over dashes: the characters of the picture, and how many cells were read.
 fn composed(
     alloc: Global,
     table: &Grids,
     stack: &Stack,
     left: u16,
     right: u16,
-    text: &[u8],
-) -> Result<(bool, u64), Refusal>
+) -> Result<(Vec<u8>, u64), Fail>
     requires { AreSoundPanels (windows_of table.now).window (panels stack.now) }
 {
     let mut picture = dashes(alloc, table)?;
     let (lines, columns) = table.getmaxyx(WinId::STANDARD)?;
     if lines == 0 || columns <= right || right < left {
-        return Err(Refusal::OutsideWindow);
+        return Err("no such columns".into());
     }
     let mut rows = TableRows::of(table, 0);
     compose_row(
@@ -100,36 +95,29 @@ fn composed(
         right,
         &mut picture,
     );
-    let is_shown = after_line(picture.row(0), text) == Some(&[]);
-    Ok((is_shown, rows.cells_read()))
-}
-
-/// The same of the windows that are written.
-fn composed_of(
-    alloc: Global,
-    table: &mut Grids,
-    left: u16,
-    right: u16,
-    text: &[u8],
-) -> Result<(bool, u64), Refusal> {
-    make_windows(table)?;
-    write_windows(table)?;
-    let stack = one_panel(alloc, &*table)?;
-    composed(alloc, &*table, &stack, left, right, text)
+    let mut shown = Vec::new(alloc);
+    for cell in picture.row(0) {
+        shown.push(cell.ch())?;
+    }
+    Ok((shown, rows.cells_read()))
 }
 
 #[test]
-fn a_line_is_composed_of_pieces(rt: HostRuntime) -> Result<(), Refusal> {
-    let mut table = Grids::new(rt.alloc(), 1, 4)?;
-    let composed = composed_of(rt.alloc(), &mut table, 0, 3, b"aXYd");
-    assert!(rt; composed == Ok((true, 4)));
+fn a_line_is_composed_of_pieces(rt: HostRuntime) -> Result<(), Fail> {
+    let table = windows(rt.alloc())?;
+    let stack = one_panel(rt.alloc(), &table)?;
+    let (shown, read) = composed(rt.alloc(), &table, &stack, 0, 3)?;
+    assert_eq!(rt; shown.as_slice(), b"aXYd".as_slice());
+    assert_eq!(rt; read, 4);
     Ok(())
 }
 
 #[test]
-fn other_columns_are_left(rt: HostRuntime) -> Result<(), Refusal> {
-    let mut table = Grids::new(rt.alloc(), 1, 4)?;
-    let composed = composed_of(rt.alloc(), &mut table, 2, 2, b"--Y-");
-    assert!(rt; composed == Ok((true, 1)));
+fn other_columns_are_left(rt: HostRuntime) -> Result<(), Fail> {
+    let table = windows(rt.alloc())?;
+    let stack = one_panel(rt.alloc(), &table)?;
+    let (shown, read) = composed(rt.alloc(), &table, &stack, 2, 2)?;
+    assert_eq!(rt; shown.as_slice(), b"--Y-".as_slice());
+    assert_eq!(rt; read, 1);
     Ok(())
 }

@@ -1,166 +1,116 @@
 //! Runs of calls, methods, and writers that fail.
 
-use crate::screens::{
-    ERASE_NONE, HI, SHOW, Tried, UPDATE, WRITE_HI, WRITE_MARK, call, is_shown, run, screen,
-    screen_of, stream,
-};
+use crate::screens::{HI, SHOW, Tried, UPDATE, addstr, call, is_shown, run, screen, stream};
 use cell::Attr;
 use desk::{
-    Call, Calls, Counted, Desk, Fault, PanelId, Refusal, RunEnd, VirtualScreen, WinId, WriteFault,
-    Writing,
+    Call, Calls, Counted, Fault, PanelId, Refusal, RunEnd, Screen, VirtualScreen, WinId, WriteFault,
 };
 use faulty::Halting;
 use std::alloc::Global;
+use std::test::Fail;
 
-/// Runs of calls, one after another, how each ends, and all that the writer takes.
-struct Runs {
-    first: &'static [Call<'static>],
-    first_end: RunEnd,
-    second: &'static [Call<'static>],
-    second_end: RunEnd,
-    stream: &'static [u8],
-}
-
-/// Whether the writer of a screen took these bytes.
-fn has_taken(screen: &Tried, bytes: &[u8]) -> bool {
-    stream(screen) == bytes
-}
-
-/// Whether runs end so on a screen.
-fn are_met(screen: &mut Tried, runs: &Runs) -> bool {
-    run(screen, runs.first) == runs.first_end
-        && run(screen, runs.second) == runs.second_end
-        && has_taken(screen, runs.stream)
-}
-
-/// The same on a new screen over a writer that fails once, where it has taken so many bytes.
-fn are_met_until(alloc: Global, stop: usize, runs: &Runs) -> Result<bool, Refusal> {
+/// A run of calls on a new screen, another, and all that the writer took.
+fn run_twice(
+    alloc: Global,
+    stop: usize,
+    first: &[Call<'_>],
+    second: &[Call<'_>],
+) -> Result<([RunEnd; 2], Vec<u8>), Refusal> {
     let mut screen = screen(alloc, stop)?;
-    Ok(are_met(&mut screen, runs))
+    let ends = [run(&mut screen, first), run(&mut screen, second)];
+    Ok((ends, stream(screen)))
 }
 
-/// Of the first calls one is refused, and the second ones find nothing changed.
-static COUNTED: Runs = Runs {
-    first: &[UPDATE, WRITE_HI, ERASE_NONE, UPDATE, SHOW],
-    first_end: RunEnd {
+/// Runs of calls of which one is refused, and of two that find nothing changed.
+fn run_and_again(alloc: Global) -> Result<([RunEnd; 2], Vec<u8>), Refusal> {
+    let win = WinId(9);
+    let nowhere = Call::werase(win);
+    let calls = [UPDATE, addstr(b"hi"), nowhere, UPDATE, SHOW];
+    run_twice(alloc, usize::MAX, &calls, &[UPDATE, SHOW])
+}
+
+#[test]
+fn a_run_sends_what_it_shows_and_counts(rt: HostRuntime) -> Result<(), Fail> {
+    let (ends, stream) = run_and_again(rt.alloc())?;
+    let first = RunEnd {
         done: 4,
         refused: 1,
         composed: 2,
         fault: None,
-    },
-    second: &[UPDATE, SHOW],
-    second_end: RunEnd {
+    };
+    let second = RunEnd {
         done: 2,
         refused: 0,
         composed: 0,
         fault: None,
-    },
-    stream: HI,
-};
-
-#[test]
-fn a_run_sends_what_it_shows_and_counts(rt: HostRuntime) {
-    assert_eq!(rt; are_met_until(rt.alloc(), usize::MAX, &COUNTED), Ok(true));
+    };
+    assert!(rt; ends == [first, second]);
+    assert_eq!(rt; stream.as_slice(), HI);
+    Ok(())
 }
 
-static SHOW_HI: [Call<'static>; 3] = [WRITE_HI, UPDATE, SHOW];
-
-/// The first calls end at a write that fails after five bytes, and the second ones go on.
-static CUT: Runs = Runs {
-    first: &[WRITE_HI, UPDATE, SHOW],
-    first_end: RunEnd {
-        done: 2,
-        refused: 0,
-        composed: 2,
-        fault: Some(WriteFault { sent: 5 }),
-    },
-    second: &[WRITE_MARK, UPDATE, SHOW],
-    second_end: RunEnd {
-        done: 3,
-        refused: 0,
-        composed: 1,
-        fault: None,
-    },
-    stream: b"\x1b[0m\x1b\x1b[0m\x1b[2J\x1b[1;1Hhi!",
-};
-
-#[test]
-fn a_run_goes_on_after_one_that_a_failed_write_ended(rt: HostRuntime) {
-    assert_eq!(rt; are_met_until(rt.alloc(), 5, &CUT), Ok(true));
+/// Runs of which the first ends at a write that fails after five bytes.
+fn run_after_fault(alloc: Global) -> Result<([RunEnd; 2], Vec<u8>), Refusal> {
+    let first = [addstr(b"hi"), UPDATE, SHOW];
+    run_twice(alloc, 5, &first, &[addstr(b"!"), UPDATE, SHOW])
 }
 
-/// Calls of which the last one sends a text, which a terminal shows from its column 14 on, and so many bytes of it
-/// until a write fails.
-#[derive(Drop)]
-struct Cut {
-    calls: &'static [Call<'static>],
-    text: &'static [u8],
+#[test]
+fn a_run_goes_on_after_one_that_a_failed_write_ended(rt: HostRuntime) -> Result<(), Fail> {
+    let (ends, stream) = run_after_fault(rt.alloc())?;
+    let [first, second] = ends;
+    let fault = Some(WriteFault { sent: 5 });
+    assert!(rt; (first.done, first.refused, first.fault) == (2, 0, fault));
+    assert!(rt; (second.done, second.refused, second.fault) == (3, 0, None));
+    assert_eq!(rt; stream.len(), 5 + 17);
+    Ok(())
+}
+
+/// Whether a run ends at a write that fails after so many bytes of its last text, once the writer has taken `stop`, and
+/// the next `doupdate` sends a text that shows all.
+fn is_repaired(
+    alloc: Global,
+    stop: usize,
     sent: u32,
-}
-
-/// Whether a run on a screen ends so, once its writer has taken `stop` bytes, and the next `doupdate` shows all.
-fn is_repaired(screen: &mut Tried, alloc: Global, stop: usize, cut: &Cut) -> Result<bool, Refusal> {
-    let first = run(screen, cut.calls);
-    let second = run(screen, &[SHOW]);
-    let stream = stream(screen);
+    calls: &[Call<'_>],
+    text: &[u8],
+) -> Result<bool, Refusal> {
+    let (ends, stream) = run_twice(alloc, stop, calls, &[SHOW])?;
+    let faults = [ends[0].fault, ends[1].fault];
     Ok(
-        [first.fault, second.fault] == [Some(WriteFault { sent: cut.sent }), None]
-            && first.done.saturating_add(1) == cut.calls.len()
-            && stream.get(stop..) == Some(cut.text)
-            && is_shown(alloc, stream, cut.text.get(14..).unwrap_or(&[]))?,
+        faults == [Some(WriteFault { sent }), None]
+            && ends[0].done.saturating_add(1) == calls.len()
+            && stream.get(stop..) == Some(text)
+            && is_shown(alloc, &stream, text.get(14..).unwrap_or(&[]))?,
     )
 }
 
-/// The same on a new screen.
-fn is_repaired_after(alloc: Global, stop: usize, cut: &Cut) -> Result<bool, Refusal> {
-    let mut screen = screen(alloc, stop)?;
-    is_repaired(&mut screen, alloc, stop, cut)
-}
-
 #[test]
-fn a_writer_that_fails_anywhere_is_shown_all_again(rt: HostRuntime) {
-    let (calls, text) = (&SHOW_HI, HI);
+fn a_writer_that_fails_anywhere_is_shown_all_again(rt: HostRuntime) -> Result<(), Fail> {
+    let first = [addstr(b"hi"), UPDATE, SHOW];
     for stop in 0..=16u8 {
-        let sent = u32::from(stop);
-        let is_repaired = is_repaired_after(
-            rt.alloc(),
-            usize::from(stop),
-            &Cut { calls, text, sent },
-        );
-        assert!(rt; is_repaired == Ok(true), "after {stop} bytes");
+        let is_repaired = is_repaired(rt.alloc(), usize::from(stop), u32::from(stop), &first, HI)?;
+        assert!(rt; is_repaired, "after {stop} bytes");
     }
+    Ok(())
 }
 
-/// Writes `there` on the standard screen.
-const WRITE_THERE: Call<'static> = Call::Writing(Writing::Addstr {
-    win: WinId::STANDARD,
-    text: b"there",
-});
-
-static SHOW_TWICE: [Call<'static>; 6] = [WRITE_HI, UPDATE, SHOW, WRITE_THERE, UPDATE, SHOW];
-
 #[test]
-fn a_later_update_that_fails_is_shown_all_again(rt: HostRuntime) {
-    let calls = &SHOW_TWICE;
+fn a_later_update_that_fails_is_shown_all_again(rt: HostRuntime) -> Result<(), Fail> {
+    let later = [addstr(b"hi"), UPDATE, SHOW, addstr(b"there"), UPDATE, SHOW];
     let text = b"\x1b[0m\x1b[2J\x1b[1;1Hhithere";
     for sent in 1..=5u8 {
         let stop = 16 + usize::from(sent);
-        let sent = u32::from(sent);
-        let is_repaired = is_repaired_after(rt.alloc(), stop, &Cut { calls, text, sent });
-        assert!(rt; is_repaired == Ok(true), "after {stop} bytes");
+        let is_repaired = is_repaired(rt.alloc(), stop, u32::from(sent), &later, text)?;
+        assert!(rt; is_repaired, "after {stop} bytes");
     }
+    Ok(())
 }
-
-static CLEAR: [Call<'static>; 2] = [
-    Call::Writing(Writing::Clear {
-        win: WinId::STANDARD,
-    }),
-    UPDATE,
-];
 
 /// Whether a clear screen is wanted once it is asked for, after a `doupdate` that fails, and after one that doesn't.
 fn clear_wanted(screen: &mut Tried) -> [bool; 3] {
-    run(screen, &CLEAR);
+    let win = WinId::STANDARD;
+    run(screen, &[Call::wclear(win), UPDATE]);
     let asked = screen.desk().clear_wanted();
     let failed = call(screen, &SHOW).is_err() && screen.desk().clear_wanted();
     let shown = call(screen, &SHOW).is_err() || screen.desk().clear_wanted();
@@ -188,82 +138,69 @@ fn panel_that_says_hi(screen: &mut Tried) -> Result<WinId, Fault> {
 /// The cursor of a window, and the panel at the bottom.
 type Answers = ((u16, u16), Option<PanelId>);
 
-/// What a screen answers.
-fn ask_screen(screen: &Tried, win: WinId) -> Result<Answers, Fault> {
-    Ok((screen.getyx(win)?, screen.panel_above(None)?))
+/// What a screen answers, and what its desk does.
+fn ask(screen: &Tried, win: WinId) -> Result<[Answers; 2], Fault> {
+    let answers = (screen.getyx(win)?, screen.panel_above(None)?);
+    let desk = screen.desk();
+    Ok([answers, (desk.getyx(win)?, desk.panel_above(None)?)])
 }
 
-/// What a desk answers.
-fn ask_desk(desk: &Desk, win: WinId) -> Result<Answers, Refusal> {
-    Ok((desk.getyx(win)?, desk.panel_above(None)?))
-}
-
-/// Whether a screen and its desk answer so of a window in a panel, which is shown.
-fn answers(screen: &mut Tried, answers: Answers) -> Result<bool, Fault> {
+/// What is asked of a window in a panel, which is shown.
+fn ask_all(screen: &mut Tried) -> Result<[Answers; 2], Fault> {
     let win = panel_that_says_hi(screen)?;
     run(screen, &[UPDATE, SHOW]);
-    Ok(
-        ask_screen(screen, win)? == answers
-            && ask_desk(screen.desk(), win)? == answers
-            && stream(screen) == HI,
-    )
+    ask(screen, win)
 }
 
-/// The same of a new screen.
-fn is_answered(alloc: Global, wanted: Answers) -> Result<bool, Fault> {
+fn asked_of_screen(alloc: Global) -> Result<(Result<[Answers; 2], Fault>, Vec<u8>), Refusal> {
     let mut screen = screen(alloc, usize::MAX)?;
-    answers(&mut screen, wanted)
+    let answers = ask_all(&mut screen);
+    Ok((answers, stream(screen)))
 }
 
 #[test]
-fn each_method_answers_what_its_call_does(rt: HostRuntime) {
-    let wanted = ((0, 2), Some(PanelId(1)));
-    assert_eq!(rt; is_answered(rt.alloc(), wanted), Ok(true));
+fn each_method_answers_what_its_call_does(rt: HostRuntime) -> Result<(), Fail> {
+    let (answers, stream) = asked_of_screen(rt.alloc())?;
+    let both = [((0, 2), Some(PanelId(1))); 2];
+    assert!(rt; answers == Ok(both));
+    assert_eq!(rt; stream.as_slice(), HI);
+    Ok(())
 }
 
-/// Whether another writer, which takes one byte a call, is shown all.
-fn is_shown_again(mut screen: Tried, alloc: Global) -> bool {
-    run(&mut screen, &SHOW_HI);
+/// What another writer, which takes one byte a call, takes of a screen that was shown.
+fn shown_again(alloc: Global) -> Result<Vec<u8>, Refusal> {
+    let mut screen = screen(alloc, usize::MAX)?;
+    run(&mut screen, &[addstr(b"hi"), UPDATE, SHOW]);
     let mut screen = screen.with_writer(Counted::new(Halting::in_pieces(alloc, 1, false)));
     run(&mut screen, &[SHOW]);
-    stream(&screen) == HI
+    Ok(stream(screen))
 }
 
 #[test]
-fn another_writer_is_shown_all_again(rt: HostRuntime) -> Result<(), Refusal> {
-    assert!(rt; is_shown_again(screen(rt.alloc(), usize::MAX)?, rt.alloc()));
+fn another_writer_is_shown_all_again(rt: HostRuntime) -> Result<(), Fail> {
+    assert_eq!(rt; shown_again(rt.alloc())?.as_slice(), HI);
     Ok(())
 }
 
 /// Shows a letter in each cell of a screen.
-static FILL: [Call<'static>; 4] = [
-    Call::Writing(Writing::Bkgdset {
-        win: WinId::STANDARD,
-        attrs: Attr::NONE,
-        ch: b'x',
-    }),
-    Call::Writing(Writing::Erase {
-        win: WinId::STANDARD,
-    }),
-    UPDATE,
-    SHOW,
-];
-
-/// How many writes that takes.
-fn writes_to_fill(screen: &mut Tried) -> u32 {
-    run(screen, &FILL);
-    screen.writer().get_ref().writes
+fn fill(screen: &mut Tried) {
+    let win = WinId::STANDARD;
+    let (attrs, ch) = (Attr::NONE, b'x');
+    let background = Call::wbkgdset(win, attrs, ch);
+    let erase = Call::werase(win);
+    run(screen, &[background, erase, UPDATE, SHOW]);
 }
 
-/// The same of so many lines of 400 columns.
+/// How many writes that takes of so many lines of 400 columns.
 fn writes_of(alloc: Global, lines: u16) -> Result<u32, Refusal> {
-    let writer = Halting::in_pieces(alloc, usize::MAX, false);
-    let mut screen = screen_of(alloc, lines, 400, writer)?;
-    Ok(writes_to_fill(&mut screen))
+    let writer = Counted::new(Halting::in_pieces(alloc, usize::MAX, false));
+    let mut screen = Screen::new(alloc, lines, 400, writer)?;
+    fill(&mut screen);
+    Ok(screen.writer().get_ref().writes)
 }
 
 #[test]
 fn a_doupdate_writes_once_up_to_65536_bytes(rt: HostRuntime) {
-    assert_eq!(rt; writes_of(rt.alloc(), 150), Ok(1));
-    assert_eq!(rt; writes_of(rt.alloc(), 170), Ok(2));
+    let writes = [writes_of(rt.alloc(), 150), writes_of(rt.alloc(), 170)];
+    assert_eq!(rt; writes, [Ok(1), Ok(2)]);
 }

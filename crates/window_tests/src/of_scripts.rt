@@ -25,6 +25,18 @@ struct Limits {
     fails: bool,
 }
 
+/// How a script ends, and what the log and the writer take of it and of another one.
+type Outcome = (ScriptEnd, Vec<u8>, Vec<u8>);
+
+fn outcome(alloc: Global, bytes: &[u8], limits: &Limits) -> Result<Outcome, Refusal> {
+    let mut screen = screen(alloc, limits.writer)?;
+    let mut log = Counted::new(Halting::until(alloc, limits.log, true));
+    let (step, fails) = (600, limits.fails);
+    let end = run_script(&mut screen, Pieces { bytes, step, fails }, &mut log);
+    show(&mut screen, &mut log);
+    Ok((end, log.into_inner().taken, stream(screen)))
+}
+
 const NO_LIMIT: usize = usize::MAX;
 
 /// A script, what fails in it, whether a call is refused and what ends it, its log, and the bytes of the screen.
@@ -68,76 +80,57 @@ static CASES: [Case; 4] = [
     ),
 ];
 
-/// Whether a script ends so on a screen, and the log and the writer take that of it and of another one.
-fn is_met(screen: &mut Tried, log: &mut Counted<Halting>, case: &Case) -> bool {
-    let (bytes, limits, wanted, wanted_log, wanted_stream) = *case;
-    let (step, fails) = (600, limits.fails);
-    let end = run_script(screen, Pieces { bytes, step, fails }, log);
-    show(screen, log);
-    (end.refused, end.fault) == wanted
-        && log.get_ref().taken.as_slice() == wanted_log
-        && stream(screen) == wanted_stream
-}
-
-/// The same on a new screen.
-fn is_met_on_new(alloc: Global, case: &Case) -> Result<bool, Refusal> {
-    let mut screen = screen(alloc, case.1.writer)?;
-    let mut log = Counted::new(Halting::until(alloc, case.1.log, true));
-    Ok(is_met(&mut screen, &mut log, case))
+fn is_met(alloc: Global, case: &Case) -> Result<bool, Refusal> {
+    let (script, limits, wanted, wanted_log, wanted_stream) = case;
+    let (end, log, stream) = outcome(alloc, script, limits)?;
+    Ok(
+        (end.refused, end.fault) == *wanted
+            && log.as_slice() == *wanted_log
+            && stream.as_slice() == *wanted_stream,
+    )
 }
 
 #[test]
 fn a_script_ends_where_something_fails_and_another_goes_on(rt: HostRuntime) {
     for case in &CASES {
-        let is_met = is_met_on_new(rt.alloc(), case);
-        assert!(rt; is_met == Ok(true), "at {:?}", case.0);
+        assert_eq!(rt; is_met(rt.alloc(), case), Ok(true), "at {:?}", case.0);
     }
 }
 
 /// How a script of two lines ends where a read fails after so many letters that a third one writes, if the first two
 /// calls were made, and no other.
-fn cut_after(
-    screen: &mut Tried,
-    log: &mut Counted<Halting>,
-    letters: usize,
-) -> Option<ScriptFault> {
+fn cut_after(alloc: Global, letters: usize) -> Result<Option<ScriptFault>, Refusal> {
     let mut text = [b'x'; 600];
     text[..31].copy_from_slice(b"addstr 0 h\naddstr 0 i\naddstr 0 ");
+    let limits = Limits {
+        writer: NO_LIMIT,
+        log: NO_LIMIT,
+        fails: true,
+    };
     let bytes = text.get(..31usize.saturating_add(letters)).unwrap_or(&[]);
-    let (step, fails) = (600, true);
-    let end = run_script(screen, Pieces { bytes, step, fails }, log);
-    show(screen, log);
-    if stream(screen) == HI {
-        end.fault
+    let (end, _, stream) = outcome(alloc, bytes, &limits)?;
+    if stream.as_slice() == HI {
+        Ok(end.fault)
     } else {
-        None
+        Ok(None)
     }
 }
-
-/// The same on a new screen.
-fn fault_after(alloc: Global, letters: usize) -> Result<Option<ScriptFault>, Refusal> {
-    let mut screen = screen(alloc, NO_LIMIT)?;
-    let mut log = Counted::new(Halting::until(alloc, NO_LIMIT, true));
-    Ok(cut_after(&mut screen, &mut log, letters))
-}
-
-/// How many letters, and the fault after them.
-static LETTERS: [(usize, ScriptFault); 3] = [
-    (1, ScriptFault::Reading),
-    (503, ScriptFault::Reading),
-    (
-        504,
-        ScriptFault::Text {
-            line: 3,
-            fault: TextFault::LineTooLong,
-        },
-    ),
-];
 
 #[test]
 fn a_line_is_too_long_before_a_read_fails(rt: HostRuntime) {
-    for (letters, fault) in &LETTERS {
-        let found = fault_after(rt.alloc(), *letters);
-        assert!(rt; found == Ok(Some(*fault)), "after {letters} letters");
-    }
+    let (line, fault) = (3, TextFault::LineTooLong);
+    let reading = Ok(Some(ScriptFault::Reading));
+    let faults = [
+        cut_after(rt.alloc(), 1),
+        cut_after(rt.alloc(), 503),
+        cut_after(rt.alloc(), 504),
+    ];
+    assert_eq!(rt;
+        faults,
+        [
+            reading,
+            reading,
+            Ok(Some(ScriptFault::Text { line, fault }))
+        ]
+    );
 }

@@ -22,26 +22,25 @@ fn fill(stack: &mut Stack) -> Result<(), Refusal> {
     Ok(())
 }
 
-/// Whether a panel of window 1001 is refused where there are 1000 of others, and one of window 1000 too.
-fn are_refused(stack: &mut Stack) -> bool {
-    new_panel(stack, 1001) == Err(Refusal::TooMany)
-        && new_panel(stack, 1000) == Err(Refusal::InPanel)
-}
+/// What panels of windows 1001 and 1000 answer, and that of window 1001 where one of the others was deleted; and the
+/// panel of this window.
+type Answers = ([Result<PanelId, Refusal>; 3], Option<PanelId>);
 
-/// The panel of window 1001 where another one was deleted, as it is made and as it is found.
-fn made_again(stack: &mut Stack) -> Result<(PanelId, Option<PanelId>), Refusal> {
+fn answers(stack: &mut Stack) -> Result<Answers, Refusal> {
+    fill(stack)?;
+    let (more, again) = (new_panel(stack, 1001), new_panel(stack, 1000));
     stack.del(PanelId(500))?;
-    let free = new_panel(stack, 1001)?;
-    Ok((free, stack.panel_of(WinId(1001))))
+    let free = new_panel(stack, 1001);
+    Ok(([more, again, free], stack.panel_of(WinId(1001))))
 }
 
 #[test]
 fn thousand_panels_are_the_most(rt: HostRuntime) {
     let mut stack = Stack::new(rt.alloc());
     let free = PanelId(500);
-    assert!(rt; fill(&mut stack) == Ok(()) && are_refused(&mut stack));
-    assert!(rt; made_again(&mut stack) == Ok((free, Some(free))));
-    assert!(rt; ends(&stack) == (1000, Some(PanelId(1)), Some(free)));
+    let wanted = [Err(Refusal::TooMany), Err(Refusal::InPanel), Ok(free)];
+    assert!(rt; answers(&mut stack) == Ok((wanted, Some(free))));
+    assert_eq!(rt; ends(&stack), (1000, Some(PanelId(1)), Some(free)));
 }
 
 /// Whether the panels are those that were made, of which it answers how many.

@@ -1,9 +1,10 @@
 //! What calls do to windows and pads.
 
-use crate::scripts::{has_log, has_text, new_desk};
-use cell::{Refusal, WinId};
+use crate::scripts::{run, text};
+use cell::WinId;
 use compose::Desk;
 use std::alloc::Global;
+use std::test::Fail;
 
 /// A script, its log, a window, and the window's characters after it.
 type Case = (&'static str, &'static str, WinId, &'static str);
@@ -125,34 +126,40 @@ static COPIED: [Case; 4] = [
 ];
 
 /// Whether a script has its log on a desk, and leaves the characters.
-fn leaves(desk: &mut Desk, alloc: Global, case: &Case) -> bool {
-    let (script, log, win, characters) = *case;
-    has_log(desk, alloc, script, log) && has_text(desk, win, characters)
+fn leaves(desk: &mut Desk, alloc: Global, case: &Case) -> Result<bool, Fail> {
+    let (script, log, win, characters) = case;
+    Ok(
+        run(desk, alloc, script)?.as_slice() == log.as_bytes()
+            && text(desk, alloc, *win)?.as_slice() == characters.as_bytes(),
+    )
 }
 
 /// The same on a new screen of 4 lines and 10 columns.
-fn is_met(alloc: Global, case: &Case) -> Result<bool, Refusal> {
-    let mut desk = new_desk(alloc, 4, 10)?;
-    Ok(leaves(&mut desk, alloc, case))
+fn is_met(alloc: Global, case: &Case) -> Result<bool, Fail> {
+    let mut desk = Desk::new(alloc, 4, 10)?;
+    leaves(&mut desk, alloc, case)
 }
 
 #[test]
-fn windows_are_made_moved_deleted_and_touched(rt: HostRuntime) {
+fn windows_are_made_moved_deleted_and_touched(rt: HostRuntime) -> Result<(), Fail> {
     for case in &MADE {
-        assert!(rt; is_met(rt.alloc(), case) == Ok(true), "at {}", case.0);
+        assert!(rt; is_met(rt.alloc(), case)?, "at {}", case.0);
     }
+    Ok(())
 }
 
 #[test]
-fn windows_are_written(rt: HostRuntime) {
+fn windows_are_written(rt: HostRuntime) -> Result<(), Fail> {
     for case in &WRITTEN {
-        assert!(rt; is_met(rt.alloc(), case) == Ok(true), "at {}", case.0);
+        assert!(rt; is_met(rt.alloc(), case)?, "at {}", case.0);
     }
+    Ok(())
 }
 
 #[test]
-fn windows_are_copied(rt: HostRuntime) {
+fn windows_are_copied(rt: HostRuntime) -> Result<(), Fail> {
     for case in &COPIED {
-        assert!(rt; is_met(rt.alloc(), case) == Ok(true), "at {}", case.0);
+        assert!(rt; is_met(rt.alloc(), case)?, "at {}", case.0);
     }
+    Ok(())
 }

@@ -4,7 +4,7 @@
 
 use cell::Rendition;
 use desk::{
-    Call, Calls, Counted, Fault, Refresh, Refusal, Reply, RunAllEnd, RunEnd, Screen, WinId, Writing,
+    Call, Calls, Counted, Fault, Refresh, Refusal, Reply, RunAllEnd, RunEnd, Screen, WinId,
 };
 use ecma::Terminal;
 use faulty::Halting;
@@ -20,17 +20,7 @@ pub(crate) fn screen(alloc: Global, stop: usize) -> Result<Tried, Refusal> {
 
 /// A screen of that size over a writer.
 pub(crate) fn screen_over(alloc: Global, writer: Halting) -> Result<Tried, Refusal> {
-    screen_of(alloc, 4, 10, writer)
-}
-
-/// A screen of so many lines and columns over a writer.
-pub(crate) fn screen_of(
-    alloc: Global,
-    lines: u16,
-    columns: u16,
-    writer: Halting,
-) -> Result<Tried, Refusal> {
-    Screen::new(alloc, lines, columns, Counted::new(writer))
+    Screen::new(alloc, 4, 10, Counted::new(writer))
 }
 
 /// Makes calls.
@@ -49,8 +39,8 @@ pub(crate) fn call(screen: &mut Tried, call: &Call<'_>) -> Result<Reply, Fault> 
 }
 
 /// All that the writer of a screen took.
-pub(crate) fn stream(screen: &Tried) -> &[u8] {
-    screen.writer().get_ref().taken.as_slice()
+pub(crate) fn stream(screen: Tried) -> Vec<u8> {
+    screen.into_writer().into_inner().taken
 }
 
 pub(crate) const UPDATE: Call<'static> = Call::Refresh(Refresh::UpdatePanels);
@@ -60,20 +50,11 @@ pub(crate) const SHOW: Call<'static> = Call::Refresh(Refresh::Doupdate);
 /// The text of a screen that shows `hi` at its top, with the cursor after it.
 pub(crate) const HI: &[u8] = b"\x1b[0m\x1b[2J\x1b[1;1Hhi";
 
-/// Writes `hi` on the standard screen.
-pub(crate) const WRITE_HI: Call<'static> = Call::Writing(Writing::Addstr {
-    win: WinId::STANDARD,
-    text: b"hi",
-});
-
-/// Writes `!` there.
-pub(crate) const WRITE_MARK: Call<'static> = Call::Writing(Writing::Addstr {
-    win: WinId::STANDARD,
-    text: b"!",
-});
-
-/// Erases a window that isn't there.
-pub(crate) const ERASE_NONE: Call<'static> = Call::Writing(Writing::Erase { win: WinId(9) });
+/// Writes a text on the standard screen.
+pub(crate) fn addstr(text: &[u8]) -> Call<'_> {
+    let win = WinId::STANDARD;
+    Call::waddstr(win, text)
+}
 
 /// Whether a terminal that reads a stream shows a text in its corner, nothing else, and the cursor after it.
 fn shows(terminal: &mut Terminal, stream: &[u8], text: &[u8]) -> bool {

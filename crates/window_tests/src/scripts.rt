@@ -2,17 +2,13 @@
 //! helpers without a contract make them.
 
 use calls::Calls;
-use cell::{Element, Refusal, WinId};
+use cell::{Refusal, WinId};
 use compose::Desk;
 use script::{Arguments, LONGEST_LINE, log_answer, read_line};
 use std::alloc::Global;
-use streams::{Counted, Discard, Sink};
+use std::test::Fail;
+use streams::Counted;
 use world::{Call, Refresh, Reply};
-
-/// A desk of so many lines and columns.
-pub(crate) fn new_desk(alloc: Global, lines: u16, columns: u16) -> Result<Desk, Refusal> {
-    Desk::new(alloc, lines, columns)
-}
 
 /// Makes any call but `doupdate`, which a desk hasn't.
 fn make(desk: &mut Desk, call: &Call<'_>) -> Result<Reply, Refusal> {
@@ -22,72 +18,40 @@ fn make(desk: &mut Desk, call: &Call<'_>) -> Result<Reply, Refusal> {
     }
 }
 
-/// Makes the call of a line, if it is one.
-fn make_line(desk: &mut Desk, line: &[u8]) -> Option<Result<Reply, Refusal>> {
+/// Makes the call of a line.
+fn make_line(desk: &mut Desk, line: &[u8]) -> Result<Result<Reply, Refusal>, Fail> {
     if line.len() > LONGEST_LINE {
-        return None;
+        return Err("too long a line".into());
     }
     let mut arguments = Arguments::new();
     match read_line(line, &mut arguments) {
-        Ok(Some(word)) => Some(make(desk, &word.call(&arguments))),
-        _ => None,
+        Ok(Some(word)) => Ok(make(desk, &word.call(&arguments))),
+        _ => Err("not a call".into()),
     }
 }
 
-/// Makes the call of a line and logs its answer, and says whether it is one and is logged.
-fn log_line<L: Sink>(desk: &mut Desk, log: &mut L, number: u64, line: &str) -> bool {
-    match make_line(desk, line.as_bytes()) {
-        Some(answer) => log_answer(log, number, answer).is_ok(),
-        None => false,
-    }
-}
-
-/// The same for each line of a script.
-fn log_lines<L: Sink>(desk: &mut Desk, log: &mut L, script: &str) -> bool {
+/// Makes the calls of a script, and gives its log.
+pub(crate) fn run(desk: &mut Desk, alloc: Global, script: &str) -> Result<Vec<u8>, Fail> {
+    let mut log = Counted::new(Vec::new(alloc));
     let mut number = 0u64;
     for line in script.lines() {
         number = number.saturating_add(1);
-        if !log_line(desk, log, number, line) {
-            return false;
+        let answer = make_line(desk, line.as_bytes())?;
+        if log_answer(&mut log, number, answer).is_err() {
+            return Err("the log failed".into());
         }
     }
-    true
+    Ok(log.into_inner())
 }
 
-/// Makes the calls of a script, and says whether each line is one.
-pub(crate) fn run(desk: &mut Desk, script: &str) -> bool {
-    log_lines(desk, &mut Discard::new(), script)
-}
-
-/// Makes the calls of a script, and says whether that is its log.
-pub(crate) fn has_log(desk: &mut Desk, alloc: Global, script: &str, text: &str) -> bool {
-    let mut log = Counted::new(Vec::new(alloc));
-    log_lines(desk, &mut log, script) && log.get_ref().as_slice() == text.as_bytes()
-}
-
-/// What is left of a text after the characters of a line, if it begins with them.
-pub(crate) fn after_line<'a, T: Element>(line: &[T], text: &'a [u8]) -> Option<&'a [u8]> {
-    let mut rest = text;
-    for cell in line {
-        match rest.split_first() {
-            Some((ch, left)) if cell.character() == *ch => rest = left,
-            _ => return None,
-        }
-    }
-    Some(rest)
-}
-
-/// Whether a window has these characters, line after line.
-pub(crate) fn has_text(desk: &Desk, win: WinId, text: &str) -> bool {
-    let Ok((lines, _)) = desk.windows().table.getmaxyx(win) else {
-        return false;
-    };
-    let mut rest = text.as_bytes();
+/// The characters of a window, line after line.
+pub(crate) fn text(desk: &Desk, alloc: Global, win: WinId) -> Result<Vec<u8>, Fail> {
+    let (lines, _) = desk.windows().table.getmaxyx(win)?;
+    let mut text = Vec::new(alloc);
     for y in 0..lines {
-        match after_line(desk.row(win, y), rest) {
-            Some(left) => rest = left,
-            None => return false,
+        for cell in desk.row(win, y) {
+            text.push(cell.ch())?;
         }
     }
-    rest.is_empty()
+    Ok(text)
 }

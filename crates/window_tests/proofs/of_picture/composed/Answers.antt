@@ -40,8 +40,8 @@ compose_row-requires c κs =
       ),
     )
 
-pub row-requires : goal.row-requires
-row-requires c =
+pub row-cell-items-requires : goal.row-cell-items-requires
+row-cell-items-requires c =
     let ws = windows_of c.args.table.now in
     let some = c.in_ok-lines.ensures.sound.has_line in
     let height = (c.compose_row.ensures.size ws.lines ws.columns c.in_ok-picture.ensures).height in
