@@ -1,6 +1,6 @@
 //! The blank end of a line, which one erasure draws.
 
-ghost use Rattle.std.specs.Prelude.{◌≡◌, ◌≢◌, ◌↔◌, ◌+◌, ◌-◌, ◌<◌, ◌≤◌, if◌then◌else◌, MatchOption, drop, false, length, max, nat_lt, slice_index_or};
+ghost use Rattle.std.specs.Prelude.{◌≡◌, ◌≢◌, ◌⊎◌, ◌↔◌, ◌+◌, ◌-◌, ◌<◌, ◌≤◌, if◌then◌else◌, MatchOption, drop, false, length, max, nat_lt, slice_index_or};
 ghost use Rattle.cell.specs.Differences.{DiffersAt, IsFirstDifference, IsLastDifference};
 ghost use Rattle.cell.specs.Shown.{shown_blank};
 ghost use Rattle.paint.specs.steps.Strokes.{reach_bytes};
@@ -49,7 +49,12 @@ fn nearer(pen: &Pen, line: u16, wanted: &[Shown], gap: usize, one: usize, other:
     requires one { one < length wanted.now }
     requires other { other < length wanted.now }
     requires few { length wanted.now ≤ LARGEST_SCREEN }
-    ensures { result ≡ (if nat_lt (reach_bytes pen.now.cursor pen.now.rendition line wanted.now gap one)
+    ensures either { (result ≡ one) ⊎ (result ≡ other) }
+    ensures first { reach_bytes pen.now.cursor pen.now.rendition line wanted.now gap result ≤ reach_bytes pen.now.cursor pen.now.rendition line wanted.now gap
+        one }
+    ensures second { reach_bytes pen.now.cursor pen.now.rendition line wanted.now gap result ≤ reach_bytes pen.now.cursor pen.now.rendition line wanted.now
+        gap other }
+    ensures nearer { result ≡ (if nat_lt (reach_bytes pen.now.cursor pen.now.rendition line wanted.now gap one)
         (reach_bytes pen.now.cursor pen.now.rendition line wanted.now gap other) then one else other) }
 {
     if reach_length(pen, line, wanted, gap, one) < reach_length(pen, line, wanted, gap, other) {
