@@ -29,17 +29,22 @@ fn put(table: &mut Grids, win: WinId, x: u16, character: u8) -> Result<(), Fail>
     Ok(())
 }
 
-/// A screen of 1 line and 4 columns that shows `abcd`. One window, at its column 1, shows `XY`, and one `----`.
-fn windows(alloc: Global) -> Result<Grids, Fail> {
-    let mut table = Grids::new(alloc, 1, 4)?;
+/// Makes a window at column 1, which shows `XY`, and one that shows `----`, on a screen that shows `abcd`.
+fn fill(table: &mut Grids) -> Result<(), Fail> {
     table.newwin(1, 2, 0, 1)?;
     table.newwin(1, 4, 0, 0)?;
     for (x, character) in [(0, b'a'), (1, b'b'), (2, b'c'), (3, b'd')] {
-        put(&mut table, WinId::STANDARD, x, character)?;
-        put(&mut table, DASHES, x, b'-')?;
+        put(table, WinId::STANDARD, x, character)?;
+        put(table, DASHES, x, b'-')?;
     }
-    put(&mut table, IN_PANEL, 0, b'X')?;
-    put(&mut table, IN_PANEL, 1, b'Y')?;
+    put(table, IN_PANEL, 0, b'X')?;
+    put(table, IN_PANEL, 1, b'Y')
+}
+
+/// These windows, and a screen of 1 line and 4 columns.
+fn windows(alloc: Global) -> Result<Grids, Fail> {
+    let mut table = Grids::new(alloc, 1, 4)?;
+    fill(&mut table)?;
     Ok(table)
 }
 
@@ -102,22 +107,22 @@ fn composed(
     Ok((shown, rows.cells_read()))
 }
 
-#[test]
-fn a_line_is_composed_of_pieces(rt: HostRuntime) -> Result<(), Fail> {
-    let table = windows(rt.alloc())?;
-    let stack = one_panel(rt.alloc(), &table)?;
-    let (shown, read) = composed(rt.alloc(), &table, &stack, 0, 3)?;
-    assert_eq!(rt; shown.as_slice(), b"aXYd".as_slice());
-    assert_eq!(rt; read, 4);
-    Ok(())
+/// The same, of new windows of which one is in a panel.
+fn composed_anew(alloc: Global, left: u16, right: u16) -> Result<(Vec<u8>, u64), Fail> {
+    let table = windows(alloc)?;
+    let stack = one_panel(alloc, &table)?;
+    composed(alloc, &table, &stack, left, right)
 }
 
+/// Columns, what the line shows once they are composed, and how many cells are read for that.
+static COLUMNS: [(u16, u16, &str, u64); 2] = [(0, 3, "aXYd", 4), (2, 2, "--Y-", 1)];
+
 #[test]
-fn other_columns_are_left(rt: HostRuntime) -> Result<(), Fail> {
-    let table = windows(rt.alloc())?;
-    let stack = one_panel(rt.alloc(), &table)?;
-    let (shown, read) = composed(rt.alloc(), &table, &stack, 2, 2)?;
-    assert_eq!(rt; shown.as_slice(), b"--Y-".as_slice());
-    assert_eq!(rt; read, 1);
+fn columns_are_composed_of_pieces_and_others_are_left(rt: HostRuntime) -> Result<(), Fail> {
+    for (left, right, text, cells) in &COLUMNS {
+        let (shown, read) = composed_anew(rt.alloc(), *left, *right)?;
+        assert_eq!(rt; shown.as_slice(), text.as_bytes());
+        assert_eq!(rt; read, *cells);
+    }
     Ok(())
 }
