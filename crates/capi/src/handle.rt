@@ -257,6 +257,9 @@ fn new_surface(alloc: Global, lines: u16, columns: u16) -> Result<Box<Surface>, 
     let surface = Surface::new(alloc, lines, columns)?;
     match Box::new(alloc, surface) {
         Ok(surface) => Ok(surface),
-        Err(_) => Err(Refusal::NoMemory),
+        Err(failed) => {
+            drop(failed.value);
+            Err(Refusal::NoMemory)
+        }
     }
 }

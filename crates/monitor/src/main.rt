@@ -145,5 +145,7 @@ fn run<W: Sink>(alloc: Global, screen: &mut Screen<W>) -> Result<(), Trouble> {
 
 fn main(rt: HostRuntime) -> Result<(), Trouble> {
     let mut screen = Screen::new(rt.alloc(), LINES, COLUMNS, Counted::new(rt.stdout()))?;
-    run(rt.alloc(), &mut screen)
+    let ended = run(rt.alloc(), &mut screen);
+    drop(screen);
+    ended
 }

@@ -57,5 +57,7 @@ pub(crate) fn run(rt: &HostRuntime, lines: &str, columns: &str) -> io::Result<()
     let mut text = Vec::new(rt.alloc());
     rt.stdin().read_to_end(&mut text)?;
     let mut screen = screen_of(rt.alloc(), lines, columns)?;
-    tally(&mut screen, text.as_slice(), &mut rt.stdout())
+    let tallied = tally(&mut screen, text.as_slice(), &mut rt.stdout());
+    drop(screen);
+    tallied
 }

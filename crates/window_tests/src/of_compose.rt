@@ -87,7 +87,9 @@ fn leaves(
 
 fn is_met(alloc: Global, case: Case) -> Result<bool, Fail> {
     let mut desk = Desk::new(alloc, 2, 5)?;
-    leaves(&mut desk, alloc, case)
+    let is_met = leaves(&mut desk, alloc, case);
+    drop(desk);
+    is_met
 }
 
 #[test]
@@ -112,7 +114,9 @@ fn update_twice(desk: &mut Desk, alloc: Global) -> Result<([Composed; 2], [bool;
 
 fn updated_screen(alloc: Global) -> Result<([Composed; 2], [bool; 2]), Fail> {
     let mut desk = Desk::new(alloc, 2, 5)?;
-    update_twice(&mut desk, alloc)
+    let updated = update_twice(&mut desk, alloc);
+    drop(desk);
+    updated
 }
 
 #[test]
@@ -123,13 +127,20 @@ fn an_update_reads_what_changed(rt: HostRuntime) -> Result<(), Fail> {
     Ok(())
 }
 
-fn lines_changed(alloc: Global) -> Result<[u16; 2], Fail> {
-    let mut desk = Desk::new(alloc, 2, 5)?;
-    run(&mut desk, alloc, "addch 0 a")?;
+/// The line after the last that an update changed, before and after that is taken.
+fn change_lines(desk: &mut Desk, alloc: Global) -> Result<[u16; 2], Fail> {
+    run(desk, alloc, "addch 0 a")?;
     desk.update_panels();
     let changed = desk.changes().end();
     desk.mark_taken();
     Ok([changed, desk.changes().end()])
+}
+
+fn lines_changed(alloc: Global) -> Result<[u16; 2], Fail> {
+    let mut desk = Desk::new(alloc, 2, 5)?;
+    let lines = change_lines(&mut desk, alloc);
+    drop(desk);
+    lines
 }
 
 #[test]
@@ -178,7 +189,9 @@ fn found_after(
 /// What is found on a new screen of 4 lines and 10 columns after a script.
 fn search(alloc: Global, script: &str, place: (u16, u16)) -> Result<Option<Found>, Fail> {
     let mut desk = Desk::new(alloc, 4, 10)?;
-    found_after(&mut desk, alloc, script, place)
+    let found = found_after(&mut desk, alloc, script, place);
+    drop(desk);
+    found
 }
 
 #[test]

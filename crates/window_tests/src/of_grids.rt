@@ -68,7 +68,9 @@ fn sync_marks(grids: &mut Grids) -> Result<([Option<(u16, u16)>; 3], Cell), Fail
 
 fn handed_on_in_table(alloc: Global) -> Result<([Option<(u16, u16)>; 3], Cell), Fail> {
     let mut grids = Grids::new(alloc, 4, 10)?;
-    sync_marks(&mut grids)
+    let marks = sync_marks(&mut grids);
+    drop(grids);
+    marks
 }
 
 #[test]
@@ -116,7 +118,9 @@ fn shared_places(grids: &mut Grids) -> Result<(Option<Rect>, [bool; 2]), Fail> {
 
 fn shared_in_table(alloc: Global) -> Result<(Option<Rect>, [bool; 2]), Fail> {
     let mut grids = Grids::new(alloc, 4, 10)?;
-    shared_places(&mut grids)
+    let places = shared_places(&mut grids);
+    drop(grids);
+    places
 }
 
 #[test]

@@ -41,7 +41,9 @@ fn log(desk: &mut Desk, alloc: Global, script: &str) -> Result<Vec<u8>, Fail> {
 
 fn log_of_new(alloc: Global, script: &str) -> Result<Vec<u8>, Fail> {
     let mut desk = Desk::new(alloc, 4, 10)?;
-    log(&mut desk, alloc, script)
+    let log = log(&mut desk, alloc, script);
+    drop(desk);
+    log
 }
 
 #[test]

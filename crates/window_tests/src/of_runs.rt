@@ -119,7 +119,9 @@ fn clear_wanted(screen: &mut Tried) -> [bool; 3] {
 
 fn wanted_of_screen(alloc: Global) -> Result<[bool; 3], Refusal> {
     let mut screen = screen(alloc, 0)?;
-    Ok(clear_wanted(&mut screen))
+    let wanted = clear_wanted(&mut screen);
+    drop(screen);
+    Ok(wanted)
 }
 
 #[test]
@@ -196,7 +198,7 @@ fn writes_of(alloc: Global, lines: u16) -> Result<u32, Refusal> {
     let writer = Counted::new(Halting::in_pieces(alloc, usize::MAX, false));
     let mut screen = Screen::new(alloc, lines, 400, writer)?;
     fill(&mut screen);
-    Ok(screen.writer().get_ref().writes)
+    Ok(screen.into_writer().into_inner().writes)
 }
 
 #[test]

@@ -137,7 +137,9 @@ fn leaves(desk: &mut Desk, alloc: Global, case: &Case) -> Result<bool, Fail> {
 /// The same on a new screen of 4 lines and 10 columns.
 fn is_met(alloc: Global, case: &Case) -> Result<bool, Fail> {
     let mut desk = Desk::new(alloc, 4, 10)?;
-    leaves(&mut desk, alloc, case)
+    let is_met = leaves(&mut desk, alloc, case);
+    drop(desk);
+    is_met
 }
 
 #[test]
