@@ -93,9 +93,11 @@ fn update_four_times<W: Sink>(
 
 /// The same by a new painter.
 fn update_new(alloc: Global, sink: &mut Counted<Vec<u8>>) -> Result<[Sent; 4], Fail> {
-    let mut painter = Painter::new(alloc, 4, 10)?;
     let mut screen = greeting(alloc)?;
-    update_four_times(&mut painter, &mut screen, sink)
+    let mut painter = Painter::new(alloc, 4, 10)?;
+    let sent = update_four_times(&mut painter, &mut screen, sink);
+    drop(painter);
+    sent
 }
 
 #[test]
@@ -132,9 +134,11 @@ fn update_twice(painter: &mut Painter, screen: &Plain, sink: &mut Counted<Haltin
 
 /// The same by a new painter.
 fn update_faulty(alloc: Global, sink: &mut Counted<Halting>) -> Result<Updates, Refusal> {
-    let mut painter = Painter::new(alloc, 4, 10)?;
     let screen = greeting(alloc)?;
-    Ok(update_twice(&mut painter, &screen, sink))
+    let mut painter = Painter::new(alloc, 4, 10)?;
+    let updates = update_twice(&mut painter, &screen, sink);
+    drop(painter);
+    Ok(updates)
 }
 
 /// Whether all is shown after a write that fails, or takes nothing, once five bytes are sent.
