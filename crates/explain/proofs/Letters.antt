@@ -7,7 +7,8 @@ use Rattle.std.specs.Option.{option_map_or}
 use Rattle.std.specs.Str.{bytes_eq}
 use Rattle.std.proofs.lemmas.Map.Views.{any-filter_same}
 use Rattle.std.proofs.lemmas.Slice.Eq.{bytes_eq-Decides}
-use Rattle.explain.specs.Advice.{advice_in, advised, names_in}
+use Rattle.explain.specs.Advice.{advice_in, advised}
+use Rattle.explain.specs.Names.{names_in}
 use Rattle.explain.specs.steps.Tables.{rows_of}
 
 abbrev Row : Type 0

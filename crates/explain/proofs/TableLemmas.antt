@@ -5,7 +5,7 @@ use Rattle.std.specs.List.{list_all}
 use Rattle.std.specs.Borrow.{Bor}
 use Rattle.std.proofs.lemmas.Bool.Decides.{nat_tests}
 use Rattle.explain.specs.declared.more_advice.TheConstants.{MORE, PARTS}
-use Rattle.explain.specs.Advice.{advice_by_part, advice_in, advised, has_part, more_advice, more_advised, part_in, parts_advised, table_advice}
+use Rattle.explain.specs.Advice.{advice_by_part, advice_in, advised, more_advice, more_advised, part_in, parts_advised, table_advice}
 
 short-in : (rows : List (List ℕ × List ℕ)) (name text : List ℕ) → list_all (λ row. nat_le (length row.0) 80) rows ≡ true
     → advice_in rows name ≡ Some text → length text ≤ 80

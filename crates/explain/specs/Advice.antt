@@ -1,20 +1,9 @@
 -- What to write for a name of curses, or a word of another language, that is no word of scripts. The texts are Curspan's own.
-use Rattle.std.specs.Prelude.{◌-◌, ◌==◌, ◌&&◌, ◌||◌, ℕ, Bool, false, not, List, [], ◌∷◌, ◌++◌, codes, drop, find, is_some, length, nat_lt}
-use Rattle.std.specs.Prelude.{Option, option_and_then, option_map, Some, None, take, unwrap_or, if◌then◌else◌}
-use Rattle.std.specs.Char.{is_ascii_alphabetic, is_ascii_alphanumeric, is_ascii_digit, to_ascii_lowercase}
-use Rattle.std.specs.List.{list_any, slice_split}
+use Rattle.std.specs.Prelude.{ℕ, List, [], ◌∷◌, ◌++◌, Option, codes, find, option_map}
+use Rattle.std.specs.List.{list_any}
 use Rattle.std.specs.Str.{bytes_eq}
-use Rattle.script.specs.Characters.{is_space}
-use Rattle.explain.specs.Nearest.{nearest, nearest_other, or_else}
-use Rattle.script.specs.Words.{word_of}
-
--- `_`
-abbrev pub underscore : ℕ
-underscore = 95
-
--- names with a space between any two
-abbrev pub names_in : List ℕ → List (List ℕ)
-names_in text = slice_split is_space text
+use Rattle.explain.specs.Names.{has_part, names_in}
+use Rattle.explain.specs.Nearest.{or_else}
 
 -- ---- what is said of several rows, or of lines too
 
@@ -69,7 +58,7 @@ advised =
     ∷ (
       codes "the screen is there from the first line on, and ends with the script",
       codes "initscr newterm new_prescr endwin isendwin delscreen set_term use_screen use_window exit_curses exit"
-          ++ codes " quit bye stop close init initscreen init_screen start wrapper",
+          ++ codes " quit bye stop init initscreen init_screen start wrapper",
     )
     ∷ (
       codes "lines are drawn by the characters of addstr",
@@ -219,6 +208,7 @@ more_advised =
     ∷ (codes "pairs have the terminal's colours until they are set: see init_pair", codes "use_default_colors assume_default_colors")
     ∷ (codes "the eight colours can't be changed: see init_pair", codes "init_color init_colour initcolor init_extended_color can_change_color")
     ∷ (codes "see delwin, del_panel", codes "del remove")
+    ∷ (codes "see delwin, del_panel; the screen ends with the script", codes "close")
     ∷ (codes "see scrl, scrollok", codes "scroll")
     ∷ (codes "see addstr; --log belongs on the command line", codes "log")
     ∷ (codes "the end of a here-document stands alone; the screen ends with the script", codes "end eod here end_of_script")
@@ -234,7 +224,8 @@ more_advised =
     ∷ (codes "a window is hidden with its panel: see hide_panel, show_panel", codes "hidewin showwin hide_win show_win")
     ∷ (codes "a window keeps its size: see newwin, copywin", codes "resizewin resize_win resize_window")
     ∷ (backgrounds, codes "bgset bgpair bkpair bkg")
-    ∷ (codes "see color_set, init_pair", codes "op oc setfg setbg set_fg set_bg")
+    ∷ (codes "see color_set, init_pair", codes "op oc setfg setbg set_fg set_bg set_colour set_colors set_colours")
+    ∷ (codes "see move, addstr", codes "draw_text write_text print_text put_text show_text display_text")
     ∷ (codes "see getyx, getbegyx, getmaxyx", codes "wherexy wherex getbeg getwinsize getxmaxy")
     ∷ (codes "see noutrefresh, update_panels, doupdate", codes "updateall update_all updatewin update_win flip swap present blit commit")
     ∷ (codes "see getmaxyx, move, addstr", codes "center print_center")
@@ -265,53 +256,7 @@ more_advice name = advice_in more_advised name
 abbrev pub advice_on : List ℕ → Option (List ℕ)
 advice_on name = or_else (table_advice name) (more_advice name)
 
--- ---- names by rule
-
--- the text begins with the prefix
-abbrev pub begins_with : List ℕ → List ℕ → Bool
-begins_with prefix text = bytes_eq (take (length prefix) text) prefix
-
--- what begins a comment in other languages, of which two hyphens stand alone
-abbrev pub begins_comment : List ℕ → Bool
-begins_comment text = begins_with (codes "//") text || begins_with (codes "/*") text || bytes_eq text (codes "--")
-
-abbrev pub begins_with_digit : List ℕ → Bool
-begins_with_digit text = list_any is_ascii_digit (take 1 text)
-
-abbrev pub ends_with : ℕ → List ℕ → Bool
-ends_with byte text = list_any (λ b. b == byte) (drop (length text - 1) text)
-
-abbrev pub is_quoted : List ℕ → Bool
-is_quoted text = begins_with (codes "\"") text || begins_with (codes "'") text
-
-abbrev pub is_name_byte : ℕ → Bool
-is_name_byte b = is_ascii_alphanumeric b || b == underscore
-
--- the name that a word begins with, in lower case: `getch();`, `GETCH` and `getch` have the same
-abbrev pub name_in : List ℕ → List ℕ
-name_in [] = []
-name_in (b ∷ bs) = if is_name_byte b then to_ascii_lowercase b ∷ name_in bs else []
-
--- what follows a name
-abbrev pub after_name : List ℕ → List ℕ
-after_name [] = []
-after_name (b ∷ bs) = if is_name_byte b then after_name bs else b ∷ bs
-
--- what follows a name and a dot, an arrow or two colons; or else the word
-abbrev pub after_dot : List ℕ → List ℕ
-after_dot word = if begins_with (codes ".") (after_name word) then drop 1 (after_name word)
-    else (if begins_with (codes "->") (after_name word) then drop 2 (after_name word)
-    else (if begins_with (codes "::") (after_name word) then drop 2 (after_name word)
-    else word))
-
--- the name of what a word calls: `win.refresh()`, `win->refresh()`, `self.ui.win.refresh()` and `refresh()` have the same
-abbrev pub called_name : List ℕ → List ℕ
-called_name word = name_in (after_dot (after_dot (after_dot word)))
-
--- the text has the part in it
-abbrev pub has_part : List ℕ → List ℕ → Bool
-has_part part [] = false
-has_part part (b ∷ bs) = begins_with part (b ∷ bs) || has_part part bs
+-- ---- parts of names
 
 -- what is said of names that have a part, and the parts
 unfoldable pub parts_advised : List (List ℕ × List ℕ)
@@ -336,150 +281,3 @@ part_in rows name = option_map (λ row. row.0) (find (λ row. list_any (λ part.
 
 abbrev pub advice_by_part : List ℕ → Option (List ℕ)
 advice_by_part name = part_in parts_advised name
-
--- what is said of a name without its prefix: this, before it, if it is a call; else what the table has
-abbrev pub advice_on_rest : List ℕ → List ℕ → Option (List ℕ)
-advice_on_rest said rest = if is_some (word_of rest) then Some (said ++ rest) else advice_on rest
-
-abbrev pub after_prefix : List ℕ → List ℕ → List ℕ → Option (List ℕ)
-after_prefix prefix said word = if begins_with prefix word then advice_on_rest said (drop (length prefix) word) else None
-
--- ---- what is said of a word that is no call
-
--- of a name: what is said of it without a prefix; or else, where it begins with `mvw`, `mv` or `w`, of the rest
-unfoldable pub said_of_name : List ℕ → Option (List ℕ)
-said_of_name name =
-    or_else (advice_on_rest (codes "see ") name)
-    (or_else (after_prefix (codes "mvw") (codes "see move, ") name)
-    (or_else (after_prefix (codes "mv") (codes "see move, ") name)
-    (after_prefix (codes "w") (codes "see ") name)))
-
--- the call that is near the word
-abbrev pub see_nearest : List ℕ → Option (List ℕ)
-see_nearest word = option_map (λ name. codes "see " ++ name) (nearest word)
-
--- the call that is near a text; or else what is said of the other name that is near it
-unfoldable pub said_of_near : List ℕ → Option (List ℕ)
-said_of_near text = or_else (see_nearest text) (option_and_then said_of_name (nearest_other text))
-
--- of the name of what a word calls, where that isn't all of the word
-abbrev pub said_near_name : List ℕ → Option (List ℕ)
-said_near_name word = if length (called_name word) == length word then None else said_of_near (called_name word)
-
--- what a script has in place of variables
-abbrev pub no_variables : List ℕ
-no_variables = codes "a script has no variables: windows and panels are numbered from 1"
-
--- where a number stands
-abbrev pub number_first : List ℕ
-number_first = codes "a line begins with the name of its call, and numbers come after it"
-
--- a text begins as what gives a value to a name
-abbrev pub gives_value : List ℕ → Bool
-gives_value text = begins_with (codes "=") text || begins_with (codes "+=") text || begins_with (codes "-=") text || begins_with (codes ":=") text
-    || begins_with (codes "<-") text || begins_with (codes "++") text
-
--- the first word after one does, or, where that ends in a comma, some word
-abbrev pub has_value : List ℕ → List (List ℕ) → Bool
-has_value word [] = false
-has_value word (piece ∷ pieces) = gives_value piece || (ends_with 44 word && list_any gives_value pieces)
-
--- of a name that is given a value: the size of the screen has an option for it
-abbrev pub said_of_value : List ℕ → List ℕ
-said_of_value name = if list_any (bytes_eq name) (names_in (codes "lines cols columns rows")) then screen_size else no_variables
-
--- of a word that gives a value to its name, which is no call
-abbrev pub said_of_given : List ℕ → Option (List ℕ)
-said_of_given word = if list_any is_name_byte (take 1 word) && gives_value (after_name word) && not (is_some (word_of (name_in word))) then Some (said_of_value (name_in word)) else None
-
--- a line of the log, or of check: `line`, and a number with a colon or a comma
-abbrev pub is_of_log : List ℕ → List (List ℕ) → Bool
-is_of_log word [] = false
-is_of_log word (piece ∷ pieces) = bytes_eq word (codes "line") && begins_with_digit piece && (ends_with 58 piece || ends_with 44 piece)
-
--- a statement of other languages whose first word is a name of curses too, which would have a number after it
-abbrev pub is_statement : List ℕ → List (List ℕ) → Bool
-is_statement word [] = false
-is_statement word (piece ∷ pieces) =
-    list_any (bytes_eq word) (names_in (codes "raise goto GOTO DIM Dim END End")) && list_any is_ascii_alphabetic (take 1 piece)
-
--- of a word that is no call and the words after it; where a bracket is in the word, an equals sign is part of an argument
-abbrev pub said_of_line : List ℕ → List (List ℕ) → Option (List ℕ)
-said_of_line word pieces = if is_of_log word pieces then Some (codes "a line of the log or of check is no line of a script")
-    else (if is_statement word pieces then Some calls_alone
-    else (if has_value word pieces && not (list_any (λ b. b == 40) word) then Some (said_of_value (name_in word))
-    else None))
-
--- of a word that begins with a backslash, which may begin a control sequence
-abbrev pub said_of_backslash : List ℕ → List ℕ
-said_of_backslash word = if length word == 1 then codes "no line goes on in the next: a call has one line"
-    else (if list_any (λ b. b == 91) word then codes "a script has no control sequences: see attrset, color_set, move, clear"
-    else codes "a line begins with the name of a call, and a comment with #")
-
--- of shells: a variable, a redirection, a pipe, or a prompt
-abbrev pub is_of_shell : List ℕ → Bool
-is_of_shell word = begins_with (codes "$") word || begins_with (codes ">") word || begins_with (codes "<<") word
-    || list_any (bytes_eq word) (names_in (codes "< | & && ||")) || (begins_with_digit word && list_any (λ b. b == 62) word)
-
--- of a word that begins with no letter
-abbrev pub said_of_marks : List ℕ → Option (List ℕ)
-said_of_marks word = if begins_with (codes "\\") word then Some (said_of_backslash word)
-    else (if begins_with (codes "-") word && begins_with_digit (drop 1 word) then Some number_first
-    else (if begins_with (codes "-") word then Some (codes "an option belongs on the command line, and a comment begins with #")
-    else (if is_of_shell word
-    then Some (codes "a script has no variables, prompts or redirections: a line begins with a call")
-    else (if is_quoted word then Some (codes "a text is an argument of addstr, without quotes; a comment begins with #")
-    else (if begins_with (codes "```") word then Some (codes "marks of Markdown are no part of a script")
-    else (if begins_with (codes "/") word || begins_with (codes "./") word then Some runs_no_programs
-    else (if begins_with_digit word then Some number_first
-    else (if not (list_any is_name_byte (take 1 word)) then Some (codes "a line begins with the name of a call, and a comment with #")
-    else None))))))))
-
--- the call that is near the word, if its name is longer than what the word calls
-abbrev pub see_longer : List ℕ → Option (List ℕ)
-see_longer word = option_and_then (λ name. if nat_lt (length (called_name word)) (length name) then Some (codes "see " ++ name) else None) (nearest word)
-
--- this, and a name, if that is a call
-abbrev pub say_call : List ℕ → List ℕ → Option (List ℕ)
-say_call said name = if is_some (word_of name) then Some (said ++ name) else None
-
--- how a call is written whose name has marks after it
-abbrev pub written_advice : List ℕ → List ℕ
-written_advice word = if begins_with (codes ";") (after_name word) then codes "a line has one call, and no semicolon: see "
-    else (if begins_with (codes "\\") (after_name word) then codes "only texts and characters have escapes: see "
-    else codes "a line is a call's name, and arguments after single spaces, as addstr 0 hi: see ")
-
--- Of a word that has the name of a call in it: how that is written. Of `move-panel` it is the longer name.
-unfoldable pub said_of_written : List ℕ → Option (List ℕ)
-said_of_written word = if length (called_name word) == length word then say_call (codes "calls are in lower case: see ") (called_name word)
-    else or_else (see_longer word) (say_call (written_advice word) (called_name word))
-
--- of what begins a comment elsewhere, that # does here; of `panel.move`, which is near no call, the call; of what runs a program
--- in Python
-abbrev pub said_of_beginning : List ℕ → Option (List ℕ)
-said_of_beginning word = if begins_comment word then Some (codes "a comment begins with #")
-    else (if begins_with (codes "panel.move") word then Some (codes "see move_panel")
-    else (if begins_with (codes "subprocess.") word || begins_with (codes "os.") word then Some runs_no_programs
-    else None))
-
--- of how the word begins, or else what the tables have of it as it is; or else of the value that it gives; or else how
--- the call in it is written; or else of the name of what it calls; or else of what the word is near, of a part of that name, of
--- the marks of the word, or of what that name is near
-unfoldable pub said_of : List ℕ → Option (List ℕ)
-said_of word = or_else (said_of_beginning word)
-    (or_else (advice_on word)
-    (or_else (said_of_given word)
-    (or_else (said_of_written word)
-    (or_else (said_of_name (called_name word))
-    (or_else (said_of_near word)
-    (or_else (advice_by_part (called_name word))
-    (or_else (said_of_marks word)
-    (said_near_name word))))))))
-
--- what a line is, said where nothing else is
-unfoldable pub line_advice : List ℕ
-line_advice = codes "a line is the name of a call and its arguments: addstr 0 hi writes hi; man curspan lists the calls"
-
--- of a word that is no call, and the words after it, which may give it a value or begin a line of something else
-abbrev pub call_advice : List ℕ → List (List ℕ) → List ℕ
-call_advice word pieces = codes ": " ++ unwrap_or (or_else (said_of_line word pieces) (said_of word)) line_advice

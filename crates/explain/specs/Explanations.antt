@@ -6,10 +6,13 @@ use Rattle.cell.specs.Attributes.{hex_digits}
 use Rattle.script.specs.Characters.{is_space, newline}
 use Rattle.script.specs.declared.fault.TextFault.{TextFault}
 use Rattle.script.specs.declared.fault.TextFault.TheVariants.{LineTooLong, BadByte, UnknownCall, WrongNumberOfArguments, BadArgument}
-use Rattle.explain.specs.Advice.{begins_comment, begins_with, call_advice}
-use Rattle.explain.specs.Faults.{IllFormed, arguments_in, bad_place, column_of, find_ill_formed_in, find_stray_in, first_column, forms_of, word_in}
+use Rattle.explain.specs.Characters.{bad_text_advice}
+use Rattle.explain.specs.Faults.{IllFormed, arguments_in, bad_place, column_of, find_ill_formed_in, find_stray_in, forms_of, place_of, word_in}
+use Rattle.explain.specs.Names.{begins_comment, begins_with, quotation_mark}
+use Rattle.explain.specs.Nearest.{call_of_words}
 use Rattle.explain.specs.Numbers.{number_reason, signature_text}
-use Rattle.explain.specs.Reasons.{bad_text_advice, reason_after, requirement_of}
+use Rattle.explain.specs.Reasons.{reason_after, requirement_of}
+use Rattle.explain.specs.Suggestions.{call_advice}
 
 abbrev pub byte_order_mark : List ℕ
 byte_order_mark = 239 ∷ 187 ∷ 191 ∷ []
@@ -21,29 +24,36 @@ little_endian_mark = 255 ∷ 254 ∷ []
 abbrev pub big_endian_mark : List ℕ
 big_endian_mark = 254 ∷ 255 ∷ []
 
--- `"`
-abbrev pub quotation_mark : ℕ
-quotation_mark = 34
-
 abbrev pub quotation : List ℕ → List ℕ
 quotation text = quotation_mark ∷ text ++ quotation_mark ∷ []
 
 abbrev pub count_text : ℕ → List ℕ
 count_text n = decimal n ++ (if n == 1 then codes " argument" else codes " arguments")
 
+-- what is said where two words are the name of a call
+abbrev pub one_word : List ℕ → List ℕ
+one_word call = codes ": a call's name is one word: see " ++ call
+
+-- that of a word and the next one; or else this
+unfoldable pub one_word_or : List ℕ → List ℕ → List (List ℕ) → List ℕ
+one_word_or said word pieces = option_map_or one_word (call_of_words word pieces) said
+
 -- what a word wants in place of an argument
-abbrev pub ill_formed_text : List ℕ → IllFormed → List ℕ
-ill_formed_text word ill = word ++ codes " wants " ++ requirement_of word ill.form ++ codes ", not " ++ quotation ill.argument
-    ++ reason_after word (ill.column == first_column word) ill.form ill.argument
+abbrev pub ill_formed_text : List ℕ → List (List ℕ) → IllFormed → List ℕ
+ill_formed_text word pieces ill = word ++ codes " wants " ++ requirement_of word ill.form ++ codes ", not " ++ quotation ill.argument
+    ++ one_word_or (reason_after word (place_of word ill) ill.form ill.argument) word pieces
 
 -- what is said of a bad byte, of a word that is no call (of no word, since the line begins with a space), and of a
 -- wrong number of arguments
 abbrev pub bad_byte_text : ℕ → List ℕ → List ℕ
 bad_byte_text byte rest = codes "bad byte " ++ hex_digits byte ++ codes ": " ++ bad_text_advice byte rest
 
+abbrev pub no_call_text : List ℕ → List (List ℕ) → List ℕ
+no_call_text word pieces = codes "unknown call " ++ quotation word ++ one_word_or (codes ": " ++ call_advice word pieces) word pieces
+
 abbrev pub unknown_text : List ℕ → List (List ℕ) → List ℕ
 unknown_text word pieces = if length word == 0 then codes "the line begins with a space, and not with a call or #; an empty line has no spaces"
-    else codes "unknown call " ++ quotation word ++ call_advice word pieces
+    else no_call_text word pieces
 
 abbrev pub number_text : List ℕ → ℕ → ℕ → List ℕ
 number_text word taken given = word ++ codes " takes " ++ count_text taken ++ codes ", " ++ decimal given ++ codes " given"
@@ -58,7 +68,7 @@ stray_text argument = if length argument == 0 then codes ": single spaces separa
 abbrev pub number_advice : List ℕ → Bool → Option (ℕ × List ℕ) → List ℕ
 number_advice line many None =
     let pieces = slice_split is_space line in
-    unwrap_or (number_reason (word_in pieces) line (drop 1 pieces) many) (signature_text (word_in pieces))
+    one_word_or (unwrap_or (number_reason (word_in pieces) line (drop 1 pieces) many) (signature_text (word_in pieces))) (word_in pieces) (drop 1 pieces)
 number_advice line many (Some stray) = stray_text stray.1
 
 -- what is said of a line with a bad byte
@@ -81,7 +91,7 @@ explanation WrongNumberOfArguments line =
     ++ number_advice line (nat_lt (length (forms_of (word_in pieces))) (length (arguments_in pieces))) (find_stray_in pieces)
 explanation BadArgument line =
     let pieces = slice_split is_space line in
-    option_map_or (ill_formed_text (word_in pieces)) (find_ill_formed_in pieces) []
+    option_map_or (ill_formed_text (word_in pieces) (drop 1 pieces)) (find_ill_formed_in pieces) []
 
 -- the line about a fault in a script's line, with the number of that line
 abbrev pub finding : ℕ → TextFault → List ℕ → List ℕ

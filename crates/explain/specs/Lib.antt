@@ -1,7 +1,10 @@
+pub mod Names
 pub mod Nearest
 pub mod Advice
+pub mod Suggestions
 pub mod Faults
 pub mod Everywhere
+pub mod Characters
 pub mod Reasons
 pub mod Signatures
 pub mod Numbers

@@ -1,7 +1,7 @@
 -- What a word was meant to be: the first name whose letters are the word's but for one, or two that changed places.
-use Rattle.std.specs.Prelude.{◌==◌, ◌&&◌, ◌||◌, ℕ, Bool, false, List, [], ◌∷◌, ◌++◌, codes, find, length, map, nat_le, Option, None, Some, option_and_then, if◌then◌else◌}
+use Rattle.std.specs.Prelude.{◌==◌, ◌&&◌, ◌||◌, ℕ, Bool, false, List, [], ◌∷◌, ◌++◌, codes, find, length, map, nat_le, take, Option, None, Some, option_and_then, if◌then◌else◌}
 use Rattle.std.specs.Char.{is_ascii_alphabetic, to_ascii_lowercase}
-use Rattle.std.specs.List.{flat_map, slice_split}
+use Rattle.std.specs.List.{flat_map, list_any, slice_split}
 use Rattle.std.specs.Str.{bytes_eq}
 use Rattle.script.specs.Characters.{is_space}
 use Rattle.script.specs.Words.{entry_of, words}
@@ -65,3 +65,13 @@ nearest word = option_and_then (λ first. or_else (same_call word) (Some first))
 
 abbrev pub nearest_other : List ℕ → Option (List ℕ)
 nearest_other word = nearest_of other_names word
+
+-- the call with the letters of two words, in either order
+abbrev pub call_of_two : List ℕ → List ℕ → Option (List ℕ)
+call_of_two word other = or_else (same_call (word ++ other)) (same_call (other ++ word))
+
+-- the call whose name a word and the next one are, as `init pair` and `set color`, where each begins with a letter
+abbrev pub call_of_words : List ℕ → List (List ℕ) → Option (List ℕ)
+call_of_words word [] = None
+call_of_words word (piece ∷ pieces) =
+    if list_any is_ascii_alphabetic (take 1 word) && list_any is_ascii_alphabetic (take 1 piece) then call_of_two word piece else None

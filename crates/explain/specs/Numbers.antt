@@ -5,15 +5,20 @@ use Rattle.std.specs.Option.{option_map_or}
 use Rattle.std.specs.Str.{bytes_eq}
 use Rattle.script.specs.Characters.{backslash}
 use Rattle.script.specs.Words.{word_of}
-use Rattle.explain.specs.Advice.{begins_with_digit, ends_with, name_in}
+use Rattle.explain.specs.Names.{are_digits, are_two_digits, begins_with_digit, comma, ends_with, has_byte, is_one_of, is_redirection, name_in, semicolon, vertical_bar}
 use Rattle.explain.specs.Nearest.{or_else}
-use Rattle.explain.specs.Reasons.{are_digits, are_two_digits, comma, has_byte, is_bracketed, is_one_of, no_brackets, no_commas, one_sum, semicolon}
+use Rattle.explain.specs.Reasons.{is_bracketed, no_brackets, no_commas, no_redirections, one_sum}
 use Rattle.explain.specs.Signatures.{names_of_arguments}
 
 -- the first word begins with a bracket, and goes on
 abbrev pub begins_bracketed : List (List ℕ) → Bool
 begins_bracketed [] = false
-begins_bracketed (piece ∷ pieces) = is_bracketed piece && not (length piece == 1)
+begins_bracketed (piece ∷ pieces) = is_bracketed piece && not (length piece == 1 || is_redirection piece)
+
+-- the first word begins with a digit
+abbrev pub begins_number : List (List ℕ) → Bool
+begins_number [] = false
+begins_number (piece ∷ pieces) = begins_with_digit piece
 
 -- a word begins with the name of a call, or with one that curses has
 abbrev pub begins_call : List ℕ → Bool
@@ -22,12 +27,12 @@ begins_call piece = is_some (word_of (name_in piece)) || is_one_of (codes "refre
 abbrev pub has_call : List (List ℕ) → Bool
 has_call pieces = list_any begins_call pieces
 
--- a word of shells: a redirection, a pipe, or what joins commands
-abbrev pub is_of_shells : List ℕ → Bool
-is_of_shells piece = is_one_of (codes "> >> < << | & && || 2>&1 >&2") piece
+abbrev pub has_redirection : List (List ℕ) → Bool
+has_redirection pieces = list_any is_redirection pieces
 
-abbrev pub has_word_of_shells : List (List ℕ) → Bool
-has_word_of_shells pieces = list_any is_of_shells pieces
+-- attributes that bars join, as in C
+abbrev pub joins_attributes : List ℕ → List ℕ → Bool
+joins_attributes word line = is_one_of (codes "attrset attron attroff") word && has_byte vertical_bar line
 
 -- several arguments as one, as `3x4` and `2-5`: a digit begins it, and it is no number and no attributes
 abbrev pub is_joined : List ℕ → Bool
@@ -45,7 +50,8 @@ abbrev pub marks_reason : List ℕ → List (List ℕ) → Bool → Option (List
 marks_reason line pieces many = if many && has_call pieces then Some (codes ": a line has one call")
     else (if has_byte semicolon line then Some (codes ": a line has one call, and no semicolon")
     else (if ends_with backslash line then Some (codes ": no line goes on in the next")
-    else None))
+    else (if has_redirection pieces then Some no_redirections
+    else None)))
 
 -- of a call with too many
 abbrev pub too_many_reason : List ℕ → Option (List ℕ)
@@ -62,15 +68,15 @@ comma_reason line = if has_byte comma line then Some no_commas else None
 
 -- by what separates the words
 abbrev pub separation_reason : List ℕ → List (List ℕ) → Bool → Option (List ℕ)
-separation_reason line pieces many = if has_word_of_shells pieces then Some (codes ": a script has no redirections or pipes")
-    else or_else (comma_reason line)
+separation_reason line pieces many = or_else (comma_reason line)
     (if not many && has_joined pieces then Some (codes ": single spaces separate arguments, and numbers have digits alone") else None)
 
 abbrev pub number_reason : List ℕ → List ℕ → List (List ℕ) → Bool → Option (List ℕ)
 number_reason word line pieces many = if begins_bracketed pieces then Some no_brackets
-    else (if takes_text word then comma_reason line
+    else (if takes_text word then (if begins_number pieces then comma_reason line else None)
+    else (if joins_attributes word line then Some one_sum
     else or_else (marks_reason line pieces many)
-    (or_else (if many then too_many_reason word else None) (separation_reason line pieces many)))
+    (or_else (if many then too_many_reason word else None) (separation_reason line pieces many))))
 
 -- what a call's arguments are
 abbrev pub signature_text : List ℕ → List ℕ

@@ -4,7 +4,8 @@ ghost use Rattle.std.specs.Prelude.{◌≡◌, ◌≤◌, IfSome, length, option
 ghost use Rattle.std.specs.List.{list_any};
 ghost use Rattle.std.specs.Str.{bytes_eq};
 ghost use Rattle.script.specs.Pieces.{pieces_of};
-ghost use Rattle.explain.specs.Advice.{advice_in, advice_on, names_in, table_advice};
+ghost use Rattle.explain.specs.Advice.{advice_in, advice_on, table_advice};
+ghost use Rattle.explain.specs.Names.{names_in};
 ghost use Rattle.explain.specs.steps.Tables.{letters_now, rows_now, rows_of};
 
 use crate::more_advice::more_advice;
@@ -166,7 +167,6 @@ const ADVICE: [(u8, &[Row]); 28] = [
         (KEYS, b"cbreak"),
         (ESCAPES, b"cr"),
         (MOUSE, b"click"),
-        (SCREEN, b"close"),
         (TEXTS, b"cout"),
         (ATTRIBUTES, b"chgat"),
         (CONTENTS, b"color_content"),

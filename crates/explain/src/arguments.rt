@@ -5,15 +5,16 @@ ghost use Rattle.script.specs.Pieces.{pieces_of, room_of};
 ghost use Rattle.script.specs.Readings.{arguments};
 ghost use Rattle.explain.specs.Faults.{IllFormed as Ill, find_ill_formed, find_stray, forms_of, has_form, is_stray};
 
-use crate::names::begins_comment;
+use crate::names::is_comment;
 use script::{Arguments, Form, LONGEST_LINE, MOST_ARGUMENTS, Word, next_argument, split_at_space};
 
-/// An argument without its form, and its column.
+/// An argument without its form, its column, and how many are wanted from it on.
 #[derive(Clone, Copy)]
 pub struct IllFormed<'a> {
     pub column: usize,
     pub form: Form,
     pub argument: &'a [u8],
+    pub left: usize,
 }
 
 /// The forms of a call's arguments, if the word is a call's.
@@ -56,7 +57,7 @@ pub fn find_ill_formed<'a>(
 ) -> Option<IllFormed<'a>>
     requires short { IfSome text (λ t. column + length t.now ≤ LONGEST_LINE + 2) }
     requires text { IfSome text (λ t. length t.now ≤ LONGEST_LINE) }
-    ensures ill { option_map (λ ill. record { column = ill.column; form = ill.form; argument = ill.argument.now }) result
+    ensures ill { option_map (λ ill. record { column = ill.column; form = ill.form; argument = ill.argument.now; left = ill.left }) result
         ≡ find_ill_formed column forms.now (arguments forms.now (pieces_of text.entry)) }
     ensures short { IfSome result (λ ill. length ill.argument.now ≤ LONGEST_LINE) }
 {
@@ -70,6 +71,7 @@ pub fn find_ill_formed<'a>(
                     column,
                     form: *form,
                     argument,
+                    left: forms.len(),
                 })
             }
         }
@@ -88,10 +90,7 @@ pub struct Stray<'a> {
 fn is_stray(argument: &[u8]) -> bool
     ensures { result ≡ is_stray argument.now }
 {
-    match argument.first() {
-        Some(first) => *first == b'#' || begins_comment(argument),
-        None => true,
-    }
+    argument.is_empty() || is_comment(argument)
 }
 
 /// The first stray argument.

@@ -1,19 +1,22 @@
 //! What a person reads about a faulty line: where its fault is, what is there, and what is wanted.
 
-ghost use Rattle.std.specs.Prelude.{◌≡◌, ◌≤◌, ◌+◌, ◌++◌, ◌<◌, codes, decimal, length, option_map, unwrap_or};
-ghost use Rattle.explain.specs.Advice.{call_advice, line_advice, said_of};
-ghost use Rattle.script.specs.Pieces.{pieces_of};
-ghost use Rattle.explain.specs.Faults.{IllFormed as Ill};
+ghost use Rattle.std.specs.Prelude.{◌≡◌, ◌≤◌, ◌+◌, ◌-◌, ◌++◌, ◌<◌, codes, decimal, length, option_map, unwrap_or};
+ghost use Rattle.script.specs.Pieces.{pieces_of, room_of};
+ghost use Rattle.explain.specs.Faults.{IllFormed as Ill, forms_of};
 ghost use Rattle.explain.specs.Numbers.{signature_text};
-ghost use Rattle.explain.specs.Explanations.{bad_byte_text, bad_line_text, count_text, explanation, finding, ill_formed_text, number_advice, number_text, quotation, stray_text, unknown_text};
+ghost use Rattle.explain.specs.Explanations.{bad_byte_text, bad_line_text, count_text, explanation, finding, ill_formed_text, no_call_text, number_advice, number_text, one_word, one_word_or, quotation, stray_text, unknown_text};
+ghost use Rattle.explain.specs.Reasons.{reason_after};
+ghost use Rattle.explain.specs.Suggestions.{call_advice, line_advice, said_of};
 
 use crate::arguments::{IllFormed, Stray, count, find_ill_formed, find_stray, forms_of};
+use crate::characters::bad_text_advice;
 use crate::column::{bad_byte, column_of, from_bad_byte};
 use crate::names::{after_dot, begins_comment, name_of};
+use crate::nearest::call_of_words;
 use crate::numbers::number_reason;
-use crate::reasons::{bad_text_advice, reason_after, requirement_of};
+use crate::reasons::{reason_after, requirement_of};
 use crate::signatures::names_of_arguments;
-use crate::suggestions::{said_of, said_of_line};
+use crate::suggestions::{begins_with_call, said_of, said_of_line};
 use arrayvec::ArrayVec;
 use cell::hex_digits;
 use script::{LONGEST_LINE, TextFault, Word, split_at_space};
@@ -52,13 +55,43 @@ fn append_count(text: &mut Finding, n: usize)
     );
 }
 
-/// Appends what a word wants in place of an argument.
-fn append_ill_formed(text: &mut Finding, word: &[u8], ill: IllFormed<'_>)
-    requires room { length text.old.items ≤ 64 }
-    requires word { length word.now ≤ LONGEST_LINE }
+/// Appends that the name of a call is one word, where two are.
+fn append_one_word(text: &mut Finding, call: &[u8])
+    requires room { length text.old.items ≤ 1280 }
+    requires call { length call.now ≤ 80 }
+    ensures text { text.new.items ≡ text.old.items ++ one_word call.now }
+    ensures short { length text.new.items < FINDING_ROOM }
+{
+    append(text, b": a call's name is one word: see ");
+    append(text, call);
+}
+
+/// Appends why an argument of those after a word lacks its form.
+#[tactic(auto, unfolding(crate::specs::Explanations::one_word_or))]
+fn append_reason(text: &mut Finding, word: &[u8], arguments: Option<&[u8]>, ill: IllFormed<'_>)
+    requires room { length text.old.items ≤ 1280 }
+    requires word { length word.now + room_of arguments ≤ LONGEST_LINE }
     requires argument { length ill.argument.now ≤ LONGEST_LINE }
-    ensures text { text.new.items ≡ text.old.items ++ ill_formed_text word.now (record
-        { column = ill.entry.column; form = ill.entry.form; argument = ill.entry.argument.now }) }
+    ensures text { text.new.items ≡ text.old.items
+        ++ one_word_or (reason_after word.now (length (forms_of word.now) - ill.entry.left) ill.entry.form ill.entry.argument.now) word.now (pieces_of arguments.entry) }
+    ensures short { length text.new.items < FINDING_ROOM }
+{
+    match call_of_words(word, arguments) {
+        Some(call) => append_one_word(text, call),
+        None => {
+            let place = forms_of(word).len().saturating_sub(ill.left);
+            append(text, reason_after(word, place, ill.form, ill.argument));
+        }
+    }
+}
+
+/// Appends what a word wants in place of an argument of those after it.
+fn append_ill_formed(text: &mut Finding, word: &[u8], arguments: Option<&[u8]>, ill: IllFormed<'_>)
+    requires room { length text.old.items ≤ 64 }
+    requires word { length word.now + room_of arguments ≤ LONGEST_LINE }
+    requires argument { length ill.argument.now ≤ LONGEST_LINE }
+    ensures text { text.new.items ≡ text.old.items ++ ill_formed_text word.now (pieces_of arguments.entry) (record
+        { column = ill.entry.column; form = ill.entry.form; argument = ill.entry.argument.now; left = ill.entry.left }) }
     ensures short { length text.new.items < FINDING_ROOM }
 {
     append(text, word);
@@ -66,10 +99,7 @@ fn append_ill_formed(text: &mut Finding, word: &[u8], ill: IllFormed<'_>)
     append(text, requirement_of(word, ill.form));
     append(text, b", not ");
     append_quoted(text, ill.argument);
-    append(
-        text,
-        reason_after(word, ill.column == word.len() + 2, ill.form, ill.argument),
-    );
+    append_reason(text, word, arguments, ill);
 }
 
 /// Appends what is said of a bad byte, which begins a text.
@@ -84,20 +114,23 @@ fn append_bad_byte(text: &mut Finding, byte: u8, rest: &[u8])
     append(text, bad_text_advice(byte, rest));
 }
 
-/// What is said where nothing else is.
-#[tactic(auto, unfolding(crate::specs::Advice::line_advice))]
-fn line_advice() -> &'static [u8]
-    ensures text { result.now ≡ line_advice }
+/// What is said where nothing else is, by the words after the first.
+#[tactic(auto, unfolding(crate::specs::Suggestions::line_advice))]
+fn line_advice(arguments: Option<&[u8]>) -> &'static [u8]
+    ensures text { result.now ≡ line_advice (pieces_of arguments.entry) }
     ensures short { length result.now ≤ 100 }
 {
+    if begins_with_call(arguments) {
+        return b"a line begins with the name of its call, and has nothing before it";
+    }
     b"a line is the name of a call and its arguments: addstr 0 hi writes hi; man curspan lists the calls"
 }
 
-/// Appends what to write for a word that is no call.
-fn append_said(text: &mut Finding, word: &[u8])
+/// Appends what to write for a word that is no call, or else what a line is, by the words after it.
+fn append_said(text: &mut Finding, word: &[u8], arguments: Option<&[u8]>)
     requires room { length text.old.items ≤ 602 }
     requires word { length word.now ≤ LONGEST_LINE }
-    ensures text { text.new.items ≡ text.old.items ++ unwrap_or (said_of word.now) line_advice }
+    ensures text { text.new.items ≡ text.old.items ++ unwrap_or (said_of word.now) (line_advice (pieces_of arguments.entry)) }
     ensures short { length text.new.items < FINDING_ROOM }
 {
     let name = name_of(after_dot(after_dot(after_dot(word))));
@@ -106,29 +139,45 @@ fn append_said(text: &mut Finding, word: &[u8])
             append(text, said.text);
             append(text, said.call);
         }
-        None => append(text, line_advice()),
+        None => append(text, line_advice(arguments)),
     }
 }
 
 /// Appends what is said of a word that is no call and the words after it, or else of the word alone.
+#[tactic(auto, unfolding(crate::specs::Explanations::one_word_or))]
 fn append_advice(text: &mut Finding, word: &[u8], arguments: Option<&[u8]>)
     requires room { length text.old.items ≤ 600 }
-    requires word { length word.now ≤ LONGEST_LINE }
-    ensures text { text.new.items ≡ text.old.items ++ call_advice word.now (pieces_of arguments.entry) }
+    requires word { length word.now + room_of arguments ≤ LONGEST_LINE }
+    ensures text { text.new.items ≡ text.old.items ++ one_word_or (codes ": " ++ call_advice word.now (pieces_of arguments.entry)) word.now (pieces_of arguments.entry) }
     ensures short { length text.new.items < FINDING_ROOM }
 {
+    if let Some(call) = call_of_words(word, arguments) {
+        return append_one_word(text, call);
+    }
     append(text, b": ");
     match said_of_line(word, arguments) {
         Some(said) => append(text, said),
-        None => append_said(text, word),
+        None => append_said(text, word, arguments),
     }
+}
+
+/// Appends a word that is no call, and what is said of it and of the words after it.
+fn append_no_call(text: &mut Finding, word: &[u8], arguments: Option<&[u8]>)
+    requires room { length text.old.items ≤ 64 }
+    requires word { length word.now + room_of arguments ≤ LONGEST_LINE }
+    ensures text { text.new.items ≡ text.old.items ++ no_call_text word.now (pieces_of arguments.entry) }
+    ensures short { length text.new.items < FINDING_ROOM }
+{
+    append(text, b"unknown call ");
+    append_quoted(text, word);
+    append_advice(text, word, arguments);
 }
 
 /// Appends what is said of a word that is no call, and of the words after it. It is empty where a line begins with a
 /// space.
 fn append_unknown(text: &mut Finding, word: &[u8], arguments: Option<&[u8]>)
     requires room { length text.old.items ≤ 64 }
-    requires word { length word.now ≤ LONGEST_LINE }
+    requires word { length word.now + room_of arguments ≤ LONGEST_LINE }
     ensures text { text.new.items ≡ text.old.items ++ unknown_text word.now (pieces_of arguments.entry) }
     ensures short { length text.new.items < FINDING_ROOM }
 {
@@ -138,9 +187,7 @@ fn append_unknown(text: &mut Finding, word: &[u8], arguments: Option<&[u8]>)
             b"the line begins with a space, and not with a call or #; an empty line has no spaces",
         );
     }
-    append(text, b"unknown call ");
-    append_quoted(text, word);
-    append_advice(text, word, arguments);
+    append_no_call(text, word, arguments);
 }
 
 /// Appends what is said of the number of a word's arguments.
@@ -185,6 +232,7 @@ fn append_signature(text: &mut Finding, word: &[u8])
 }
 
 /// Appends what is said after the number of a word's arguments, which may be too many.
+#[tactic(auto, unfolding(crate::specs::Explanations::one_word_or))]
 fn append_number_advice(text: &mut Finding, line: &[u8], many: bool, stray: Option<Stray<'_>>)
     requires room { length text.old.items ≤ 1024 }
     requires line { length line.now ≤ LONGEST_LINE }
@@ -195,6 +243,9 @@ fn append_number_advice(text: &mut Finding, line: &[u8], many: bool, stray: Opti
         return append(text, stray_text(stray.argument));
     }
     let (word, arguments) = split_at_space(line);
+    if let Some(call) = call_of_words(word, arguments) {
+        return append_one_word(text, call);
+    }
     match number_reason(word, line, arguments, many) {
         Some(said) => append(text, said),
         None => append_signature(text, word),
@@ -246,7 +297,7 @@ fn append_explanation(text: &mut Finding, fault: TextFault, line: &[u8])
         }
         TextFault::BadArgument => {
             if let Some(ill) = find_ill_formed(word.len() + 2, forms_of(word), arguments) {
-                append_ill_formed(text, word, ill);
+                append_ill_formed(text, word, arguments, ill);
             }
         }
     }

@@ -2,13 +2,14 @@
 //!
 //! - `advice`: names of curses, and words of other languages, that are no calls
 //! - `arguments`: the arguments of the line, and the first that lacks its form
+//! - `characters`: bytes that no line has, faulty texts, and what is no character
 //! - `column`: where the fault is
 //! - `everywhere`: the calls that every screen refuses
 //! - `findings`: the line on a fault
 //! - `laws`: the numerals that are printed are the limits
 //! - `more_advice`: further names, and parts of names
 //! - `names`: the name that a word begins with, and what begins a comment elsewhere
-//! - `nearest`: the call that a word was meant to be
+//! - `nearest`: the call that a word, or two, were meant to be
 //! - `numbers`: what is said of too many or too few arguments
 //! - `reasons`: what an argument has to be, and why it is not
 //! - `signatures`: what the arguments of each call are
@@ -17,6 +18,7 @@
 
 mod advice;
 mod arguments;
+mod characters;
 mod column;
 mod everywhere;
 mod findings;

@@ -3,7 +3,8 @@
 ghost use Rattle.std.specs.Prelude.{◌≡◌, ◌≤◌, IfSome, length, option_map};
 ghost use Rattle.std.specs.List.{list_any};
 ghost use Rattle.script.specs.Pieces.{pieces_of};
-ghost use Rattle.explain.specs.Advice.{advice_by_part, has_part, more_advice, part_in};
+ghost use Rattle.explain.specs.Advice.{advice_by_part, more_advice, part_in};
+ghost use Rattle.explain.specs.Names.{has_part};
 ghost use Rattle.explain.specs.steps.Tables.{rows_now};
 
 use crate::advice::{CALLS_ALONE, COLOURED, FORMATS, MENUS, PROGRAMS, REFRESHED, Row, look_up};
@@ -19,7 +20,7 @@ const CURSOR_SHOWN: &[u8] =
 
 /// Names that the table of `advice` has no room for.
 #[rattlefmt::skip]
-const MORE: [Row; 36] = [
+const MORE: [Row; 38] = [
     (CURSOR_SHOWN,
         b"cursor curs_set civis cnorm hide_cursor show_cursor hidecursor showcursor cursor_hide cursor_show \
         nocursor"),
@@ -31,6 +32,7 @@ const MORE: [Row; 36] = [
     (b"the eight colours can't be changed: see init_pair",
         b"init_color init_colour initcolor init_extended_color can_change_color"),
     (b"see delwin, del_panel", b"del remove"),
+    (b"see delwin, del_panel; the screen ends with the script", b"close"),
     (b"see scrl, scrollok", b"scroll"),
     (b"see addstr; --log belongs on the command line", b"log"),
     (b"the end of a here-document stands alone; the screen ends with the script", b"end eod here end_of_script"),
@@ -46,7 +48,8 @@ const MORE: [Row; 36] = [
     (b"a window is hidden with its panel: see hide_panel, show_panel", b"hidewin showwin hide_win show_win"),
     (b"a window keeps its size: see newwin, copywin", b"resizewin resize_win resize_window"),
     (BACKGROUNDS, b"bgset bgpair bkpair bkg"),
-    (b"see color_set, init_pair", b"op oc setfg setbg set_fg set_bg"),
+    (b"see color_set, init_pair", b"op oc setfg setbg set_fg set_bg set_colour set_colors set_colours"),
+    (b"see move, addstr", b"draw_text write_text print_text put_text show_text display_text"),
     (b"see getyx, getbegyx, getmaxyx", b"wherexy wherex getbeg getwinsize getxmaxy"),
     (b"see noutrefresh, update_panels, doupdate",
         b"updateall update_all updatewin update_win flip swap present blit commit"),

@@ -1,12 +1,14 @@
 //! The name that a word begins with, and the marks of other languages in it.
 
-ghost use Rattle.std.specs.Prelude.{◌≡◌, ◌≤◌, length};
-ghost use Rattle.std.specs.List.{list_any};
+ghost use Rattle.std.specs.Prelude.{◌≡◌, ◌≤◌, drop, length, take};
+ghost use Rattle.std.specs.Char.{is_ascii_alphabetic, is_ascii_hexdigit};
+ghost use Rattle.std.specs.List.{list_all, list_any};
 ghost use Rattle.script.specs.Pieces.{pieces_of};
-ghost use Rattle.explain.specs.Advice.{after_dot, after_name, begins_comment, begins_with_digit, ends_with, gives_value, has_part, has_value, is_name_byte, is_quoted, name_in};
+ghost use Rattle.explain.specs.Names.{after_dot, after_name, are_digits, are_two_digits, begins_comment, begins_with_digit, ends_with, gives_value, has_byte, has_part, has_value, is_comment, is_marked, is_name_byte, is_quoted, is_redirection, name_in, name_of_argument};
 
+use crate::advice::is_among;
 use arrayvec::ArrayVec;
-use script::{LONGEST_LINE, split_at_space};
+use script::{LONGEST_LINE, has_digits_alone, split_at_space};
 
 /// Room for the name of a word.
 pub type Name = ArrayVec<u8, LONGEST_LINE>;
@@ -17,7 +19,37 @@ pub fn begins_comment(text: &[u8]) -> bool
 {
     text.strip_prefix(b"//").is_some()
         || text.strip_prefix(b"/*").is_some()
+        || text.strip_prefix(b"<!--").is_some()
         || text == b"--".as_slice()
+}
+
+/// Whether a text is a number or a colour of other languages, as `#1` and `#f00`.
+pub fn is_marked(text: &[u8]) -> bool
+    ensures { result ≡ is_marked text.now }
+{
+    match text.strip_prefix(b"#") {
+        Some(digits) => 1 < text.len() && are_hexadecimal(digits),
+        None => false,
+    }
+}
+
+/// Whether a text would begin a comment, here or in other languages.
+pub fn is_comment(text: &[u8]) -> bool
+    ensures { result ≡ is_comment text.now }
+{
+    text.strip_prefix(b"#").is_some() && !is_marked(text) || begins_comment(text)
+}
+
+/// Whether a word is one of shells: a redirection, a pipe, or what joins commands.
+pub fn is_redirection(text: &[u8]) -> bool
+    ensures { result ≡ is_redirection text.now }
+{
+    text.strip_prefix(b">").is_some()
+        || text.strip_prefix(b"<").is_some() && !has_byte(text, b'>')
+        || text.strip_prefix(b"|").is_some()
+        || text.strip_prefix(b"&>").is_some()
+        || is_among(text, b"& &&")
+        || begins_with_digit(text) && has_byte(text, b'>')
 }
 
 /// Whether a text begins with a digit.
@@ -150,4 +182,61 @@ pub fn after_dot(word: &[u8]) -> &[u8]
         Some(name) => name,
         None => word,
     }
+}
+
+/// Whether a text has a byte.
+pub fn has_byte(text: &[u8], byte: u8) -> bool
+    ensures { result ≡ has_byte byte text.now }
+{
+    text.iter().any(|b| *b == byte)
+}
+
+/// Whether a text has digits, and nothing else.
+pub fn are_digits(text: &[u8]) -> bool
+    ensures { result ≡ are_digits text.now }
+{
+    has_digits_alone(text) && !text.is_empty()
+}
+
+/// Whether all bytes of a text are hexadecimal digits.
+pub fn are_hexadecimal(text: &[u8]) -> bool
+    ensures { result ≡ list_all is_ascii_hexdigit text.now }
+{
+    text.iter().all(|b| b.is_ascii_hexdigit())
+}
+
+/// Whether a text is two hexadecimal digits, in lower case or upper case.
+pub fn are_two_digits(text: &[u8]) -> bool
+    ensures { result ≡ are_two_digits text.now }
+{
+    text.len() == 2 && are_hexadecimal(text)
+}
+
+/// Whether a text begins with a letter.
+pub fn begins_with_letter(text: &[u8]) -> bool
+    ensures { result ≡ list_any is_ascii_alphabetic (take 1 text.now) }
+{
+    match text.first() {
+        Some(first) => first.is_ascii_alphabetic(),
+        None => false,
+    }
+}
+
+/// What is after the first byte of a text.
+pub fn after_first(text: &[u8]) -> &[u8]
+    ensures { result.now ≡ drop 1 text.now }
+{
+    match text.split_first() {
+        Some((_, rest)) => rest,
+        None => text,
+    }
+}
+
+/// The name in an argument, in lower case.
+pub fn name_of_argument(argument: &[u8]) -> Name
+    requires { length argument.now ≤ LONGEST_LINE }
+    ensures name { result.items ≡ name_of_argument argument.now }
+    ensures short { length result.items ≤ length argument.now }
+{
+    name_of(after_dot(argument))
 }

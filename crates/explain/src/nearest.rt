@@ -1,12 +1,14 @@
 //! The call, or another name, that a word was meant to be, where one letter of it is wrong, or two changed places, or its
 //! case, or what else is no letter.
 
-ghost use Rattle.std.specs.Prelude.{◌≡◌, ◌≤◌, ◌<◌, ◌∷◌, [], IfSome, MatchOption, length, option_map};
+ghost use Rattle.std.specs.Prelude.{◌≡◌, ◌≤◌, ◌<◌, ◌+◌, ◌++◌, ◌∷◌, [], IfSome, MatchOption, length, option_map};
 ghost use Rattle.std.specs.Str.{bytes_eq};
-ghost use Rattle.script.specs.Pieces.{pieces_of};
-ghost use Rattle.explain.specs.Nearest.{is_first_wrong, is_near, letters_of, near_call, nearest, nearest_of, nearest_other, same_call, same_of};
+ghost use Rattle.script.specs.Pieces.{pieces_of, room_of};
+ghost use Rattle.explain.specs.Nearest.{call_of_words, is_first_wrong, is_near, letters_of, near_call, nearest, nearest_of, nearest_other, same_call, same_of};
 
-use script::split_at_space;
+use crate::names::{Name, begins_with_letter};
+use script::{LONGEST_LINE, split_at_space};
+use streams::append;
 
 // Written by tools/calls from calls.table: names
 
@@ -143,6 +145,34 @@ pub fn nearest(word: &[u8]) -> Option<&'static [u8]>
     match same_call(word) {
         Some(call) => Some(call),
         None => Some(first),
+    }
+}
+
+/// The call with the letters of two words together.
+fn joined_call(word: &[u8], other: &[u8]) -> Option<&'static [u8]>
+    requires { length word.now + length other.now ≤ LONGEST_LINE }
+    ensures name { option_map (λ name. name.now) result ≡ same_call (word.now ++ other.now) }
+    ensures short { IfSome result (λ name. length name.now ≤ 80) }
+{
+    let mut name = Name::new();
+    append(&mut name, word);
+    append(&mut name, other);
+    same_call(name.as_slice())
+}
+
+/// The call whose name a word and the next one are, in either order, where each begins with a letter.
+pub fn call_of_words(word: &[u8], text: Option<&[u8]>) -> Option<&'static [u8]>
+    requires { length word.now + room_of text ≤ LONGEST_LINE }
+    ensures name { option_map (λ name. name.now) result ≡ call_of_words word.now (pieces_of text.entry) }
+    ensures short { IfSome result (λ name. length name.now ≤ 80) }
+{
+    let (other, _) = split_at_space(text?);
+    if !(begins_with_letter(word) && begins_with_letter(other)) {
+        return None;
+    }
+    match joined_call(word, other) {
+        Some(call) => Some(call),
+        None => joined_call(other, word),
     }
 }
 

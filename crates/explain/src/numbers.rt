@@ -2,13 +2,13 @@
 
 ghost use Rattle.std.specs.Prelude.{◌≡◌, ◌≤◌, ◌+◌, IfSome, length, option_map};
 ghost use Rattle.script.specs.Pieces.{pieces_of, room_of};
-ghost use Rattle.explain.specs.Numbers.{begins_bracketed, begins_call, comma_reason, has_call, has_joined, has_word_of_shells, is_joined, is_of_shells, marks_reason, number_reason, separation_reason, takes_text, too_many_reason};
+ghost use Rattle.explain.specs.Numbers.{begins_bracketed, begins_call, begins_number, comma_reason, has_call, has_joined, has_redirection, is_joined, joins_attributes, marks_reason, number_reason, separation_reason, takes_text, too_many_reason};
 
 use crate::advice::is_among;
-use crate::names::{begins_with_digit, ends_with, name_of};
-use crate::reasons::{
-    are_digits, are_two_digits, has_byte, is_bracketed, no_brackets, no_commas, one_sum,
+use crate::names::{
+    are_digits, are_two_digits, begins_with_digit, ends_with, has_byte, is_redirection, name_of,
 };
+use crate::reasons::{is_bracketed, no_brackets, no_commas, no_redirections, one_sum};
 use script::{LONGEST_LINE, Word, split_at_space};
 
 /// Whether the first word of a text begins with a bracket, and goes on.
@@ -17,7 +17,16 @@ fn begins_bracketed(text: Option<&[u8]>) -> bool
 {
     let Some(text) = text else { return false };
     let (first, _) = split_at_space(text);
-    is_bracketed(first) && first.len() != 1
+    is_bracketed(first) && !(first.len() == 1 || is_redirection(first))
+}
+
+/// Whether the first word of a text begins with a digit.
+fn begins_number(text: Option<&[u8]>) -> bool
+    ensures { result ≡ begins_number (pieces_of text.entry) }
+{
+    let Some(text) = text else { return false };
+    let (first, _) = split_at_space(text);
+    begins_with_digit(first)
 }
 
 /// Whether a word begins with the name of a call, or with one that curses has.
@@ -46,23 +55,23 @@ fn has_call(text: Option<&[u8]>) -> bool
     has_call(rest)
 }
 
-/// Whether a word is one of shells: a redirection, a pipe, or what joins commands.
-fn is_of_shells(piece: &[u8]) -> bool
-    ensures { result ≡ is_of_shells piece.now }
-{
-    is_among(piece, b"> >> < << | & && || 2>&1 >&2")
-}
-
-/// Whether some of the words in a text is.
-fn has_word_of_shells(text: Option<&[u8]>) -> bool
-    ensures { result ≡ has_word_of_shells (pieces_of text.entry) }
+/// Whether some of the words in a text are of shells.
+fn has_redirection(text: Option<&[u8]>) -> bool
+    ensures { result ≡ has_redirection (pieces_of text.entry) }
 {
     let Some(text) = text else { return false };
     let (first, rest) = split_at_space(text);
-    if is_of_shells(first) {
+    if is_redirection(first) {
         return true;
     }
-    has_word_of_shells(rest)
+    has_redirection(rest)
+}
+
+/// Whether a line joins attributes by bars, as in C.
+fn joins_attributes(word: &[u8], line: &[u8]) -> bool
+    ensures { result ≡ joins_attributes word.now line.now }
+{
+    is_among(word, b"attrset attron attroff") && has_byte(line, b'|')
 }
 
 /// Whether a word is several arguments as one.
@@ -106,6 +115,9 @@ fn marks_reason(line: &[u8], text: Option<&[u8]>, many: bool) -> Option<&'static
     if ends_with(line, b'\\') {
         return Some(b": no line goes on in the next");
     }
+    if has_redirection(text) {
+        return Some(no_redirections());
+    }
     None
 }
 
@@ -148,9 +160,6 @@ fn separation_reason(line: &[u8], text: Option<&[u8]>, many: bool) -> Option<&'s
     ensures text { option_map (λ text. text.now) result ≡ separation_reason line.now (pieces_of text.entry) many }
     ensures short { IfSome result (λ text. length text.now ≤ 80) }
 {
-    if has_word_of_shells(text) {
-        return Some(b": a script has no redirections or pipes");
-    }
     if let Some(said) = comma_reason(line) {
         return Some(said);
     }
@@ -175,7 +184,14 @@ pub fn number_reason(
         return Some(no_brackets());
     }
     if takes_text(word) {
-        return comma_reason(line);
+        return if begins_number(text) {
+            comma_reason(line)
+        } else {
+            None
+        };
+    }
+    if joins_attributes(word, line) {
+        return Some(one_sum());
     }
     if let Some(said) = marks_reason(line, text, many) {
         return Some(said);

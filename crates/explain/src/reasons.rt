@@ -1,53 +1,18 @@
-//! What an argument of a form has to be, and why a byte or an argument is faulty.
+//! What an argument of a form has to be, and why an argument is faulty.
 
-ghost use Rattle.std.specs.Prelude.{◌≡◌, ◌≤◌, ◌==◌, ◌&&◌, IfSome, drop, length, option_map, take};
-ghost use Rattle.std.specs.Char.{is_ascii_alphabetic, is_ascii_alphanumeric, is_ascii_hexdigit, is_ascii_uppercase};
-ghost use Rattle.std.specs.List.{list_all, list_any};
-ghost use Rattle.explain.specs.Reasons.{after_bad_escape, are_digits, are_two_digits, attributes_reason, bad_text_advice, begins_character, begins_escape, begins_escaped, begins_sequence, byte_advice, character_reason, digits_reason, end_reason, escape_reason, first_mark_reason, flag_reason, has_byte, is_attribute, is_bracketed, is_colour, is_default, later_reason, longer_reason, mark_reason, minus_reason, name_of_argument, name_reason, no_brackets, no_commas, no_digits_reason, one_sum, pair_reason, reason, reason_after, reason_of_call, requirement, requirement_after, requirement_of, signed_reason, size_reason, text_reason, unless_missing, unsigned_or_none_reason, unsigned_reason, words_reason};
+ghost use Rattle.std.specs.Prelude.{◌≡◌, ◌≤◌, IfSome, length, option_map};
+ghost use Rattle.std.specs.List.{list_any};
+ghost use Rattle.std.specs.Char.{is_ascii_uppercase};
+ghost use Rattle.explain.specs.Names.{name_of_argument};
+ghost use Rattle.explain.specs.Reasons.{attributes_reason, copy_reason, digits_reason, first_mark_reason, first_reason, flag_reason, has_colour, is_attribute, is_bracketed, is_colour, is_default, is_list, is_text_first, later_reason, mark_reason, minus_reason, name_reason, no_brackets, no_commas, no_digits_reason, no_redirections, numbers_in_digits, one_sum, pair_reason, reason, reason_after, reason_of_call, requirement, requirement_after, requirement_of, second_reason, signed_reason, size_reason, unless_missing, unsigned_or_none_reason, unsigned_reason};
 
 use crate::advice::is_among;
-use crate::arguments::has_form;
+use crate::characters::{character_reason, text_reason};
 use crate::names::{
-    Name, after_dot, begins_comment, begins_with_digit, ends_with, has_part, is_quoted, name_of,
+    are_digits, are_two_digits, begins_with_digit, begins_with_letter, ends_with, has_byte,
+    has_part, is_comment, is_marked, is_quoted, is_redirection, name_of_argument,
 };
-use script::{Form, LONGEST_LINE, has_digits_alone};
-
-/// What is said of a bad byte: a carriage return, a tab, a backspace, an escape, a 0, or another.
-fn byte_advice(byte: u8) -> &'static [u8]
-    ensures text { result.now ≡ byte_advice byte }
-    ensures short { length result.now ≤ 80 }
-{
-    match byte {
-        b'\r' => b"a line ends with a newline alone, and a text has it as \\r",
-        b'\t' => {
-            b"no line has tabs: a call begins it, one space separates words, a text has spaces"
-        },
-        8 => b"a text has it as a backslash and b",
-        27 => b"a text has no control sequences: see attrset, color_set, move",
-        0 => b"a character is one byte, and not two as in UTF-16",
-        _ => b"characters are those of ASCII, from the space to the tilde",
-    }
-}
-
-/// What is said of a bad byte that begins a text: of lines, spaces, quotes and dashes in UTF-8, or of the byte.
-pub fn bad_text_advice(byte: u8, rest: &[u8]) -> &'static [u8]
-    ensures text { result.now ≡ bad_text_advice byte rest.now }
-    ensures short { length result.now ≤ 80 }
-{
-    if rest.strip_prefix(b"\xe2\x94").is_some()
-        || rest.strip_prefix(b"\xe2\x95").is_some()
-        || rest.strip_prefix(b"\xe2\x96").is_some()
-    {
-        return b"characters are those of ASCII: lines are drawn by + - and |";
-    }
-    if rest.strip_prefix(b"\xc2\xa0").is_some() || rest.strip_prefix(b"\xe2\x80\x8b").is_some() {
-        return b"this space is none of ASCII: write a plain one, or none";
-    }
-    if rest.strip_prefix(b"\xe2\x80").is_some() || rest.strip_prefix(b"\xe2\x88\x92").is_some() {
-        return b"write such marks in ASCII, as \" ' - and ...";
-    }
-    byte_advice(byte)
-}
+use script::{Form, LONGEST_LINE};
 
 /// What an argument of a form has to be.
 fn requirement(form: Form) -> &'static [u8]
@@ -106,20 +71,6 @@ fn digits_reason(said: &'static [u8], digits: &[u8]) -> &'static [u8]
     }
 }
 
-/// Whether a text has digits, and nothing else.
-pub fn are_digits(text: &[u8]) -> bool
-    ensures { result ≡ are_digits text.now }
-{
-    has_digits_alone(text) && !text.is_empty()
-}
-
-/// Whether a text has a byte.
-pub fn has_byte(text: &[u8], byte: u8) -> bool
-    ensures { result ≡ has_byte byte text.now }
-{
-    text.iter().any(|b| *b == byte)
-}
-
 /// Whether a text begins with a bracket.
 pub fn is_bracketed(text: &[u8]) -> bool
     ensures { result ≡ is_bracketed text.now }
@@ -146,6 +97,14 @@ pub fn no_commas() -> &'static [u8]
     b": spaces separate arguments, and no commas"
 }
 
+/// What is said of what shells have after arguments.
+pub fn no_redirections() -> &'static [u8]
+    ensures text { result.now ≡ no_redirections }
+    ensures short { length result.now ≤ 80 }
+{
+    b": a script has no redirections or pipes"
+}
+
 /// What is said of an argument that begins with a mark of other languages.
 fn first_mark_reason(argument: &[u8]) -> Option<&'static [u8]>
     ensures text { option_map (λ text. text.now) result ≡ first_mark_reason argument.now }
@@ -154,14 +113,17 @@ fn first_mark_reason(argument: &[u8]) -> Option<&'static [u8]>
     if is_quoted(argument) {
         return Some(b": it has no quotes");
     }
+    if is_comment(argument) {
+        return Some(b": a comment has a line of its own");
+    }
+    if is_redirection(argument) {
+        return Some(no_redirections());
+    }
     if is_bracketed(argument) {
         return Some(no_brackets());
     }
     if argument.strip_prefix(b"$").is_some() || argument.strip_prefix(b"`").is_some() {
         return Some(b": a script has no variables, and runs no programs");
-    }
-    if argument == b"#".as_slice() || begins_comment(argument) {
-        return Some(b": a comment has a line of its own");
     }
     None
 }
@@ -181,6 +143,9 @@ fn mark_reason(said: &'static [u8], argument: &[u8]) -> &'static [u8]
     if has_byte(argument, b';') {
         return b": a line has no semicolon";
     }
+    if ends_with(argument, b'\\') {
+        return b": no line goes on in the next, and no argument ends in a backslash";
+    }
     if has_byte(argument, b'\\') {
         return b": only texts and characters have escapes, and a call ends with its line";
     }
@@ -188,15 +153,6 @@ fn mark_reason(said: &'static [u8], argument: &[u8]) -> &'static [u8]
         return b": arguments have no names, and a script no variables: they come in their order";
     }
     said
-}
-
-/// The name in an argument, in lower case.
-fn name_of_argument(argument: &[u8]) -> Name
-    requires { length argument.now ≤ LONGEST_LINE }
-    ensures name { result.items ≡ name_of_argument argument.now }
-    ensures short { length result.items ≤ length argument.now }
-{
-    name_of(after_dot(argument))
 }
 
 /// Whether a name stands for the terminal's own colours, or for no attributes.
@@ -226,6 +182,21 @@ fn is_attribute(name: &[u8]) -> bool
         || name.strip_prefix(b"a_").is_some()
 }
 
+/// Whether a colour is in place of a number, by its name or its mark.
+fn has_colour(name: &[u8], argument: &[u8]) -> bool
+    requires { name.now ≡ name_of_argument argument.now }
+    ensures { result ≡ has_colour argument.now }
+{
+    is_colour(name) || is_marked(argument) && 4 <= argument.len()
+}
+
+/// Whether several arguments are one: a comma is in it, and not at its end.
+fn is_list(argument: &[u8]) -> bool
+    ensures { result ≡ is_list argument.now }
+{
+    has_byte(argument, b',') && !ends_with(argument, b',')
+}
+
 /// What is said of a size of the screen after a word.
 fn size_reason(word: &[u8]) -> &'static [u8]
     ensures text { result.now ≡ size_reason word.now }
@@ -238,49 +209,89 @@ fn size_reason(word: &[u8]) -> &'static [u8]
     }
 }
 
-/// What is said of a word with no digits, as the first argument after a word or as another.
-fn no_digits_reason(word: &[u8], first: bool) -> &'static [u8]
-    ensures text { result.now ≡ no_digits_reason word.now first }
+/// What numbers are.
+fn numbers_in_digits() -> &'static [u8]
+    ensures text { result.now ≡ numbers_in_digits }
+    ensures short { length result.now ≤ 80 }
+{
+    b": numbers are in digits; a script has no variables, and getmaxyx answers a size"
+}
+
+/// What is said of a word with no digits as the first argument: the number of a window, a pad or a panel comes first, but
+/// for calls that take none of them.
+fn first_reason(word: &[u8]) -> &'static [u8]
+    ensures text { result.now ≡ first_reason word.now }
+    ensures short { length result.now ≤ 80 }
+{
+    if is_among(word, b"newwin newpad") {
+        b": lines and columns come first, in digits: no window or variable; see getmaxyx"
+    } else if is_among(word, b"subpad pnoutrefresh") {
+        b": a pad's number comes first, from 1 as made; stdscr is no pad"
+    } else if is_among(word, b"delwin mvwin mvderwin getparyx new_panel") {
+        b": a window's number comes first, from 1 as made, and not 0, which is stdscr"
+    } else if has_part(word, b"panel") {
+        b": a panel's number comes first, from 1 as made; stdscr is in no panel"
+    } else {
+        b": a window's number comes first, from 1 as made; stdscr is 0"
+    }
+}
+
+/// What is said of one as the second argument, which is a window after some words.
+fn second_reason(word: &[u8]) -> &'static [u8]
+    ensures text { result.now ≡ second_reason word.now }
+    ensures short { length result.now ≤ 80 }
+{
+    if word == b"replace_panel".as_slice() {
+        b": the window is a number too, from 1 as made, and not 0, which is stdscr"
+    } else if is_among(word, b"overlay overwrite copywin") {
+        b": the second window is a number too, from 1 as made; stdscr is 0"
+    } else if word == b"scrl".as_slice() {
+        b": it is how many lines go up, or down with a minus"
+    } else {
+        numbers_in_digits()
+    }
+}
+
+/// What is said of one after so many others: of `init_pair` what the pair is, and what its colours are.
+fn no_digits_reason(word: &[u8], place: usize) -> &'static [u8]
+    ensures text { result.now ≡ no_digits_reason word.now place }
     ensures short { length result.now ≤ 80 }
 {
     if word == b"init_pair".as_slice() {
-        if first {
+        if place == 0 {
             b": the pair comes first, as a number, and then its two colours"
         } else {
             b": 0 black, 1 red, 2 green, 3 yellow, 4 blue, 5 magenta, 6 cyan, 7 white"
         }
-    } else if word == b"scrl".as_slice() && !first {
-        b": it is how many lines go up, or down with a minus"
-    } else if first && !is_among(word, b"newwin newpad") {
-        b": a window's or a panel's number comes first, from 1 as made; stdscr is 0"
+    } else if place == 0 {
+        first_reason(word)
+    } else if place == 1 {
+        second_reason(word)
     } else {
-        b": numbers are in digits; a script has no variables, and getmaxyx answers a size"
+        numbers_in_digits()
     }
 }
 
 /// What is said of an argument that may stand for a number elsewhere.
-fn name_reason(word: &[u8], first: bool, argument: &[u8]) -> &'static [u8]
+fn name_reason(word: &[u8], place: usize, argument: &[u8]) -> &'static [u8]
     requires { length argument.now ≤ LONGEST_LINE }
-    ensures text { result.now ≡ name_reason word.now first argument.now }
+    ensures text { result.now ≡ name_reason word.now place argument.now }
     ensures short { length result.now ≤ 80 }
 {
     let name = name_of_argument(argument);
-    if name.as_slice() == b"stdscr".as_slice() {
-        return b": the standard screen is 0";
-    }
     if is_among(argument, b"O o l I") {
         return b": it is a letter: write 0 in place of O, and 1 in place of l or I";
     }
-    if is_among(name.as_slice(), b"none null nil") {
+    if name.as_slice() == b"none".as_slice() {
         return b": only panel_above and panel_below take \"none\"";
     }
     if argument.strip_prefix(b"0x").is_some() || argument.strip_prefix(b"0X").is_some() {
         return b": a number is decimal";
     }
-    if begins_with_digit(argument) {
+    if begins_with_digit(argument) || is_marked(argument) && word != b"init_pair".as_slice() {
         return b": a number has digits alone";
     }
-    no_digits_reason(word, first)
+    no_digits_reason(word, place)
 }
 
 /// Why what is after a minus makes no number without a sign.
@@ -296,9 +307,9 @@ fn minus_reason(rest: &[u8]) -> &'static [u8]
 }
 
 /// Why an argument is no number without a sign.
-fn unsigned_reason(word: &[u8], first: bool, argument: &[u8]) -> &'static [u8]
+fn unsigned_reason(word: &[u8], place: usize, argument: &[u8]) -> &'static [u8]
     requires { length argument.now ≤ LONGEST_LINE }
-    ensures text { result.now ≡ unsigned_reason word.now first argument.now }
+    ensures text { result.now ≡ unsigned_reason word.now place argument.now }
     ensures short { length result.now ≤ 80 }
 {
     if are_digits(argument) {
@@ -313,25 +324,25 @@ fn unsigned_reason(word: &[u8], first: bool, argument: &[u8]) -> &'static [u8]
     if has_part(argument, b"LINES") || has_part(argument, b"COLS") {
         return size_reason(word);
     }
-    mark_reason(name_reason(word, first, argument), argument)
+    mark_reason(name_reason(word, place, argument), argument)
 }
 
 /// Why it is neither that nor `none`.
-fn unsigned_or_none_reason(word: &[u8], first: bool, argument: &[u8]) -> &'static [u8]
+fn unsigned_or_none_reason(word: &[u8], place: usize, argument: &[u8]) -> &'static [u8]
     requires { length argument.now ≤ LONGEST_LINE }
-    ensures text { result.now ≡ unsigned_or_none_reason word.now first argument.now }
+    ensures text { result.now ≡ unsigned_or_none_reason word.now place argument.now }
     ensures short { length result.now ≤ 80 }
 {
     if is_among(argument, b"None NONE NULL null nil no - -1") {
         return b": write none";
     }
-    unsigned_reason(word, first, argument)
+    unsigned_reason(word, place, argument)
 }
 
 /// Why it is no number with a minus or without.
-fn signed_reason(word: &[u8], first: bool, argument: &[u8]) -> &'static [u8]
+fn signed_reason(word: &[u8], place: usize, argument: &[u8]) -> &'static [u8]
     requires { length argument.now ≤ LONGEST_LINE }
-    ensures text { result.now ≡ signed_reason word.now first argument.now }
+    ensures text { result.now ≡ signed_reason word.now place argument.now }
     ensures short { length result.now ≤ 80 }
 {
     if argument == b"-0".as_slice() {
@@ -340,22 +351,8 @@ fn signed_reason(word: &[u8], first: bool, argument: &[u8]) -> &'static [u8]
     match argument.strip_prefix(b"-") {
         Some(digits) if are_digits(digits) => digits_reason(b": it is too small", digits),
         Some(_) => b": it has digits alone after a minus",
-        None => unsigned_reason(word, first, argument),
+        None => unsigned_reason(word, place, argument),
     }
-}
-
-/// Whether all bytes of a text are hexadecimal digits.
-fn are_hexadecimal(text: &[u8]) -> bool
-    ensures { result ≡ list_all is_ascii_hexdigit text.now }
-{
-    text.iter().all(|b| b.is_ascii_hexdigit())
-}
-
-/// Whether a text is two hexadecimal digits, in lower case or upper case.
-pub fn are_two_digits(text: &[u8]) -> bool
-    ensures { result ≡ are_two_digits text.now }
-{
-    text.len() == 2 && are_hexadecimal(text)
 }
 
 /// Whether a text has a letter in upper case.
@@ -386,7 +383,7 @@ fn attributes_reason(argument: &[u8]) -> &'static [u8]
         b": a colour is set by color_set"
     } else if argument.strip_prefix(b"0x").is_some() || argument.strip_prefix(b"0X").is_some() {
         b": it has no 0x before its two digits"
-    } else if has_byte(argument, b',') && !ends_with(argument, b',') {
+    } else if is_list(argument) {
         one_sum()
     } else if !are_two_digits(argument) {
         mark_reason(
@@ -400,9 +397,21 @@ fn attributes_reason(argument: &[u8]) -> &'static [u8]
     }
 }
 
+/// What is said of a flag after a word: the last of `copywin` says how it copies.
+fn copy_reason(word: &[u8]) -> &'static [u8]
+    ensures text { result.now ≡ copy_reason word.now }
+    ensures short { length result.now ≤ 80 }
+{
+    if word == b"copywin".as_slice() {
+        b": on is as by overlay, and off as by overwrite"
+    } else {
+        b""
+    }
+}
+
 /// Why it is neither `on` nor `off`.
-fn flag_reason(argument: &[u8]) -> &'static [u8]
-    ensures text { result.now ≡ flag_reason argument.now }
+fn flag_reason(word: &[u8], argument: &[u8]) -> &'static [u8]
+    ensures text { result.now ≡ flag_reason word.now argument.now }
     ensures short { length result.now ≤ 80 }
 {
     if is_among(
@@ -416,199 +425,7 @@ fn flag_reason(argument: &[u8]) -> &'static [u8]
     ) {
         b": write off"
     } else {
-        mark_reason(b"", argument)
-    }
-}
-
-/// Whether a text begins with an escape: with two bytes that are a text, or with four.
-fn begins_escape(text: &[u8]) -> bool
-    ensures { result ≡ begins_escape text.now }
-{
-    has_form(Form::Text, &text[..text.len().min(2)])
-        || has_form(Form::Text, &text[..text.len().min(4)])
-}
-
-/// What is after the first backslash of a text that begins no escape.
-fn after_bad_escape(text: &[u8]) -> &[u8]
-    ensures { result.now ≡ after_bad_escape text.now }
-{
-    let mut left = text;
-    while let Some((first, rest)) = left.split_first() {
-        if *first != b'\\' {
-            left = rest;
-        } else if begins_escape(left) && !rest.is_empty() {
-            left = &rest[1..];
-        } else {
-            return rest;
-        }
-    }
-    left
-}
-
-/// Whether a text begins with a letter.
-pub fn begins_with_letter(text: &[u8]) -> bool
-    ensures { result ≡ list_any is_ascii_alphabetic (take 1 text.now) }
-{
-    match text.first() {
-        Some(first) => first.is_ascii_alphabetic(),
-        None => false,
-    }
-}
-
-/// What is after the first byte of a text.
-fn after_first(text: &[u8]) -> &[u8]
-    ensures { result.now ≡ drop 1 text.now }
-{
-    match text.split_first() {
-        Some((_, rest)) => rest,
-        None => text,
-    }
-}
-
-/// Whether what is after a backslash is an `e` that begins a control sequence.
-fn begins_escaped(rest: &[u8]) -> bool
-    ensures { result ≡ begins_escaped rest.now }
-{
-    (rest.strip_prefix(b"e").is_some() || rest.strip_prefix(b"E").is_some())
-        && !begins_with_letter(after_first(rest))
-}
-
-/// Whether what is after a backslash begins a control sequence in other languages.
-fn begins_sequence(rest: &[u8]) -> bool
-    ensures { result ≡ begins_sequence rest.now }
-{
-    begins_escaped(rest)
-        || rest.strip_prefix(b"033").is_some()
-        || rest.strip_prefix(b"x1b").is_some()
-        || rest.strip_prefix(b"x1B").is_some()
-        || rest.strip_prefix(b"u001b").is_some()
-        || rest.strip_prefix(b"u001B").is_some()
-}
-
-/// Whether a text begins with four hexadecimal digits.
-fn begins_with_number(text: &[u8]) -> bool
-    ensures { result ≡ (length (take 4 text.now) == 4 && list_all is_ascii_hexdigit (take 4 text.now)) }
-{
-    4 <= text.len() && are_hexadecimal(&text[..4])
-}
-
-/// Whether what is after a backslash begins a character by its number.
-fn begins_character(rest: &[u8]) -> bool
-    ensures { result ≡ begins_character rest.now }
-{
-    let number = after_first(rest);
-    (rest.strip_prefix(b"u").is_some() || rest.strip_prefix(b"U").is_some())
-        && (number.strip_prefix(b"{").is_some() || begins_with_number(number))
-}
-
-/// Whether a text begins with a letter or a digit.
-fn begins_with_letter_or_digit(text: &[u8]) -> bool
-    ensures { result ≡ list_any is_ascii_alphanumeric (take 1 text.now) }
-{
-    match text.first() {
-        Some(first) => first.is_ascii_alphanumeric(),
-        None => false,
-    }
-}
-
-/// What is said of a text with a backslash that begins no escape.
-fn text_reason(text: &[u8]) -> &'static [u8]
-    ensures text { result.now ≡ text_reason text.now }
-    ensures short { length result.now ≤ 80 }
-{
-    escape_reason(after_bad_escape(text))
-}
-
-/// What is said of a backslash that begins no escape, by what is after it.
-fn escape_reason(rest: &[u8]) -> &'static [u8]
-    ensures text { result.now ≡ escape_reason rest.now }
-    ensures short { length result.now ≤ 80 }
-{
-    if rest.strip_prefix(b"t").is_some() {
-        b": a tab is written as spaces, a backslash itself as two"
-    } else if begins_sequence(rest) {
-        b": it has no control sequences: see attrset, color_set, move"
-    } else if begins_character(rest) {
-        b": characters are those of ASCII"
-    } else if rest.strip_prefix(b"x").is_some() {
-        b": two digits in lower case come after \\x, and a backslash itself is two"
-    } else if begins_with_letter_or_digit(rest) {
-        b": a byte is \\x and two digits, and a backslash itself is written as two"
-    } else if rest.is_empty() {
-        b": a backslash itself is written as two, and no line goes on in the next"
-    } else {
-        b": no other mark needs a backslash, and a backslash itself is written as two"
-    }
-}
-
-/// What is said of several words in place of a character.
-fn words_reason(word: &[u8]) -> &'static [u8]
-    ensures text { result.now ≡ words_reason word.now }
-    ensures short { length result.now ≤ 80 }
-{
-    if word == b"bkgdset".as_slice() {
-        b": it is more than one, and the attributes before it are one sum"
-    } else {
-        b": it is more than one: move sets the place, attrset and color_set the rendition"
-    }
-}
-
-/// What is said of an argument that ends with something else than the character.
-fn end_reason(word: &[u8], argument: &[u8]) -> &'static [u8]
-    ensures text { result.now ≡ end_reason word.now argument.now }
-    ensures short { length result.now ≤ 80 }
-{
-    if ends_with(argument, b';') {
-        b": it is more than one, and no semicolon comes after it"
-    } else if ends_with(argument, b',') {
-        b": it is more than one, and no comma comes after it"
-    } else if ends_with(argument, b' ') {
-        b": it is more than one, and a line has no space at its end"
-    } else if has_byte(argument, b' ') {
-        words_reason(word)
-    } else {
-        b": it is more than one"
-    }
-}
-
-/// What is said of more than one character.
-fn longer_reason(word: &[u8], argument: &[u8]) -> &'static [u8]
-    requires { length argument.now ≤ LONGEST_LINE }
-    ensures text { result.now ≡ longer_reason word.now argument.now }
-    ensures short { length result.now ≤ 80 }
-{
-    let name = name_of_argument(argument);
-    if argument.strip_prefix(b" ").is_some() {
-        b": it is more than one, and single spaces separate words"
-    } else if is_quoted(argument) {
-        b": it has no quotes"
-    } else if are_digits(argument) || argument.strip_prefix(b"0x").is_some() {
-        b": it is more than one; a code is \\x and two hexadecimal digits, as \\x41 for 65"
-    } else if is_among(name.as_slice(), b"space newline enter tab") {
-        b": it is more than one; a space is \\x20, a tab is spaces, and addch takes \\n"
-    } else if has_byte(argument, b'#') || has_part(argument, b"//") {
-        b": it is more than one, and a comment has a line of its own"
-    } else {
-        end_reason(word, argument)
-    }
-}
-
-/// Why an argument is no character.
-fn character_reason(word: &[u8], argument: &[u8]) -> &'static [u8]
-    requires { length argument.now ≤ LONGEST_LINE }
-    ensures text { result.now ≡ character_reason word.now argument.now }
-    ensures short { length result.now ≤ 80 }
-{
-    if argument.is_empty() {
-        b": it is empty, and a space is \\x20, or one space more"
-    } else if !has_form(Form::Text, argument) {
-        text_reason(argument)
-    } else if argument.strip_prefix(b"ACS_").is_some() {
-        b": lines are drawn by characters such as + - and |"
-    } else if has_byte(argument, b'|') {
-        b": it is more than one, and attributes are set before it, by attron"
-    } else {
-        longer_reason(word, argument)
+        mark_reason(copy_reason(word), argument)
     }
 }
 
@@ -626,45 +443,47 @@ fn unless_missing(said: &'static [u8], argument: &[u8]) -> &'static [u8]
 }
 
 /// Why an argument lacks its form, where more is to be said than the form.
-fn reason(word: &[u8], first: bool, form: Form, argument: &[u8]) -> &'static [u8]
+fn reason(word: &[u8], place: usize, form: Form, argument: &[u8]) -> &'static [u8]
     requires { length argument.now ≤ LONGEST_LINE }
-    ensures text { result.now ≡ reason word.now first form argument.now }
+    ensures text { result.now ≡ reason word.now place form argument.now }
     ensures short { length result.now ≤ 80 }
 {
     match form {
-        Form::Number => unless_missing(unsigned_reason(word, first, argument), argument),
+        Form::Number => unless_missing(unsigned_reason(word, place, argument), argument),
         Form::NumberOrNone => unless_missing(
-            unsigned_or_none_reason(word, first, argument),
+            unsigned_or_none_reason(word, place, argument),
             argument,
         ),
-        Form::Signed => unless_missing(signed_reason(word, first, argument), argument),
+        Form::Signed => unless_missing(signed_reason(word, place, argument), argument),
         Form::Attributes => unless_missing(attributes_reason(argument), argument),
-        Form::Flag => unless_missing(flag_reason(argument), argument),
+        Form::Flag => unless_missing(flag_reason(word, argument), argument),
         Form::Character => character_reason(word, argument),
         Form::Text => text_reason(argument),
     }
 }
 
-/// What is said of an argument that is no pair.
-fn pair_reason(argument: &[u8]) -> Option<&'static [u8]>
-    requires { length argument.now ≤ LONGEST_LINE }
+/// What is said of an argument that is no pair, by its name.
+fn pair_reason(name: &[u8], argument: &[u8]) -> Option<&'static [u8]>
+    requires { name.now ≡ name_of_argument argument.now }
     ensures text { option_map (λ text. text.now) result ≡ pair_reason argument.now }
     ensures short { IfSome result (λ text. length text.now ≤ 80) }
 {
-    let name = name_of_argument(argument);
-    if name.as_slice().strip_prefix(b"color_pair").is_some() {
+    if name.strip_prefix(b"color_pair").is_some() {
         return Some(b": a pair is its number");
     }
-    if is_default(name.as_slice()) {
+    if is_among(name, b"null nullptr nil") {
+        return Some(b": the window comes first, then its pair, and no NULL after it");
+    }
+    if is_default(name) {
         return Some(b": pair 0 has the terminal's own colours");
     }
-    if is_colour(name.as_slice()) {
+    if has_colour(name, argument) {
         return Some(b": a pair has its colours by init_pair, as init_pair 1 1 0 for red on black");
     }
-    if is_attribute(name.as_slice()) {
+    if is_attribute(name) {
         return Some(b": attributes are set by attron");
     }
-    if has_byte(argument, b',') && !ends_with(argument, b',') {
+    if is_list(argument) {
         return Some(b": a pair is one number, which has its colours by init_pair");
     }
     None
@@ -677,7 +496,7 @@ fn later_reason(word: &[u8], argument: &[u8]) -> Option<&'static [u8]>
     ensures short { IfSome result (λ text. length text.now ≤ 80) }
 {
     if is_among(word, b"color_set bkgdpair") {
-        return pair_reason(argument);
+        return pair_reason(name_of_argument(argument).as_slice(), argument);
     }
     let name = name_of_argument(argument);
     if word == b"init_pair".as_slice()
@@ -693,14 +512,24 @@ fn later_reason(word: &[u8], argument: &[u8]) -> Option<&'static [u8]>
     None
 }
 
-/// What more is said after some words, of the first argument or of another.
-fn reason_of_call(word: &[u8], first: bool, argument: &[u8]) -> Option<&'static [u8]>
+/// Whether a text or a character is in place of the window.
+fn is_text_first(word: &[u8], argument: &[u8]) -> bool
+    ensures { result ≡ is_text_first word.now argument.now }
+{
+    is_among(word, b"addstr addch insch") && (is_quoted(argument) || begins_with_letter(argument))
+}
+
+/// What more is said after some words, of an argument after so many others.
+fn reason_of_call(word: &[u8], place: usize, argument: &[u8]) -> Option<&'static [u8]>
     requires { length argument.now ≤ LONGEST_LINE }
-    ensures text { option_map (λ text. text.now) result ≡ reason_of_call word.now first argument.now }
+    ensures text { option_map (λ text. text.now) result ≡ reason_of_call word.now place argument.now }
     ensures short { IfSome result (λ text. length text.now ≤ 80) }
 {
-    if !first {
+    if place != 0 {
         return later_reason(word, argument);
+    }
+    if is_text_first(word, argument) {
+        return Some(b": the window's number comes first, then the text or character; stdscr is 0");
     }
     if is_among(word, b"attrset attron attroff bkgdset") && are_two_digits(argument) {
         return Some(b": the window comes first, then the attributes; a number has no leading 0");
@@ -708,14 +537,14 @@ fn reason_of_call(word: &[u8], first: bool, argument: &[u8]) -> Option<&'static 
     None
 }
 
-/// Why the first argument after a word, or another, lacks its form.
-pub fn reason_after(word: &[u8], first: bool, form: Form, argument: &[u8]) -> &'static [u8]
+/// Why an argument after a word and so many others lacks its form.
+pub fn reason_after(word: &[u8], place: usize, form: Form, argument: &[u8]) -> &'static [u8]
     requires { length argument.now ≤ LONGEST_LINE }
-    ensures text { result.now ≡ reason_after word.now first form argument.now }
+    ensures text { result.now ≡ reason_after word.now place form argument.now }
     ensures short { length result.now ≤ 80 }
 {
-    match reason_of_call(word, first, argument) {
+    match reason_of_call(word, place, argument) {
         Some(said) => said,
-        None => reason(word, first, form, argument),
+        None => reason(word, place, form, argument),
     }
 }

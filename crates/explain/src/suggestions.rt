@@ -2,19 +2,20 @@
 
 ghost use Rattle.std.specs.Prelude.{◌≡◌, ◌≤◌, ◌+◌, ◌++◌, IfSome, codes, length, option_map, take};
 ghost use Rattle.std.specs.List.{list_any};
-ghost use Rattle.script.specs.Pieces.{pieces_of};
-ghost use Rattle.explain.specs.Advice.{advice_on_rest, after_prefix, called_name, is_name_byte, is_of_log, is_of_shell, is_statement, no_variables, number_first, said_near_name, said_of, said_of_backslash, said_of_beginning, said_of_given, said_of_line, said_of_marks, said_of_name, said_of_near, said_of_value, said_of_written, say_call, see_longer, see_nearest, written_advice};
+ghost use Rattle.script.specs.Pieces.{pieces_of, room_of};
+ghost use Rattle.explain.specs.Names.{called_name, is_name_byte};
+ghost use Rattle.explain.specs.Suggestions.{advice_on_rest, after_prefix, begins_with_call, is_label, is_of_log, is_of_shell, is_of_tmux, is_statement, is_step, no_variables, number_first, said_near_name, said_of, said_of_backslash, said_of_beginning, said_of_given, said_of_line, said_of_marks, said_of_name, said_of_near, said_of_two, said_of_value, said_of_written, say_call, see_longer, see_nearest, written_advice};
 ghost use Rattle.explain.specs.steps.Suggestions.{said_now};
 
 use crate::advice::{CALLS_ALONE, PROGRAMS, SCREEN_SIZE, advice_on, is_among};
 use crate::more_advice::advice_by_part;
 use crate::names::{
-    after_name, begins_comment, begins_with_digit, ends_with, gives_value, has_value, is_name_byte,
-    is_quoted, name_of,
+    Name, after_name, begins_comment, begins_with_digit, begins_with_letter, ends_with,
+    gives_value, has_byte, has_value, is_comment, is_name_byte, is_quoted, is_redirection, name_of,
 };
 use crate::nearest::{nearest, nearest_other};
-use crate::reasons::{begins_with_letter, has_byte};
 use script::{LONGEST_LINE, Word, split_at_space};
+use streams::append;
 
 /// What is said of a word, and a call that ends it, if it names one.
 #[derive(Clone, Copy)]
@@ -80,7 +81,7 @@ fn see_nearest<'a>(word: &[u8]) -> Option<Said<'a>>
 }
 
 /// What is said of a name: with no prefix, or else with one of three.
-#[tactic(auto, unfolding(crate::specs::Advice::said_of_name))]
+#[tactic(auto, unfolding(crate::specs::Suggestions::said_of_name))]
 fn said_of_name<'a>(name: &'a [u8]) -> Option<Said<'a>>
     ensures said { said_now result ≡ said_of_name name.now }
     ensures short { IfSome result (λ s. length s.text.now ≤ 80) }
@@ -99,7 +100,7 @@ fn said_of_name<'a>(name: &'a [u8]) -> Option<Said<'a>>
 }
 
 /// What is said of the call that is near a text, or else of the other name that is.
-#[tactic(auto, unfolding(crate::specs::Advice::said_of_near))]
+#[tactic(auto, unfolding(crate::specs::Suggestions::said_of_near))]
 fn said_of_near<'a>(text: &[u8]) -> Option<Said<'a>>
     ensures said { said_now result ≡ said_of_near text.now }
     ensures short { IfSome result (λ s. length s.text.now ≤ 80) }
@@ -114,7 +115,7 @@ fn said_of_near<'a>(text: &[u8]) -> Option<Said<'a>>
     }
 }
 
-/// What is said of what the name of a word's call is near, where that isn't all of the word.
+/// What is said of what the name of a word's call is near, where that isn't all of the word; or else of a part of it.
 fn said_near_name<'a>(word: &[u8], name: &[u8]) -> Option<Said<'a>>
     requires { name.now ≡ called_name word.now }
     ensures said { said_now result ≡ said_near_name word.now }
@@ -124,7 +125,13 @@ fn said_near_name<'a>(word: &[u8], name: &[u8]) -> Option<Said<'a>>
     if name.len() == word.len() {
         return None;
     }
-    said_of_near(name)
+    if let Some(said) = said_of_near(name) {
+        return Some(said);
+    }
+    match advice_by_part(word) {
+        Some(text) => Some(Said { text, call: b"" }),
+        None => None,
+    }
 }
 
 /// Whether a word begins with what a name may have.
@@ -201,17 +208,60 @@ fn is_statement(word: &[u8], text: Option<&[u8]>) -> bool
     is_among(word, b"raise goto GOTO DIM Dim END End") && begins_with_letter(first)
 }
 
+/// Whether the first word of a text is a call.
+pub fn begins_with_call(text: Option<&[u8]>) -> bool
+    ensures { result ≡ begins_with_call (pieces_of text.entry) }
+{
+    let Some(text) = text else { return false };
+    let (first, _) = split_at_space(text);
+    Word::of(first).is_some()
+}
+
+/// Whether a word is a label, or the head of a block, with nothing or a call after it.
+fn is_label(word: &[u8], text: Option<&[u8]>) -> bool
+    requires { length word.now ≤ LONGEST_LINE }
+    ensures { result ≡ is_label word.now (pieces_of text.entry) }
+{
+    if !ends_with(word, b':') || Word::of(name_of(word).as_slice()).is_some() {
+        return false;
+    }
+    match text {
+        Some(text) => Word::of(split_at_space(text).0).is_some(),
+        None => true,
+    }
+}
+
+/// What the tables have of a word and the next one with an underscore between them.
+fn said_of_two(word: &[u8], text: Option<&[u8]>) -> Option<&'static [u8]>
+    requires { length word.now + room_of text ≤ LONGEST_LINE }
+    ensures said { option_map (λ text. text.now) result ≡ said_of_two word.now (pieces_of text.entry) }
+    ensures short { IfSome result (λ text. length text.now ≤ 80) }
+{
+    let (other, _) = split_at_space(text?);
+    let mut name = Name::new();
+    append(&mut name, word);
+    append(&mut name, b"_");
+    append(&mut name, other);
+    advice_on(name.as_slice())
+}
+
 /// What is said of a word that is no call and of the words after it.
 pub fn said_of_line(word: &[u8], text: Option<&[u8]>) -> Option<&'static [u8]>
-    requires { length word.now ≤ LONGEST_LINE }
+    requires { length word.now + room_of text ≤ LONGEST_LINE }
     ensures said { option_map (λ text. text.now) result ≡ said_of_line word.now (pieces_of text.entry) }
     ensures short { IfSome result (λ text. length text.now ≤ 80) }
 {
+    if let Some(said) = said_of_two(word, text) {
+        return Some(said);
+    }
     if is_of_log(word, text) {
         return Some(b"a line of the log or of check is no line of a script");
     }
     if is_statement(word, text) {
         return Some(CALLS_ALONE);
+    }
+    if is_label(word, text) {
+        return Some(b"a script has calls alone, and no labels; a comment begins with #");
     }
     if has_value(word, text) && !has_byte(word, b'(') {
         return Some(said_of_value(name_of(word).as_slice()));
@@ -233,15 +283,22 @@ fn said_of_backslash(word: &[u8]) -> &'static [u8]
     }
 }
 
+/// Whether a word is a step of a variable, by `++` or `--` before its name or after it; after `--` it has one letter.
+fn is_step(word: &[u8]) -> bool
+    ensures { result ≡ is_step word.now }
+{
+    if let Some(name) = word.strip_prefix(b"--") {
+        return begins_with_name(name) && !begins_with_name(&name[1..]);
+    }
+    word.strip_prefix(b"++").is_some()
+        || begins_with_name(word) && after_name(word).strip_prefix(b"--").is_some()
+}
+
 /// Whether a word is one of shells: a variable, a redirection, a pipe, or a prompt.
 fn is_of_shell(word: &[u8]) -> bool
     ensures { result ≡ is_of_shell word.now }
 {
-    word.strip_prefix(b"$").is_some()
-        || word.strip_prefix(b">").is_some()
-        || word.strip_prefix(b"<<").is_some()
-        || is_among(word, b"< | & && ||")
-        || begins_with_digit(word) && has_byte(word, b'>')
+    word.strip_prefix(b"$").is_some() || is_redirection(word)
 }
 
 /// What is said of a word that begins with no letter.
@@ -252,11 +309,16 @@ fn said_of_marks(word: &[u8]) -> Option<&'static [u8]>
     if word.strip_prefix(b"\\").is_some() {
         return Some(said_of_backslash(word));
     }
+    if is_step(word) {
+        return Some(no_variables());
+    }
     if let Some(rest) = word.strip_prefix(b"-") {
         if begins_with_digit(rest) {
             return Some(number_first());
         }
-        return Some(b"an option belongs on the command line, and a comment begins with #");
+        if !rest.is_empty() {
+            return Some(b"an option belongs on the command line, and a comment begins with #");
+        }
     }
     if is_of_shell(word) {
         return Some(
@@ -318,6 +380,12 @@ fn written_advice(word: &[u8]) -> &'static [u8]
     let rest = after_name(word);
     if rest.strip_prefix(b";").is_some() {
         b"a line has one call, and no semicolon: see "
+    } else if is_comment(rest) {
+        b"a comment has a line of its own: see "
+    } else if is_redirection(rest) {
+        b"a script has no redirections or pipes: see "
+    } else if rest == b"\\".as_slice() {
+        b"no line goes on in the next, and no backslash comes after a call: see "
     } else if rest.strip_prefix(b"\\").is_some() {
         b"only texts and characters have escapes: see "
     } else {
@@ -326,7 +394,7 @@ fn written_advice(word: &[u8]) -> &'static [u8]
 }
 
 /// How the call is written whose name is in a word, among marks or in upper case.
-#[tactic(auto, unfolding(crate::specs::Advice::said_of_written))]
+#[tactic(auto, unfolding(crate::specs::Suggestions::said_of_written))]
 fn said_of_written<'a>(word: &[u8], name: &'a [u8]) -> Option<Said<'a>>
     requires { name.now ≡ called_name word.now }
     ensures said { said_now result ≡ said_of_written word.now }
@@ -342,6 +410,16 @@ fn said_of_written<'a>(word: &[u8], name: &'a [u8]) -> Option<Said<'a>>
     say_call(written_advice(word), name)
 }
 
+/// Whether a word ends as tmux's commands do after their first words.
+fn is_of_tmux(word: &[u8]) -> bool
+    ensures { result ≡ is_of_tmux word.now }
+{
+    is_among(
+        after_name(word),
+        b"-pane -panes -session -sessions -key -keys -client -clients -server -buffer -layout",
+    )
+}
+
 /// What is said of how a word begins.
 fn said_of_beginning(word: &[u8]) -> Option<&'static [u8]>
     ensures said { option_map (λ text. text.now) result ≡ said_of_beginning word.now }
@@ -353,14 +431,17 @@ fn said_of_beginning(word: &[u8]) -> Option<&'static [u8]>
     if word.strip_prefix(b"panel.move").is_some() {
         return Some(b"see move_panel");
     }
-    if word.strip_prefix(b"subprocess.").is_some() || word.strip_prefix(b"os.").is_some() {
+    if word.strip_prefix(b"subprocess.").is_some()
+        || word.strip_prefix(b"os.").is_some()
+        || is_of_tmux(word)
+    {
         return Some(PROGRAMS);
     }
     None
 }
 
 /// What is said of a word that is no call, with the name of what it calls.
-#[tactic(auto, unfolding(crate::specs::Advice::said_of))]
+#[tactic(auto, unfolding(crate::specs::Suggestions::said_of))]
 pub fn said_of<'a>(word: &[u8], name: &'a [u8]) -> Option<Said<'a>>
     requires name { name.now ≡ called_name word.now }
     requires short { length word.now ≤ LONGEST_LINE }

@@ -1,5 +1,5 @@
 use Rattle.std.proofs.Common.{◌≡◌, ◌≤◌, length}
-use Rattle.explain.specs.Advice.{after_name}
+use Rattle.explain.specs.Names.{after_name}
 use Rattle.explain.proofs.names.after_name.Given as goal
 
 abbrev pub invariant-loop-first : goal.invariant-loop-first

@@ -1,5 +1,5 @@
 use Rattle.std.proofs.Common.{◌≡◌, length}
-use Rattle.explain.specs.Advice.{has_part}
+use Rattle.explain.specs.Names.{has_part}
 use Rattle.explain.proofs.names.has_part.Given as goal
 
 abbrev pub invariant-loop-rest : goal.invariant-loop-rest

@@ -1,5 +1,5 @@
 use Rattle.std.proofs.Common.{◌≡◌, ◌≤◌, ◌+◌, ◌++◌, length}
-use Rattle.explain.specs.Advice.{name_in}
+use Rattle.explain.specs.Names.{name_in}
 use Rattle.explain.proofs.names.name_of.Given as goal
 
 abbrev pub invariant-loop-byte : goal.invariant-loop-byte

@@ -1,6 +1,7 @@
 use Rattle.std.proofs.Common.{◌∙◌, ap, length, sym}
 use Rattle.std.proofs.lemmas.Bool.{eq-eqb, ne_eqb}
-use Rattle.explain.specs.Advice.{called_name, said_of_written}
+use Rattle.explain.specs.Names.{called_name}
+use Rattle.explain.specs.Suggestions.{said_of_written}
 use Rattle.explain.specs.steps.Suggestions.{said_now}
 use Rattle.explain.proofs.suggestions.said_of_written.Goals as goal
 

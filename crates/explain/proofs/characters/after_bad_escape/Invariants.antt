@@ -1,6 +1,6 @@
 use Rattle.std.proofs.Common.{◌≡◌, length}
-use Rattle.explain.specs.Reasons.{after_bad_escape}
-use Rattle.explain.proofs.reasons.after_bad_escape.Given as goal
+use Rattle.explain.specs.Characters.{after_bad_escape}
+use Rattle.explain.proofs.characters.after_bad_escape.Given as goal
 
 abbrev pub invariant-loop-first : goal.invariant-loop-first
 invariant-loop-first l = after_bad_escape l.text ≡ after_bad_escape l.left

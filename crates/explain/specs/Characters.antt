@@ -1,0 +1,117 @@
+-- What is said of bytes that no line has, of faulty texts, and of what is no character. The texts are Curspan's own.
+use Rattle.std.specs.Prelude.{◌==◌, ◌&&◌, ◌||◌, ℕ, Bool, not, List, [], ◌∷◌, codes, drop, length, nat_le, slice_index, take, if◌then◌else◌}
+use Rattle.std.specs.Char.{is_ascii_alphabetic, is_ascii_hexdigit}
+use Rattle.std.specs.List.{list_all, list_any}
+use Rattle.std.specs.Str.{bytes_eq}
+use Rattle.script.specs.Characters.{backslash, backspace, carriage_return, number_sign, space}
+use Rattle.script.specs.declared.words.Form.TheVariants.{Text}
+use Rattle.explain.specs.Faults.{has_form}
+use Rattle.explain.specs.Names.{after_name, are_digits, are_two_digits, begins_with, begins_with_digit, comma, digit_8, ends_with, escape, has_byte, has_part, is_one_of, is_quoted, name_of_argument, semicolon, tab, vertical_bar}
+
+-- ---- bytes that no line has
+
+-- a carriage return, a tab, a backspace, an escape, a 0, or another
+abbrev pub byte_advice : ℕ → List ℕ
+byte_advice b = if b == carriage_return then codes "a line ends with a newline alone, and a text has it as \\r"
+    else (if b == tab then codes "no line has tabs: a call begins it, one space separates words, a text has spaces"
+    else (if b == backspace then codes "a text has it as a backslash and b"
+    else (if b == escape then codes "a text has no control sequences: see attrset, color_set, move"
+    else (if b == 0 then codes "a character is one byte, and not two as in UTF-16"
+    else codes "characters are those of ASCII, from the space to the tilde"))))
+
+-- In UTF-8: what others draw lines and blocks with, a space that isn't seen as another one, and quotes and dashes.
+abbrev pub draws_line : List ℕ → Bool
+draws_line rest = begins_with (226 ∷ 148 ∷ []) rest || begins_with (226 ∷ 149 ∷ []) rest || begins_with (226 ∷ 150 ∷ []) rest
+
+abbrev pub is_space_elsewhere : List ℕ → Bool
+is_space_elsewhere rest = begins_with (194 ∷ 160 ∷ []) rest || begins_with (226 ∷ 128 ∷ 139 ∷ []) rest
+
+abbrev pub is_mark_elsewhere : List ℕ → Bool
+is_mark_elsewhere rest = begins_with (226 ∷ 128 ∷ []) rest || begins_with (226 ∷ 136 ∷ 146 ∷ []) rest
+
+-- of a bad byte that begins a text
+abbrev pub bad_text_advice : ℕ → List ℕ → List ℕ
+bad_text_advice b rest = if draws_line rest then codes "characters are those of ASCII: lines are drawn by + - and |"
+    else (if is_space_elsewhere rest then codes "this space is none of ASCII: write a plain one, or none"
+    else (if is_mark_elsewhere rest then codes "write such marks in ASCII, as \" ' - and ..."
+    else byte_advice b))
+
+-- ---- escapes
+
+-- a text begins with an escape: with two bytes that are a text, or with four
+abbrev pub begins_escape : List ℕ → Bool
+begins_escape text = has_form Text (take 2 text) || has_form Text (take 4 text)
+
+-- what is after the first backslash of a text that begins no escape
+abbrev pub after_bad_escape : List ℕ → List ℕ
+after_bad_escape [] = []
+after_bad_escape (b ∷ []) = []
+after_bad_escape (b ∷ c ∷ bs) = if b == backslash then (if begins_escape (b ∷ c ∷ bs) then after_bad_escape bs else c ∷ bs) else after_bad_escape (c ∷ bs)
+
+-- what is after a backslash is an `e` that begins a control sequence: no letter follows
+abbrev pub begins_escaped : List ℕ → Bool
+begins_escaped rest = (begins_with (codes "e") rest || begins_with (codes "E") rest) && not (list_any is_ascii_alphabetic (take 1 (drop 1 rest)))
+
+-- what is after a backslash begins a control sequence in other languages
+abbrev pub begins_sequence : List ℕ → Bool
+begins_sequence rest = begins_escaped rest || begins_with (codes "033") rest || begins_with (codes "x1b") rest || begins_with (codes "x1B") rest
+    || begins_with (codes "u001b") rest || begins_with (codes "u001B") rest || (begins_with_digit rest && begins_with (codes "[") (after_name rest))
+
+-- It begins a byte that is none of ASCII, in two hexadecimal digits.
+abbrev pub begins_greater_byte : List ℕ → Bool
+begins_greater_byte rest = begins_with (codes "x") rest && are_two_digits (take 2 (drop 1 rest)) && nat_le digit_8 (slice_index (drop 1 rest) 0)
+
+-- It begins a character by its name, or by its number, with four hexadecimal digits or a bracket; or such a byte.
+abbrev pub begins_character : List ℕ → Bool
+begins_character rest = begins_with (codes "N{") rest || begins_greater_byte rest
+    || ((begins_with (codes "u") rest || begins_with (codes "U") rest)
+    && (begins_with (codes "{") (drop 1 rest) || (length (take 4 (drop 1 rest)) == 4 && list_all is_ascii_hexdigit (take 4 (drop 1 rest)))))
+
+-- by what is after a backslash that begins no escape
+abbrev pub escape_reason : List ℕ → List ℕ
+escape_reason rest = if begins_with (codes "t") rest then codes ": a tab is written as spaces, a backslash itself as two"
+    else (if begins_sequence rest then codes ": it has no control sequences: see attrset, color_set, move"
+    else (if begins_character rest then codes ": characters are those of ASCII, from the space to the tilde"
+    else (if begins_with_digit rest then codes ": characters by number are \\x20 to \\x7e, and others have no escape"
+    else (if begins_with (codes "x") rest || begins_with (codes "X") rest then codes ": two digits in lower case come after \\x, and a backslash itself is two"
+    else (if list_any is_ascii_alphabetic (take 1 rest) then codes ": a backslash is written as two, and other control characters have no escape"
+    else (if length rest == 0 then codes ": a backslash itself is written as two, and no line goes on in the next"
+    else codes ": no other mark needs a backslash, and a backslash itself is written as two"))))))
+
+-- of a text with such a backslash, by the first one
+abbrev pub text_reason : List ℕ → List ℕ
+text_reason text = escape_reason (after_bad_escape text)
+
+-- ---- what is no character
+
+-- of several words in place of a character
+abbrev pub words_reason : List ℕ → List ℕ
+words_reason word = if bytes_eq word (codes "bkgdset") then codes ": it is more than one, and the attributes before it are one sum"
+    else codes ": it is more than one: move sets the place, attrset and color_set the rendition"
+
+-- of what ends with something else than the character
+abbrev pub end_reason : List ℕ → List ℕ → List ℕ
+end_reason word argument = if ends_with semicolon argument then codes ": it is more than one, and no semicolon comes after it"
+    else (if ends_with comma argument then codes ": it is more than one, and no comma comes after it"
+    else (if ends_with space argument then codes ": it is more than one, and a line has no space at its end"
+    else (if has_part (codes " >") argument then codes ": it is more than one, and a script has no redirections"
+    else (if has_byte space argument then words_reason word
+    else codes ": it is more than one"))))
+
+-- of more than one character
+abbrev pub longer_reason : List ℕ → List ℕ → List ℕ
+longer_reason word argument = if begins_with (codes " ") argument then codes ": it is more than one, and single spaces separate words"
+    else (if is_quoted argument then codes ": it has no quotes"
+    else (if are_digits argument || begins_with (codes "0x") argument
+    then codes ": it is more than one; a code is \\x and two hexadecimal digits, as \\x41 for 65"
+    else (if is_one_of (codes "space newline enter tab") (name_of_argument argument)
+    then codes ": it is more than one; a space is \\x20, a tab is spaces, and addch takes \\n"
+    else (if has_byte number_sign argument || has_part (codes "//") argument then codes ": it is more than one, and a comment has a line of its own"
+    else end_reason word argument))))
+
+abbrev pub character_reason : List ℕ → List ℕ → List ℕ
+character_reason word argument = if length argument == 0 then codes ": it is empty, and a space is \\x20, or one space more"
+    else (if not (has_form Text argument) then text_reason argument
+    else (if begins_with (codes "ACS_") argument then codes ": lines are drawn by characters such as + - and |"
+    else (if has_byte vertical_bar argument then codes ": it is more than one, and attributes are set before it, by attron"
+    else longer_reason word argument)))

@@ -1,0 +1,157 @@
+-- The name that a word begins with, and the marks of other languages in it.
+use Rattle.std.specs.Prelude.{◌-◌, ◌==◌, ◌&&◌, ◌||◌, ℕ, Bool, false, not, List, [], ◌∷◌, codes, drop, length, nat_lt, take, if◌then◌else◌}
+use Rattle.std.specs.Char.{is_ascii_alphanumeric, is_ascii_digit, is_ascii_hexdigit, to_ascii_lowercase}
+use Rattle.std.specs.List.{list_all, list_any, slice_split}
+use Rattle.std.specs.Str.{bytes_eq}
+use Rattle.script.specs.Characters.{is_space}
+
+-- ---- bytes that have a meaning elsewhere, by name
+
+abbrev pub tab : ℕ
+tab = 9
+
+-- which begins a control sequence
+abbrev pub escape : ℕ
+escape = 27
+
+-- `"`
+abbrev pub quotation_mark : ℕ
+quotation_mark = 34
+
+-- `(`
+abbrev pub round_bracket : ℕ
+round_bracket = 40
+
+-- `,`
+abbrev pub comma : ℕ
+comma = 44
+
+-- `8`, the first digit of bytes that are none of ASCII
+abbrev pub digit_8 : ℕ
+digit_8 = 56
+
+-- `:`
+abbrev pub colon : ℕ
+colon = 58
+
+-- `;`
+abbrev pub semicolon : ℕ
+semicolon = 59
+
+-- `=`
+abbrev pub equals_sign : ℕ
+equals_sign = 61
+
+-- `>`
+abbrev pub greater_sign : ℕ
+greater_sign = 62
+
+-- `[`
+abbrev pub square_bracket : ℕ
+square_bracket = 91
+
+-- `_`
+abbrev pub underscore : ℕ
+underscore = 95
+
+-- `|`
+abbrev pub vertical_bar : ℕ
+vertical_bar = 124
+
+-- ---- what a text has
+
+-- names with a space between any two
+abbrev pub names_in : List ℕ → List (List ℕ)
+names_in text = slice_split is_space text
+
+-- one of some names, with a space between any two
+abbrev pub is_one_of : List ℕ → List ℕ → Bool
+is_one_of names text = list_any (bytes_eq text) (names_in names)
+
+-- the text has the byte
+abbrev pub has_byte : ℕ → List ℕ → Bool
+has_byte byte text = list_any (λ b. b == byte) text
+
+-- the text begins with the prefix
+abbrev pub begins_with : List ℕ → List ℕ → Bool
+begins_with prefix text = bytes_eq (take (length prefix) text) prefix
+
+abbrev pub begins_with_digit : List ℕ → Bool
+begins_with_digit text = list_any is_ascii_digit (take 1 text)
+
+abbrev pub ends_with : ℕ → List ℕ → Bool
+ends_with byte text = list_any (λ b. b == byte) (drop (length text - 1) text)
+
+abbrev pub are_digits : List ℕ → Bool
+are_digits text = list_all is_ascii_digit text && not (length text == 0)
+
+-- two hexadecimal digits, in lower case or upper case
+abbrev pub are_two_digits : List ℕ → Bool
+are_two_digits text = length text == 2 && list_all is_ascii_hexdigit text
+
+-- the text has the part in it
+abbrev pub has_part : List ℕ → List ℕ → Bool
+has_part part [] = false
+has_part part (b ∷ bs) = begins_with part (b ∷ bs) || has_part part bs
+
+-- ---- marks of other languages
+
+-- what begins a comment in other languages, of which two hyphens stand alone
+abbrev pub begins_comment : List ℕ → Bool
+begins_comment text = begins_with (codes "//") text || begins_with (codes "/*") text || begins_with (codes "<!--") text || bytes_eq text (codes "--")
+
+-- a number or a colour of other languages, as `#1` and `#f00`
+abbrev pub is_marked : List ℕ → Bool
+is_marked text = begins_with (codes "#") text && nat_lt 1 (length text) && list_all is_ascii_hexdigit (drop 1 text)
+
+-- what would begin a comment, here or in other languages
+abbrev pub is_comment : List ℕ → Bool
+is_comment text = (begins_with (codes "#") text && not (is_marked text)) || begins_comment text
+
+abbrev pub is_quoted : List ℕ → Bool
+is_quoted text = begins_with (codes "\"") text || begins_with (codes "'") text
+
+-- of shells: a redirection, a pipe, or what joins commands; `<win>` is in brackets
+abbrev pub is_redirection : List ℕ → Bool
+is_redirection text = begins_with (codes ">") text || (begins_with (codes "<") text && not (has_byte greater_sign text)) || begins_with (codes "|") text
+    || begins_with (codes "&>") text || is_one_of (codes "& &&") text || (begins_with_digit text && has_byte greater_sign text)
+
+-- a text begins as what gives a value to a name
+abbrev pub gives_value : List ℕ → Bool
+gives_value text = begins_with (codes "=") text || begins_with (codes "+=") text || begins_with (codes "-=") text || begins_with (codes ":=") text
+    || begins_with (codes "<-") text || begins_with (codes "++") text
+
+-- the first word after one does, or, where that ends in a comma, some word
+abbrev pub has_value : List ℕ → List (List ℕ) → Bool
+has_value word [] = false
+has_value word (piece ∷ pieces) = gives_value piece || (ends_with comma word && list_any gives_value pieces)
+
+-- ---- the name of a word
+
+abbrev pub is_name_byte : ℕ → Bool
+is_name_byte b = is_ascii_alphanumeric b || b == underscore
+
+-- the name that a word begins with, in lower case: `getch();`, `GETCH` and `getch` have the same
+abbrev pub name_in : List ℕ → List ℕ
+name_in [] = []
+name_in (b ∷ bs) = if is_name_byte b then to_ascii_lowercase b ∷ name_in bs else []
+
+-- what follows a name
+abbrev pub after_name : List ℕ → List ℕ
+after_name [] = []
+after_name (b ∷ bs) = if is_name_byte b then after_name bs else b ∷ bs
+
+-- what follows a name and a dot, an arrow or two colons; or else the word
+abbrev pub after_dot : List ℕ → List ℕ
+after_dot word = if begins_with (codes ".") (after_name word) then drop 1 (after_name word)
+    else (if begins_with (codes "->") (after_name word) then drop 2 (after_name word)
+    else (if begins_with (codes "::") (after_name word) then drop 2 (after_name word)
+    else word))
+
+-- the name of what a word calls: `win.refresh()`, `win->refresh()`, `self.ui.win.refresh()` and `refresh()` have the same
+abbrev pub called_name : List ℕ → List ℕ
+called_name word = name_in (after_dot (after_dot (after_dot word)))
+
+-- the name in an argument, in lower case: `curses.A_BOLD`, `A_BOLD|x` and `a_bold` have the same
+abbrev pub name_of_argument : List ℕ → List ℕ
+name_of_argument argument = name_in (after_dot argument)

@@ -1,0 +1,182 @@
+-- What to write for a word that is no call, by its name and its marks. The texts are Curspan's own.
+use Rattle.std.specs.Prelude.{◌==◌, ◌&&◌, ◌||◌, ℕ, Bool, false, not, List, [], ◌∷◌, ◌++◌, codes, drop, is_some, length, nat_lt}
+use Rattle.std.specs.Prelude.{Option, option_and_then, option_map, Some, None, take, unwrap_or, if◌then◌else◌}
+use Rattle.std.specs.Char.{is_ascii_alphabetic}
+use Rattle.std.specs.List.{list_any}
+use Rattle.std.specs.Str.{bytes_eq}
+use Rattle.script.specs.Characters.{backslash}
+use Rattle.script.specs.Words.{word_of}
+use Rattle.explain.specs.Advice.{advice_by_part, advice_on, calls_alone, runs_no_programs, screen_size}
+use Rattle.explain.specs.Names.{after_name, begins_comment, begins_with, begins_with_digit, called_name, colon, comma, ends_with, gives_value, has_byte, has_value, is_comment, is_name_byte, is_one_of, is_quoted, is_redirection, name_in, round_bracket, square_bracket}
+use Rattle.explain.specs.Nearest.{nearest, nearest_other, or_else}
+
+-- ---- what is said of a name
+
+-- of a name without its prefix: this, before it, if it is a call; else what the table has
+abbrev pub advice_on_rest : List ℕ → List ℕ → Option (List ℕ)
+advice_on_rest said rest = if is_some (word_of rest) then Some (said ++ rest) else advice_on rest
+
+abbrev pub after_prefix : List ℕ → List ℕ → List ℕ → Option (List ℕ)
+after_prefix prefix said word = if begins_with prefix word then advice_on_rest said (drop (length prefix) word) else None
+
+-- what is said of it without a prefix; or else, where it begins with `mvw`, `mv` or `w`, of the rest
+unfoldable pub said_of_name : List ℕ → Option (List ℕ)
+said_of_name name =
+    or_else (advice_on_rest (codes "see ") name)
+    (or_else (after_prefix (codes "mvw") (codes "see move, ") name)
+    (or_else (after_prefix (codes "mv") (codes "see move, ") name)
+    (after_prefix (codes "w") (codes "see ") name)))
+
+-- the call that is near the word
+abbrev pub see_nearest : List ℕ → Option (List ℕ)
+see_nearest word = option_map (λ name. codes "see " ++ name) (nearest word)
+
+-- the call that is near a text; or else what is said of the other name that is near it
+unfoldable pub said_of_near : List ℕ → Option (List ℕ)
+said_of_near text = or_else (see_nearest text) (option_and_then said_of_name (nearest_other text))
+
+-- of the name of what a word calls, where that isn't all of the word; or else of a part of the word, as of `split-window`
+abbrev pub said_near_name : List ℕ → Option (List ℕ)
+said_near_name word = if length (called_name word) == length word then None
+    else or_else (said_of_near (called_name word)) (advice_by_part word)
+
+-- ---- what is said of a word that is no call, and of the words after it
+
+-- what a script has in place of variables
+abbrev pub no_variables : List ℕ
+no_variables = codes "a script has no variables: windows and panels are numbered from 1"
+
+-- where a number stands
+abbrev pub number_first : List ℕ
+number_first = codes "a line begins with the name of its call, and numbers come after it"
+
+-- of a name that is given a value: the size of the screen has an option for it
+abbrev pub said_of_value : List ℕ → List ℕ
+said_of_value name = if is_one_of (codes "lines cols columns rows") name then screen_size else no_variables
+
+-- of a word that gives a value to its name, which is no call
+abbrev pub said_of_given : List ℕ → Option (List ℕ)
+said_of_given word = if list_any is_name_byte (take 1 word) && gives_value (after_name word) && not (is_some (word_of (name_in word))) then Some (said_of_value (name_in word)) else None
+
+-- a line of the log, or of check: `line`, and a number with a colon or a comma
+abbrev pub is_of_log : List ℕ → List (List ℕ) → Bool
+is_of_log word [] = false
+is_of_log word (piece ∷ pieces) = bytes_eq word (codes "line") && begins_with_digit piece && (ends_with colon piece || ends_with comma piece)
+
+-- a statement of other languages whose first word is a name of curses too, which would have a number after it
+abbrev pub is_statement : List ℕ → List (List ℕ) → Bool
+is_statement word [] = false
+is_statement word (piece ∷ pieces) = is_one_of (codes "raise goto GOTO DIM Dim END End") word && list_any is_ascii_alphabetic (take 1 piece)
+
+-- the first word is a call
+abbrev pub begins_with_call : List (List ℕ) → Bool
+begins_with_call [] = false
+begins_with_call (piece ∷ pieces) = is_some (word_of piece)
+
+-- a label, or the head of a block: the word ends in a colon, is no call, and nothing or a call comes after it
+abbrev pub is_label : List ℕ → List (List ℕ) → Bool
+is_label word [] = ends_with colon word && not (is_some (word_of (name_in word)))
+is_label word (piece ∷ pieces) = ends_with colon word && not (is_some (word_of (name_in word))) && is_some (word_of piece)
+
+-- what the tables have of a word and the next one with an underscore between them, as of `raise panel`
+abbrev pub said_of_two : List ℕ → List (List ℕ) → Option (List ℕ)
+said_of_two word [] = None
+said_of_two word (piece ∷ pieces) = advice_on (word ++ codes "_" ++ piece)
+
+-- of a word that is no call and the words after it; where a bracket is in the word, an equals sign is part of an argument
+abbrev pub said_of_line : List ℕ → List (List ℕ) → Option (List ℕ)
+said_of_line word pieces = or_else (said_of_two word pieces)
+    (if is_of_log word pieces then Some (codes "a line of the log or of check is no line of a script")
+    else (if is_statement word pieces then Some calls_alone
+    else (if is_label word pieces then Some (codes "a script has calls alone, and no labels; a comment begins with #")
+    else (if has_value word pieces && not (has_byte round_bracket word) then Some (said_of_value (name_in word))
+    else None))))
+
+-- ---- what is said of the marks of a word
+
+-- of a word that begins with a backslash, which may begin a control sequence
+abbrev pub said_of_backslash : List ℕ → List ℕ
+said_of_backslash word = if length word == 1 then codes "no line goes on in the next: a call has one line"
+    else (if has_byte square_bracket word then codes "a script has no control sequences: see attrset, color_set, move, clear"
+    else codes "a line begins with the name of a call, and a comment with #")
+
+-- a step of a variable, as `++count`, `count--`, or `--n` with a name of one letter; a longer one is that of an option
+abbrev pub is_step : List ℕ → Bool
+is_step word = begins_with (codes "++") word || (list_any is_name_byte (take 1 word) && begins_with (codes "--") (after_name word))
+    || (begins_with (codes "--") word && list_any is_name_byte (take 1 (drop 2 word)) && not (list_any is_name_byte (take 1 (drop 3 word))))
+
+-- of shells: a variable, a redirection, a pipe, or a prompt
+abbrev pub is_of_shell : List ℕ → Bool
+is_of_shell word = begins_with (codes "$") word || is_redirection word
+
+-- of a word that begins with no letter
+abbrev pub said_of_marks : List ℕ → Option (List ℕ)
+said_of_marks word = if begins_with (codes "\\") word then Some (said_of_backslash word)
+    else (if is_step word then Some no_variables
+    else (if begins_with (codes "-") word && begins_with_digit (drop 1 word) then Some number_first
+    else (if begins_with (codes "-") word && nat_lt 1 (length word) then Some (codes "an option belongs on the command line, and a comment begins with #")
+    else (if is_of_shell word
+    then Some (codes "a script has no variables, prompts or redirections: a line begins with a call")
+    else (if is_quoted word then Some (codes "a text is an argument of addstr, without quotes; a comment begins with #")
+    else (if begins_with (codes "```") word then Some (codes "marks of Markdown are no part of a script")
+    else (if begins_with (codes "/") word || begins_with (codes "./") word then Some runs_no_programs
+    else (if begins_with_digit word then Some number_first
+    else (if not (list_any is_name_byte (take 1 word)) then Some (codes "a line begins with the name of a call, and a comment with #")
+    else None)))))))))
+
+-- the call that is near the word, if its name is longer than what the word calls
+abbrev pub see_longer : List ℕ → Option (List ℕ)
+see_longer word = option_and_then (λ name. if nat_lt (length (called_name word)) (length name) then Some (codes "see " ++ name) else None) (nearest word)
+
+-- this, and a name, if that is a call
+abbrev pub say_call : List ℕ → List ℕ → Option (List ℕ)
+say_call said name = if is_some (word_of name) then Some (said ++ name) else None
+
+-- how a call is written whose name has marks after it
+abbrev pub written_advice : List ℕ → List ℕ
+written_advice word = if begins_with (codes ";") (after_name word) then codes "a line has one call, and no semicolon: see "
+    else (if is_comment (after_name word) then codes "a comment has a line of its own: see "
+    else (if is_redirection (after_name word) then codes "a script has no redirections or pipes: see "
+    else (if bytes_eq (after_name word) (backslash ∷ []) then codes "no line goes on in the next, and no backslash comes after a call: see "
+    else (if begins_with (codes "\\") (after_name word) then codes "only texts and characters have escapes: see "
+    else codes "a line is a call's name, and arguments after single spaces, as addstr 0 hi: see "))))
+
+-- Of a word that has the name of a call in it: how that is written. Of `move-panel` it is the longer name.
+unfoldable pub said_of_written : List ℕ → Option (List ℕ)
+said_of_written word = if length (called_name word) == length word then say_call (codes "calls are in lower case: see ") (called_name word)
+    else or_else (see_longer word) (say_call (written_advice word) (called_name word))
+
+-- what tmux's commands end with after their first words
+abbrev pub is_of_tmux : List ℕ → Bool
+is_of_tmux word = is_one_of (codes "-pane -panes -session -sessions -key -keys -client -clients -server -buffer -layout") (after_name word)
+
+-- of what begins a comment elsewhere, that # does here; of `panel.move`, which is near no call, the call; of what runs a program
+-- in Python, or is a command of tmux
+abbrev pub said_of_beginning : List ℕ → Option (List ℕ)
+said_of_beginning word = if begins_comment word then Some (codes "a comment begins with #")
+    else (if begins_with (codes "panel.move") word then Some (codes "see move_panel")
+    else (if begins_with (codes "subprocess.") word || begins_with (codes "os.") word || is_of_tmux word then Some runs_no_programs
+    else None))
+
+-- of how the word begins, or else what the tables have of it as it is; or else of the value that it gives; or else how
+-- the call in it is written; or else of the name of what it calls; or else of what the word is near, of a part of that name, of
+-- the marks of the word, or of what that name is near
+unfoldable pub said_of : List ℕ → Option (List ℕ)
+said_of word = or_else (said_of_beginning word)
+    (or_else (advice_on word)
+    (or_else (said_of_given word)
+    (or_else (said_of_written word)
+    (or_else (said_of_name (called_name word))
+    (or_else (said_of_near word)
+    (or_else (advice_by_part (called_name word))
+    (or_else (said_of_marks word)
+    (said_near_name word))))))))
+
+-- what a line is, said where nothing else is, by the words after the first
+unfoldable pub line_advice : List (List ℕ) → List ℕ
+line_advice pieces = if begins_with_call pieces then codes "a line begins with the name of its call, and has nothing before it"
+    else codes "a line is the name of a call and its arguments: addstr 0 hi writes hi; man curspan lists the calls"
+
+-- of a word that is no call, and the words after it, which may give it a value or begin a line of something else
+abbrev pub call_advice : List ℕ → List (List ℕ) → List ℕ
+call_advice word pieces = unwrap_or (or_else (said_of_line word pieces) (said_of word)) (line_advice pieces)

@@ -1,0 +1,232 @@
+//! What is said of bytes that no line has, of faulty texts, and of what is no character.
+
+ghost use Rattle.std.specs.Prelude.{◌≡◌, ◌≤◌, ◌==◌, ◌&&◌, length, take};
+ghost use Rattle.std.specs.Char.{is_ascii_hexdigit};
+ghost use Rattle.std.specs.List.{list_all};
+ghost use Rattle.explain.specs.Characters.{after_bad_escape, bad_text_advice, begins_character, begins_escape, begins_escaped, begins_greater_byte, begins_sequence, byte_advice, character_reason, end_reason, escape_reason, longer_reason, text_reason, words_reason};
+
+use crate::advice::is_among;
+use crate::arguments::has_form;
+use crate::names::{
+    after_first, after_name, are_digits, are_hexadecimal, are_two_digits, begins_with_digit,
+    begins_with_letter, ends_with, has_byte, has_part, is_quoted, name_of_argument,
+};
+use script::{Form, LONGEST_LINE};
+
+/// What is said of a bad byte: a carriage return, a tab, a backspace, an escape, a 0, or another.
+fn byte_advice(byte: u8) -> &'static [u8]
+    ensures text { result.now ≡ byte_advice byte }
+    ensures short { length result.now ≤ 80 }
+{
+    match byte {
+        b'\r' => b"a line ends with a newline alone, and a text has it as \\r",
+        b'\t' => {
+            b"no line has tabs: a call begins it, one space separates words, a text has spaces"
+        },
+        8 => b"a text has it as a backslash and b",
+        27 => b"a text has no control sequences: see attrset, color_set, move",
+        0 => b"a character is one byte, and not two as in UTF-16",
+        _ => b"characters are those of ASCII, from the space to the tilde",
+    }
+}
+
+/// What is said of a bad byte that begins a text: of lines, spaces, quotes and dashes in UTF-8, or of the byte.
+pub fn bad_text_advice(byte: u8, rest: &[u8]) -> &'static [u8]
+    ensures text { result.now ≡ bad_text_advice byte rest.now }
+    ensures short { length result.now ≤ 80 }
+{
+    if rest.strip_prefix(b"\xe2\x94").is_some()
+        || rest.strip_prefix(b"\xe2\x95").is_some()
+        || rest.strip_prefix(b"\xe2\x96").is_some()
+    {
+        return b"characters are those of ASCII: lines are drawn by + - and |";
+    }
+    if rest.strip_prefix(b"\xc2\xa0").is_some() || rest.strip_prefix(b"\xe2\x80\x8b").is_some() {
+        return b"this space is none of ASCII: write a plain one, or none";
+    }
+    if rest.strip_prefix(b"\xe2\x80").is_some() || rest.strip_prefix(b"\xe2\x88\x92").is_some() {
+        return b"write such marks in ASCII, as \" ' - and ...";
+    }
+    byte_advice(byte)
+}
+
+/// Whether a text begins with an escape: with two bytes that are a text, or with four.
+fn begins_escape(text: &[u8]) -> bool
+    ensures { result ≡ begins_escape text.now }
+{
+    has_form(Form::Text, &text[..text.len().min(2)])
+        || has_form(Form::Text, &text[..text.len().min(4)])
+}
+
+/// What is after the first backslash of a text that begins no escape.
+fn after_bad_escape(text: &[u8]) -> &[u8]
+    ensures { result.now ≡ after_bad_escape text.now }
+{
+    let mut left = text;
+    while let Some((first, rest)) = left.split_first() {
+        if *first != b'\\' {
+            left = rest;
+        } else if begins_escape(left) && !rest.is_empty() {
+            left = &rest[1..];
+        } else {
+            return rest;
+        }
+    }
+    left
+}
+
+/// Whether what is after a backslash is an `e` that begins a control sequence.
+fn begins_escaped(rest: &[u8]) -> bool
+    ensures { result ≡ begins_escaped rest.now }
+{
+    (rest.strip_prefix(b"e").is_some() || rest.strip_prefix(b"E").is_some())
+        && !begins_with_letter(after_first(rest))
+}
+
+/// Whether what is after a backslash begins a control sequence in other languages.
+fn begins_sequence(rest: &[u8]) -> bool
+    ensures { result ≡ begins_sequence rest.now }
+{
+    begins_escaped(rest)
+        || rest.strip_prefix(b"033").is_some()
+        || rest.strip_prefix(b"x1b").is_some()
+        || rest.strip_prefix(b"x1B").is_some()
+        || rest.strip_prefix(b"u001b").is_some()
+        || rest.strip_prefix(b"u001B").is_some()
+        || begins_with_digit(rest) && after_name(rest).strip_prefix(b"[").is_some()
+}
+
+/// Whether a text begins with four hexadecimal digits.
+fn begins_with_number(text: &[u8]) -> bool
+    ensures { result ≡ (length (take 4 text.now) == 4 && list_all is_ascii_hexdigit (take 4 text.now)) }
+{
+    4 <= text.len() && are_hexadecimal(&text[..4])
+}
+
+/// Whether what is after a backslash begins a byte that is none of ASCII, in two hexadecimal digits.
+fn begins_greater_byte(rest: &[u8]) -> bool
+    ensures { result ≡ begins_greater_byte rest.now }
+{
+    let digits = after_first(rest);
+    rest.strip_prefix(b"x").is_some()
+        && 2 <= digits.len()
+        && are_two_digits(&digits[..2])
+        && b'8' <= digits[0]
+}
+
+/// Whether what is after a backslash begins a character by its name or number, or such a byte.
+fn begins_character(rest: &[u8]) -> bool
+    ensures { result ≡ begins_character rest.now }
+{
+    let number = after_first(rest);
+    if rest.strip_prefix(b"N{").is_some() || begins_greater_byte(rest) {
+        return true;
+    }
+    (rest.strip_prefix(b"u").is_some() || rest.strip_prefix(b"U").is_some())
+        && (number.strip_prefix(b"{").is_some() || begins_with_number(number))
+}
+
+/// What is said of a text with a backslash that begins no escape.
+pub fn text_reason(text: &[u8]) -> &'static [u8]
+    ensures text { result.now ≡ text_reason text.now }
+    ensures short { length result.now ≤ 80 }
+{
+    escape_reason(after_bad_escape(text))
+}
+
+/// What is said of a backslash that begins no escape, by what is after it.
+fn escape_reason(rest: &[u8]) -> &'static [u8]
+    ensures text { result.now ≡ escape_reason rest.now }
+    ensures short { length result.now ≤ 80 }
+{
+    if rest.strip_prefix(b"t").is_some() {
+        b": a tab is written as spaces, a backslash itself as two"
+    } else if begins_sequence(rest) {
+        b": it has no control sequences: see attrset, color_set, move"
+    } else if begins_character(rest) {
+        b": characters are those of ASCII, from the space to the tilde"
+    } else if begins_with_digit(rest) {
+        b": characters by number are \\x20 to \\x7e, and others have no escape"
+    } else if rest.strip_prefix(b"x").is_some() || rest.strip_prefix(b"X").is_some() {
+        b": two digits in lower case come after \\x, and a backslash itself is two"
+    } else if begins_with_letter(rest) {
+        b": a backslash is written as two, and other control characters have no escape"
+    } else if rest.is_empty() {
+        b": a backslash itself is written as two, and no line goes on in the next"
+    } else {
+        b": no other mark needs a backslash, and a backslash itself is written as two"
+    }
+}
+
+/// What is said of several words in place of a character.
+fn words_reason(word: &[u8]) -> &'static [u8]
+    ensures text { result.now ≡ words_reason word.now }
+    ensures short { length result.now ≤ 80 }
+{
+    if word == b"bkgdset".as_slice() {
+        b": it is more than one, and the attributes before it are one sum"
+    } else {
+        b": it is more than one: move sets the place, attrset and color_set the rendition"
+    }
+}
+
+/// What is said of an argument that ends with something else than the character.
+fn end_reason(word: &[u8], argument: &[u8]) -> &'static [u8]
+    ensures text { result.now ≡ end_reason word.now argument.now }
+    ensures short { length result.now ≤ 80 }
+{
+    if ends_with(argument, b';') {
+        b": it is more than one, and no semicolon comes after it"
+    } else if ends_with(argument, b',') {
+        b": it is more than one, and no comma comes after it"
+    } else if ends_with(argument, b' ') {
+        b": it is more than one, and a line has no space at its end"
+    } else if has_part(argument, b" >") {
+        b": it is more than one, and a script has no redirections"
+    } else if has_byte(argument, b' ') {
+        words_reason(word)
+    } else {
+        b": it is more than one"
+    }
+}
+
+/// What is said of more than one character.
+fn longer_reason(word: &[u8], argument: &[u8]) -> &'static [u8]
+    requires { length argument.now ≤ LONGEST_LINE }
+    ensures text { result.now ≡ longer_reason word.now argument.now }
+    ensures short { length result.now ≤ 80 }
+{
+    let name = name_of_argument(argument);
+    if argument.strip_prefix(b" ").is_some() {
+        b": it is more than one, and single spaces separate words"
+    } else if is_quoted(argument) {
+        b": it has no quotes"
+    } else if are_digits(argument) || argument.strip_prefix(b"0x").is_some() {
+        b": it is more than one; a code is \\x and two hexadecimal digits, as \\x41 for 65"
+    } else if is_among(name.as_slice(), b"space newline enter tab") {
+        b": it is more than one; a space is \\x20, a tab is spaces, and addch takes \\n"
+    } else if has_byte(argument, b'#') || has_part(argument, b"//") {
+        b": it is more than one, and a comment has a line of its own"
+    } else {
+        end_reason(word, argument)
+    }
+}
+
+/// Why an argument is no character.
+pub fn character_reason(word: &[u8], argument: &[u8]) -> &'static [u8]
+    requires { length argument.now ≤ LONGEST_LINE }
+    ensures text { result.now ≡ character_reason word.now argument.now }
+    ensures short { length result.now ≤ 80 }
+{
+    if argument.is_empty() {
+        b": it is empty, and a space is \\x20, or one space more"
+    } else if !has_form(Form::Text, argument) {
+        text_reason(argument)
+    } else if argument.strip_prefix(b"ACS_").is_some() {
+        b": lines are drawn by characters such as + - and |"
+    } else if has_byte(argument, b'|') {
+        b": it is more than one, and attributes are set before it, by attron"
+    } else {
+        longer_reason(word, argument)
+    }
+}
