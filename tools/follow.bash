@@ -85,13 +85,13 @@ is_older() {
     [ -n "$(find "$root/crates.txt" "${places[@]}" -type f -newer "$file" -print -quit 2> /dev/null)" ]
 }
 
-# Puts out how many provers a crate takes that is proved last, alone: CURSPAN_JOBS, if that is set, or one for each processor, four at
-# most, as far as there are two gigabytes of memory for each.
+# provers [MOST]: puts out how many provers there may be: CURSPAN_JOBS, if that is set, or one for each processor, at most MOST, as far as
+# there are two gigabytes of memory for each. MOST is 4 if left out: as many as a crate takes that is proved last, alone.
 provers() {
-    local most
+    local most=${1:-4} processors
     if [ -n "${CURSPAN_JOBS:-}" ]; then printf '%s\n' "$CURSPAN_JOBS"; return; fi
-    most=$(nproc)
-    awk -v most="$((most < 4 ? most : 4))" '/^MemAvailable:/ { n = int($2 / 2000000) } END { print n < 1 ? 1 : n < most ? n : most }' /proc/meminfo
+    processors=$(nproc)
+    awk -v most="$((processors < most ? processors : most))" '/^MemAvailable:/ { n = int($2 / 2000000) } END { print n < 1 ? 1 : n < most ? n : most }' /proc/meminfo
 }
 
 # Ends with status 125 where `rt` is missing.
