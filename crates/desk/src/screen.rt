@@ -80,8 +80,8 @@ impl<W: Sink + Drop> Screen<W> {
         ensures writer { IfOk result (λ screen. screen.writer ≡ writer) }
         ensures refused { RefusedBy (new_refusal lines cols) result }
     {
-        let painter = Painter::new(alloc, lines, cols)?;
         let desk = Desk::new(alloc, lines, cols)?;
+        let painter = Painter::new(alloc, lines, cols)?;
         Ok(Screen {
             desk,
             painter,
@@ -113,12 +113,10 @@ impl<W> Screen<W> {
         ensures { result ≡ self.writer }
     {
         let Screen {
-            desk,
-            painter,
+            desk: _,
+            painter: _,
             writer,
         } = self;
-        drop(desk);
-        drop(painter);
         writer
     }
 }
