@@ -22,25 +22,16 @@ fn fill(stack: &mut Stack) -> Result<(), Refusal> {
     Ok(())
 }
 
-/// What panels of windows 1001 and 1000 answer, and that of window 1001 where one of the others was deleted; and the
-/// panel of this window.
-type Answers = ([Result<PanelId, Refusal>; 3], Option<PanelId>);
-
-fn answers(stack: &mut Stack) -> Result<Answers, Refusal> {
-    fill(stack)?;
-    let (more, again) = (new_panel(stack, 1001), new_panel(stack, 1000));
-    stack.del(PanelId(500))?;
-    let free = new_panel(stack, 1001);
-    Ok(([more, again, free], stack.panel_of(WinId(1001))))
-}
-
 #[test]
 fn thousand_panels_are_the_most(rt: HostRuntime) {
     let mut stack = Stack::new(rt.alloc());
-    let free = PanelId(500);
-    let wanted = [Err(Refusal::TooMany), Err(Refusal::InPanel), Ok(free)];
-    assert!(rt; answers(&mut stack) == Ok((wanted, Some(free))));
-    assert_eq!(rt; ends(&stack), (1000, Some(PanelId(1)), Some(free)));
+    assert!(rt; fill(&mut stack) == Ok(()));
+    assert!(rt; new_panel(&mut stack, 1001) == Err(Refusal::TooMany));
+    assert!(rt; new_panel(&mut stack, 1000) == Err(Refusal::InPanel));
+    assert!(rt; stack.del(PanelId(500)) == Ok(()));
+    let free = new_panel(&mut stack, 1001);
+    assert!(rt; free == Ok(PanelId(500)) && stack.panel_of(WinId(1001)) == Some(PanelId(500)));
+    assert_eq!(rt; ends(&stack), (1000, Some(PanelId(1)), Some(PanelId(500))));
 }
 
 /// Whether the panels are those that were made, of which it answers how many.
