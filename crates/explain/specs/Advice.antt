@@ -10,6 +10,9 @@ use Rattle.explain.specs.Nearest.{or_else}
 abbrev pub runs_no_programs : List ℕ
 runs_no_programs = codes "a script runs no programs: each line of it is a call"
 
+abbrev pub on_command_line : List ℕ
+on_command_line = codes "this belongs on the command line: a script has calls alone"
+
 abbrev pub calls_alone : List ℕ
 calls_alone = codes "a script has calls alone: no variables, loops or functions"
 
@@ -25,8 +28,20 @@ no_menus = codes "there are no menus or forms"
 abbrev pub no_formats : List ℕ
 no_formats = codes "no call formats: see addstr"
 
+abbrev pub updates : List ℕ
+updates = codes "see update_panels, doupdate"
+
+abbrev pub of_picture : List ℕ
+of_picture = codes "a line of a picture is no line of a script; addstr writes a text"
+
+abbrev pub of_shell : List ℕ
+of_shell = codes "this belongs in the shell: a script has calls alone"
+
 abbrev pub refreshed : List ℕ
 refreshed = codes "see noutrefresh, doupdate"
+
+abbrev pub pairs_are_numbers : List ℕ
+pairs_are_numbers = codes "a pair is its number: see init_pair, color_set"
 
 abbrev pub coloured : List ℕ
 coloured = codes "see init_pair, color_set"
@@ -51,14 +66,14 @@ advised =
           ++ codes " nocbreak noecho raw noraw nonl flushinp intrflush meta qiflush noqiflush typeahead has_key keyname"
           ++ codes " keyok keybound key_defined define_key erasechar killchar set_escdelay get_escdelay read readkey read_key"
           ++ codes " getkey get_key input gets getc getchar getche scanf kbhit key_up key_down key_left key_right"
-          ++ codes " key_enter get_wch get_wstr getn_wstr unget_wch",
+          ++ codes " key_enter get_wch get_wstr getn_wstr unget_wch cin key keys raw_input",
     )
     ∷ (codes "a text has \\n for a newline, \\r and \\b, and spaces as they are", codes "nl newline cr tab space backspace")
     ∷ (codes "no call reads the mouse", codes "getmouse ungetmouse mousemask mouseinterval has_mouse mouse_trafo enclose mouse click")
     ∷ (
       codes "the screen is there from the first line on, and ends with the script",
       codes "initscr newterm new_prescr endwin isendwin delscreen set_term use_screen use_window exit_curses exit"
-          ++ codes " quit bye stop init initscreen init_screen start wrapper",
+          ++ codes " quit bye stop init initscreen init_screen start wrapper setup blessed.screen() blessed.screen({",
     )
     ∷ (
       codes "lines are drawn by the characters of addstr",
@@ -69,12 +84,12 @@ advised =
     ∷ (
       codes "see addstr",
       codes "addnstr addchstr addchnstr print println puts putstr put write writestr text say string addstring"
-          ++ codes " addtext type print_at add_string add_text title label cout writeln fputs output out",
+          ++ codes " addtext type add_string add_text title label cout writeln fputs output out",
     )
     ∷ (codes "see insch", codes "insstr insnstr insert inschar inserch insertch")
     ∷ (codes "see insertln, deleteln", codes "insdelln insertline insline deleteline delete_line delline")
     ∷ (codes "see inch", codes "instr innstr inchstr inchnstr inchar")
-    ∷ (codes "see bkgdset, erase", codes "bkgd background setbkgd")
+    ∷ (codes "see bkgdset, erase", codes "bkgd setbkgd fill")
     ∷ (codes "no call answers a background: see inch", codes "getbkgd")
     ∷ (codes "a window keeps its size: see newwin, overwrite", codes "resize")
     ∷ (codes "the screen keeps its size, which the command line gives", codes "resizeterm resize_term is_term_resized")
@@ -86,7 +101,7 @@ advised =
       codes "see attrset, attron, attroff, color_set",
       codes "attr_set attr_on attr_off chgat attr attribute attributes bold dim underline blink reverse inverse"
           ++ codes " a_bold a_dim a_underline a_blink a_reverse a_invis a_standout a_normal highlight italic normal"
-          ++ codes " setattr set_attr attrs",
+          ++ codes " setattr set_attr attrs underscore",
     )
     ∷ (codes "see inch, which answers those of a cell", codes "attr_get getattrs")
     ∷ (
@@ -95,15 +110,15 @@ advised =
           ++ codes " reset_color_pairs has_colors start_colour",
     )
     ∷ (codes "no call answers a colour: see init_pair", codes "color_content extended_color_content pair_content extended_pair_content")
-    ∷ (codes "a pair is its number: see init_pair, color_set", codes "alloc_pair find_pair free_pair color_pair pair_number")
+    ∷ (pairs_are_numbers, codes "alloc_pair find_pair free_pair color_pair pair_number")
     ∷ (codes "see scrl", codes "scroll_up scroll_down scrollup scrolldown")
     ∷ (codes "see clearok, touchwin", codes "redrawwin redrawln")
-    ∷ (codes "see move", codes "cursyncup gotoxy move_cursor movecursor setcursor set_cursor locate at moveto move_to go_to up down left right setsyx cup pos")
+    ∷ (codes "see move", codes "cursyncup gotoxy move_cursor movecursor setcursor set_cursor locate at moveto move_to go_to up down left right setsyx cup pos mvcur")
     ∷ (codes "see getyx", codes "getcurx getcury getsyx getcursor get_cursor getpos")
     ∷ (codes "see getbegyx", codes "getbegx getbegy")
     ∷ (codes "see getparyx", codes "getparx getpary")
-    ∷ (codes "see getmaxyx", codes "getmaxx getmaxy size getsize get_size getmax maxyx")
-    ∷ (screen_size, codes "lines cols columns rows height width screen")
+    ∷ (codes "see getmaxyx", codes "getmaxx getmaxy getsize get_size getmax get_max maxyx")
+    ∷ (screen_size, codes "lines cols columns rows height width screen size")
     ∷ (codes "no window has this flag", codes "leaveok immedok syncok idlok idcok")
     ∷ (
       codes "no call answers this",
@@ -120,9 +135,8 @@ advised =
     ∷ (codes "see scrollok", codes "scrlok")
     ∷ (
       codes "characters are those of ASCII",
-      codes "add_wch add_wchstr add_wchnstr addwstr addnwstr bkgrnd bkgrndset echo_wchar"
-          ++ codes " erasewchar getbkgrnd getcchar in_wch in_wchstr in_wchnstr innwstr"
-          ++ codes " ins_nwstr ins_wch ins_wstr inwstr key_name killwchar pecho_wchar setcchar wunctrl unctrl setlocale",
+      codes "erasewchar getbkgrnd getcchar in_wch in_wchstr in_wchnstr innwstr"
+          ++ codes " ins_nwstr ins_wch ins_wstr inwstr key_name killwchar setcchar wunctrl unctrl setlocale",
     )
     ∷ (
       codes "there are no soft labels",
@@ -130,28 +144,28 @@ advised =
           ++ codes " extended_slk_color slk_init slk_label slk_noutrefresh slk_refresh slk_restore slk_set slk_touch slk_wset",
     )
     ∷ (
-      codes "nothing is asked of the terminal, nor set there",
-      codes "baudrate beep flash def_prog_mode def_shell_mode reset_prog_mode reset_shell_mode resetty"
-          ++ codes " savetty has_ic has_il longname termname mcprint mvcur putp tigetflag tigetnum tigetstr tiparm tparm"
+      codes "no call asks the terminal anything, or sets its modes",
+      codes "baudrate def_prog_mode def_shell_mode reset_prog_mode reset_shell_mode resetty"
+          ++ codes " savetty has_ic has_il longname termname mcprint putp tigetflag tigetnum tigetstr tiparm tparm"
           ++ codes " vidattr vidputs vid_attr vid_puts ripoffline set_tabsize use_env use_tioctl filter nofilter"
-          ++ codes " use_extended_names use_legacy_coding bell stty setupterm restartterm cur_term set_curterm del_curterm"
+          ++ codes " use_extended_names use_legacy_coding stty setupterm restartterm cur_term set_curterm del_curterm"
           ++ codes " tputs tgetent tgetflag tgetnum tgetstr tgoto smcup rmcup termattrs term_attrs",
     )
     ∷ (codes "nothing is saved or loaded", codes "scr_dump scr_init scr_restore scr_set getwin putwin save load")
     ∷ (codes "no call traces or names a version", codes "trace curses_trace curses_version ncurses_version")
     ∷ (codes "to write, see addstr; no call reads keys", codes "echo")
-    ∷ (codes "see addch", codes "addchar add_char addc putch putc putchar")
+    ∷ (codes "see addch", codes "addchar add_char addc putch putc putchar put_char")
     ∷ (codes "see delch", codes "delchar deletech deletechar")
     ∷ (codes "see clear, erase", codes "cls clr clrscr clearscreen clear_screen clear_window clearscr wipe reset")
     ∷ (codes "see clrtobot", codes "clrtobottom clrtoeos")
     ∷ (codes "see clrtoeol", codes "clear_line clearline erase_line clreol cleareol clear_to_eol")
-    ∷ (codes "see update_panels, doupdate", codes "update update_screen updatescreen flush draw redraw render display show_screen sync refresh_screen repaint fflush")
+    ∷ (updates, codes "update update_screen updatescreen flush redraw render display show_screen sync refresh_screen repaint fflush")
     ∷ (codes "windows are numbered from 1 as they are made: see newwin", codes "window win newwindow new_window create_window createwin makewin mkwin openwin open_window")
     ∷ (codes "see delwin", codes "delwindow delete_window del_window destroy_window rmwin closewin close_window destroy delete deletewin killwin destroy_win destroywin")
     ∷ (codes "see mvwin, move_panel", codes "move_window move_win movewin movewindow panel_move")
     ∷ (codes "see new_panel", codes "panel create_panel add_panel make_panel panel_new")
     ∷ (codes "see show_panel, hide_panel", codes "show hide show_window hide_window panel_show panel_hide")
-    ∷ (codes "see top_panel, bottom_panel", codes "raise lower front back raise_panel lower_panel focus top bottom panel_top")
+    ∷ (codes "see top_panel, bottom_panel", codes "raise lower front back raise_panel lower_panel focus top bottom panel_top bring_to_front send_to_back to_front")
     ∷ (codes "see setscrreg", codes "setscroll setscrollreg set_scroll_region scroll_region")
     ∷ (codes "see copywin, overwrite, overlay", codes "copy copywindow copy_window")
     ∷ (codes "see touchwin", codes "touch touchwindow touch_window")
@@ -159,7 +173,8 @@ advised =
     ∷ (
       coloured,
       codes "color colour colors colours setcolor set_color textcolor fg bg foreground pair setpair set_pair setaf setab"
-          ++ codes " black red green blue white",
+          ++ codes " black red green blue white color_black color_red color_green color_yellow color_blue color_magenta"
+          ++ codes " color_cyan color_white",
     )
     ∷ (codes "no call waits", codes "sleep usleep msleep wait pause delay napms delay_output")
     ∷ (
@@ -169,8 +184,7 @@ advised =
     )
     ∷ (
       codes "a line begins with a call",
-      codes "stdscr curscr newscr null true false color_black color_red color_green color_yellow"
-          ++ codes " color_blue color_magenta color_cyan color_white curses",
+      codes "stdscr curscr newscr null true false curses",
     )
     ∷ (
       calls_alone,
@@ -183,7 +197,7 @@ advised =
       runs_no_programs,
       codes "ls cat cd pwd cp rm mkdir grep sed awk sudo sh bash python test source eval alias trap exec kill tmux",
     )
-    ∷ (codes "this belongs on the command line: a script has calls alone", codes "curspan ./curspan run paint check version")
+    ∷ (on_command_line, codes "curspan ./curspan run paint check version quiet")
     ∷ (codes "the end of a here-document stands alone in the shell, and is no call", codes "eof eot end_of_file")
     ∷ (codes "see subwin, derwin", codes "subwindow derwindow")
     ∷ (codes "curspan --help and the manual page, man curspan, give help", codes "help ? man info usage")
@@ -198,60 +212,103 @@ advice_in rows name = option_map (λ row. row.0) (find (λ row. list_any (bytes_
 abbrev pub table_advice : List ℕ → Option (List ℕ)
 table_advice name = advice_in advised name
 
--- further names, of which something is said where nothing is by the first table
-unfoldable pub more_advised : List (List ℕ × List ℕ)
-more_advised =
-    (cursor_shown, codes "cursor curs_set civis cnorm hide_cursor show_cursor hidecursor showcursor cursor_hide cursor_show nocursor")
-    ∷ (codes "see move; a script has no jumps", codes "goto gosub")
-    ∷ (codes "see move; a script runs no programs", codes "mv more")
-    ∷ (codes "a script runs no programs: see move, clear, attrset", codes "tput")
-    ∷ (codes "pairs have the terminal's colours until they are set: see init_pair", codes "use_default_colors assume_default_colors")
-    ∷ (codes "the eight colours can't be changed: see init_pair", codes "init_color init_colour initcolor init_extended_color can_change_color")
-    ∷ (codes "see delwin, del_panel", codes "del remove")
-    ∷ (codes "see delwin, del_panel; the screen ends with the script", codes "close")
+-- names like those of calls, of which something is said where nothing is by the first table
+unfoldable pub like_calls_advised : List (List ℕ × List ℕ)
+like_calls_advised =
+    (codes "see delwin, del_panel", codes "del remove free")
+    ∷ (
+      codes "pairs have the terminal's colours until they are set: see init_pair",
+      codes "use_default_colors assume_default_colors",
+    )
+    ∷ (
+      codes "the eight colours can't be changed: see init_pair",
+      codes "init_color init_colour initcolor init_extended_color can_change_color",
+    )
+    ∷ (codes "see del_panel", codes "destroy_panel remove_panel free_panel")
     ∷ (codes "see scrl, scrollok", codes "scroll")
-    ∷ (codes "see addstr; --log belongs on the command line", codes "log")
-    ∷ (codes "the end of a here-document stands alone; the screen ends with the script", codes "end eod here end_of_script")
-    ∷ (codes "see move_panel", codes "mvpanel mv_panel")
+    ∷ (codes "see move_panel", codes "mvpanel mv_panel panelmove")
     ∷ (codes "see mvwin", codes "mvwindow mv_window")
-    ∷ (codes "see newwin", codes "create_newwin newwindows")
+    ∷ (codes "see newwin", codes "create_newwin newwindows winnew")
+    ∷ (codes "see newwin, derwin", codes "nerwin")
     ∷ (codes "see delch, deleteln", codes "dellin delln deleln deletelines delete_lines dl1 dch1")
     ∷ (codes "see insertln", codes "insln insertlines insert_line insert_lines il1")
     ∷ (codes "see insch, for each character", codes "ich1 insstring insertstr inserttext")
-    ∷ (codes "see addstr, noutrefresh", codes "display-message append")
+    ∷ (codes "see move, insch", codes "mvinsstr mvinsnstr mvwinsstr mvwinsnstr")
     ∷ (codes "each call names its window or panel", codes "setwin set_window select_window current")
     ∷ (codes "see pnoutrefresh", codes "refresh_pad refreshpad pad_refresh padrefresh")
     ∷ (codes "a window is hidden with its panel: see hide_panel, show_panel", codes "hidewin showwin hide_win show_win")
     ∷ (codes "a window keeps its size: see newwin, copywin", codes "resizewin resize_win resize_window")
     ∷ (backgrounds, codes "bgset bgpair bkpair bkg")
     ∷ (codes "see color_set, init_pair", codes "op oc setfg setbg set_fg set_bg set_colour set_colors set_colours")
-    ∷ (codes "see move, addstr", codes "draw_text write_text print_text put_text show_text display_text")
+    ∷ (
+      codes "see move, addstr",
+      codes "draw_text write_text print_text put_text show_text display_text print_at mvaddnstr mvwaddnstr",
+    )
+    ∷ (codes "no call formats: see move, addstr", codes "mvprintw mvwprintw")
     ∷ (codes "see getyx, getbegyx, getmaxyx", codes "wherexy wherex getbeg getwinsize getxmaxy")
-    ∷ (codes "see noutrefresh, update_panels, doupdate", codes "updateall update_all updatewin update_win flip swap present blit commit")
-    ∷ (codes "see getmaxyx, move, addstr", codes "center print_center")
+    ∷ (
+      codes "see noutrefresh, update_panels, doupdate",
+      codes "updateall update_all updatewin update_win flip swap present blit commit draw_window",
+    )
+    ∷ (codes "see addstr, update_panels, doupdate", codes "draw")
+    ∷ (codes "see getmaxyx, move, addstr", codes "center centre print_center")
+    ∷ (
+      codes "characters are those of ASCII: see addstr, addch",
+      codes "add_wch add_wchstr add_wchnstr addwstr addnwstr echo_wchar pecho_wchar",
+    )
+    ∷ (codes "characters are those of ASCII: see bkgdset", codes "bkgrnd bkgrndset")
+    ∷ []
+
+-- words of terminals, shells and other languages, of which it is said where nothing is by these
+unfoldable pub foreign_advised : List (List ℕ × List ℕ)
+foreign_advised =
+    (codes "see move; a script has no jumps", codes "goto gosub")
+    ∷ (cursor_shown, codes "cursor curs_set civis cnorm hide_cursor show_cursor hidecursor showcursor cursor_hide cursor_show nocursor")
+    ∷ (codes "see move; a script runs no programs", codes "mv more")
+    ∷ (codes "a script runs no programs: see move, clear, attrset", codes "tput")
+    ∷ (codes "a script runs no programs: see init_pair, color_set", codes "tput_setaf tput_setab")
+    ∷ (
+      codes "a script runs no programs: call tput in the shell, before or after curspan",
+      codes "tput_smcup tput_rmcup tput_civis tput_cnorm tput_init tput_reset",
+    )
+    ∷ (codes "a script runs no programs: --lines and --cols give the size; see getmaxyx", codes "tput_cols tput_lines stty_size")
+    ∷ (codes "no call rings or flashes", codes "beep flash bell")
+    ∷ (codes "see delwin, del_panel; the screen ends with the script", codes "close")
+    ∷ (codes "see addstr; --log belongs on the command line", codes "log")
+    ∷ (codes "the end of a here-document stands alone; the screen ends with the script", codes "end eod here end_of_script")
+    ∷ (codes "see addstr, noutrefresh", codes "display-message append")
     ∷ (codes "a comment begins with #, and has a line of its own", codes "todo fixme note nb dnl")
     ∷ (codes "see move, which takes a line and a column", codes "home hpa vpa cuu1 cub1 cuf1 cud1 setpos go")
-    ∷ (codes "see clrtoeol, clrtobot", codes "el el1 ed clrline")
-    ∷ (renditions, codes "smso rmso smul rmul rev sgr invis style font noattr")
+    ∷ (codes "see clrtoeol, clrtobot", codes "el el1 ed clrline clrtoend")
+    ∷ (renditions, codes "smso rmso smul rmul rev sgr invis style font noattr plain")
     ∷ (codes "see setscrreg, scrl", codes "csr ind ri")
-    ∷ (codes "see addstr, which draws lines by + - and |", codes "acsc smacs rmacs hr vr hl vl draw_line draw_border")
+    ∷ (codes "see addstr, which draws lines by + - and |", codes "acsc smacs rmacs hr vr hl vl draw_line drawline draw_border")
     ∷ (codes "no call reads a key", codes "smkx rmkx waitkey wait_key press crmode nocrmode")
     ∷ (codes "zsh's module has names of its own: see newwin, addstr", codes "zcurses")
+    ∷ (of_picture, codes "rendition")
+    ∷ (of_shell, codes "coproc chmod select")
     ∷ (
       runs_no_programs,
       codes "python3 perl ruby lua node git less gcc cc vi vim nano ssh curl wget find head tail date time env"
-          ++ codes " who xargs sort tr cut seq tee jobs yes which xterm apt pip npm docker",
+          ++ codes " who xargs sort tr cut seq tee jobs yes which xterm apt pip npm docker swap-window rename-window"
+          ++ codes " select-window",
     )
     ∷ (
       calls_alone,
       codes "assert async yield finally default extern public private package program procedure module proc match"
-          ++ codes " impl mod pub defer not typeset readonly getopts shift setenv nil self super free malloc strlen"
-          ++ codes " memset fopen fclose fgets abort atexit perror signal sizeof len",
+          ++ codes " impl mod pub defer not typeset readonly getopts shift setenv nil self super malloc strlen memset"
+          ++ codes " fopen fclose fgets abort atexit perror signal sizeof len",
     )
     ∷ []
 
+abbrev pub advice_like_calls : List ℕ → Option (List ℕ)
+advice_like_calls name = advice_in like_calls_advised name
+
+abbrev pub foreign_advice : List ℕ → Option (List ℕ)
+foreign_advice name = advice_in foreign_advised name
+
 abbrev pub more_advice : List ℕ → Option (List ℕ)
-more_advice name = advice_in more_advised name
+more_advice name = or_else (advice_like_calls name) (foreign_advice name)
 
 abbrev pub advice_on : List ℕ → Option (List ℕ)
 advice_on name = or_else (table_advice name) (more_advice name)
@@ -264,6 +321,7 @@ parts_advised =
     (no_menus, codes "menu item form field")
     ∷ (no_formats, codes "printf printw")
     ∷ (refreshed, codes "refresh")
+    ∷ (updates, codes "update")
     ∷ (codes "see new_panel, del_panel, show_panel, hide_panel, top_panel, move_panel", codes "panel")
     ∷ (cursor_shown, codes "cursor")
     ∷ (codes "see scrl, setscrreg, scrollok", codes "scroll")

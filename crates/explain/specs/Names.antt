@@ -18,6 +18,10 @@ escape = 27
 abbrev pub quotation_mark : ℕ
 quotation_mark = 34
 
+-- `'`
+abbrev pub apostrophe : ℕ
+apostrophe = 39
+
 -- `(`
 abbrev pub round_bracket : ℕ
 round_bracket = 40

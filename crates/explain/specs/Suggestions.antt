@@ -6,8 +6,8 @@ use Rattle.std.specs.List.{list_any}
 use Rattle.std.specs.Str.{bytes_eq}
 use Rattle.script.specs.Characters.{backslash}
 use Rattle.script.specs.Words.{word_of}
-use Rattle.explain.specs.Advice.{advice_by_part, advice_on, calls_alone, runs_no_programs, screen_size}
-use Rattle.explain.specs.Names.{after_name, begins_comment, begins_with, begins_with_digit, called_name, colon, comma, ends_with, gives_value, has_byte, has_value, is_comment, is_name_byte, is_one_of, is_quoted, is_redirection, name_in, round_bracket, square_bracket}
+use Rattle.explain.specs.Advice.{advice_by_part, advice_on, calls_alone, of_picture, of_shell, on_command_line, pairs_are_numbers, runs_no_programs, screen_size}
+use Rattle.explain.specs.Names.{after_name, apostrophe, begins_comment, begins_with, begins_with_digit, called_name, colon, comma, ends_with, gives_value, has_byte, has_part, has_value, is_comment, is_name_byte, is_one_of, is_quoted, is_redirection, name_in, quotation_mark, round_bracket, square_bracket, vertical_bar}
 use Rattle.explain.specs.Nearest.{nearest, nearest_other, or_else}
 
 -- ---- what is said of a name
@@ -19,13 +19,15 @@ advice_on_rest said rest = if is_some (word_of rest) then Some (said ++ rest) el
 abbrev pub after_prefix : List ℕ → List ℕ → List ℕ → Option (List ℕ)
 after_prefix prefix said word = if begins_with prefix word then advice_on_rest said (drop (length prefix) word) else None
 
--- what is said of it without a prefix; or else, where it begins with `mvw`, `mv` or `w`, of the rest
+-- what is said of it without a prefix; or else, where it begins with `mvw`, `mv` or `w`, or as names of libraries do, of the rest
 unfoldable pub said_of_name : List ℕ → Option (List ℕ)
 said_of_name name =
     or_else (advice_on_rest (codes "see ") name)
     (or_else (after_prefix (codes "mvw") (codes "see move, ") name)
     (or_else (after_prefix (codes "mv") (codes "see move, ") name)
-    (after_prefix (codes "w") (codes "see ") name)))
+    (or_else (after_prefix (codes "w") (codes "see ") name)
+    (or_else (after_prefix (codes "curspan_") (codes "see ") name)
+    (after_prefix (codes "ncurses_") (codes "see ") name)))))
 
 -- the call that is near the word
 abbrev pub see_nearest : List ℕ → Option (List ℕ)
@@ -50,6 +52,10 @@ no_variables = codes "a script has no variables: windows and panels are numbered
 abbrev pub number_first : List ℕ
 number_first = codes "a line begins with the name of its call, and numbers come after it"
 
+-- what is before a call
+abbrev pub nothing_before : List ℕ
+nothing_before = codes "a line begins with the name of its call, and has nothing before it"
+
 -- of a name that is given a value: the size of the screen has an option for it
 abbrev pub said_of_value : List ℕ → List ℕ
 said_of_value name = if is_one_of (codes "lines cols columns rows") name then screen_size else no_variables
@@ -58,10 +64,26 @@ said_of_value name = if is_one_of (codes "lines cols columns rows") name then sc
 abbrev pub said_of_given : List ℕ → Option (List ℕ)
 said_of_given word = if list_any is_name_byte (take 1 word) && gives_value (after_name word) && not (is_some (word_of (name_in word))) then Some (said_of_value (name_in word)) else None
 
--- a line of the log, or of check: `line`, and a number with a colon or a comma
+-- a line of the log, or of check: `line`, and a number with a colon or a comma; or a refusal, as `E5`; or `3 faulty lines`
 abbrev pub is_of_log : List ℕ → List (List ℕ) → Bool
 is_of_log word [] = false
-is_of_log word (piece ∷ pieces) = bytes_eq word (codes "line") && begins_with_digit piece && (ends_with colon piece || ends_with comma piece)
+is_of_log word (piece ∷ pieces) = (bytes_eq word (codes "line") && begins_with_digit piece && (ends_with colon piece || ends_with comma piece))
+    || (begins_with (codes "E") word && begins_with_digit (drop 1 word)) || (begins_with_digit word && bytes_eq piece (codes "faulty"))
+
+-- the last of a word and others
+abbrev pub last_word : List ℕ → List (List ℕ) → List ℕ
+last_word word [] = word
+last_word word (piece ∷ pieces) = last_word piece pieces
+
+-- a line of a picture: of its frame, its colours or attributes, or between bars
+abbrev pub is_of_picture : List ℕ → List (List ℕ) → Bool
+is_of_picture word pieces = begins_with (codes "+-") word || begins_with (codes "%-") word || ((begins_with (codes ":") word || begins_with (codes "%") word) && begins_with_digit (drop 1 word))
+    || (begins_with (codes "|") word && ends_with vertical_bar (last_word (drop 1 word) pieces))
+
+-- a call written by a shell, as `echo 'addstr 0 hi'`
+abbrev pub is_echo : List ℕ → List (List ℕ) → Bool
+is_echo word [] = false
+is_echo word (piece ∷ pieces) = is_one_of (codes "echo printf") word && is_quoted piece && is_some (word_of (name_in (drop 1 piece)))
 
 -- a statement of other languages whose first word is a name of curses too, which would have a number after it
 abbrev pub is_statement : List ℕ → List (List ℕ) → Bool
@@ -73,10 +95,13 @@ abbrev pub begins_with_call : List (List ℕ) → Bool
 begins_with_call [] = false
 begins_with_call (piece ∷ pieces) = is_some (word_of piece)
 
--- a label, or the head of a block: the word ends in a colon, is no call, and nothing or a call comes after it
-abbrev pub is_label : List ℕ → List (List ℕ) → Bool
-is_label word [] = ends_with colon word && not (is_some (word_of (name_in word)))
-is_label word (piece ∷ pieces) = ends_with colon word && not (is_some (word_of (name_in word))) && is_some (word_of piece)
+-- a call after the name of a window or panel, with or without its number, or after a prompt or a bullet
+abbrev pub is_before_call : List ℕ → List (List ℕ) → Bool
+is_before_call word pieces = is_one_of (codes "win window panel pad screen stdscr % PS - * +") word && (begins_with_call pieces || begins_with_call (drop 1 pieces))
+
+-- a label, the head of a block, or a setting: the word begins with a letter, ends in a colon, and is no call
+abbrev pub is_label : List ℕ → Bool
+is_label word = ends_with colon word && list_any is_ascii_alphabetic (take 1 word) && not (is_some (word_of (name_in word)))
 
 -- what the tables have of a word and the next one with an underscore between them, as of `raise panel`
 abbrev pub said_of_two : List ℕ → List (List ℕ) → Option (List ℕ)
@@ -87,10 +112,13 @@ said_of_two word (piece ∷ pieces) = advice_on (word ++ codes "_" ++ piece)
 abbrev pub said_of_line : List ℕ → List (List ℕ) → Option (List ℕ)
 said_of_line word pieces = or_else (said_of_two word pieces)
     (if is_of_log word pieces then Some (codes "a line of the log or of check is no line of a script")
+    else (if is_of_picture word pieces then Some of_picture
+    else (if is_echo word pieces then Some of_shell
     else (if is_statement word pieces then Some calls_alone
-    else (if is_label word pieces then Some (codes "a script has calls alone, and no labels; a comment begins with #")
+    else (if is_label word then Some (codes "a script has calls alone, and no labels or settings; a comment begins with #")
     else (if has_value word pieces && not (has_byte round_bracket word) then Some (said_of_value (name_in word))
-    else None))))
+    else (if is_before_call word pieces then Some nothing_before
+    else None)))))))
 
 -- ---- what is said of the marks of a word
 
@@ -119,10 +147,11 @@ said_of_marks word = if begins_with (codes "\\") word then Some (said_of_backsla
     then Some (codes "a script has no variables, prompts or redirections: a line begins with a call")
     else (if is_quoted word then Some (codes "a text is an argument of addstr, without quotes; a comment begins with #")
     else (if begins_with (codes "```") word then Some (codes "marks of Markdown are no part of a script")
-    else (if begins_with (codes "/") word || begins_with (codes "./") word then Some runs_no_programs
+    else (if has_part (codes "/curspan") word then Some on_command_line
+    else (if begins_with (codes "/") word || begins_with (codes "./") word || begins_with (codes "~/") word then Some runs_no_programs
     else (if begins_with_digit word then Some number_first
     else (if not (list_any is_name_byte (take 1 word)) then Some (codes "a line begins with the name of a call, and a comment with #")
-    else None)))))))))
+    else None))))))))))
 
 -- the call that is near the word, if its name is longer than what the word calls
 abbrev pub see_longer : List ℕ → Option (List ℕ)
@@ -132,6 +161,11 @@ see_longer word = option_and_then (λ name. if nat_lt (length (called_name word)
 abbrev pub say_call : List ℕ → List ℕ → Option (List ℕ)
 say_call said name = if is_some (word_of name) then Some (said ++ name) else None
 
+-- a place is given to a call that writes, as in `win.addstr(0,`
+abbrev pub gives_place : List ℕ → Bool
+gives_place word = ends_with comma word && not (has_byte quotation_mark word) && not (has_byte apostrophe word)
+    && (has_part (codes "addstr(") word || has_part (codes "addch(") word)
+
 -- how a call is written whose name has marks after it
 abbrev pub written_advice : List ℕ → List ℕ
 written_advice word = if begins_with (codes ";") (after_name word) then codes "a line has one call, and no semicolon: see "
@@ -139,7 +173,8 @@ written_advice word = if begins_with (codes ";") (after_name word) then codes "a
     else (if is_redirection (after_name word) then codes "a script has no redirections or pipes: see "
     else (if bytes_eq (after_name word) (backslash ∷ []) then codes "no line goes on in the next, and no backslash comes after a call: see "
     else (if begins_with (codes "\\") (after_name word) then codes "only texts and characters have escapes: see "
-    else codes "a line is a call's name, and arguments after single spaces, as addstr 0 hi: see "))))
+    else (if gives_place word then codes "arguments come after single spaces, and move sets the place: see move, "
+    else codes "a line is a call's name, and arguments after single spaces, as addstr 0 hi: see ")))))
 
 -- Of a word that has the name of a call in it: how that is written. Of `move-panel` it is the longer name.
 unfoldable pub said_of_written : List ℕ → Option (List ℕ)
@@ -150,13 +185,14 @@ said_of_written word = if length (called_name word) == length word then say_call
 abbrev pub is_of_tmux : List ℕ → Bool
 is_of_tmux word = is_one_of (codes "-pane -panes -session -sessions -key -keys -client -clients -server -buffer -layout") (after_name word)
 
--- of what begins a comment elsewhere, that # does here; of `panel.move`, which is near no call, the call; of what runs a program
--- in Python, or is a command of tmux
+-- of what begins a comment elsewhere, that # does here; of `panel.move`, which is near no call, the call; of a pair of curses
+-- in an attribute, what it is here; of what runs a program in Python, or is a command of tmux
 abbrev pub said_of_beginning : List ℕ → Option (List ℕ)
 said_of_beginning word = if begins_comment word then Some (codes "a comment begins with #")
     else (if begins_with (codes "panel.move") word then Some (codes "see move_panel")
+    else (if has_part (codes "attr") word && (has_part (codes "COLOR_PAIR(") word || has_part (codes "color_pair(") word) then Some pairs_are_numbers
     else (if begins_with (codes "subprocess.") word || begins_with (codes "os.") word || is_of_tmux word then Some runs_no_programs
-    else None))
+    else None)))
 
 -- of how the word begins, or else what the tables have of it as it is; or else of the value that it gives; or else how
 -- the call in it is written; or else of the name of what it calls; or else of what the word is near, of a part of that name, of
@@ -174,7 +210,7 @@ said_of word = or_else (said_of_beginning word)
 
 -- what a line is, said where nothing else is, by the words after the first
 unfoldable pub line_advice : List (List ℕ) → List ℕ
-line_advice pieces = if begins_with_call pieces then codes "a line begins with the name of its call, and has nothing before it"
+line_advice pieces = if begins_with_call pieces then nothing_before
     else codes "a line is the name of a call and its arguments: addstr 0 hi writes hi; man curspan lists the calls"
 
 -- of a word that is no call, and the words after it, which may give it a value or begin a line of something else

@@ -19,7 +19,7 @@ const KEYS: &[u8] = b"no call reads keys";
 
 pub const REFRESHED: &[u8] = b"see noutrefresh, doupdate";
 
-const TERMINAL: &[u8] = b"nothing is asked of the terminal, nor set there";
+const TERMINAL: &[u8] = b"no call asks the terminal anything, or sets its modes";
 
 const ASCII: &[u8] = b"characters are those of ASCII";
 
@@ -29,7 +29,7 @@ const SCREEN: &[u8] = b"the screen is there from the first line on, and ends wit
 
 const MOUSE: &[u8] = b"no call reads the mouse";
 
-const PAIRS: &[u8] = b"a pair is its number: see init_pair, color_set";
+pub const PAIRS: &[u8] = b"a pair is its number: see init_pair, color_set";
 
 const CONTENTS: &[u8] = b"no call answers a colour: see init_pair";
 
@@ -67,7 +67,7 @@ pub const MENUS: &[u8] = b"there are no menus or forms";
 
 const BEGINNINGS: &[u8] = b"a line begins with a call";
 
-const UPDATES: &[u8] = b"see update_panels, doupdate";
+pub const UPDATES: &[u8] = b"see update_panels, doupdate";
 
 const ERASED: &[u8] = b"see clear, erase";
 
@@ -102,7 +102,7 @@ const LINE_ERASED: &[u8] = b"see clrtoeol";
 
 pub const PROGRAMS: &[u8] = b"a script runs no programs: each line of it is a call";
 
-const COMMAND_LINE: &[u8] = b"this belongs on the command line: a script has calls alone";
+pub const COMMAND_LINE: &[u8] = b"this belongs on the command line: a script has calls alone";
 
 const HERE_DOCUMENT: &[u8] =
     b"the end of a here-document stands alone in the shell, and is no call";
@@ -142,7 +142,6 @@ const ADVICE: [(u8, &[Row]); 28] = [
         (RENDITION, b"attr_get"),
         (PAIRS, b"alloc_pair"),
         (CURSOR, b"at"),
-        (ASCII, b"add_wch add_wchstr add_wchnstr addwstr addnwstr"),
         (CHARACTERS, b"addchar add_char addc"),
         (PANELS, b"add_panel"),
         (PROGRAMS, b"awk alias"),
@@ -150,13 +149,12 @@ const ADVICE: [(u8, &[Row]); 28] = [
     ]),
     (b'b', &[
         (ESCAPES, b"backspace"),
-        (SCREEN, b"bye"),
+        (SCREEN, b"bye blessed.screen() blessed.screen({"),
         (LINES, b"box border border_set box_set"),
-        (BACKGROUND, b"bkgd background"),
+        (BACKGROUND, b"bkgd"),
         (ATTRIBUTES, b"bold blink"),
-        (ASCII, b"bkgrnd bkgrndset"),
-        (TERMINAL, b"baudrate beep bell"),
-        (RAISED, b"back bottom"),
+        (TERMINAL, b"baudrate"),
+        (RAISED, b"back bottom bring_to_front"),
         (COLOURED, b"bg black blue"),
         (MENUS, b"button"),
         (CALLS_ALONE, b"break begin bool"),
@@ -164,7 +162,7 @@ const ADVICE: [(u8, &[Row]); 28] = [
         (PANELS_NEAR, b"below"),
     ]),
     (b'c', &[
-        (KEYS, b"cbreak"),
+        (KEYS, b"cbreak cin"),
         (ESCAPES, b"cr"),
         (MOUSE, b"click"),
         (TEXTS, b"cout"),
@@ -183,10 +181,10 @@ const ADVICE: [(u8, &[Row]); 28] = [
         (DELETED, b"closewin close_window"),
         (PANELS, b"create_panel"),
         (b"see copywin, overwrite, overlay", b"copy copywindow copy_window"),
-        (COLOURED, b"color colour colors colours"),
-        (BEGINNINGS,
-            b"curscr color_black color_red color_green color_yellow color_blue color_magenta color_cyan \
-            color_white curses"),
+        (COLOURED,
+            b"color colour colors colours color_black color_red color_green color_yellow color_blue \
+            color_magenta color_cyan color_white"),
+        (BEGINNINGS, b"curscr curses"),
         (CALLS_ALONE, b"case continue char const class"),
         (PROGRAMS, b"cat cd cp"),
         (COMMAND_LINE, b"curspan check"),
@@ -203,7 +201,7 @@ const ADVICE: [(u8, &[Row]); 28] = [
         (b"see del_panel", b"deletepanel delete_panel"),
         (TERMINAL, b"def_prog_mode def_shell_mode del_curterm"),
         (b"see delch", b"delchar deletech deletechar"),
-        (UPDATES, b"draw display"),
+        (UPDATES, b"display"),
         (DELETED,
             b"delwindow delete_window del_window destroy_window destroy delete deletewin destroy_win \
             destroywin"),
@@ -218,7 +216,7 @@ const ADVICE: [(u8, &[Row]); 28] = [
         (MOUSE, b"enclose"),
         (SCREEN, b"endwin exit_curses exit"),
         (CONTENTS, b"extended_color_content extended_pair_content"),
-        (ASCII, b"echo_wchar erasewchar"),
+        (ASCII, b"erasewchar"),
         (LABELS, b"extended_slk_color"),
         (b"to write, see addstr; no call reads keys", b"echo"),
         (LINE_ERASED, b"erase_line"),
@@ -231,8 +229,9 @@ const ADVICE: [(u8, &[Row]); 28] = [
         (LINES, b"frame"),
         (FORMATS, b"fprintf format"),
         (TEXTS, b"fputs"),
+        (BACKGROUND, b"fill"),
         (PAIRS, b"find_pair free_pair"),
-        (TERMINAL, b"flash filter"),
+        (TERMINAL, b"filter"),
         (UPDATES, b"flush fflush"),
         (RAISED, b"front focus"),
         (COLOURED, b"fg foreground"),
@@ -251,7 +250,7 @@ const ADVICE: [(u8, &[Row]); 28] = [
         (b"see getyx", b"getcurx getcury getsyx getcursor get_cursor getpos"),
         (b"see getbegyx", b"getbegx getbegy"),
         (b"see getparyx", b"getparx getpary"),
-        (SIZES, b"getmaxx getmaxy getsize get_size getmax"),
+        (SIZES, b"getmaxx getmaxy getsize get_size getmax get_max"),
         (SETTINGS, b"getparent getdelay getscrreg"),
         (b"see panel_above, with none", b"ground_panel"),
         (ASCII, b"getbkgrnd getcchar"),
@@ -295,7 +294,7 @@ const ADVICE: [(u8, &[Row]); 28] = [
     (b'k', &[
         (KEYS,
             b"keypad keyname keyok keybound key_defined killchar kbhit key_up key_down key_left key_right \
-            key_enter"),
+            key_enter key keys"),
         (ASCII, b"key_name killwchar"),
         (DELETED, b"killwin"),
         (PROGRAMS, b"kill"),
@@ -315,9 +314,9 @@ const ADVICE: [(u8, &[Row]); 28] = [
     (b'm', &[
         (KEYS, b"meta"),
         (MOUSE, b"mousemask mouseinterval mouse_trafo mouse"),
-        (CURSOR, b"move_cursor movecursor moveto move_to"),
+        (CURSOR, b"move_cursor movecursor moveto move_to mvcur"),
         (SIZES, b"maxyx"),
-        (TERMINAL, b"mcprint mvcur"),
+        (TERMINAL, b"mcprint"),
         (WINDOWS, b"makewin mkwin"),
         (b"see mvwin, move_panel", b"move_window move_win movewin movewindow"),
         (PANELS, b"make_panel"),
@@ -351,16 +350,15 @@ const ADVICE: [(u8, &[Row]); 28] = [
         (b"see pnoutrefresh, doupdate", b"prefresh"),
         (ECHOED, b"pechochar"),
         (FORMATS, b"printw printf"),
-        (TEXTS, b"print println puts putstr put print_at"),
+        (TEXTS, b"print println puts putstr put"),
         (CONTENTS, b"pair_content"),
         (PAIRS, b"pair_number"),
         (CURSOR, b"pos"),
         (POINTERS, b"panel_userptr"),
         (b"see newpad", b"pad"),
-        (ASCII, b"pecho_wchar"),
         (TERMINAL, b"putp"),
         (SAVED, b"putwin"),
-        (CHARACTERS, b"putch putc putchar"),
+        (CHARACTERS, b"putch putc putchar put_char"),
         (b"see mvwin, move_panel", b"panel_move"),
         (PANELS, b"panel panel_new"),
         (SHOWN, b"panel_show panel_hide"),
@@ -376,10 +374,11 @@ const ADVICE: [(u8, &[Row]); 28] = [
     (b'q', &[
         (KEYS, b"qiflush"),
         (SCREEN, b"quit"),
+        (COMMAND_LINE, b"quiet"),
     ]),
     (b'r', &[
         (REFRESHED, b"refresh"),
-        (KEYS, b"raw read readkey read_key"),
+        (KEYS, b"raw read readkey read_key raw_input"),
         (LINES, b"rect rectangle"),
         (b"a window keeps its size: see newwin, overwrite", b"resize"),
         (SIZE, b"resizeterm resize_term"),
@@ -403,7 +402,7 @@ const ADVICE: [(u8, &[Row]); 28] = [
     (b's', &[
         (KEYS, b"scanw set_escdelay scanf"),
         (ESCAPES, b"space"),
-        (SCREEN, b"set_term stop start"),
+        (SCREEN, b"set_term stop start setup"),
         (FORMATS, b"sprintf"),
         (TEXTS, b"say string"),
         (BACKGROUND, b"setbkgd"),
@@ -413,8 +412,7 @@ const ADVICE: [(u8, &[Row]); 28] = [
         (COLOURS, b"start_color start_colour"),
         (b"see scrl", b"scroll_up scroll_down scrollup scrolldown"),
         (CURSOR, b"setcursor set_cursor setsyx"),
-        (SIZES, b"size"),
-        (SCREEN_SIZE, b"screen"),
+        (SCREEN_SIZE, b"screen size"),
         (FLAGS, b"syncok"),
         (POINTERS, b"set_panel_userptr set_userptr"),
         (b"see scrollok", b"scrlok"),
@@ -426,6 +424,7 @@ const ADVICE: [(u8, &[Row]); 28] = [
         (SAVED, b"scr_dump scr_init scr_restore scr_set save"),
         (UPDATES, b"show_screen sync"),
         (SHOWN, b"show show_window"),
+        (RAISED, b"send_to_back"),
         (b"see setscrreg", b"setscroll setscrollreg set_scroll_region scroll_region"),
         (COLOURED, b"setcolor set_color setpair set_pair setaf setab"),
         (WAITS, b"sleep"),
@@ -442,7 +441,7 @@ const ADVICE: [(u8, &[Row]); 28] = [
             b"termname tigetflag tigetnum tigetstr tiparm tparm tputs tgetent tgetflag tgetnum tgetstr \
             tgoto termattrs term_attrs"),
         (TRACES, b"trace"),
-        (RAISED, b"top"),
+        (RAISED, b"top to_front"),
         (b"see touchwin", b"touch touchwindow touch_window"),
         (b"see is_wintouched, is_linetouched", b"touched"),
         (COLOURED, b"textcolor"),
@@ -454,7 +453,7 @@ const ADVICE: [(u8, &[Row]); 28] = [
         (KEYS, b"ungetch unget_wch"),
         (MOUSE, b"ungetmouse"),
         (SCREEN, b"use_screen use_window"),
-        (ATTRIBUTES, b"underline"),
+        (ATTRIBUTES, b"underline underscore"),
         (CURSOR, b"up"),
         (POINTERS, b"userptr"),
         (ASCII, b"unctrl"),

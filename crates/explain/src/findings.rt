@@ -16,7 +16,7 @@ use crate::nearest::call_of_words;
 use crate::numbers::number_reason;
 use crate::reasons::{reason_after, requirement_of};
 use crate::signatures::names_of_arguments;
-use crate::suggestions::{begins_with_call, said_of, said_of_line};
+use crate::suggestions::{begins_with_call, nothing_before, said_of, said_of_line};
 use arrayvec::ArrayVec;
 use cell::hex_digits;
 use script::{LONGEST_LINE, TextFault, Word, split_at_space};
@@ -121,7 +121,7 @@ fn line_advice(arguments: Option<&[u8]>) -> &'static [u8]
     ensures short { length result.now ≤ 100 }
 {
     if begins_with_call(arguments) {
-        return b"a line begins with the name of its call, and has nothing before it";
+        return nothing_before();
     }
     b"a line is the name of a call and its arguments: addstr 0 hi writes hi; man curspan lists the calls"
 }

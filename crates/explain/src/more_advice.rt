@@ -3,11 +3,13 @@
 ghost use Rattle.std.specs.Prelude.{◌≡◌, ◌≤◌, IfSome, length, option_map};
 ghost use Rattle.std.specs.List.{list_any};
 ghost use Rattle.script.specs.Pieces.{pieces_of};
-ghost use Rattle.explain.specs.Advice.{advice_by_part, more_advice, part_in};
+ghost use Rattle.explain.specs.Advice.{advice_by_part, advice_like_calls, foreign_advice, more_advice, part_in};
 ghost use Rattle.explain.specs.Names.{has_part};
 ghost use Rattle.explain.specs.steps.Tables.{rows_now};
 
-use crate::advice::{CALLS_ALONE, COLOURED, FORMATS, MENUS, PROGRAMS, REFRESHED, Row, look_up};
+use crate::advice::{
+    CALLS_ALONE, COLOURED, FORMATS, MENUS, PROGRAMS, REFRESHED, Row, UPDATES, look_up,
+};
 use crate::names::has_part;
 use script::split_at_space;
 
@@ -18,65 +20,92 @@ const RENDITIONS: &[u8] = b"see attrset, attron, attroff";
 const CURSOR_SHOWN: &[u8] =
     b"see move; the shell's tput civis hides the cursor, and tput cnorm shows it";
 
-/// Names that the table of `advice` has no room for.
+pub const PICTURE: &[u8] = b"a line of a picture is no line of a script; addstr writes a text";
+
+pub const SHELL: &[u8] = b"this belongs in the shell: a script has calls alone";
+
+/// Names like those of calls that the table of `advice` has no room for.
 #[rattlefmt::skip]
-const MORE: [Row; 38] = [
-    (CURSOR_SHOWN,
-        b"cursor curs_set civis cnorm hide_cursor show_cursor hidecursor showcursor cursor_hide cursor_show \
-        nocursor"),
-    (b"see move; a script has no jumps", b"goto gosub"),
-    (b"see move; a script runs no programs", b"mv more"),
-    (b"a script runs no programs: see move, clear, attrset", b"tput"),
+const LIKE_CALLS: [Row; 27] = [
+    (b"see delwin, del_panel", b"del remove free"),
     (b"pairs have the terminal's colours until they are set: see init_pair",
         b"use_default_colors assume_default_colors"),
     (b"the eight colours can't be changed: see init_pair",
         b"init_color init_colour initcolor init_extended_color can_change_color"),
-    (b"see delwin, del_panel", b"del remove"),
-    (b"see delwin, del_panel; the screen ends with the script", b"close"),
+    (b"see del_panel", b"destroy_panel remove_panel free_panel"),
     (b"see scrl, scrollok", b"scroll"),
-    (b"see addstr; --log belongs on the command line", b"log"),
-    (b"the end of a here-document stands alone; the screen ends with the script", b"end eod here end_of_script"),
-    (b"see move_panel", b"mvpanel mv_panel"),
+    (b"see move_panel", b"mvpanel mv_panel panelmove"),
     (b"see mvwin", b"mvwindow mv_window"),
-    (b"see newwin", b"create_newwin newwindows"),
+    (b"see newwin", b"create_newwin newwindows winnew"),
+    (b"see newwin, derwin", b"nerwin"),
     (b"see delch, deleteln", b"dellin delln deleln deletelines delete_lines dl1 dch1"),
     (b"see insertln", b"insln insertlines insert_line insert_lines il1"),
     (b"see insch, for each character", b"ich1 insstring insertstr inserttext"),
-    (b"see addstr, noutrefresh", b"display-message append"),
+    (b"see move, insch", b"mvinsstr mvinsnstr mvwinsstr mvwinsnstr"),
     (b"each call names its window or panel", b"setwin set_window select_window current"),
     (b"see pnoutrefresh", b"refresh_pad refreshpad pad_refresh padrefresh"),
     (b"a window is hidden with its panel: see hide_panel, show_panel", b"hidewin showwin hide_win show_win"),
     (b"a window keeps its size: see newwin, copywin", b"resizewin resize_win resize_window"),
     (BACKGROUNDS, b"bgset bgpair bkpair bkg"),
     (b"see color_set, init_pair", b"op oc setfg setbg set_fg set_bg set_colour set_colors set_colours"),
-    (b"see move, addstr", b"draw_text write_text print_text put_text show_text display_text"),
+    (b"see move, addstr",
+        b"draw_text write_text print_text put_text show_text display_text print_at mvaddnstr mvwaddnstr"),
+    (b"no call formats: see move, addstr", b"mvprintw mvwprintw"),
     (b"see getyx, getbegyx, getmaxyx", b"wherexy wherex getbeg getwinsize getxmaxy"),
     (b"see noutrefresh, update_panels, doupdate",
-        b"updateall update_all updatewin update_win flip swap present blit commit"),
-    (b"see getmaxyx, move, addstr", b"center print_center"),
+        b"updateall update_all updatewin update_win flip swap present blit commit draw_window"),
+    (b"see addstr, update_panels, doupdate", b"draw"),
+    (b"see getmaxyx, move, addstr", b"center centre print_center"),
+    (b"characters are those of ASCII: see addstr, addch",
+        b"add_wch add_wchstr add_wchnstr addwstr addnwstr echo_wchar pecho_wchar"),
+    (b"characters are those of ASCII: see bkgdset", b"bkgrnd bkgrndset"),
+];
+
+/// Words of terminals, shells and other languages that it has no room for.
+#[rattlefmt::skip]
+const FOREIGN: [Row; 24] = [
+    (b"see move; a script has no jumps", b"goto gosub"),
+    (CURSOR_SHOWN,
+        b"cursor curs_set civis cnorm hide_cursor show_cursor hidecursor showcursor cursor_hide cursor_show \
+        nocursor"),
+    (b"see move; a script runs no programs", b"mv more"),
+    (b"a script runs no programs: see move, clear, attrset", b"tput"),
+    (b"a script runs no programs: see init_pair, color_set", b"tput_setaf tput_setab"),
+    (b"a script runs no programs: call tput in the shell, before or after curspan",
+        b"tput_smcup tput_rmcup tput_civis tput_cnorm tput_init tput_reset"),
+    (b"a script runs no programs: --lines and --cols give the size; see getmaxyx", b"tput_cols tput_lines stty_size"),
+    (b"no call rings or flashes", b"beep flash bell"),
+    (b"see delwin, del_panel; the screen ends with the script", b"close"),
+    (b"see addstr; --log belongs on the command line", b"log"),
+    (b"the end of a here-document stands alone; the screen ends with the script", b"end eod here end_of_script"),
+    (b"see addstr, noutrefresh", b"display-message append"),
     (b"a comment begins with #, and has a line of its own", b"todo fixme note nb dnl"),
     (b"see move, which takes a line and a column", b"home hpa vpa cuu1 cub1 cuf1 cud1 setpos go"),
-    (b"see clrtoeol, clrtobot", b"el el1 ed clrline"),
-    (RENDITIONS, b"smso rmso smul rmul rev sgr invis style font noattr"),
+    (b"see clrtoeol, clrtobot", b"el el1 ed clrline clrtoend"),
+    (RENDITIONS, b"smso rmso smul rmul rev sgr invis style font noattr plain"),
     (b"see setscrreg, scrl", b"csr ind ri"),
-    (b"see addstr, which draws lines by + - and |", b"acsc smacs rmacs hr vr hl vl draw_line draw_border"),
+    (b"see addstr, which draws lines by + - and |", b"acsc smacs rmacs hr vr hl vl draw_line drawline draw_border"),
     (b"no call reads a key", b"smkx rmkx waitkey wait_key press crmode nocrmode"),
     (b"zsh's module has names of its own: see newwin, addstr", b"zcurses"),
+    (PICTURE, b"rendition"),
+    (SHELL, b"coproc chmod select"),
     (PROGRAMS,
-        b"python3 perl ruby lua node git less gcc cc vi vim nano ssh curl wget find head tail date time env \
-        who xargs sort tr cut seq tee jobs yes which xterm apt pip npm docker"),
+        b"python3 perl ruby lua node git less gcc cc vi vim nano ssh curl wget find head tail date time env who \
+        xargs sort tr cut seq tee jobs yes which xterm apt pip npm docker swap-window rename-window \
+        select-window"),
     (CALLS_ALONE,
         b"assert async yield finally default extern public private package program procedure module proc match \
-        impl mod pub defer not typeset readonly getopts shift setenv nil self super free malloc strlen \
-        memset fopen fclose fgets abort atexit perror signal sizeof len"),
+        impl mod pub defer not typeset readonly getopts shift setenv nil self super malloc strlen memset fopen \
+        fclose fgets abort atexit perror signal sizeof len"),
 ];
 
 /// What is said of names that have a part, and the parts, with a space between any two.
 #[rattlefmt::skip]
-const PARTS: [Row; 12] = [
+const PARTS: [Row; 13] = [
     (MENUS, b"menu item form field"),
     (FORMATS, b"printf printw"),
     (REFRESHED, b"refresh"),
+    (UPDATES, b"update"),
     (b"see new_panel, del_panel, show_panel, hide_panel, top_panel, move_panel", b"panel"),
     (CURSOR_SHOWN, b"cursor"),
     (b"see scrl, setscrreg, scrollok", b"scroll"),
@@ -88,12 +117,31 @@ const PARTS: [Row; 12] = [
     (b"see touchwin, untouchwin, touchline", b"touch"),
 ];
 
+/// What is said of a name like that of a call, if something is.
+fn advice_like_calls(name: &[u8]) -> Option<&'static [u8]>
+    ensures text { option_map (λ text. text.now) result ≡ advice_like_calls name.now }
+    ensures short { IfSome result (λ text. length text.now ≤ 80) }
+{
+    look_up(&LIKE_CALLS, name)
+}
+
+/// What is said of a word of terminals, shells and other languages, if something is.
+fn foreign_advice(name: &[u8]) -> Option<&'static [u8]>
+    ensures text { option_map (λ text. text.now) result ≡ foreign_advice name.now }
+    ensures short { IfSome result (λ text. length text.now ≤ 80) }
+{
+    look_up(&FOREIGN, name)
+}
+
 /// What is said of a further name, if something is.
 pub fn more_advice(name: &[u8]) -> Option<&'static [u8]>
     ensures text { option_map (λ text. text.now) result ≡ more_advice name.now }
     ensures short { IfSome result (λ text. length text.now ≤ 80) }
 {
-    look_up(&MORE, name)
+    match advice_like_calls(name) {
+        Some(text) => Some(text),
+        None => foreign_advice(name),
+    }
 }
 
 /// Whether a name has some of the parts in a text.

@@ -4,14 +4,15 @@ ghost use Rattle.std.specs.Prelude.{◌≡◌, ◌≤◌, ◌+◌, ◌++◌, IfS
 ghost use Rattle.std.specs.List.{list_any};
 ghost use Rattle.script.specs.Pieces.{pieces_of, room_of};
 ghost use Rattle.explain.specs.Names.{called_name, is_name_byte};
-ghost use Rattle.explain.specs.Suggestions.{advice_on_rest, after_prefix, begins_with_call, is_label, is_of_log, is_of_shell, is_of_tmux, is_statement, is_step, no_variables, number_first, said_near_name, said_of, said_of_backslash, said_of_beginning, said_of_given, said_of_line, said_of_marks, said_of_name, said_of_near, said_of_two, said_of_value, said_of_written, say_call, see_longer, see_nearest, written_advice};
+ghost use Rattle.explain.specs.Suggestions.{advice_on_rest, after_prefix, begins_with_call, gives_place, is_before_call, is_echo, is_label, is_of_log, is_of_picture, is_of_shell, is_of_tmux, is_statement, is_step, last_word, no_variables, nothing_before, number_first, said_near_name, said_of, said_of_backslash, said_of_beginning, said_of_given, said_of_line, said_of_marks, said_of_name, said_of_near, said_of_two, said_of_value, said_of_written, say_call, see_longer, see_nearest, written_advice};
 ghost use Rattle.explain.specs.steps.Suggestions.{said_now};
 
-use crate::advice::{CALLS_ALONE, PROGRAMS, SCREEN_SIZE, advice_on, is_among};
-use crate::more_advice::advice_by_part;
+use crate::advice::{CALLS_ALONE, COMMAND_LINE, PAIRS, PROGRAMS, SCREEN_SIZE, advice_on, is_among};
+use crate::more_advice::{PICTURE, SHELL, advice_by_part};
 use crate::names::{
-    Name, after_name, begins_comment, begins_with_digit, begins_with_letter, ends_with,
-    gives_value, has_byte, has_value, is_comment, is_name_byte, is_quoted, is_redirection, name_of,
+    Name, after_first, after_name, begins_comment, begins_with_digit, begins_with_letter,
+    ends_with, gives_value, has_byte, has_part, has_value, is_comment, is_name_byte, is_quoted,
+    is_redirection, name_of,
 };
 use crate::nearest::{nearest, nearest_other};
 use script::{LONGEST_LINE, Word, split_at_space};
@@ -80,7 +81,7 @@ fn see_nearest<'a>(word: &[u8]) -> Option<Said<'a>>
     }
 }
 
-/// What is said of a name: with no prefix, or else with one of three.
+/// What is said of a name: with no prefix, or else with one of five.
 #[tactic(auto, unfolding(crate::specs::Suggestions::said_of_name))]
 fn said_of_name<'a>(name: &'a [u8]) -> Option<Said<'a>>
     ensures said { said_now result ≡ said_of_name name.now }
@@ -96,7 +97,13 @@ fn said_of_name<'a>(name: &'a [u8]) -> Option<Said<'a>>
     if let Some(said) = after_prefix(b"mv", b"see move, ", name) {
         return Some(said);
     }
-    after_prefix(b"w", b"see ", name)
+    if let Some(said) = after_prefix(b"w", b"see ", name) {
+        return Some(said);
+    }
+    if let Some(said) = after_prefix(b"curspan_", b"see ", name) {
+        return Some(said);
+    }
+    after_prefix(b"ncurses_", b"see ", name)
 }
 
 /// What is said of the call that is near a text, or else of the other name that is.
@@ -152,6 +159,14 @@ fn no_variables() -> &'static [u8]
     b"a script has no variables: windows and panels are numbered from 1"
 }
 
+/// What is before a call.
+pub fn nothing_before() -> &'static [u8]
+    ensures text { result.now ≡ nothing_before }
+    ensures short { length result.now ≤ 80 }
+{
+    b"a line begins with the name of its call, and has nothing before it"
+}
+
 /// Where a number stands.
 fn number_first() -> &'static [u8]
     ensures text { result.now ≡ number_first }
@@ -197,6 +212,41 @@ fn is_of_log(word: &[u8], text: Option<&[u8]>) -> bool
     word == b"line".as_slice()
         && begins_with_digit(first)
         && (ends_with(first, b':') || ends_with(first, b','))
+        || word.strip_prefix(b"E").is_some() && begins_with_digit(after_first(word))
+        || begins_with_digit(word) && first == b"faulty".as_slice()
+}
+
+/// The last of a word and those in a text.
+fn last_word<'a>(word: &'a [u8], text: Option<&'a [u8]>) -> &'a [u8]
+    ensures { result.now ≡ last_word word.now (pieces_of text.entry) }
+{
+    let Some(text) = text else { return word };
+    let (first, rest) = split_at_space(text);
+    last_word(first, rest)
+}
+
+/// Whether a word and those after it are a line of a picture.
+fn is_of_picture(word: &[u8], text: Option<&[u8]>) -> bool
+    ensures { result ≡ is_of_picture word.now (pieces_of text.entry) }
+{
+    let rest = after_first(word);
+    word.strip_prefix(b"+-").is_some()
+        || word.strip_prefix(b"%-").is_some()
+        || (word.strip_prefix(b":").is_some() || word.strip_prefix(b"%").is_some())
+            && begins_with_digit(rest)
+        || word.strip_prefix(b"|").is_some() && ends_with(last_word(rest, text), b'|')
+}
+
+/// Whether a word and those after it write a call by a shell.
+fn is_echo(word: &[u8], text: Option<&[u8]>) -> bool
+    requires { room_of text ≤ LONGEST_LINE }
+    ensures { result ≡ is_echo word.now (pieces_of text.entry) }
+{
+    let Some(text) = text else { return false };
+    let (first, _) = split_at_space(text);
+    is_among(word, b"echo printf")
+        && is_quoted(first)
+        && Word::of(name_of(after_first(first)).as_slice()).is_some()
 }
 
 /// Whether a word and those after it are a statement of other languages.
@@ -217,18 +267,24 @@ pub fn begins_with_call(text: Option<&[u8]>) -> bool
     Word::of(first).is_some()
 }
 
-/// Whether a word is a label, or the head of a block, with nothing or a call after it.
-fn is_label(word: &[u8], text: Option<&[u8]>) -> bool
-    requires { length word.now ≤ LONGEST_LINE }
-    ensures { result ≡ is_label word.now (pieces_of text.entry) }
+/// Whether a word names a window or panel, or is a prompt or a bullet, and a call comes next or one word later.
+fn is_before_call(word: &[u8], text: Option<&[u8]>) -> bool
+    ensures { result ≡ is_before_call word.now (pieces_of text.entry) }
 {
-    if !ends_with(word, b':') || Word::of(name_of(word).as_slice()).is_some() {
-        return false;
-    }
-    match text {
-        Some(text) => Word::of(split_at_space(text).0).is_some(),
-        None => true,
-    }
+    let Some(first) = text else { return false };
+    let (_, rest) = split_at_space(first);
+    is_among(word, b"win window panel pad screen stdscr % PS - * +")
+        && (begins_with_call(text) || begins_with_call(rest))
+}
+
+/// Whether a word is a label, the head of a block, or a setting.
+fn is_label(word: &[u8]) -> bool
+    requires { length word.now ≤ LONGEST_LINE }
+    ensures { result ≡ is_label word.now }
+{
+    ends_with(word, b':')
+        && begins_with_letter(word)
+        && Word::of(name_of(word).as_slice()).is_none()
 }
 
 /// What the tables have of a word and the next one with an underscore between them.
@@ -257,14 +313,25 @@ pub fn said_of_line(word: &[u8], text: Option<&[u8]>) -> Option<&'static [u8]>
     if is_of_log(word, text) {
         return Some(b"a line of the log or of check is no line of a script");
     }
+    if is_of_picture(word, text) {
+        return Some(PICTURE);
+    }
+    if is_echo(word, text) {
+        return Some(SHELL);
+    }
     if is_statement(word, text) {
         return Some(CALLS_ALONE);
     }
-    if is_label(word, text) {
-        return Some(b"a script has calls alone, and no labels; a comment begins with #");
+    if is_label(word) {
+        return Some(
+            b"a script has calls alone, and no labels or settings; a comment begins with #",
+        );
     }
     if has_value(word, text) && !has_byte(word, b'(') {
         return Some(said_of_value(name_of(word).as_slice()));
+    }
+    if is_before_call(word, text) {
+        return Some(nothing_before());
     }
     None
 }
@@ -331,7 +398,13 @@ fn said_of_marks(word: &[u8]) -> Option<&'static [u8]>
     if word.strip_prefix(b"```").is_some() {
         return Some(b"marks of Markdown are no part of a script");
     }
-    if word.strip_prefix(b"/").is_some() || word.strip_prefix(b"./").is_some() {
+    if has_part(word, b"/curspan") {
+        return Some(COMMAND_LINE);
+    }
+    if word.strip_prefix(b"/").is_some()
+        || word.strip_prefix(b"./").is_some()
+        || word.strip_prefix(b"~/").is_some()
+    {
         return Some(PROGRAMS);
     }
     if begins_with_digit(word) {
@@ -372,6 +445,16 @@ fn say_call<'a>(said: &'static [u8], name: &'a [u8]) -> Option<Said<'a>>
     None
 }
 
+/// Whether a word gives a place to a call that writes.
+fn gives_place(word: &[u8]) -> bool
+    ensures { result ≡ gives_place word.now }
+{
+    ends_with(word, b',')
+        && !has_byte(word, b'"')
+        && !has_byte(word, b'\'')
+        && (has_part(word, b"addstr(") || has_part(word, b"addch("))
+}
+
 /// How a call is written whose name has marks after it.
 fn written_advice(word: &[u8]) -> &'static [u8]
     ensures text { result.now ≡ written_advice word.now }
@@ -388,6 +471,8 @@ fn written_advice(word: &[u8]) -> &'static [u8]
         b"no line goes on in the next, and no backslash comes after a call: see "
     } else if rest.strip_prefix(b"\\").is_some() {
         b"only texts and characters have escapes: see "
+    } else if gives_place(word) {
+        b"arguments come after single spaces, and move sets the place: see move, "
     } else {
         b"a line is a call's name, and arguments after single spaces, as addstr 0 hi: see "
     }
@@ -430,6 +515,11 @@ fn said_of_beginning(word: &[u8]) -> Option<&'static [u8]>
     }
     if word.strip_prefix(b"panel.move").is_some() {
         return Some(b"see move_panel");
+    }
+    if has_part(word, b"attr")
+        && (has_part(word, b"COLOR_PAIR(") || has_part(word, b"color_pair("))
+    {
+        return Some(PAIRS);
     }
     if word.strip_prefix(b"subprocess.").is_some()
         || word.strip_prefix(b"os.").is_some()
