@@ -1,5 +1,5 @@
 -- What is said of bytes that no line has, of faulty texts, and of what is no character. The texts are Curspan's own.
-use Rattle.std.specs.Prelude.{◌==◌, ◌&&◌, ◌||◌, ℕ, Bool, not, List, [], ◌∷◌, codes, drop, length, nat_le, slice_index, take, if◌then◌else◌}
+use Rattle.std.specs.Prelude.{◌==◌, ◌&&◌, ◌||◌, ℕ, Bool, not, List, [], ◌∷◌, codes, drop, length, nat_le, nat_lt, slice_index, take, if◌then◌else◌}
 use Rattle.std.specs.Char.{is_ascii_alphabetic, is_ascii_hexdigit}
 use Rattle.std.specs.List.{list_all, list_any}
 use Rattle.std.specs.Str.{bytes_eq}
@@ -19,12 +19,32 @@ byte_advice b = if b == carriage_return then codes "a line ends with a newline a
     else (if b == 0 then codes "a character is one byte, and not two as in UTF-16"
     else codes "characters are those of ASCII, from the space to the tilde"))))
 
--- In UTF-8: what others draw lines and blocks with, a space that isn't seen as another one, and quotes and dashes.
+-- In UTF-8: the last byte of the last block that is drawn with; those of the last of many spaces, of the first mark that
+-- separates lines, and of the last space.
+abbrev pub last_block : ℕ
+last_block = 159
+
+abbrev pub last_of_spaces : ℕ
+last_of_spaces = 143
+
+abbrev pub line_separator : ℕ
+line_separator = 168
+
+abbrev pub narrow_space : ℕ
+narrow_space = 175
+
+-- What others draw lines and blocks with, but no arrows and squares after them; spaces, and what isn't seen; and quotes
+-- and dashes.
 abbrev pub draws_line : List ℕ → Bool
-draws_line rest = begins_with (226 ∷ 148 ∷ []) rest || begins_with (226 ∷ 149 ∷ []) rest || begins_with (226 ∷ 150 ∷ []) rest
+draws_line rest = begins_with (226 ∷ 148 ∷ []) rest || begins_with (226 ∷ 149 ∷ []) rest
+    || (begins_with (226 ∷ 150 ∷ []) rest && nat_le (slice_index rest 2) last_block)
+
+abbrev pub ends_space : ℕ → Bool
+ends_space b = nat_le b last_of_spaces || (nat_le line_separator b && nat_le b narrow_space)
 
 abbrev pub is_space_elsewhere : List ℕ → Bool
-is_space_elsewhere rest = begins_with (194 ∷ 160 ∷ []) rest || begins_with (226 ∷ 128 ∷ 139 ∷ []) rest
+is_space_elsewhere rest = (begins_with (226 ∷ 128 ∷ []) rest && ends_space (slice_index rest 2)) || begins_with (194 ∷ 160 ∷ []) rest
+    || begins_with (227 ∷ 128 ∷ 128 ∷ []) rest || begins_with (239 ∷ 187 ∷ 191 ∷ []) rest
 
 abbrev pub is_mark_elsewhere : List ℕ → Bool
 is_mark_elsewhere rest = begins_with (226 ∷ 128 ∷ []) rest || begins_with (226 ∷ 136 ∷ 146 ∷ []) rest
@@ -32,7 +52,7 @@ is_mark_elsewhere rest = begins_with (226 ∷ 128 ∷ []) rest || begins_with (2
 -- of a bad byte that begins a text
 abbrev pub bad_text_advice : ℕ → List ℕ → List ℕ
 bad_text_advice b rest = if draws_line rest then codes "characters are those of ASCII: lines are drawn by + - and |"
-    else (if is_space_elsewhere rest then codes "this space is none of ASCII: write a plain one, or none"
+    else (if is_space_elsewhere rest then codes "this space is not in ASCII: write a plain one, or none"
     else (if is_mark_elsewhere rest then codes "write such marks in ASCII, as \" ' - and ..."
     else byte_advice b))
 
@@ -67,16 +87,34 @@ begins_character rest = begins_with (codes "N{") rest || begins_greater_byte res
     || ((begins_with (codes "u") rest || begins_with (codes "U") rest)
     && (begins_with (codes "{") (drop 1 rest) || (length (take 4 (drop 1 rest)) == 4 && list_all is_ascii_hexdigit (take 4 (drop 1 rest)))))
 
+-- `2`, and `}`
+abbrev pub digit_2 : ℕ
+digit_2 = 50
+
+abbrev pub closing_brace : ℕ
+closing_brace = 125
+
+-- the first digit of a character of ASCII that is seen
+abbrev pub is_plain_digit : ℕ → Bool
+is_plain_digit b = nat_le digit_2 b && nat_lt b digit_8
+
+-- It begins such a character by its number.
+abbrev pub begins_plain : List ℕ → Bool
+begins_plain rest = if begins_with (codes "u00") rest then is_plain_digit (slice_index rest 3)
+    else (if begins_with (codes "U000000") rest then is_plain_digit (slice_index rest 7)
+    else begins_with (codes "u{") rest && is_plain_digit (slice_index rest 2) && slice_index rest 4 == closing_brace)
+
 -- by what is after a backslash that begins no escape
 abbrev pub escape_reason : List ℕ → List ℕ
 escape_reason rest = if begins_with (codes "t") rest then codes ": a tab is written as spaces, a backslash itself as two"
-    else (if begins_sequence rest then codes ": it has no control sequences: see attrset, color_set, move"
+    else (if begins_sequence rest then codes ": a text has no control sequences: see attrset, color_set, move"
+    else (if begins_plain rest then codes ": \\u is no escape: write the character itself, or \\x41 for A"
     else (if begins_character rest then codes ": characters are those of ASCII, from the space to the tilde"
-    else (if begins_with_digit rest then codes ": characters by number are \\x20 to \\x7e, and others have no escape"
+    else (if begins_with_digit rest then codes ": a code is \\x and two hexadecimal digits, from \\x20 to \\x7e"
     else (if begins_with (codes "x") rest || begins_with (codes "X") rest then codes ": two digits in lower case come after \\x, and a backslash itself is two"
     else (if list_any is_ascii_alphabetic (take 1 rest) then codes ": a backslash is written as two, and other control characters have no escape"
     else (if length rest == 0 then codes ": a backslash itself is written as two, and no line goes on in the next"
-    else codes ": no other mark needs a backslash, and a backslash itself is written as two"))))))
+    else codes ": no other mark needs a backslash, and a backslash itself is written as two")))))))
 
 -- of a text with such a backslash, by the first one
 abbrev pub text_reason : List ℕ → List ℕ
@@ -84,10 +122,11 @@ text_reason text = escape_reason (after_bad_escape text)
 
 -- ---- what is no character
 
--- of several words in place of a character
-abbrev pub words_reason : List ℕ → List ℕ
-words_reason word = if bytes_eq word (codes "bkgdset") then codes ": it is more than one, and the attributes before it are one sum"
-    else codes ": it is more than one: move sets the place, attrset and color_set the rendition"
+-- of several words in place of a character, or of one
+abbrev pub words_reason : List ℕ → List ℕ → List ℕ
+words_reason word argument = if bytes_eq word (codes "bkgdset") then codes ": it is more than one, and attributes come before it, as one sum"
+    else (if has_byte space argument then codes ": it is more than one: addstr writes a text; see move, attrset, color_set"
+    else codes ": it is more than one: addstr writes a text, and a code is as \\x41 for 65")
 
 -- of what ends with something else than the character
 abbrev pub end_reason : List ℕ → List ℕ → List ℕ
@@ -95,14 +134,13 @@ end_reason word argument = if ends_with semicolon argument then codes ": it is m
     else (if ends_with comma argument then codes ": it is more than one, and no comma comes after it"
     else (if ends_with space argument then codes ": it is more than one, and a line has no space at its end"
     else (if has_part (codes " >") argument then codes ": it is more than one, and a script has no redirections"
-    else (if has_byte space argument then words_reason word
-    else codes ": it is more than one"))))
+    else words_reason word argument)))
 
 -- of more than one character
 abbrev pub longer_reason : List ℕ → List ℕ → List ℕ
 longer_reason word argument = if begins_with (codes " ") argument then codes ": it is more than one, and single spaces separate words"
-    else (if is_quoted argument then codes ": it has no quotes"
-    else (if are_digits argument || begins_with (codes "0x") argument
+    else (if is_quoted argument then codes ": no quotes are around arguments"
+    else (if are_digits argument || begins_with (codes "0x") argument || begins_with (codes "&") argument
     then codes ": it is more than one; a code is \\x and two hexadecimal digits, as \\x41 for 65"
     else (if is_one_of (codes "space newline enter tab") (name_of_argument argument)
     then codes ": it is more than one; a space is \\x20, a tab is spaces, and addch takes \\n"
@@ -113,5 +151,5 @@ abbrev pub character_reason : List ℕ → List ℕ → List ℕ
 character_reason word argument = if length argument == 0 then codes ": it is empty, and a space is \\x20, or one space more"
     else (if not (has_form Text argument) then text_reason argument
     else (if begins_with (codes "ACS_") argument then codes ": lines are drawn by characters such as + - and |"
-    else (if has_byte vertical_bar argument then codes ": it is more than one, and attributes are set before it, by attron"
+    else (if has_byte vertical_bar argument && not (bytes_eq word (codes "bkgdset")) then codes ": it is more than one, and attributes are set before it, by attron"
     else longer_reason word argument)))

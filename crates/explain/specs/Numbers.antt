@@ -4,7 +4,9 @@ use Rattle.std.specs.List.{list_any}
 use Rattle.std.specs.Option.{option_map_or}
 use Rattle.std.specs.Str.{bytes_eq}
 use Rattle.script.specs.Characters.{backslash}
+use Rattle.script.specs.Readings.{arguments}
 use Rattle.script.specs.Words.{word_of}
+use Rattle.explain.specs.Faults.{find_ill_formed, forms_of, is_word}
 use Rattle.explain.specs.Names.{are_digits, are_two_digits, begins_with_digit, comma, ends_with, has_byte, is_one_of, is_redirection, name_in, semicolon, vertical_bar}
 use Rattle.explain.specs.Nearest.{or_else}
 use Rattle.explain.specs.Reasons.{is_bracketed, no_brackets, no_commas, no_redirections, one_sum}
@@ -53,14 +55,26 @@ marks_reason line pieces many = if many && has_call pieces then Some (codes ": a
     else (if has_redirection pieces then Some no_redirections
     else None)))
 
+-- the first argument without its form is a word between numbers
+abbrev pub has_word : List ℕ → List ℕ → List (List ℕ) → Bool
+has_word word line pieces = option_map_or (λ ill. is_word line ill.form ill.argument) (find_ill_formed 0 (forms_of word) (arguments (forms_of word) pieces)) false
+
 -- of a call with too many
 abbrev pub too_many_reason : List ℕ → Option (List ℕ)
-too_many_reason word = if is_one_of (codes "attrset attron attroff") word then Some one_sum
+too_many_reason word = if is_one_of (codes "attrset attron attroff") word then Some (codes ": attributes are one sum, as 11; see addstr for a text, color_set for a colour")
     else (if is_one_of (codes "color_set bkgdpair") word then Some (codes ": one pair, which has its colours by init_pair, and no NULL after it")
     else (if is_one_of (codes "getyx getbegyx getmaxyx getparyx") word then Some (codes ": the answer is in the log, and no variables take it")
-    else (if bytes_eq word (codes "inch") then Some (codes ": one window, in which move sets the place first")
+    else (if is_one_of (codes "inch delch insertln deleteln clrtoeol clrtobot") word then Some (codes ": one window, in which move sets the place first")
     else (if bytes_eq word (codes "move") then Some (codes ": window, line, column; addstr writes a text after it")
-    else None))))
+    else (if is_one_of (codes "new_panel show_panel") word then Some (codes ": mvwin and move_panel set the place")
+    else (if is_one_of (codes "overlay overwrite") word then Some (codes ": copywin copies a part")
+    else None))))))
+
+-- of words between numbers, or else of such a call
+abbrev pub words_reason : List ℕ → List ℕ → List (List ℕ) → Option (List ℕ)
+words_reason word line pieces = if not (has_word word line pieces) then too_many_reason word
+    else (if has_byte comma line then Some no_commas
+    else Some (codes ": numbers alone are arguments: no words stand between them"))
 
 -- of a line with a comma
 abbrev pub comma_reason : List ℕ → Option (List ℕ)
@@ -73,10 +87,10 @@ separation_reason line pieces many = or_else (comma_reason line)
 
 abbrev pub number_reason : List ℕ → List ℕ → List (List ℕ) → Bool → Option (List ℕ)
 number_reason word line pieces many = if begins_bracketed pieces then Some no_brackets
-    else (if takes_text word then (if begins_number pieces then comma_reason line else None)
+    else (if takes_text word then (if begins_number pieces then separation_reason line pieces many else None)
     else (if joins_attributes word line then Some one_sum
     else or_else (marks_reason line pieces many)
-    (or_else (if many then too_many_reason word else None) (separation_reason line pieces many))))
+    (or_else (if many then words_reason word line pieces else None) (separation_reason line pieces many))))
 
 -- what a call's arguments are
 abbrev pub signature_text : List ℕ → List ℕ

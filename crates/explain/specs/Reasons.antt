@@ -1,14 +1,14 @@
 -- What an argument of a form has to be, and why an argument is faulty. The texts are Curspan's own.
 use Rattle.std.specs.Prelude.{◌==◌, ◌&&◌, ◌||◌, ℕ, Bool, not, List, [], codes, drop, length, nat_le, slice_index, take, Option, Some, None, unwrap_or, if◌then◌else◌}
 use Rattle.std.specs.Char.{is_ascii_alphabetic, is_ascii_digit, is_ascii_uppercase}
-use Rattle.std.specs.List.{list_any, take_while}
+use Rattle.std.specs.List.{list_all, list_any, take_while}
 use Rattle.std.specs.Str.{bytes_eq}
 use Rattle.std.specs.Str.Parse.{digits_value}
-use Rattle.script.specs.Characters.{backslash, digit_0}
+use Rattle.script.specs.Characters.{backslash, digit_0, number_sign}
 use Rattle.script.specs.declared.words.Form.{Form}
 use Rattle.script.specs.declared.words.Form.TheVariants.{Number, NumberOrNone, Signed, Attributes, Flag, Character, Text}
 use Rattle.explain.specs.Characters.{character_reason, text_reason}
-use Rattle.explain.specs.Names.{are_digits, are_two_digits, begins_with, begins_with_digit, comma, ends_with, equals_sign, has_byte, has_part, is_comment, is_marked, is_one_of, is_quoted, is_redirection, name_of_argument, semicolon}
+use Rattle.explain.specs.Names.{are_digits, are_two_digits, begins_with, begins_with_digit, comma, ends_with, equals_sign, has_byte, has_part, is_comment, is_marked, is_one_of, is_quoted, is_redirection, name_of_argument, quotation_mark, semicolon, vertical_bar}
 
 -- what an argument of a form has to be
 abbrev pub requirement : Form → List ℕ
@@ -41,6 +41,10 @@ requirement_of word form = if bytes_eq word (codes "init_pair") then pair_and_co
     else (if bytes_eq word (codes "bkgdpair") then window_and_pair
     else requirement_after word form))
 
+-- `'`
+abbrev pub apostrophe : ℕ
+apostrophe = 39
+
 -- ---- why an argument is not what it has to be
 
 -- why digits are no number: but for a leading 0 this is said
@@ -63,7 +67,7 @@ no_redirections = codes ": a script has no redirections or pipes"
 
 -- of what begins with a mark of other languages
 abbrev pub first_mark_reason : List ℕ → Option (List ℕ)
-first_mark_reason argument = if is_quoted argument then Some (codes ": it has no quotes")
+first_mark_reason argument = if is_quoted argument then Some (codes ": no quotes are around arguments")
     else (if is_comment argument then Some (codes ": a comment has a line of its own")
     else (if is_redirection argument then Some no_redirections
     else (if is_bracketed argument then Some no_brackets
@@ -136,23 +140,42 @@ no_digits_reason word place = if bytes_eq word (codes "init_pair")
     else (if place == 1 then second_reason word
     else numbers_in_digits))
 
--- of what may stand for a number elsewhere; `#f00` is a colour there
+-- digits, and letters that are taken for them
+abbrev pub looks_like_digit : ℕ → Bool
+looks_like_digit b = is_ascii_digit b || has_byte b (codes "OolI")
+
+abbrev pub is_misread : List ℕ → Bool
+is_misread argument = not (are_digits argument) && list_all looks_like_digit argument
+
+abbrev pub misread : List ℕ
+misread = codes ": it has a letter in it: write 0 in place of O, and 1 in place of l or I"
+
+-- a number but for what is in it; `#f00` is a colour after `init_pair`
+abbrev pub is_near_number : List ℕ → List ℕ → Bool
+is_near_number word argument = if is_marked argument then not (bytes_eq word (codes "init_pair"))
+    else list_any is_ascii_digit argument && not (list_any is_ascii_alphabetic (take 1 argument))
+
+abbrev pub more_than_digits : List ℕ → List ℕ
+more_than_digits argument = if has_byte number_sign argument then codes ": a number has digits alone, and a comment has a line of its own"
+    else codes ": a number has digits alone"
+
+-- of what may stand for a number elsewhere
 abbrev pub name_reason : List ℕ → ℕ → List ℕ → List ℕ
-name_reason word place argument = if is_one_of (codes "O o l I") argument then codes ": it is a letter: write 0 in place of O, and 1 in place of l or I"
+name_reason word place argument = if is_misread argument then misread
     else (if bytes_eq (name_of_argument argument) (codes "none") then codes ": only panel_above and panel_below take \"none\""
     else (if begins_with (codes "0x") argument || begins_with (codes "0X") argument then codes ": a number is decimal"
-    else (if begins_with_digit argument || (is_marked argument && not (bytes_eq word (codes "init_pair"))) then codes ": a number has digits alone"
+    else (if is_near_number word argument then more_than_digits argument
     else no_digits_reason word place)))
 
 -- of what is after a minus
 abbrev pub minus_reason : List ℕ → List ℕ
-minus_reason rest = if are_digits rest then codes ": it has no minus" else codes ": a call has no options: its arguments come in their order"
+minus_reason rest = if are_digits rest then codes ": a number here has no minus" else codes ": a call has no options: its arguments come in their order"
 
 -- of a number without a sign
 abbrev pub unsigned_reason : List ℕ → ℕ → List ℕ → List ℕ
 unsigned_reason word place argument = if are_digits argument then digits_reason (codes ": it is too great") argument
     else (if begins_with (codes "-") argument then minus_reason (drop 1 argument)
-    else (if begins_with (codes "+") argument then codes ": it has no plus"
+    else (if begins_with (codes "+") argument then codes ": a number has no plus"
     else (if has_part (codes "LINES") argument || has_part (codes "COLS") argument then size_reason word
     else mark_reason (name_reason word place argument) argument)))
 
@@ -175,13 +198,15 @@ one_sum = codes ": attributes are one sum, as 11 for 01 bold and 10 reverse"
 
 -- of attributes that are more than one, or as other languages write them
 abbrev pub attributes_reason : List ℕ → List ℕ
-attributes_reason argument = if is_default (name_of_argument argument) then codes ": no attributes are 00"
-    else (if is_colour (name_of_argument argument) then codes ": a colour is set by color_set"
-    else (if begins_with (codes "0x") argument || begins_with (codes "0X") argument then codes ": it has no 0x before its two digits"
+attributes_reason argument = if is_default (name_of_argument argument) && not (has_byte vertical_bar argument)
+    then codes ": 00 stands for no attributes, and 3f for all that attroff takes away"
+    else (if has_colour argument then codes ": a colour is set by color_set"
+    else (if begins_with (codes "0x") argument || begins_with (codes "0X") argument then codes ": the two digits have no 0x before them"
+    else (if is_misread argument then misread
     else (if is_list argument then one_sum
     else (if not (are_two_digits argument) then mark_reason (codes ": a sum of 01 bold, 02 dim, 04 underline, 08 blink, 10 reverse, 20 invisible") argument
     else (if list_any is_ascii_uppercase argument then codes ": the digits are in lower case"
-    else codes ": it is too great")))))
+    else codes ": it is too great"))))))
 
 -- of a flag after a word: the last of `copywin` says how it copies
 abbrev pub copy_reason : List ℕ → List ℕ
@@ -220,15 +245,23 @@ pair_reason argument = if begins_with (codes "color_pair") (name_of_argument arg
 -- of an argument after the first
 abbrev pub later_reason : List ℕ → List ℕ → Option (List ℕ)
 later_reason word argument = if is_one_of (codes "color_set bkgdpair") word then pair_reason argument
-    else (if bytes_eq word (codes "init_pair") && (bytes_eq argument (codes "-1") || is_default (name_of_argument argument))
+    else (if bytes_eq word (codes "init_pair") && (is_one_of (codes "- -1") argument || is_default (name_of_argument argument))
     then Some (codes ": no number is the terminal's own colour, which pairs have until they are set")
     else (if bytes_eq word (codes "bkgdset") && is_colour (name_of_argument argument)
     then Some (codes ": a background's pair is set by bkgdpair")
     else None))
 
+-- after a quote a number, with a quote at its end
+abbrev pub is_quoted_number : List ℕ → Bool
+is_quoted_number argument = begins_with_digit (drop 1 argument) && (ends_with quotation_mark argument || ends_with apostrophe argument)
+
 -- a text or a character in place of the window
+abbrev pub begins_text : List ℕ → Bool
+begins_text argument = if is_quoted argument then not (is_quoted_number argument)
+    else list_any is_ascii_alphabetic (take 1 argument) || bytes_eq argument (codes "-")
+
 abbrev pub is_text_first : List ℕ → List ℕ → Bool
-is_text_first word argument = is_one_of (codes "addstr addch insch") word && (is_quoted argument || list_any is_ascii_alphabetic (take 1 argument))
+is_text_first word argument = is_one_of (codes "addstr addch insch") word && begins_text argument
 
 abbrev pub reason_of_call : List ℕ → ℕ → List ℕ → Option (List ℕ)
 reason_of_call word place argument = if not (place == 0) then later_reason word argument

@@ -3,7 +3,9 @@
 ghost use Rattle.std.specs.Prelude.{◌≡◌, ◌≤◌, ◌+◌, IfSome, length, option_map};
 ghost use Rattle.script.specs.Pieces.{pieces_of, room_of};
 ghost use Rattle.script.specs.Readings.{arguments};
-ghost use Rattle.explain.specs.Faults.{IllFormed as Ill, find_ill_formed, find_stray, forms_of, has_form, is_stray};
+ghost use Rattle.std.specs.Char.{is_ascii_digit};
+ghost use Rattle.std.specs.List.{list_any};
+ghost use Rattle.explain.specs.Faults.{IllFormed as Ill, find_ill_formed, find_stray, forms_of, has_form, is_stray, is_word};
 
 use crate::names::is_comment;
 use script::{Arguments, Form, LONGEST_LINE, MOST_ARGUMENTS, Word, next_argument, split_at_space};
@@ -86,11 +88,32 @@ pub struct Stray<'a> {
     pub argument: &'a [u8],
 }
 
+/// Whether a text has a digit.
+pub fn has_digit(text: &[u8]) -> bool
+    ensures { result ≡ list_any is_ascii_digit text.now }
+{
+    text.iter().any(|b| b.is_ascii_digit())
+}
+
 /// Whether an argument is none, or would begin a comment, here or in other languages.
 fn is_stray(argument: &[u8]) -> bool
     ensures { result ≡ is_stray argument.now }
 {
+    if argument.strip_prefix(b"#").is_some() && !has_digit(argument) {
+        return true;
+    }
     argument.is_empty() || is_comment(argument)
+}
+
+/// Whether an argument without its form is a word in place of a number, in a line that has numbers.
+pub fn is_word(line: &[u8], ill: IllFormed<'_>) -> bool
+    ensures { result ≡ is_word line.now ill.entry.form ill.entry.argument.now }
+{
+    match ill.form {
+        Form::Number | Form::NumberOrNone | Form::Signed => has_digit(line)
+            && !has_digit(ill.argument),
+        _ => false,
+    }
 }
 
 /// The first stray argument.

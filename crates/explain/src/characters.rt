@@ -1,9 +1,9 @@
 //! What is said of bytes that no line has, of faulty texts, and of what is no character.
 
-ghost use Rattle.std.specs.Prelude.{◌≡◌, ◌≤◌, ◌==◌, ◌&&◌, length, take};
+ghost use Rattle.std.specs.Prelude.{◌≡◌, ◌≤◌, ◌==◌, ◌&&◌, length, slice_index, take};
 ghost use Rattle.std.specs.Char.{is_ascii_hexdigit};
 ghost use Rattle.std.specs.List.{list_all};
-ghost use Rattle.explain.specs.Characters.{after_bad_escape, bad_text_advice, begins_character, begins_escape, begins_escaped, begins_greater_byte, begins_sequence, byte_advice, character_reason, end_reason, escape_reason, longer_reason, text_reason, words_reason};
+ghost use Rattle.explain.specs.Characters.{after_bad_escape, bad_text_advice, begins_character, begins_escape, begins_escaped, begins_greater_byte, begins_plain, begins_sequence, byte_advice, character_reason, draws_line, end_reason, ends_space, escape_reason, is_plain_digit, is_space_elsewhere, longer_reason, text_reason, words_reason};
 
 use crate::advice::is_among;
 use crate::arguments::has_form;
@@ -30,19 +30,52 @@ fn byte_advice(byte: u8) -> &'static [u8]
     }
 }
 
+/// The byte of a text at a place, and 0 where there is none.
+fn byte_at(text: &[u8], place: usize) -> u8
+    ensures { result ≡ slice_index text.now place }
+{
+    match text.get(place) {
+        Some(byte) => *byte,
+        None => 0,
+    }
+}
+
+/// Whether a text begins with what others draw lines and blocks with, in UTF-8.
+fn draws_line(rest: &[u8]) -> bool
+    ensures { result ≡ draws_line rest.now }
+{
+    rest.strip_prefix(b"\xe2\x94").is_some()
+        || rest.strip_prefix(b"\xe2\x95").is_some()
+        || rest.strip_prefix(b"\xe2\x96").is_some() && byte_at(rest, 2) <= 0x9f
+}
+
+/// Whether a byte is the last one of many spaces of others.
+fn ends_space(byte: u8) -> bool
+    ensures { result ≡ ends_space byte }
+{
+    byte <= 0x8f || 0xa8 <= byte && byte <= 0xaf
+}
+
+/// Whether a text begins with a space of others, or with what isn't seen, in UTF-8.
+fn is_space_elsewhere(rest: &[u8]) -> bool
+    ensures { result ≡ is_space_elsewhere rest.now }
+{
+    rest.strip_prefix(b"\xe2\x80").is_some() && ends_space(byte_at(rest, 2))
+        || rest.strip_prefix(b"\xc2\xa0").is_some()
+        || rest.strip_prefix(b"\xe3\x80\x80").is_some()
+        || rest.strip_prefix(b"\xef\xbb\xbf").is_some()
+}
+
 /// What is said of a bad byte that begins a text: of lines, spaces, quotes and dashes in UTF-8, or of the byte.
 pub fn bad_text_advice(byte: u8, rest: &[u8]) -> &'static [u8]
     ensures text { result.now ≡ bad_text_advice byte rest.now }
     ensures short { length result.now ≤ 80 }
 {
-    if rest.strip_prefix(b"\xe2\x94").is_some()
-        || rest.strip_prefix(b"\xe2\x95").is_some()
-        || rest.strip_prefix(b"\xe2\x96").is_some()
-    {
+    if draws_line(rest) {
         return b"characters are those of ASCII: lines are drawn by + - and |";
     }
-    if rest.strip_prefix(b"\xc2\xa0").is_some() || rest.strip_prefix(b"\xe2\x80\x8b").is_some() {
-        return b"this space is none of ASCII: write a plain one, or none";
+    if is_space_elsewhere(rest) {
+        return b"this space is not in ASCII: write a plain one, or none";
     }
     if rest.strip_prefix(b"\xe2\x80").is_some() || rest.strip_prefix(b"\xe2\x88\x92").is_some() {
         return b"write such marks in ASCII, as \" ' - and ...";
@@ -126,6 +159,28 @@ fn begins_character(rest: &[u8]) -> bool
         && (number.strip_prefix(b"{").is_some() || begins_with_number(number))
 }
 
+/// Whether a byte is the first digit of a character of ASCII that is seen.
+fn is_plain_digit(byte: u8) -> bool
+    ensures { result ≡ is_plain_digit byte }
+{
+    b'2' <= byte && byte < b'8'
+}
+
+/// Whether what is after a backslash begins such a character by its number.
+fn begins_plain(rest: &[u8]) -> bool
+    ensures { result ≡ begins_plain rest.now }
+{
+    if rest.strip_prefix(b"u00").is_some() {
+        return is_plain_digit(byte_at(rest, 3));
+    }
+    if rest.strip_prefix(b"U000000").is_some() {
+        return is_plain_digit(byte_at(rest, 7));
+    }
+    rest.strip_prefix(b"u{").is_some()
+        && is_plain_digit(byte_at(rest, 2))
+        && byte_at(rest, 4) == b'}'
+}
+
 /// What is said of a text with a backslash that begins no escape.
 pub fn text_reason(text: &[u8]) -> &'static [u8]
     ensures text { result.now ≡ text_reason text.now }
@@ -142,11 +197,13 @@ fn escape_reason(rest: &[u8]) -> &'static [u8]
     if rest.strip_prefix(b"t").is_some() {
         b": a tab is written as spaces, a backslash itself as two"
     } else if begins_sequence(rest) {
-        b": it has no control sequences: see attrset, color_set, move"
+        b": a text has no control sequences: see attrset, color_set, move"
+    } else if begins_plain(rest) {
+        b": \\u is no escape: write the character itself, or \\x41 for A"
     } else if begins_character(rest) {
         b": characters are those of ASCII, from the space to the tilde"
     } else if begins_with_digit(rest) {
-        b": characters by number are \\x20 to \\x7e, and others have no escape"
+        b": a code is \\x and two hexadecimal digits, from \\x20 to \\x7e"
     } else if rest.strip_prefix(b"x").is_some() || rest.strip_prefix(b"X").is_some() {
         b": two digits in lower case come after \\x, and a backslash itself is two"
     } else if begins_with_letter(rest) {
@@ -158,15 +215,17 @@ fn escape_reason(rest: &[u8]) -> &'static [u8]
     }
 }
 
-/// What is said of several words in place of a character.
-fn words_reason(word: &[u8]) -> &'static [u8]
-    ensures text { result.now ≡ words_reason word.now }
+/// What is said of several words in place of a character, or of one.
+fn words_reason(word: &[u8], argument: &[u8]) -> &'static [u8]
+    ensures text { result.now ≡ words_reason word.now argument.now }
     ensures short { length result.now ≤ 80 }
 {
     if word == b"bkgdset".as_slice() {
-        b": it is more than one, and the attributes before it are one sum"
+        b": it is more than one, and attributes come before it, as one sum"
+    } else if has_byte(argument, b' ') {
+        b": it is more than one: addstr writes a text; see move, attrset, color_set"
     } else {
-        b": it is more than one: move sets the place, attrset and color_set the rendition"
+        b": it is more than one: addstr writes a text, and a code is as \\x41 for 65"
     }
 }
 
@@ -183,10 +242,8 @@ fn end_reason(word: &[u8], argument: &[u8]) -> &'static [u8]
         b": it is more than one, and a line has no space at its end"
     } else if has_part(argument, b" >") {
         b": it is more than one, and a script has no redirections"
-    } else if has_byte(argument, b' ') {
-        words_reason(word)
     } else {
-        b": it is more than one"
+        words_reason(word, argument)
     }
 }
 
@@ -200,8 +257,11 @@ fn longer_reason(word: &[u8], argument: &[u8]) -> &'static [u8]
     if argument.strip_prefix(b" ").is_some() {
         b": it is more than one, and single spaces separate words"
     } else if is_quoted(argument) {
-        b": it has no quotes"
-    } else if are_digits(argument) || argument.strip_prefix(b"0x").is_some() {
+        b": no quotes are around arguments"
+    } else if are_digits(argument)
+        || argument.strip_prefix(b"0x").is_some()
+        || argument.strip_prefix(b"&").is_some()
+    {
         b": it is more than one; a code is \\x and two hexadecimal digits, as \\x41 for 65"
     } else if is_among(name.as_slice(), b"space newline enter tab") {
         b": it is more than one; a space is \\x20, a tab is spaces, and addch takes \\n"
@@ -224,7 +284,7 @@ pub fn character_reason(word: &[u8], argument: &[u8]) -> &'static [u8]
         text_reason(argument)
     } else if argument.strip_prefix(b"ACS_").is_some() {
         b": lines are drawn by characters such as + - and |"
-    } else if has_byte(argument, b'|') {
+    } else if has_byte(argument, b'|') && word != b"bkgdset".as_slice() {
         b": it is more than one, and attributes are set before it, by attron"
     } else {
         longer_reason(word, argument)

@@ -1,12 +1,12 @@
 //! Where a fault is.
 
-ghost use Rattle.std.specs.Prelude.{◌≡◌, ◌≤◌, ◌+◌, ◌<◌, IfSome, drop, length, position, slice_index};
+ghost use Rattle.std.specs.Prelude.{◌≡◌, ◌≤◌, ◌+◌, ◌<◌, ◌∷◌, IfSome, drop, length, position, slice_index};
 ghost use Rattle.script.specs.Characters.{is_bad_byte};
-ghost use Rattle.script.specs.Pieces.{pieces_of};
+ghost use Rattle.script.specs.Pieces.{pieces_of, room_of};
 ghost use Rattle.script.specs.Readings.{arguments};
-ghost use Rattle.explain.specs.Faults.{bad_place, column_after, column_of};
+ghost use Rattle.explain.specs.Faults.{bad_place, column_after, column_of, column_of_word, find_ill_formed_in};
 
-use crate::arguments::{find_ill_formed, find_stray, forms_of};
+use crate::arguments::{count, find_ill_formed, find_stray, forms_of, is_word};
 use cell::is_printable;
 use script::{Form, LONGEST_LINE, TextFault, next_argument, split_at_space};
 
@@ -60,6 +60,18 @@ fn column_after(column: usize, forms: &[Form], text: Option<&[u8]>) -> usize
     }
 }
 
+/// The column of a word between numbers, where there are too many arguments; or else of the first too many or missing.
+fn column_of_word(line: &[u8], word: &[u8], text: Option<&[u8]>) -> usize
+    requires short { length word.now + room_of text ≤ LONGEST_LINE }
+    ensures { result ≡ column_of_word line.now (word.now ∷ pieces_of text.entry) (find_ill_formed_in (word.now ∷ pieces_of text.entry)) }
+{
+    let forms = forms_of(word);
+    match find_ill_formed(word.len() + 2, forms, text) {
+        Some(ill) if forms.len() < count(forms, text) && is_word(line, ill) => ill.column,
+        _ => column_after(word.len() + 2, forms, text),
+    }
+}
+
 /// The column of a fault.
 pub fn column_of(fault: TextFault, line: &[u8]) -> usize
     requires { length line.now ≤ LONGEST_LINE }
@@ -76,7 +88,7 @@ pub fn column_of(fault: TextFault, line: &[u8]) -> usize
             text,
         ) {
             Some(stray) => stray.column,
-            None => column_after(word.len() + 2, forms_of(word), text),
+            None => column_of_word(line, word, text),
         },
         TextFault::BadArgument => match find_ill_formed(word.len() + 2, forms_of(word), text) {
             Some(ill) => ill.column,

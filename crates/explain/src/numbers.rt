@@ -2,9 +2,10 @@
 
 ghost use Rattle.std.specs.Prelude.{◌≡◌, ◌≤◌, ◌+◌, IfSome, length, option_map};
 ghost use Rattle.script.specs.Pieces.{pieces_of, room_of};
-ghost use Rattle.explain.specs.Numbers.{begins_bracketed, begins_call, begins_number, comma_reason, has_call, has_joined, has_redirection, is_joined, joins_attributes, marks_reason, number_reason, separation_reason, takes_text, too_many_reason};
+ghost use Rattle.explain.specs.Numbers.{begins_bracketed, begins_call, begins_number, comma_reason, has_call, has_joined, has_redirection, has_word, is_joined, joins_attributes, marks_reason, number_reason, separation_reason, takes_text, too_many_reason, words_reason};
 
 use crate::advice::is_among;
+use crate::arguments::{find_ill_formed, forms_of, is_word};
 use crate::names::{
     are_digits, are_two_digits, begins_with_digit, ends_with, has_byte, is_redirection, name_of,
 };
@@ -121,13 +122,41 @@ fn marks_reason(line: &[u8], text: Option<&[u8]>, many: bool) -> Option<&'static
     None
 }
 
+/// Whether the first argument without its form is a word between numbers.
+fn has_word(word: &[u8], line: &[u8], text: Option<&[u8]>) -> bool
+    requires { room_of text ≤ LONGEST_LINE + 1 }
+    ensures { result ≡ has_word word.now line.now (pieces_of text.entry) }
+{
+    match find_ill_formed(0, forms_of(word), text) {
+        Some(ill) => is_word(line, ill),
+        None => false,
+    }
+}
+
+/// What is said of words between numbers, or else of a call with too many arguments.
+fn words_reason(word: &[u8], line: &[u8], text: Option<&[u8]>) -> Option<&'static [u8]>
+    requires { room_of text ≤ LONGEST_LINE + 1 }
+    ensures text { option_map (λ text. text.now) result ≡ words_reason word.now line.now (pieces_of text.entry) }
+    ensures short { IfSome result (λ text. length text.now ≤ 80) }
+{
+    if !has_word(word, line, text) {
+        return too_many_reason(word);
+    }
+    if has_byte(line, b',') {
+        return Some(no_commas());
+    }
+    Some(b": numbers alone are arguments: no words stand between them")
+}
+
 /// What is said of a call with too many arguments.
 fn too_many_reason(word: &[u8]) -> Option<&'static [u8]>
     ensures text { option_map (λ text. text.now) result ≡ too_many_reason word.now }
     ensures short { IfSome result (λ text. length text.now ≤ 80) }
 {
     if is_among(word, b"attrset attron attroff") {
-        return Some(one_sum());
+        return Some(
+            b": attributes are one sum, as 11; see addstr for a text, color_set for a colour",
+        );
     }
     if is_among(word, b"color_set bkgdpair") {
         return Some(b": one pair, which has its colours by init_pair, and no NULL after it");
@@ -135,11 +164,17 @@ fn too_many_reason(word: &[u8]) -> Option<&'static [u8]>
     if is_among(word, b"getyx getbegyx getmaxyx getparyx") {
         return Some(b": the answer is in the log, and no variables take it");
     }
-    if word == b"inch".as_slice() {
+    if is_among(word, b"inch delch insertln deleteln clrtoeol clrtobot") {
         return Some(b": one window, in which move sets the place first");
     }
     if word == b"move".as_slice() {
         return Some(b": window, line, column; addstr writes a text after it");
+    }
+    if is_among(word, b"new_panel show_panel") {
+        return Some(b": mvwin and move_panel set the place");
+    }
+    if is_among(word, b"overlay overwrite") {
+        return Some(b": copywin copies a part");
     }
     None
 }
@@ -185,7 +220,7 @@ pub fn number_reason(
     }
     if takes_text(word) {
         return if begins_number(text) {
-            comma_reason(line)
+            separation_reason(line, text, many)
         } else {
             None
         };
@@ -197,7 +232,7 @@ pub fn number_reason(
         return Some(said);
     }
     if many {
-        if let Some(said) = too_many_reason(word) {
+        if let Some(said) = words_reason(word, line, text) {
             return Some(said);
         }
     }

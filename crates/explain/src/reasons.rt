@@ -1,16 +1,17 @@
 //! What an argument of a form has to be, and why an argument is faulty.
 
 ghost use Rattle.std.specs.Prelude.{◌≡◌, ◌≤◌, IfSome, length, option_map};
-ghost use Rattle.std.specs.List.{list_any};
+ghost use Rattle.std.specs.List.{list_all, list_any};
 ghost use Rattle.std.specs.Char.{is_ascii_uppercase};
 ghost use Rattle.explain.specs.Names.{name_of_argument};
-ghost use Rattle.explain.specs.Reasons.{attributes_reason, copy_reason, digits_reason, first_mark_reason, first_reason, flag_reason, has_colour, is_attribute, is_bracketed, is_colour, is_default, is_list, is_text_first, later_reason, mark_reason, minus_reason, name_reason, no_brackets, no_commas, no_digits_reason, no_redirections, numbers_in_digits, one_sum, pair_reason, reason, reason_after, reason_of_call, requirement, requirement_after, requirement_of, second_reason, signed_reason, size_reason, unless_missing, unsigned_or_none_reason, unsigned_reason};
+ghost use Rattle.explain.specs.Reasons.{attributes_reason, begins_text, copy_reason, digits_reason, first_mark_reason, first_reason, flag_reason, has_colour, is_attribute, is_bracketed, is_colour, is_default, is_list, is_misread, is_near_number, is_quoted_number, is_text_first, later_reason, looks_like_digit, mark_reason, minus_reason, misread, more_than_digits, name_reason, no_brackets, no_commas, no_digits_reason, no_redirections, numbers_in_digits, one_sum, pair_reason, reason, reason_after, reason_of_call, requirement, requirement_after, requirement_of, second_reason, signed_reason, size_reason, unless_missing, unsigned_or_none_reason, unsigned_reason};
 
 use crate::advice::is_among;
+use crate::arguments::has_digit;
 use crate::characters::{character_reason, text_reason};
 use crate::names::{
-    are_digits, are_two_digits, begins_with_digit, begins_with_letter, ends_with, has_byte,
-    has_part, is_comment, is_marked, is_quoted, is_redirection, name_of_argument,
+    after_first, are_digits, are_two_digits, begins_with_digit, begins_with_letter, ends_with,
+    has_byte, has_part, is_comment, is_marked, is_quoted, is_redirection, name_of_argument,
 };
 use script::{Form, LONGEST_LINE};
 
@@ -111,7 +112,7 @@ fn first_mark_reason(argument: &[u8]) -> Option<&'static [u8]>
     ensures short { IfSome result (λ text. length text.now ≤ 80) }
 {
     if is_quoted(argument) {
-        return Some(b": it has no quotes");
+        return Some(b": no quotes are around arguments");
     }
     if is_comment(argument) {
         return Some(b": a comment has a line of its own");
@@ -272,6 +273,57 @@ fn no_digits_reason(word: &[u8], place: usize) -> &'static [u8]
     }
 }
 
+/// Whether a byte is a digit, or a letter that is taken for one.
+fn looks_like_digit(byte: u8) -> bool
+    ensures { result ≡ looks_like_digit byte }
+{
+    byte.is_ascii_digit() || has_byte(b"OolI", byte)
+}
+
+/// Whether all bytes of a text do.
+fn look_like_digits(text: &[u8]) -> bool
+    ensures { result ≡ list_all looks_like_digit text.now }
+{
+    text.iter().all(|b| looks_like_digit(*b))
+}
+
+/// Whether an argument has digits, and letters that are taken for them.
+fn is_misread(argument: &[u8]) -> bool
+    ensures { result ≡ is_misread argument.now }
+{
+    !are_digits(argument) && look_like_digits(argument)
+}
+
+/// What is said of such an argument.
+fn misread() -> &'static [u8]
+    ensures text { result.now ≡ misread }
+    ensures short { length result.now ≤ 80 }
+{
+    b": it has a letter in it: write 0 in place of O, and 1 in place of l or I"
+}
+
+/// Whether an argument after a word is a number but for what is in it; `#f00` is a colour after `init_pair`.
+fn is_near_number(word: &[u8], argument: &[u8]) -> bool
+    ensures { result ≡ is_near_number word.now argument.now }
+{
+    if is_marked(argument) {
+        return word != b"init_pair".as_slice();
+    }
+    has_digit(argument) && !begins_with_letter(argument)
+}
+
+/// What is said of such an argument.
+fn more_than_digits(argument: &[u8]) -> &'static [u8]
+    ensures text { result.now ≡ more_than_digits argument.now }
+    ensures short { length result.now ≤ 80 }
+{
+    if has_byte(argument, b'#') {
+        b": a number has digits alone, and a comment has a line of its own"
+    } else {
+        b": a number has digits alone"
+    }
+}
+
 /// What is said of an argument that may stand for a number elsewhere.
 fn name_reason(word: &[u8], place: usize, argument: &[u8]) -> &'static [u8]
     requires { length argument.now ≤ LONGEST_LINE }
@@ -279,8 +331,8 @@ fn name_reason(word: &[u8], place: usize, argument: &[u8]) -> &'static [u8]
     ensures short { length result.now ≤ 80 }
 {
     let name = name_of_argument(argument);
-    if is_among(argument, b"O o l I") {
-        return b": it is a letter: write 0 in place of O, and 1 in place of l or I";
+    if is_misread(argument) {
+        return misread();
     }
     if name.as_slice() == b"none".as_slice() {
         return b": only panel_above and panel_below take \"none\"";
@@ -288,8 +340,8 @@ fn name_reason(word: &[u8], place: usize, argument: &[u8]) -> &'static [u8]
     if argument.strip_prefix(b"0x").is_some() || argument.strip_prefix(b"0X").is_some() {
         return b": a number is decimal";
     }
-    if begins_with_digit(argument) || is_marked(argument) && word != b"init_pair".as_slice() {
-        return b": a number has digits alone";
+    if is_near_number(word, argument) {
+        return more_than_digits(argument);
     }
     no_digits_reason(word, place)
 }
@@ -300,7 +352,7 @@ fn minus_reason(rest: &[u8]) -> &'static [u8]
     ensures short { length result.now ≤ 80 }
 {
     if are_digits(rest) {
-        b": it has no minus"
+        b": a number here has no minus"
     } else {
         b": a call has no options: its arguments come in their order"
     }
@@ -319,7 +371,7 @@ fn unsigned_reason(word: &[u8], place: usize, argument: &[u8]) -> &'static [u8]
         return minus_reason(rest);
     }
     if argument.strip_prefix(b"+").is_some() {
-        return b": it has no plus";
+        return b": a number has no plus";
     }
     if has_part(argument, b"LINES") || has_part(argument, b"COLS") {
         return size_reason(word);
@@ -377,12 +429,14 @@ fn attributes_reason(argument: &[u8]) -> &'static [u8]
     ensures short { length result.now ≤ 80 }
 {
     let name = name_of_argument(argument);
-    if is_default(name.as_slice()) {
-        b": no attributes are 00"
-    } else if is_colour(name.as_slice()) {
+    if is_default(name.as_slice()) && !has_byte(argument, b'|') {
+        b": 00 stands for no attributes, and 3f for all that attroff takes away"
+    } else if has_colour(name.as_slice(), argument) {
         b": a colour is set by color_set"
     } else if argument.strip_prefix(b"0x").is_some() || argument.strip_prefix(b"0X").is_some() {
-        b": it has no 0x before its two digits"
+        b": the two digits have no 0x before them"
+    } else if is_misread(argument) {
+        misread()
     } else if is_list(argument) {
         one_sum()
     } else if !are_two_digits(argument) {
@@ -500,7 +554,7 @@ fn later_reason(word: &[u8], argument: &[u8]) -> Option<&'static [u8]>
     }
     let name = name_of_argument(argument);
     if word == b"init_pair".as_slice()
-        && (argument == b"-1".as_slice() || is_default(name.as_slice()))
+        && (is_among(argument, b"- -1") || is_default(name.as_slice()))
     {
         return Some(
             b": no number is the terminal's own colour, which pairs have until they are set",
@@ -512,11 +566,29 @@ fn later_reason(word: &[u8], argument: &[u8]) -> Option<&'static [u8]>
     None
 }
 
+/// Whether a quote begins an argument, and a number follows with a quote at its end.
+fn is_quoted_number(argument: &[u8]) -> bool
+    ensures { result ≡ is_quoted_number argument.now }
+{
+    begins_with_digit(after_first(argument))
+        && (ends_with(argument, b'"') || ends_with(argument, b'\''))
+}
+
+/// Whether an argument is a text or a character rather than a window.
+fn begins_text(argument: &[u8]) -> bool
+    ensures { result ≡ begins_text argument.now }
+{
+    if is_quoted(argument) {
+        return !is_quoted_number(argument);
+    }
+    begins_with_letter(argument) || argument == b"-".as_slice()
+}
+
 /// Whether a text or a character is in place of the window.
 fn is_text_first(word: &[u8], argument: &[u8]) -> bool
     ensures { result ≡ is_text_first word.now argument.now }
 {
-    is_among(word, b"addstr addch insch") && (is_quoted(argument) || begins_with_letter(argument))
+    is_among(word, b"addstr addch insch") && begins_text(argument)
 }
 
 /// What more is said after some words, of an argument after so many others.
