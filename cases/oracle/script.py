@@ -96,8 +96,26 @@ def pieces_of(line, forms):
 
 
 def is_stray(piece):
-    """Whether an argument is none, or would begin a comment, here or in other languages."""
-    return piece in (b'', b'--') or piece.startswith((b'#', b'//', b'/*'))
+    """Whether an argument is none, or would begin a comment, here or in other languages. A colour as #f00 has a digit, and begins none."""
+    begins = piece.startswith(b'#') and not re.fullmatch(rb'#(?=.*[0-9])[0-9A-Fa-f]+', piece)
+    return piece in (b'', b'--') or begins or piece.startswith((b'//', b'/*', b'<!--'))
+
+
+def has_form(form, piece):
+    try:
+        READERS[form](piece)
+    except IllFormed:
+        return False
+    return True
+
+
+def word_between(line, forms, pieces, starts):
+    """The column of a word between numbers, in a line that has numbers: the first argument without its form, where that is a number's."""
+    for form, piece, start in zip(forms, pieces, starts):
+        if not has_form(form, piece):
+            is_word = form in ('number', 'number_or_none', 'signed') and not re.search(rb'[0-9]', piece) and re.search(rb'[0-9]', line)
+            return start if is_word else None
+    return None
 
 
 def read_line(line):
@@ -119,7 +137,8 @@ def read_line(line):
         starts.append(starts[-1] + len(piece) + 1)
     if len(pieces) != len(forms):
         strays = [start for piece, start in zip(pieces, starts) if is_stray(piece)]
-        return Fault(WRONG_COUNT, strays[0] if strays else starts[min(len(forms), len(pieces))])
+        between = word_between(line, forms, pieces, starts) if len(forms) < len(pieces) else None
+        return Fault(WRONG_COUNT, strays[0] if strays else between or starts[min(len(forms), len(pieces))])
     said = []
     for form, piece, start in zip(forms, pieces, starts):
         try:

@@ -1,5 +1,5 @@
 -- What is said of bytes that no line has, of faulty texts, and of what is no character. The texts are Curspan's own.
-use Rattle.std.specs.Prelude.{◌==◌, ◌&&◌, ◌||◌, ℕ, Bool, not, List, [], ◌∷◌, codes, drop, length, nat_le, nat_lt, slice_index, take, if◌then◌else◌}
+use Rattle.std.specs.Prelude.{◌==◌, ◌&&◌, ◌||◌, ℕ, Bool, not, List, [], ◌∷◌, codes, drop, length, nat_le, slice_index, take, if◌then◌else◌}
 use Rattle.std.specs.Char.{is_ascii_alphabetic, is_ascii_hexdigit}
 use Rattle.std.specs.List.{list_all, list_any}
 use Rattle.std.specs.Str.{bytes_eq}
@@ -87,34 +87,16 @@ begins_character rest = begins_with (codes "N{") rest || begins_greater_byte res
     || ((begins_with (codes "u") rest || begins_with (codes "U") rest)
     && (begins_with (codes "{") (drop 1 rest) || (length (take 4 (drop 1 rest)) == 4 && list_all is_ascii_hexdigit (take 4 (drop 1 rest)))))
 
--- `2`, and `}`
-abbrev pub digit_2 : ℕ
-digit_2 = 50
-
-abbrev pub closing_brace : ℕ
-closing_brace = 125
-
--- the first digit of a character of ASCII that is seen
-abbrev pub is_plain_digit : ℕ → Bool
-is_plain_digit b = nat_le digit_2 b && nat_lt b digit_8
-
--- It begins such a character by its number.
-abbrev pub begins_plain : List ℕ → Bool
-begins_plain rest = if begins_with (codes "u00") rest then is_plain_digit (slice_index rest 3)
-    else (if begins_with (codes "U000000") rest then is_plain_digit (slice_index rest 7)
-    else begins_with (codes "u{") rest && is_plain_digit (slice_index rest 2) && slice_index rest 4 == closing_brace)
-
 -- by what is after a backslash that begins no escape
 abbrev pub escape_reason : List ℕ → List ℕ
 escape_reason rest = if begins_with (codes "t") rest then codes ": a tab is written as spaces, a backslash itself as two"
     else (if begins_sequence rest then codes ": a text has no control sequences: see attrset, color_set, move"
-    else (if begins_plain rest then codes ": \\u is no escape: write the character itself, or \\x41 for A"
-    else (if begins_character rest then codes ": characters are those of ASCII, from the space to the tilde"
+    else (if begins_character rest then codes ": characters are those of ASCII, each as it is, or by its code as \\x41 for A"
     else (if begins_with_digit rest then codes ": a code is \\x and two hexadecimal digits, from \\x20 to \\x7e"
     else (if begins_with (codes "x") rest || begins_with (codes "X") rest then codes ": two digits in lower case come after \\x, and a backslash itself is two"
     else (if list_any is_ascii_alphabetic (take 1 rest) then codes ": a backslash is written as two, and other control characters have no escape"
     else (if length rest == 0 then codes ": a backslash itself is written as two, and no line goes on in the next"
-    else codes ": no other mark needs a backslash, and a backslash itself is written as two")))))))
+    else codes ": no other mark needs a backslash, and a backslash itself is written as two"))))))
 
 -- of a text with such a backslash, by the first one
 abbrev pub text_reason : List ℕ → List ℕ

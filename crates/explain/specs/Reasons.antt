@@ -1,7 +1,7 @@
 -- What an argument of a form has to be, and why an argument is faulty. The texts are Curspan's own.
 use Rattle.std.specs.Prelude.{◌==◌, ◌&&◌, ◌||◌, ℕ, Bool, not, List, [], codes, drop, length, nat_le, slice_index, take, Option, Some, None, unwrap_or, if◌then◌else◌}
 use Rattle.std.specs.Char.{is_ascii_alphabetic, is_ascii_digit, is_ascii_uppercase}
-use Rattle.std.specs.List.{list_all, list_any, take_while}
+use Rattle.std.specs.List.{list_any, take_while}
 use Rattle.std.specs.Str.{bytes_eq}
 use Rattle.std.specs.Str.Parse.{digits_value}
 use Rattle.script.specs.Characters.{backslash, digit_0, number_sign}
@@ -40,6 +40,16 @@ requirement_of word form = if bytes_eq word (codes "init_pair") then pair_and_co
     else (if bytes_eq word (codes "color_set") then window_and_pair
     else (if bytes_eq word (codes "bkgdpair") then window_and_pair
     else requirement_after word form))
+
+-- letters that are taken for digits
+abbrev pub capital_i : ℕ
+capital_i = 73
+
+abbrev pub capital_o : ℕ
+capital_o = 79
+
+abbrev pub small_l : ℕ
+small_l = 108
 
 -- `'`
 abbrev pub apostrophe : ℕ
@@ -140,15 +150,9 @@ no_digits_reason word place = if bytes_eq word (codes "init_pair")
     else (if place == 1 then second_reason word
     else numbers_in_digits))
 
--- digits, and letters that are taken for them
-abbrev pub looks_like_digit : ℕ → Bool
-looks_like_digit b = is_ascii_digit b || has_byte b (codes "OolI")
-
-abbrev pub is_misread : List ℕ → Bool
-is_misread argument = not (are_digits argument) && list_all looks_like_digit argument
-
-abbrev pub misread : List ℕ
-misread = codes ": it has a letter in it: write 0 in place of O, and 1 in place of l or I"
+-- of letters that are taken for digits
+abbrev pub no_letters : List ℕ
+no_letters = codes ": it has a letter in it: write 0 in place of O, and 1 in place of l or I"
 
 -- a number but for what is in it; `#f00` is a colour after `init_pair`
 abbrev pub is_near_number : List ℕ → List ℕ → Bool
@@ -157,11 +161,13 @@ is_near_number word argument = if is_marked argument then not (bytes_eq word (co
 
 abbrev pub more_than_digits : List ℕ → List ℕ
 more_than_digits argument = if has_byte number_sign argument then codes ": a number has digits alone, and a comment has a line of its own"
-    else codes ": a number has digits alone"
+    else (if has_byte capital_o argument || has_byte small_l argument || has_byte capital_i argument then no_letters
+    else codes ": a number has digits alone")
 
 -- of what may stand for a number elsewhere
 abbrev pub name_reason : List ℕ → ℕ → List ℕ → List ℕ
-name_reason word place argument = if is_misread argument then misread
+name_reason word place argument = if is_one_of (codes "O o l I O0 O1 O2 O3 O4 O5 O6 O7 O8 O9 l0 l1 l2 l3 l4 l5 l6 l7 l8 l9 I0 I1 I2 I3 I4 I5 I6 I7 I8 I9 lO IO") argument
+    then no_letters
     else (if bytes_eq (name_of_argument argument) (codes "none") then codes ": only panel_above and panel_below take \"none\""
     else (if begins_with (codes "0x") argument || begins_with (codes "0X") argument then codes ": a number is decimal"
     else (if is_near_number word argument then more_than_digits argument
@@ -202,11 +208,10 @@ attributes_reason argument = if is_default (name_of_argument argument) && not (h
     then codes ": 00 stands for no attributes, and 3f for all that attroff takes away"
     else (if has_colour argument then codes ": a colour is set by color_set"
     else (if begins_with (codes "0x") argument || begins_with (codes "0X") argument then codes ": the two digits have no 0x before them"
-    else (if is_misread argument then misread
     else (if is_list argument then one_sum
     else (if not (are_two_digits argument) then mark_reason (codes ": a sum of 01 bold, 02 dim, 04 underline, 08 blink, 10 reverse, 20 invisible") argument
     else (if list_any is_ascii_uppercase argument then codes ": the digits are in lower case"
-    else codes ": it is too great"))))))
+    else codes ": it is too great")))))
 
 -- of a flag after a word: the last of `copywin` says how it copies
 abbrev pub copy_reason : List ℕ → List ℕ

@@ -3,7 +3,7 @@
 ghost use Rattle.std.specs.Prelude.{◌≡◌, ◌≤◌, ◌==◌, ◌&&◌, length, slice_index, take};
 ghost use Rattle.std.specs.Char.{is_ascii_hexdigit};
 ghost use Rattle.std.specs.List.{list_all};
-ghost use Rattle.explain.specs.Characters.{after_bad_escape, bad_text_advice, begins_character, begins_escape, begins_escaped, begins_greater_byte, begins_plain, begins_sequence, byte_advice, character_reason, draws_line, end_reason, ends_space, escape_reason, is_plain_digit, is_space_elsewhere, longer_reason, text_reason, words_reason};
+ghost use Rattle.explain.specs.Characters.{after_bad_escape, bad_text_advice, begins_character, begins_escape, begins_escaped, begins_greater_byte, begins_sequence, byte_advice, character_reason, draws_line, end_reason, ends_space, escape_reason, is_space_elsewhere, longer_reason, text_reason, words_reason};
 
 use crate::advice::is_among;
 use crate::arguments::has_form;
@@ -159,28 +159,6 @@ fn begins_character(rest: &[u8]) -> bool
         && (number.strip_prefix(b"{").is_some() || begins_with_number(number))
 }
 
-/// Whether a byte is the first digit of a character of ASCII that is seen.
-fn is_plain_digit(byte: u8) -> bool
-    ensures { result ≡ is_plain_digit byte }
-{
-    b'2' <= byte && byte < b'8'
-}
-
-/// Whether what is after a backslash begins such a character by its number.
-fn begins_plain(rest: &[u8]) -> bool
-    ensures { result ≡ begins_plain rest.now }
-{
-    if rest.strip_prefix(b"u00").is_some() {
-        return is_plain_digit(byte_at(rest, 3));
-    }
-    if rest.strip_prefix(b"U000000").is_some() {
-        return is_plain_digit(byte_at(rest, 7));
-    }
-    rest.strip_prefix(b"u{").is_some()
-        && is_plain_digit(byte_at(rest, 2))
-        && byte_at(rest, 4) == b'}'
-}
-
 /// What is said of a text with a backslash that begins no escape.
 pub fn text_reason(text: &[u8]) -> &'static [u8]
     ensures text { result.now ≡ text_reason text.now }
@@ -198,10 +176,8 @@ fn escape_reason(rest: &[u8]) -> &'static [u8]
         b": a tab is written as spaces, a backslash itself as two"
     } else if begins_sequence(rest) {
         b": a text has no control sequences: see attrset, color_set, move"
-    } else if begins_plain(rest) {
-        b": \\u is no escape: write the character itself, or \\x41 for A"
     } else if begins_character(rest) {
-        b": characters are those of ASCII, from the space to the tilde"
+        b": characters are those of ASCII, each as it is, or by its code as \\x41 for A"
     } else if begins_with_digit(rest) {
         b": a code is \\x and two hexadecimal digits, from \\x20 to \\x7e"
     } else if rest.strip_prefix(b"x").is_some() || rest.strip_prefix(b"X").is_some() {

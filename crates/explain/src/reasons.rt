@@ -1,10 +1,10 @@
 //! What an argument of a form has to be, and why an argument is faulty.
 
 ghost use Rattle.std.specs.Prelude.{◌≡◌, ◌≤◌, IfSome, length, option_map};
-ghost use Rattle.std.specs.List.{list_all, list_any};
+ghost use Rattle.std.specs.List.{list_any};
 ghost use Rattle.std.specs.Char.{is_ascii_uppercase};
 ghost use Rattle.explain.specs.Names.{name_of_argument};
-ghost use Rattle.explain.specs.Reasons.{attributes_reason, begins_text, copy_reason, digits_reason, first_mark_reason, first_reason, flag_reason, has_colour, is_attribute, is_bracketed, is_colour, is_default, is_list, is_misread, is_near_number, is_quoted_number, is_text_first, later_reason, looks_like_digit, mark_reason, minus_reason, misread, more_than_digits, name_reason, no_brackets, no_commas, no_digits_reason, no_redirections, numbers_in_digits, one_sum, pair_reason, reason, reason_after, reason_of_call, requirement, requirement_after, requirement_of, second_reason, signed_reason, size_reason, unless_missing, unsigned_or_none_reason, unsigned_reason};
+ghost use Rattle.explain.specs.Reasons.{attributes_reason, begins_text, copy_reason, digits_reason, first_mark_reason, first_reason, flag_reason, has_colour, is_attribute, is_bracketed, is_colour, is_default, is_list, is_near_number, is_quoted_number, is_text_first, later_reason, mark_reason, minus_reason, more_than_digits, name_reason, no_brackets, no_commas, no_digits_reason, no_letters, no_redirections, numbers_in_digits, one_sum, pair_reason, reason, reason_after, reason_of_call, requirement, requirement_after, requirement_of, second_reason, signed_reason, size_reason, unless_missing, unsigned_or_none_reason, unsigned_reason};
 
 use crate::advice::is_among;
 use crate::arguments::has_digit;
@@ -273,30 +273,9 @@ fn no_digits_reason(word: &[u8], place: usize) -> &'static [u8]
     }
 }
 
-/// Whether a byte is a digit, or a letter that is taken for one.
-fn looks_like_digit(byte: u8) -> bool
-    ensures { result ≡ looks_like_digit byte }
-{
-    byte.is_ascii_digit() || has_byte(b"OolI", byte)
-}
-
-/// Whether all bytes of a text do.
-fn look_like_digits(text: &[u8]) -> bool
-    ensures { result ≡ list_all looks_like_digit text.now }
-{
-    text.iter().all(|b| looks_like_digit(*b))
-}
-
-/// Whether an argument has digits, and letters that are taken for them.
-fn is_misread(argument: &[u8]) -> bool
-    ensures { result ≡ is_misread argument.now }
-{
-    !are_digits(argument) && look_like_digits(argument)
-}
-
-/// What is said of such an argument.
-fn misread() -> &'static [u8]
-    ensures text { result.now ≡ misread }
+/// What is said of letters that are taken for digits.
+fn no_letters() -> &'static [u8]
+    ensures text { result.now ≡ no_letters }
     ensures short { length result.now ≤ 80 }
 {
     b": it has a letter in it: write 0 in place of O, and 1 in place of l or I"
@@ -319,6 +298,8 @@ fn more_than_digits(argument: &[u8]) -> &'static [u8]
 {
     if has_byte(argument, b'#') {
         b": a number has digits alone, and a comment has a line of its own"
+    } else if has_byte(argument, b'O') || has_byte(argument, b'l') || has_byte(argument, b'I') {
+        no_letters()
     } else {
         b": a number has digits alone"
     }
@@ -331,8 +312,11 @@ fn name_reason(word: &[u8], place: usize, argument: &[u8]) -> &'static [u8]
     ensures short { length result.now ≤ 80 }
 {
     let name = name_of_argument(argument);
-    if is_misread(argument) {
-        return misread();
+    if is_among(
+        argument,
+        b"O o l I O0 O1 O2 O3 O4 O5 O6 O7 O8 O9 l0 l1 l2 l3 l4 l5 l6 l7 l8 l9 I0 I1 I2 I3 I4 I5 I6 I7 I8 I9 lO IO",
+    ) {
+        return no_letters();
     }
     if name.as_slice() == b"none".as_slice() {
         return b": only panel_above and panel_below take \"none\"";
@@ -435,8 +419,6 @@ fn attributes_reason(argument: &[u8]) -> &'static [u8]
         b": a colour is set by color_set"
     } else if argument.strip_prefix(b"0x").is_some() || argument.strip_prefix(b"0X").is_some() {
         b": the two digits have no 0x before them"
-    } else if is_misread(argument) {
-        misread()
     } else if is_list(argument) {
         one_sum()
     } else if !are_two_digits(argument) {
