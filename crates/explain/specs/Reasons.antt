@@ -48,9 +48,6 @@ capital_i = 73
 abbrev pub capital_o : ℕ
 capital_o = 79
 
-abbrev pub small_l : ℕ
-small_l = 108
-
 -- `'`
 abbrev pub apostrophe : ℕ
 apostrophe = 39
@@ -161,7 +158,7 @@ is_near_number word argument = if is_marked argument then not (bytes_eq word (co
 
 abbrev pub more_than_digits : List ℕ → List ℕ
 more_than_digits argument = if has_byte number_sign argument then codes ": a number has digits alone, and a comment has a line of its own"
-    else (if has_byte capital_o argument || has_byte small_l argument || has_byte capital_i argument then no_letters
+    else (if has_byte capital_o argument || has_byte capital_i argument then no_letters
     else codes ": a number has digits alone")
 
 -- of what may stand for a number elsewhere
@@ -195,7 +192,7 @@ abbrev pub signed_reason : List ℕ → ℕ → List ℕ → List ℕ
 signed_reason word place argument = if begins_with (codes "-") argument
     then (if bytes_eq argument (codes "-0") then codes ": 0 has no minus"
     else (if are_digits (drop 1 argument) then digits_reason (codes ": it is too small") (drop 1 argument)
-    else codes ": it has digits alone after a minus"))
+    else codes ": digits alone come after a minus"))
     else unsigned_reason word place argument
 
 -- how several attributes are written

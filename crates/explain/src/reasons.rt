@@ -298,7 +298,7 @@ fn more_than_digits(argument: &[u8]) -> &'static [u8]
 {
     if has_byte(argument, b'#') {
         b": a number has digits alone, and a comment has a line of its own"
-    } else if has_byte(argument, b'O') || has_byte(argument, b'l') || has_byte(argument, b'I') {
+    } else if has_byte(argument, b'O') || has_byte(argument, b'I') {
         no_letters()
     } else {
         b": a number has digits alone"
@@ -386,7 +386,7 @@ fn signed_reason(word: &[u8], place: usize, argument: &[u8]) -> &'static [u8]
     }
     match argument.strip_prefix(b"-") {
         Some(digits) if are_digits(digits) => digits_reason(b": it is too small", digits),
-        Some(_) => b": it has digits alone after a minus",
+        Some(_) => b": digits alone come after a minus",
         None => unsigned_reason(word, place, argument),
     }
 }
