@@ -8,7 +8,7 @@ use Rattle.script.specs.Characters.{backslash, digit_0, number_sign}
 use Rattle.script.specs.declared.words.Form.{Form}
 use Rattle.script.specs.declared.words.Form.TheVariants.{Number, NumberOrNone, Signed, Attributes, Flag, Character, Text}
 use Rattle.explain.specs.Characters.{character_reason, text_reason}
-use Rattle.explain.specs.Names.{are_digits, are_two_digits, begins_with, begins_with_digit, comma, ends_with, equals_sign, has_byte, has_part, is_comment, is_marked, is_one_of, is_quoted, is_redirection, name_of_argument, quotation_mark, semicolon, vertical_bar}
+use Rattle.explain.specs.Names.{apostrophe, are_digits, are_two_digits, begins_with, begins_with_digit, comma, ends_with, equals_sign, has_byte, has_part, is_comment, is_marked, is_one_of, is_quoted, is_redirection, name_of_argument, quotation_mark, semicolon, vertical_bar}
 
 -- what an argument of a form has to be
 abbrev pub requirement : Form → List ℕ
@@ -47,10 +47,6 @@ capital_i = 73
 
 abbrev pub capital_o : ℕ
 capital_o = 79
-
--- `'`
-abbrev pub apostrophe : ℕ
-apostrophe = 39
 
 -- ---- why an argument is not what it has to be
 
