@@ -1,6 +1,6 @@
 //! How many bytes a frame takes, counted without drawing it: in passes, and in one walk that erases nothing.
 
-ghost use Rattle.std.specs.Prelude.{◌≡◌, ◌≢◌, ◌-◌, ◌<◌, length, nat_lt, slice_index_or, true};
+ghost use Rattle.std.specs.Prelude.{◌≡◌, ◌≢◌, ◌↔◌, ◌-◌, ◌<◌, length, nat_lt, slice_index_or, true};
 ghost use Rattle.cell.specs.Pictures.{shown_at};
 ghost use Rattle.cell.specs.Shown.{shown_blank};
 ghost use Rattle.paint.specs.steps.Listing.{no_run};
@@ -134,7 +134,7 @@ pub fn walk_length(frame: &Frame<'_>, runs: &[Run], from: (u16, u16), to: (u16, 
 /// Whether the last run of each line ends in a cell that isn't blank. One walk erases nothing then.
 pub fn are_written_at_ends(frame: &Frame<'_>, runs: &[Run]) -> bool
     requires { AreInside frame.now.lines frame.now.columns runs.now }
-    ensures { result ≡ true → AreWrittenAtEnds frame.now.wanted.now runs.now (length runs.now) }
+    ensures { (result ≡ true) ↔ AreWrittenAtEnds frame.now.wanted.now runs.now (length runs.now) }
 {
     for i in 0..runs.len() {
         if !is_written_at_end(frame, runs, i) {
@@ -148,8 +148,8 @@ pub fn are_written_at_ends(frame: &Frame<'_>, runs: &[Run]) -> bool
 fn is_written_at_end(frame: &Frame<'_>, runs: &[Run], at: usize) -> bool
     requires runs { AreInside frame.now.lines frame.now.columns runs.now }
     requires at { at < length runs.now }
-    ensures { result ≡ true → is_last_of_line runs.now at ≡ true
-        → shown_at frame.now.wanted.now ((slice_index_or runs.now at no_run).line, (slice_index_or runs.now at no_run).end - 1) ≢ shown_blank }
+    ensures { (result ≡ true) ↔ (is_last_of_line runs.now at ≡ true
+        → shown_at frame.now.wanted.now ((slice_index_or runs.now at no_run).line, (slice_index_or runs.now at no_run).end - 1) ≢ shown_blank) }
 {
     if !is_last_of_line(runs, at) {
         return true;

@@ -110,5 +110,5 @@ returns-then-are_written_at_ends-clause-compared g c =
     (c.list_runs.ensures.runs c.if-not-list_runs.false) (c.list_runs.ensures.gaps c.if-not-list_runs.false) in
     let runs = c.linked.result.1.runs.now in
     let counted = ap (λ (o : List Rendition). passes_bytes frame.columns frame.wanted.now (length o + 1) runs c.args.from c.args.to) order in
-    inr (runs-shorter frame c.args.from c.args.to runs are f.wanted.height f.shown f.wanted (omega (arith, c.requires.line)) (c.are_written_at_ends.ensures c.if-are_written_at_ends.true) _ counted
+    inr (runs-shorter frame c.args.from c.args.to runs are f.wanted.height f.shown f.wanted (omega (arith, c.requires.line)) (c.are_written_at_ends.ensures.0 c.if-are_written_at_ends.true) _ counted
     c.draw_shorter.ensures.shorter)
