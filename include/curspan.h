@@ -376,11 +376,11 @@ curspan_answer curspan_move_panel(curspan *screen, uint32_t panel, uint32_t y, u
    STANDARD_SCREEN, IS_PAD, IN_PANEL. */
 curspan_answer curspan_replace_panel(curspan *screen, uint32_t panel, uint32_t win);
 
-/* The panel right above a visible one, or without a panel the bottom one. 0 is none, also in the answer. Refused:
-   NO_SUCH_PANEL, HIDDEN. */
+/* The panel right above a visible one, or the bottom one where no panel is given. 0 is none, also in the answer.
+   Refused: NO_SUCH_PANEL, HIDDEN. */
 curspan_answer curspan_panel_above(const curspan *screen, uint32_t panel);
 
-/* The panel right below a visible one, or without a panel the top one. 0 is none, also in the answer. Refused:
+/* The panel right below a visible one, or the top one where no panel is given. 0 is none, also in the answer. Refused:
    NO_SUCH_PANEL, HIDDEN. */
 curspan_answer curspan_panel_below(const curspan *screen, uint32_t panel);
 

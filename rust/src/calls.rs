@@ -698,7 +698,7 @@ impl<W> Screen<W> {
         Ok(())
     }
 
-    /// The panel right above a visible one, or without a panel the bottom one.
+    /// The panel right above a visible one, or the bottom one where no panel is given.
     ///
     /// # Errors
     ///
@@ -710,7 +710,7 @@ impl<W> Screen<W> {
         Ok(self.panel(answer.first))
     }
 
-    /// The panel right below a visible one, or without a panel the top one.
+    /// The panel right below a visible one, or the top one where no panel is given.
     ///
     /// # Errors
     ///

@@ -660,7 +660,7 @@ pub trait Calls {
         self.make(&Call::replace_panel(panel, win))
     }
 
-    /// The panel right above a visible one, or without a panel the bottom one.
+    /// The panel right above a visible one, or the bottom one where no panel is given.
     ///
     /// # Errors
     /// `NoSuchPanel`, `Hidden`.
@@ -670,7 +670,7 @@ pub trait Calls {
         self.find(&Call::panel_above(panel))
     }
 
-    /// The panel right below a visible one, or without a panel the top one.
+    /// The panel right below a visible one, or the top one where no panel is given.
     ///
     /// # Errors
     /// `NoSuchPanel`, `Hidden`.

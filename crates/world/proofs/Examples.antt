@@ -173,6 +173,6 @@ in_panel : (refusal both (Making (Delwin (win 1))) ≡ Some InPanel) × (refusal
 unfolding both shared screen_after with_panels win panel_limit window_limit
 in_panel = (refl, refl)
 
-in_no_panel_now : refusal shared (Making (Delwin (win 1))) ≡ Some HasDerived
-unfolding shared screen_after win panel_limit window_limit
+in_no_panel_now : refusal (with_panels shared (λ p. false) []) (Making (Delwin (win 1))) ≡ Some HasDerived
+unfolding shared screen_after with_panels win panel_limit window_limit
 in_no_panel_now = refl
