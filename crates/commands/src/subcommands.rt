@@ -75,14 +75,22 @@ fn quiet<'a>(alloc: Global) -> Arg<'a>
         .action(ArgAction::SetTrue)
 }
 
+/// A command with one more argument, which is for it alone.
+fn with_argument<'a>(command: Command<'a>, argument: Arg<'a>) -> Result<Command<'a>, AllocError>
+    requires { argument.global ≡ false }
+    ensures app { IfOk result (λ c. app_of c ≡ with_rule (app_of command.entry) (rule_of argument.entry)) }
+    ensures local { IfOk result (λ c. (out-Command c).has_globals ≡ (out-Command command.entry).has_globals) }
+{
+    command.arg(argument)
+}
+
 /// A subcommand with the size of a screen.
 fn with_size<'a>(alloc: Global, command: Command<'a>) -> Result<Command<'a>, AllocError>
     ensures app { IfOk result (λ c. app_of c ≡ with_size (app_of command.entry)) }
     ensures local { IfOk result (λ c. (out-Command c).has_globals ≡ (out-Command command.entry).has_globals) }
 {
-    command
-        .arg(size(alloc, "lines", LINES_HELP))?
-        .arg(size(alloc, "cols", COLS_HELP))
+    let with_lines = with_argument(command, size(alloc, "lines", LINES_HELP))?;
+    with_argument(with_lines, size(alloc, "cols", COLS_HELP))
 }
 
 /// A subcommand with the names of files.
@@ -90,7 +98,8 @@ fn with_files<'a>(alloc: Global, command: Command<'a>) -> Result<Command<'a>, Al
     ensures app { IfOk result (λ c. app_of c ≡ with_files (app_of command.entry)) }
     ensures local { IfOk result (λ c. (out-Command c).has_globals ≡ (out-Command command.entry).has_globals) }
 {
-    command.arg(log(alloc))?.arg(file(alloc))
+    let with_log = with_argument(command, log(alloc))?;
+    with_argument(with_log, file(alloc))
 }
 
 /// A subcommand without its arguments.
@@ -123,7 +132,7 @@ fn running<'a>(alloc: Global, name: &'a str, about: &'a str) -> Result<Command<'
     ensures local { IfOk result (λ c. (out-Command c).has_globals ≡ false) }
 {
     let sized = with_size(alloc, plain(alloc, name, about))?;
-    with_files(alloc, sized)?.arg(quiet(alloc))
+    with_argument(with_files(alloc, sized)?, quiet(alloc))
 }
 
 /// The subcommand that shows streams.
