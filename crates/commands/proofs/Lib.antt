@@ -4,7 +4,7 @@ pub mod Examples
 pub mod JobLemmas
 -- Where clap refuses nothing of the words, each row that a subcommand's options for a size leave holds a size of a screen; for `KindIsNamed`, `TakenLemmas`
 pub mod KeptRows
--- A text is written piece by piece; for `print`, `put`, `put_lines` and others
+-- A text is written piece by piece; for `print`, `put`, `put_lines` and others, and for `checks`
 pub mod PutLemmas
 -- Where clap refuses nothing of the words, the subcommand at which its walk stops is one of the program's; for `TakenLemmas`
 pub mod KindIsNamed
@@ -14,5 +14,3 @@ pub mod TakenLemmas
 pub mod PictureTexts
 -- A stream is read into a terminal piece by piece; for `read_stream`
 pub mod FeedingLemmas
--- The findings of a script, a line at a time; for `end_report`, `report_text`, `report_lines`
-pub mod CheckLemmas

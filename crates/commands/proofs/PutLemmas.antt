@@ -10,8 +10,7 @@ use Rattle.streams.specs.Sinks.{Seen, flushed_after_flush}
 use Rattle.streams.proofs.Sends.{Appends-keeps, cut-unflushed, whole-flushed}
 use Rattle.streams.specs.Sending.{Sends}
 use Rattle.streams.specs.declared.sending.WriteFault.{WriteFault}
-use Rattle.commands.specs.Written.{IsNotWritten, TakesPrefix, WritingEnds}
-use Rattle.commands.specs.steps.Putting.{PuttingEnds}
+use Rattle.commands.specs.Written.{IsNotWritten, PuttingEnds, TakesPrefix, WritingEnds}
 
 -- ---- one of several texts
 

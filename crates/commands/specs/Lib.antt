@@ -6,5 +6,4 @@ pub mod Statuses
 pub mod RefusedWords
 pub mod Opening
 pub mod Shows
-pub mod Checks
 pub mod steps

@@ -1,6 +1,6 @@
 -- What writing a text of any length does to a sink.
 -- No standard says it; the answers are those of Rust's std::io::Write.
-use Rattle.std.specs.Prelude.{◌≡◌, ◌⊎◌, ◌<◌, ◌≤◌, ◌==◌, ℕ, List, length, take, Bool, true, false}
+use Rattle.std.specs.Prelude.{◌≡◌, ◌⊎◌, ◌<◌, ◌≤◌, ◌==◌, ℕ, List, length, take, Bool, true, false, not}
 use Rattle.std.specs.Io.KnownBytes.{Appends}
 use Rattle.streams.specs.Counts.{count_after, next_count}
 use Rattle.streams.specs.Sinks.{Seen}
@@ -10,6 +10,13 @@ pub record TakesPrefix (old new : Seen) (text : List ℕ) : Type 0 where
   pub sent : ℕ
   pub within : sent < length text
   pub taken : Appends old.taken new.taken (take sent text)
+
+-- Some bytes were written, all of them or, where a write failed, a prefix of them. Nothing was flushed.
+pub record PuttingEnds (written : Bool) (old new : Seen) (bytes : List ℕ) : Type 0 where
+  pub taken : written ≡ true → Appends old.taken new.taken bytes
+  pub cut : written ≡ false → TakesPrefix old new bytes
+  pub flushes : new.flushes ≡ old.flushes
+  pub failures : new.failures ≡ count_after (not written) old.failures
 
 -- The sink took the text, all of it, and the one flush that was tried succeeded after it. No failure was counted.
 pub record IsWritten (old new : Seen) (text : List ℕ) : Type 0 where

@@ -1,4 +1,2 @@
 pub mod Feeding
-pub mod Putting
-pub mod Checking
 pub mod Sizing

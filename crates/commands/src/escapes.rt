@@ -2,10 +2,9 @@
 
 ghost use Rattle.std.specs.Prelude.{◌≡◌, ◌≤◌, ◌+◌, ◌++◌, length};
 ghost use Rattle.commands.specs.Escapes.{escaped_text, escaped_byte};
-ghost use Rattle.commands.specs.Written.{TriesToLog, WritingEnds};
-ghost use Rattle.commands.specs.steps.Putting.{PuttingEnds};
+ghost use Rattle.commands.specs.Written.{PuttingEnds, TriesToLog, WritingEnds};
 
-use crate::put::put;
+use crate::writing::put;
 use arrayvec::ArrayVec;
 use cell::{hex_digits, is_printable};
 use streams::{Sink, append};

@@ -1,13 +1,12 @@
 //! Files that can't be opened, and what the log says of them.
 
 ghost use Rattle.commands.specs.Opening.{SaysUnopened, reason, unopened_line};
-ghost use Rattle.commands.specs.Written.{WritingEnds};
-ghost use Rattle.commands.specs.steps.Putting.{PuttingEnds};
+ghost use Rattle.commands.specs.Written.{PuttingEnds, WritingEnds};
 ghost use Rattle.std.specs.Prelude.{◌≡◌};
 
 use crate::escapes::put_escaped;
-use crate::put::put;
 use crate::status::{FAILED, Need, no_memory};
+use crate::writing::put;
 use streams::Sink;
 
 /// Why a file can't be opened.

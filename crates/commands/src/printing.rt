@@ -4,10 +4,9 @@ ghost use Rattle.std.specs.Prelude.{◌≡◌, ◌≤◌, ◌+◌, ◌*◌, ◌+
 ghost use Rattle.std.specs.List.{flat_map, list_any};
 ghost use Rattle.cell.specs.Shown.{has_colour};
 ghost use Rattle.commands.specs.Printing.{attributes_text, characters_text, colours_text, cursor_text, has_attributes, line_text, printed_picture, rendition_text, sign, signs};
-ghost use Rattle.commands.specs.Written.{WritingEnds};
-ghost use Rattle.commands.specs.steps.Putting.{PuttingEnds};
+ghost use Rattle.commands.specs.Written.{PuttingEnds, WritingEnds};
 
-use crate::put::put;
+use crate::writing::put;
 use arrayvec::ArrayVec;
 use bitflags::Flags;
 use cell::{Colour, Grid, LARGEST_SCREEN, Rendition, Shown};

@@ -6,8 +6,8 @@ ghost use Rattle.commands.specs.RefusedWords.{Explains, ShowsText};
 ghost use Rattle.commands.specs.Written.{outputs};
 
 use crate::escapes::log_escaped;
-use crate::put::write_out;
 use crate::status::{ACCEPTED, BAD_TEXT, Need, log_failure, no_memory};
+use crate::writing::write_out;
 use clap::Error;
 use clap::error::ErrorKind;
 use script::ScriptFault;

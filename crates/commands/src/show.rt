@@ -9,9 +9,9 @@ ghost use Rattle.commands.specs.steps.Feeding.{Feeds, LogsFault};
 ghost use Rattle.commands.specs.Written.{WritingEnds, outputs};
 
 use crate::printing::print;
-use crate::put::write_out;
 use crate::requests::Job;
 use crate::status::{ACCEPTED, FAILED, Need, REFUSED, log_failure, no_memory};
+use crate::writing::write_out;
 use arrayvec::ArrayVec;
 use ecma::{NotInProfile, Terminal};
 use script::ScriptFault;

@@ -5,7 +5,7 @@ ghost use Rattle.commands.specs.Statuses.{no_memory_line, status_of};
 ghost use Rattle.commands.specs.Written.{TriesToLog};
 ghost use Rattle.script.specs.Log.{last_line};
 
-use crate::put::write_log;
+use crate::writing::write_log;
 use script::{ScriptEnd, ScriptFault, last_line};
 use streams::Sink;
 

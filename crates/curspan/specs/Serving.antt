@@ -16,7 +16,7 @@ use Rattle.paint.specs.Updates.{first_painter}
 use Rattle.compose.specs.Desks.{world}
 use Rattle.desk.specs.ScriptEnds.{ScriptEnds, read_failed, write_fault}
 use Rattle.desk.specs.States.{ScreenOver}
-use Rattle.commands.specs.Checks.{Checks}
+use Rattle.checks.specs.Checks.{Checks}
 use Rattle.commands.specs.CommandLine.{Asks, IsRefused, Sizes, text_of}
 use Rattle.commands.specs.Opening.{SaysUnopened}
 use Rattle.commands.specs.Printing.{printed_picture}

@@ -1,6 +1,7 @@
 //! Runs scripts of calls on a screen of windows, and prints the pictures that they leave.
 //!
-//! `serve` has `run` and `paint`; the command line and what needs no screen is in the library `commands`.
+//! `serve` has `run` and `paint`. The command line and what needs no screen are in the library `commands`, and `check`
+//! in `checks`.
 #![tactic(auto)]
 
 mod environment;

@@ -20,9 +20,10 @@ ghost use Rattle.world.specs.declared.call.Refresh.{Refresh};
 
 use crate::opening::{FileSink, FileSource};
 use cell::Rendition;
+use checks::check_script;
 use commands::{
-    Invocation, Job, Kind, Need, Request, Variables, check_script, job, log_failure, log_fault,
-    log_unopened, no_memory, print, show_stream, status_of, usage,
+    Invocation, Job, Kind, Need, Request, Variables, job, log_failure, log_fault, log_unopened,
+    no_memory, print, show_stream, status_of, usage,
 };
 use desk::{
     Call, Calls, Desk, Refusal, Screen, ScriptEnd, ScriptFault, Sink, Source, VirtualScreen,

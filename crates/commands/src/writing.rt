@@ -1,7 +1,6 @@
 //! Writing a text of any length.
 
-ghost use Rattle.commands.specs.Written.{TriesToLog, WritingEnds};
-ghost use Rattle.commands.specs.steps.Putting.{PuttingEnds};
+ghost use Rattle.commands.specs.Written.{PuttingEnds, TriesToLog, WritingEnds};
 
 use streams::{Sink, send};
 

@@ -1,8 +1,8 @@
 -- `report_lines`: the findings of a script, a line at a time (`CheckLemmas`).
 use Rattle.std.proofs.Common.{ap, refl}
 use Rattle.script.specs.Lines.{Held, has_newline, met_end}
-use Rattle.commands.proofs.CheckLemmas.{checked, checking_next, checking_none}
-use Rattle.commands.proofs.check.report_lines.Goals as goal
+use Rattle.checks.proofs.CheckLemmas.{checked, checking_next, checking_none}
+use Rattle.checks.proofs.check.report_lines.Goals as goal
 
 pub loop-number-init : goal.loop-number-init
 loop-number-init g c = checking_none _ _ _ _ (ap (λ (h : Held). h.unused) c.new-lines.ensures) refl refl

@@ -1,6 +1,6 @@
 use Rattle.std.proofs.Common.{length}
 use Rattle.commands.proofs.PutLemmas.{IsPartlyPut}
-use Rattle.commands.proofs.put.put.Given as goal
+use Rattle.commands.proofs.writing.put.Given as goal
 
 abbrev pub invariant-loop-rest : goal.invariant-loop-rest
 invariant-loop-rest g l = IsPartlyPut (λ bytes. bytes) (g.W.Sink.seen l.fn.sink) (g.W.Sink.seen l.sink) l.text l.rest

@@ -1,6 +1,6 @@
 use Rattle.script.specs.Lines.{work_left}
-use Rattle.commands.proofs.CheckLemmas.{Checking}
-use Rattle.commands.proofs.check.report_lines.Given as goal
+use Rattle.checks.proofs.CheckLemmas.{Checking}
+use Rattle.checks.proofs.check.report_lines.Given as goal
 
 abbrev pub invariant-loop-number : goal.invariant-loop-number
 invariant-loop-number g l =

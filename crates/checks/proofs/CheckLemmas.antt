@@ -18,13 +18,12 @@ use Rattle.script.specs.declared.bytes.LineEnd.TheVariants.{Newline, ReadFailed}
 use Rattle.script.specs.declared.fault.TextFault.TheVariants.{LineTooLong}
 use Rattle.script.specs.declared.limits.TheConstants.{LONGEST_LINE}
 use Rattle.script.specs.Lines.{EndsLine, HasNoNewline, IsKept, ReadingEnds, ReadsToEnd, end_failed, has_newline, met_end}
-use Rattle.commands.specs.Checks.{count_line, count_of, report, findings, findings_from, finding_of, finding_of_rest}
 use Rattle.commands.specs.Shows.{IsWholeAt}
-use Rattle.commands.specs.Written.{IsNotWritten, WritingEnds}
-use Rattle.commands.specs.declared.check.Report.{Report}
-use Rattle.commands.specs.steps.Checking.{IsReported, ReportsMore, ReportsScript, finding_of_read}
-use Rattle.commands.specs.steps.Putting.{PuttingEnds}
+use Rattle.commands.specs.Written.{IsNotWritten, PuttingEnds, WritingEnds}
 use Rattle.commands.proofs.PutLemmas.{cut_before, not_put, nothing_put, put_after}
+use Rattle.checks.specs.Checks.{count_line, count_of, report, findings, findings_from, finding_of, finding_of_rest}
+use Rattle.checks.specs.declared.check.Report.{Report}
+use Rattle.checks.specs.steps.Checking.{IsReported, ReportsMore, ReportsScript, finding_of_read}
 
 -- ---- lines with a finding
 

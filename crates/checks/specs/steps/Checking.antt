@@ -8,11 +8,10 @@ use Rattle.script.specs.Readings.{parse_line}
 use Rattle.script.specs.declared.bytes.LineEnd.{LineEnd}
 use Rattle.script.specs.declared.bytes.LineEnd.TheVariants.{Newline, ScriptEnd, ReadFailed}
 use Rattle.script.specs.declared.fault.TextFault.TheVariants.{LineTooLong}
-use Rattle.commands.specs.Checks.{count_of, report, findings, finding_of}
 use Rattle.commands.specs.Shows.{ReadsStream}
-use Rattle.commands.specs.Written.{WritingEnds}
-use Rattle.commands.specs.declared.check.Report.{Report}
-use Rattle.commands.specs.steps.Putting.{PuttingEnds}
+use Rattle.commands.specs.Written.{PuttingEnds, WritingEnds}
+use Rattle.checks.specs.Checks.{count_of, report, findings, finding_of}
+use Rattle.checks.specs.declared.check.Report.{Report}
 
 -- the finding of a line as it was read
 abbrev pub finding_of_read : ℕ → List ℕ → Bool → LineEnd → List (List ℕ)

@@ -3,13 +3,12 @@
 ghost use Rattle.std.specs.Prelude.{◌≡◌, ◌≤◌, ◌<◌, ◌∷◌, [], length};
 ghost use Rattle.script.specs.Readings.{parse_line};
 ghost use Rattle.script.specs.Words.{entry_of};
-ghost use Rattle.commands.specs.Checks.{Checks, count_line, finding_of, finding_of_call};
 ghost use Rattle.commands.specs.Written.{outputs};
-ghost use Rattle.commands.specs.steps.Checking.{EndsReport, ReportsMore, ReportsScript, finding_of_read};
+ghost use Rattle.checks.specs.Checks.{Checks, count_line, finding_of, finding_of_call};
+ghost use Rattle.checks.specs.steps.Checking.{EndsReport, ReportsMore, ReportsScript, finding_of_read};
 
-use crate::put::{put, write_out};
-use crate::status::{ACCEPTED, BAD_TEXT, log_failure};
 use arrayvec::ArrayVec;
+use commands::{ACCEPTED, BAD_TEXT, log_failure, put, write_out};
 use explain::{finding, refusal_everywhere, refused_line};
 use script::{Arguments, LONGEST_LINE, LineEnd, Lines, ScriptFault, TextFault, Word, read_line};
 use streams::{Sink, Source, append, append_decimal};

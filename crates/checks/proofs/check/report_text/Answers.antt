@@ -1,7 +1,7 @@
 -- `report_text`: the findings of a script, a line at a time (`CheckLemmas`).
-use Rattle.commands.proofs.CheckLemmas.{line_dropped, line_reported}
-use Rattle.commands.proofs.check.report_text.Goals as goal
-use Rattle.commands.proofs.check.report_text.Goals.{else-report, then-report}
+use Rattle.checks.proofs.CheckLemmas.{line_dropped, line_reported}
+use Rattle.checks.proofs.check.report_text.Goals as goal
+use Rattle.checks.proofs.check.report_text.Goals.{else-report, then-report}
 
 pub returns : goal.returns
 returns g c = λ first reported r. elim c.if-report.branch [

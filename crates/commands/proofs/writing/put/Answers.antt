@@ -1,7 +1,7 @@
 -- `put`: of a text each piece is put, or a prefix of it (`PutLemmas`).
 use Rattle.std.proofs.Common.{refl}
 use Rattle.commands.proofs.PutLemmas.{cut_put, more_put, sent_piece}
-use Rattle.commands.proofs.put.put.Goals as goal
+use Rattle.commands.proofs.writing.put.Goals as goal
 
 pub loop-rest-preserved : goal.loop-rest-preserved
 loop-rest-preserved g c =
