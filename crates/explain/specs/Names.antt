@@ -93,6 +93,14 @@ are_digits text = list_all is_ascii_digit text && not (length text == 0)
 abbrev pub are_two_digits : List ℕ → Bool
 are_two_digits text = length text == 2 && list_all is_ascii_hexdigit text
 
+-- a letter that is taken for a digit
+abbrev pub is_like_digit : ℕ → Bool
+is_like_digit byte = has_byte byte (codes "OolI")
+
+-- digits, or letters that are taken for them
+abbrev pub are_like_digits : List ℕ → Bool
+are_like_digits text = list_all (λ byte. is_ascii_digit byte || is_like_digit byte) text
+
 -- the text has the part in it
 abbrev pub has_part : List ℕ → List ℕ → Bool
 has_part part [] = false

@@ -8,7 +8,7 @@ use Rattle.script.specs.Characters.{backslash, digit_0, number_sign}
 use Rattle.script.specs.declared.words.Form.{Form}
 use Rattle.script.specs.declared.words.Form.TheVariants.{Number, NumberOrNone, Signed, Attributes, Flag, Character, Text}
 use Rattle.explain.specs.Characters.{character_reason, text_reason}
-use Rattle.explain.specs.Names.{apostrophe, are_digits, are_two_digits, begins_with, begins_with_digit, comma, ends_with, equals_sign, has_byte, has_part, is_comment, is_marked, is_one_of, is_quoted, is_redirection, name_of_argument, quotation_mark, semicolon, vertical_bar}
+use Rattle.explain.specs.Names.{apostrophe, are_digits, are_like_digits, are_two_digits, begins_with, begins_with_digit, comma, ends_with, equals_sign, has_byte, has_part, is_comment, is_marked, is_one_of, is_quoted, is_redirection, name_of_argument, quotation_mark, semicolon, vertical_bar}
 
 -- what an argument of a form has to be
 abbrev pub requirement : Form → List ℕ
@@ -40,13 +40,6 @@ requirement_of word form = if bytes_eq word (codes "init_pair") then pair_and_co
     else (if bytes_eq word (codes "color_set") then window_and_pair
     else (if bytes_eq word (codes "bkgdpair") then window_and_pair
     else requirement_after word form))
-
--- letters that are taken for digits
-abbrev pub capital_i : ℕ
-capital_i = 73
-
-abbrev pub capital_o : ℕ
-capital_o = 79
 
 -- ---- why an argument is not what it has to be
 
@@ -154,13 +147,11 @@ is_near_number word argument = if is_marked argument then not (bytes_eq word (co
 
 abbrev pub more_than_digits : List ℕ → List ℕ
 more_than_digits argument = if has_byte number_sign argument then codes ": a number has digits alone, and a comment has a line of its own"
-    else (if has_byte capital_o argument || has_byte capital_i argument then no_letters
-    else codes ": a number has digits alone")
+    else codes ": a number has digits alone"
 
 -- of what may stand for a number elsewhere
 abbrev pub name_reason : List ℕ → ℕ → List ℕ → List ℕ
-name_reason word place argument = if is_one_of (codes "O o l I O0 O1 O2 O3 O4 O5 O6 O7 O8 O9 l0 l1 l2 l3 l4 l5 l6 l7 l8 l9 I0 I1 I2 I3 I4 I5 I6 I7 I8 I9 lO IO") argument
-    then no_letters
+name_reason word place argument = if are_like_digits argument then no_letters
     else (if bytes_eq (name_of_argument argument) (codes "none") then codes ": only panel_above and panel_below take \"none\""
     else (if begins_with (codes "0x") argument || begins_with (codes "0X") argument then codes ": a number is decimal"
     else (if is_near_number word argument then more_than_digits argument

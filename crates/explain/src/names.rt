@@ -4,7 +4,7 @@ ghost use Rattle.std.specs.Prelude.{◌≡◌, ◌≤◌, drop, length, take};
 ghost use Rattle.std.specs.Char.{is_ascii_alphabetic, is_ascii_hexdigit};
 ghost use Rattle.std.specs.List.{list_all, list_any};
 ghost use Rattle.script.specs.Pieces.{pieces_of};
-ghost use Rattle.explain.specs.Names.{after_dot, after_name, are_digits, are_two_digits, begins_comment, begins_with_digit, ends_with, gives_value, has_byte, has_part, has_value, is_comment, is_marked, is_name_byte, is_quoted, is_redirection, name_in, name_of_argument};
+ghost use Rattle.explain.specs.Names.{after_dot, after_name, are_digits, are_like_digits, are_two_digits, begins_comment, begins_with_digit, ends_with, gives_value, has_byte, has_part, has_value, is_comment, is_like_digit, is_marked, is_name_byte, is_quoted, is_redirection, name_in, name_of_argument};
 
 use crate::advice::is_among;
 use arrayvec::ArrayVec;
@@ -196,6 +196,20 @@ pub fn are_digits(text: &[u8]) -> bool
     ensures { result ≡ are_digits text.now }
 {
     has_digits_alone(text) && !text.is_empty()
+}
+
+/// Whether a byte is a letter that is taken for a digit.
+fn is_like_digit(byte: u8) -> bool
+    ensures { result ≡ is_like_digit byte }
+{
+    has_byte(b"OolI", byte)
+}
+
+/// Whether all bytes of a text are digits, or letters that are taken for them.
+pub fn are_like_digits(text: &[u8]) -> bool
+    ensures { result ≡ are_like_digits text.now }
+{
+    text.iter().all(|b| b.is_ascii_digit() || is_like_digit(*b))
 }
 
 /// Whether all bytes of a text are hexadecimal digits.

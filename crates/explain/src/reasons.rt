@@ -10,8 +10,9 @@ use crate::advice::is_among;
 use crate::arguments::has_digit;
 use crate::characters::{character_reason, text_reason};
 use crate::names::{
-    after_first, are_digits, are_two_digits, begins_with_digit, begins_with_letter, ends_with,
-    has_byte, has_part, is_comment, is_marked, is_quoted, is_redirection, name_of_argument,
+    after_first, are_digits, are_like_digits, are_two_digits, begins_with_digit,
+    begins_with_letter, ends_with, has_byte, has_part, is_comment, is_marked, is_quoted,
+    is_redirection, name_of_argument,
 };
 use script::{Form, LONGEST_LINE};
 
@@ -298,8 +299,6 @@ fn more_than_digits(argument: &[u8]) -> &'static [u8]
 {
     if has_byte(argument, b'#') {
         b": a number has digits alone, and a comment has a line of its own"
-    } else if has_byte(argument, b'O') || has_byte(argument, b'I') {
-        no_letters()
     } else {
         b": a number has digits alone"
     }
@@ -312,10 +311,7 @@ fn name_reason(word: &[u8], place: usize, argument: &[u8]) -> &'static [u8]
     ensures short { length result.now ≤ 80 }
 {
     let name = name_of_argument(argument);
-    if is_among(
-        argument,
-        b"O o l I O0 O1 O2 O3 O4 O5 O6 O7 O8 O9 l0 l1 l2 l3 l4 l5 l6 l7 l8 l9 I0 I1 I2 I3 I4 I5 I6 I7 I8 I9 lO IO",
-    ) {
+    if are_like_digits(argument) {
         return no_letters();
     }
     if name.as_slice() == b"none".as_slice() {
