@@ -5,7 +5,7 @@ ghost use Rattle.script.specs.Pieces.{pieces_of, room_of};
 ghost use Rattle.script.specs.Readings.{arguments};
 ghost use Rattle.std.specs.Char.{is_ascii_digit};
 ghost use Rattle.std.specs.List.{list_any};
-ghost use Rattle.explain.specs.Faults.{IllFormed as Ill, find_ill_formed, find_stray, forms_of, has_form, is_stray, is_word};
+ghost use Rattle.explain.specs.Faults.{IllFormed as Ill, find_ill_formed, find_stray, forms_of, has_form, is_of_number, is_stray, is_word};
 
 use crate::names::is_comment;
 use script::{Arguments, Form, LONGEST_LINE, MOST_ARGUMENTS, Word, next_argument, split_at_space};
@@ -105,15 +105,18 @@ fn is_stray(argument: &[u8]) -> bool
     argument.is_empty() || is_comment(argument)
 }
 
+/// Whether a form is one of numbers.
+fn is_of_number(form: Form) -> bool
+    ensures { result ≡ is_of_number form }
+{
+    matches!(form, Form::Number | Form::NumberOrNone | Form::Signed)
+}
+
 /// Whether an argument without its form is a word in place of a number, in a line that has numbers.
 pub fn is_word(line: &[u8], ill: IllFormed<'_>) -> bool
     ensures { result ≡ is_word line.now ill.entry.form ill.entry.argument.now }
 {
-    match ill.form {
-        Form::Number | Form::NumberOrNone | Form::Signed => has_digit(line)
-            && !has_digit(ill.argument),
-        _ => false,
-    }
+    is_of_number(ill.form) && has_digit(line) && !has_digit(ill.argument)
 }
 
 /// The first stray argument.
