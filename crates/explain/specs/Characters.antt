@@ -104,9 +104,9 @@ text_reason text = escape_reason (after_bad_escape text)
 
 -- ---- what is no character
 
--- of several words in place of a character, or of one
-abbrev pub words_reason : List ℕ → List ℕ → List ℕ
-words_reason word argument = if bytes_eq word (codes "bkgdset") then codes ": it is more than one, and attributes come before it, as one sum"
+-- of several characters in place of one, which may be several words
+abbrev pub several_characters_reason : List ℕ → List ℕ → List ℕ
+several_characters_reason word argument = if bytes_eq word (codes "bkgdset") then codes ": it is more than one, and attributes come before it, as one sum"
     else (if has_byte space argument then codes ": it is more than one: addstr writes a text; see move, attrset, color_set"
     else codes ": it is more than one: addstr writes a text, and a code is as \\x41 for 65")
 
@@ -116,7 +116,7 @@ end_reason word argument = if ends_with semicolon argument then codes ": it is m
     else (if ends_with comma argument then codes ": it is more than one, and no comma comes after it"
     else (if ends_with space argument then codes ": it is more than one, and a line has no space at its end"
     else (if has_part (codes " >") argument then codes ": it is more than one, and a script has no redirections"
-    else words_reason word argument)))
+    else several_characters_reason word argument)))
 
 -- of more than one character
 abbrev pub longer_reason : List ℕ → List ℕ → List ℕ

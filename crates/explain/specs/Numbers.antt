@@ -70,9 +70,9 @@ too_many_reason word = if is_one_of (codes "attrset attron attroff") word then S
     else (if is_one_of (codes "overlay overwrite") word then Some (codes ": copywin copies a part")
     else None))))))
 
--- of words between numbers, or else of such a call
-abbrev pub words_reason : List ℕ → List ℕ → List (List ℕ) → Option (List ℕ)
-words_reason word line pieces = if not (has_word word line pieces) then too_many_reason word
+-- of arguments that are too many: of a word between numbers, or else of such a call
+abbrev pub surplus_reason : List ℕ → List ℕ → List (List ℕ) → Option (List ℕ)
+surplus_reason word line pieces = if not (has_word word line pieces) then too_many_reason word
     else (if has_byte comma line then Some no_commas
     else Some (codes ": numbers alone are arguments: no words stand between them"))
 
@@ -90,7 +90,7 @@ number_reason word line pieces many = if begins_bracketed pieces then Some no_br
     else (if takes_text word then (if begins_number pieces then separation_reason line pieces many else None)
     else (if joins_attributes word line then Some one_sum
     else or_else (marks_reason line pieces many)
-    (or_else (if many then words_reason word line pieces else None) (separation_reason line pieces many))))
+    (or_else (if many then surplus_reason word line pieces else None) (separation_reason line pieces many))))
 
 -- what a call's arguments are
 abbrev pub signature_text : List ℕ → List ℕ

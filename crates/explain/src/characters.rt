@@ -3,7 +3,7 @@
 ghost use Rattle.std.specs.Prelude.{◌≡◌, ◌≤◌, ◌==◌, ◌&&◌, length, slice_index, take};
 ghost use Rattle.std.specs.Char.{is_ascii_hexdigit};
 ghost use Rattle.std.specs.List.{list_all};
-ghost use Rattle.explain.specs.Characters.{after_bad_escape, bad_text_advice, begins_character, begins_escape, begins_escaped, begins_greater_byte, begins_sequence, byte_advice, character_reason, draws_line, end_reason, ends_space, escape_reason, is_space_elsewhere, longer_reason, text_reason, words_reason};
+ghost use Rattle.explain.specs.Characters.{after_bad_escape, bad_text_advice, begins_character, begins_escape, begins_escaped, begins_greater_byte, begins_sequence, byte_advice, character_reason, draws_line, end_reason, ends_space, escape_reason, is_space_elsewhere, longer_reason, several_characters_reason, text_reason};
 
 use crate::advice::is_among;
 use crate::arguments::has_form;
@@ -191,9 +191,9 @@ fn escape_reason(rest: &[u8]) -> &'static [u8]
     }
 }
 
-/// What is said of several words in place of a character, or of one.
-fn words_reason(word: &[u8], argument: &[u8]) -> &'static [u8]
-    ensures text { result.now ≡ words_reason word.now argument.now }
+/// What is said of several characters in place of one, which may be several words.
+fn several_characters_reason(word: &[u8], argument: &[u8]) -> &'static [u8]
+    ensures text { result.now ≡ several_characters_reason word.now argument.now }
     ensures short { length result.now ≤ 80 }
 {
     if word == b"bkgdset".as_slice() {
@@ -219,7 +219,7 @@ fn end_reason(word: &[u8], argument: &[u8]) -> &'static [u8]
     } else if has_part(argument, b" >") {
         b": it is more than one, and a script has no redirections"
     } else {
-        words_reason(word, argument)
+        several_characters_reason(word, argument)
     }
 }
 

@@ -2,7 +2,7 @@
 
 ghost use Rattle.std.specs.Prelude.{◌≡◌, ◌≤◌, ◌+◌, IfSome, length, option_map};
 ghost use Rattle.script.specs.Pieces.{pieces_of, room_of};
-ghost use Rattle.explain.specs.Numbers.{begins_bracketed, begins_call, begins_number, comma_reason, has_call, has_joined, has_redirection, has_word, is_joined, joins_attributes, marks_reason, number_reason, separation_reason, takes_text, too_many_reason, words_reason};
+ghost use Rattle.explain.specs.Numbers.{begins_bracketed, begins_call, begins_number, comma_reason, has_call, has_joined, has_redirection, has_word, is_joined, joins_attributes, marks_reason, number_reason, separation_reason, surplus_reason, takes_text, too_many_reason};
 
 use crate::advice::is_among;
 use crate::arguments::{find_ill_formed, forms_of, is_word};
@@ -133,10 +133,10 @@ fn has_word(word: &[u8], line: &[u8], text: Option<&[u8]>) -> bool
     }
 }
 
-/// What is said of words between numbers, or else of a call with too many arguments.
-fn words_reason(word: &[u8], line: &[u8], text: Option<&[u8]>) -> Option<&'static [u8]>
+/// What is said of arguments that are too many: of a word between numbers, or else of the call.
+fn surplus_reason(word: &[u8], line: &[u8], text: Option<&[u8]>) -> Option<&'static [u8]>
     requires { room_of text ≤ LONGEST_LINE + 1 }
-    ensures text { option_map (λ text. text.now) result ≡ words_reason word.now line.now (pieces_of text.entry) }
+    ensures text { option_map (λ text. text.now) result ≡ surplus_reason word.now line.now (pieces_of text.entry) }
     ensures short { IfSome result (λ text. length text.now ≤ 80) }
 {
     if !has_word(word, line, text) {
@@ -232,7 +232,7 @@ pub fn number_reason(
         return Some(said);
     }
     if many {
-        if let Some(said) = words_reason(word, line, text) {
+        if let Some(said) = surplus_reason(word, line, text) {
             return Some(said);
         }
     }
