@@ -73,7 +73,7 @@ advised =
     ∷ (
       codes "the screen is there from the first line on, and ends with the script",
       codes "initscr newterm new_prescr endwin isendwin delscreen set_term use_screen use_window exit_curses exit"
-          ++ codes " quit bye stop init initscreen init_screen start wrapper setup blessed.screen() blessed.screen({",
+          ++ codes " quit bye stop init initscreen init_screen start wrapper setup",
     )
     ∷ (
       codes "lines are drawn by the characters of addstr",
@@ -118,7 +118,8 @@ advised =
     ∷ (codes "see getbegyx", codes "getbegx getbegy")
     ∷ (codes "see getparyx", codes "getparx getpary")
     ∷ (codes "see getmaxyx", codes "getmaxx getmaxy getsize get_size getmax get_max maxyx")
-    ∷ (screen_size, codes "lines cols columns rows height width screen size")
+    ∷ (codes "the screen is there from the first line on; --lines and --cols give its size", codes "screen")
+    ∷ (screen_size, codes "lines cols columns rows height width size")
     ∷ (codes "no window has this flag", codes "leaveok immedok syncok idlok idcok")
     ∷ (
       codes "no call answers this",

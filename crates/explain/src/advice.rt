@@ -149,7 +149,7 @@ const ADVICE: [(u8, &[Row]); 28] = [
     ]),
     (b'b', &[
         (ESCAPES, b"backspace"),
-        (SCREEN, b"bye blessed.screen() blessed.screen({"),
+        (SCREEN, b"bye"),
         (LINES, b"box border border_set box_set"),
         (BACKGROUND, b"bkgd"),
         (ATTRIBUTES, b"bold blink"),
@@ -412,7 +412,8 @@ const ADVICE: [(u8, &[Row]); 28] = [
         (COLOURS, b"start_color start_colour"),
         (b"see scrl", b"scroll_up scroll_down scrollup scrolldown"),
         (CURSOR, b"setcursor set_cursor setsyx"),
-        (SCREEN_SIZE, b"screen size"),
+        (b"the screen is there from the first line on; --lines and --cols give its size", b"screen"),
+        (SCREEN_SIZE, b"size"),
         (FLAGS, b"syncok"),
         (POINTERS, b"set_panel_userptr set_userptr"),
         (b"see scrollok", b"scrlok"),
