@@ -101,6 +101,10 @@ is_like_digit byte = has_byte byte (codes "OolI")
 abbrev pub are_like_digits : List ℕ → Bool
 are_like_digits text = list_all (λ byte. is_ascii_digit byte || is_like_digit byte) text
 
+-- two hexadecimal digits, or letters that are taken for them
+abbrev pub are_like_two_digits : List ℕ → Bool
+are_like_two_digits text = length text == 2 && list_all (λ byte. is_ascii_hexdigit byte || is_like_digit byte) text
+
 -- the text has the part in it
 abbrev pub has_part : List ℕ → List ℕ → Bool
 has_part part [] = false

@@ -8,7 +8,7 @@ use Rattle.script.specs.Characters.{backslash, digit_0, number_sign}
 use Rattle.script.specs.declared.words.Form.{Form}
 use Rattle.script.specs.declared.words.Form.TheVariants.{Number, NumberOrNone, Signed, Attributes, Flag, Character, Text}
 use Rattle.explain.specs.Characters.{character_reason, text_reason}
-use Rattle.explain.specs.Names.{apostrophe, are_digits, are_like_digits, are_two_digits, begins_with, begins_with_digit, comma, ends_with, equals_sign, has_byte, has_part, is_comment, is_marked, is_one_of, is_quoted, is_redirection, name_of_argument, quotation_mark, semicolon, vertical_bar}
+use Rattle.explain.specs.Names.{apostrophe, are_digits, are_like_digits, are_like_two_digits, are_two_digits, begins_with, begins_with_digit, comma, ends_with, equals_sign, has_byte, has_part, is_comment, is_marked, is_one_of, is_quoted, is_redirection, name_of_argument, quotation_mark, semicolon, vertical_bar}
 
 -- what an argument of a form has to be
 abbrev pub requirement : Form → List ℕ
@@ -193,17 +193,17 @@ attributes_reason argument = if is_default (name_of_argument argument) && not (h
     else (if has_colour argument then codes ": a colour is set by color_set"
     else (if begins_with (codes "0x") argument || begins_with (codes "0X") argument then codes ": the two digits have no 0x before them"
     else (if is_list argument then one_sum
-    else (if not (are_two_digits argument) then mark_reason (codes ": a sum of 01 bold, 02 dim, 04 underline, 08 blink, 10 reverse, 20 invisible") argument
-    else (if list_any is_ascii_uppercase argument then codes ": the digits are in lower case"
-    else codes ": it is too great")))))
+    else (if are_two_digits argument then (if list_any is_ascii_uppercase argument then codes ": the digits are in lower case" else codes ": it is too great")
+    else (if are_like_two_digits argument then no_letters
+    else mark_reason (codes ": a sum of 01 bold, 02 dim, 04 underline, 08 blink, 10 reverse, 20 invisible") argument)))))
 
 -- of a flag after a word: the last of `copywin` says how it copies
 abbrev pub copy_reason : List ℕ → List ℕ
 copy_reason word = if bytes_eq word (codes "copywin") then codes ": on is as by overlay, and off as by overwrite" else []
 
 abbrev pub flag_reason : List ℕ → List ℕ → List ℕ
-flag_reason word argument = if is_one_of (codes "ON On TRUE True true YES Yes yes enable enabled t y 1") argument then codes ": write on"
-    else (if is_one_of (codes "OFF Off FALSE False false NO No no disable disabled f n 0") argument then codes ": write off"
+flag_reason word argument = if is_one_of (codes "ON On TRUE True true YES Yes yes enable enabled t y 1 0n") argument then codes ": write on"
+    else (if is_one_of (codes "OFF Off FALSE False false NO No no disable disabled f n 0 0ff") argument then codes ": write off"
     else mark_reason (copy_reason word) argument)
 
 -- Where there is no argument, two spaces are in a row, or one is at the line's end.

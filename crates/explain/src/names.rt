@@ -1,10 +1,10 @@
 //! The name that a word begins with, and the marks of other languages in it.
 
-ghost use Rattle.std.specs.Prelude.{◌≡◌, ◌≤◌, drop, length, take};
+ghost use Rattle.std.specs.Prelude.{◌≡◌, ◌≤◌, ◌||◌, drop, length, take};
 ghost use Rattle.std.specs.Char.{is_ascii_alphabetic, is_ascii_hexdigit};
 ghost use Rattle.std.specs.List.{list_all, list_any};
 ghost use Rattle.script.specs.Pieces.{pieces_of};
-ghost use Rattle.explain.specs.Names.{after_dot, after_name, are_digits, are_like_digits, are_two_digits, begins_comment, begins_with_digit, ends_with, gives_value, has_byte, has_part, has_value, is_comment, is_like_digit, is_marked, is_name_byte, is_quoted, is_redirection, name_in, name_of_argument};
+ghost use Rattle.explain.specs.Names.{after_dot, after_name, are_digits, are_like_digits, are_like_two_digits, are_two_digits, begins_comment, begins_with_digit, ends_with, gives_value, has_byte, has_part, has_value, is_comment, is_like_digit, is_marked, is_name_byte, is_quoted, is_redirection, name_in, name_of_argument};
 
 use crate::advice::is_among;
 use arrayvec::ArrayVec;
@@ -224,6 +224,21 @@ pub fn are_two_digits(text: &[u8]) -> bool
     ensures { result ≡ are_two_digits text.now }
 {
     text.len() == 2 && are_hexadecimal(text)
+}
+
+/// Whether all bytes of a text are hexadecimal digits, or letters that are taken for them.
+fn are_like_hexadecimal(text: &[u8]) -> bool
+    ensures { result ≡ list_all (λ byte. is_ascii_hexdigit byte || is_like_digit byte) text.now }
+{
+    text.iter()
+        .all(|b| b.is_ascii_hexdigit() || is_like_digit(*b))
+}
+
+/// Whether a text is two hexadecimal digits, or letters that are taken for them.
+pub fn are_like_two_digits(text: &[u8]) -> bool
+    ensures { result ≡ are_like_two_digits text.now }
+{
+    text.len() == 2 && are_like_hexadecimal(text)
 }
 
 /// Whether a text begins with a letter.

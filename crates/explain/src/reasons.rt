@@ -10,9 +10,9 @@ use crate::advice::is_among;
 use crate::arguments::has_digit;
 use crate::characters::{character_reason, text_reason};
 use crate::names::{
-    after_first, are_digits, are_like_digits, are_two_digits, begins_with_digit,
-    begins_with_letter, ends_with, has_byte, has_part, is_comment, is_marked, is_quoted,
-    is_redirection, name_of_argument,
+    after_first, are_digits, are_like_digits, are_like_two_digits, are_two_digits,
+    begins_with_digit, begins_with_letter, ends_with, has_byte, has_part, is_comment, is_marked,
+    is_quoted, is_redirection, name_of_argument,
 };
 use script::{Form, LONGEST_LINE};
 
@@ -417,15 +417,19 @@ fn attributes_reason(argument: &[u8]) -> &'static [u8]
         b": the two digits have no 0x before them"
     } else if is_list(argument) {
         one_sum()
-    } else if !are_two_digits(argument) {
+    } else if are_two_digits(argument) {
+        if has_upper_case(argument) {
+            b": the digits are in lower case"
+        } else {
+            b": it is too great"
+        }
+    } else if are_like_two_digits(argument) {
+        no_letters()
+    } else {
         mark_reason(
             b": a sum of 01 bold, 02 dim, 04 underline, 08 blink, 10 reverse, 20 invisible",
             argument,
         )
-    } else if has_upper_case(argument) {
-        b": the digits are in lower case"
-    } else {
-        b": it is too great"
     }
 }
 
@@ -448,12 +452,12 @@ fn flag_reason(word: &[u8], argument: &[u8]) -> &'static [u8]
 {
     if is_among(
         argument,
-        b"ON On TRUE True true YES Yes yes enable enabled t y 1",
+        b"ON On TRUE True true YES Yes yes enable enabled t y 1 0n",
     ) {
         b": write on"
     } else if is_among(
         argument,
-        b"OFF Off FALSE False false NO No no disable disabled f n 0",
+        b"OFF Off FALSE False false NO No no disable disabled f n 0 0ff",
     ) {
         b": write off"
     } else {
