@@ -1,5 +1,5 @@
 -- What is said where a call has too many or too few arguments. The texts are Curspan's own.
-use Rattle.std.specs.Prelude.{◌==◌, ◌&&◌, ◌||◌, ℕ, Bool, false, not, is_some, List, [], ◌∷◌, ◌++◌, codes, length, Option, Some, None, if◌then◌else◌}
+use Rattle.std.specs.Prelude.{◌==◌, ◌&&◌, ◌||◌, ℕ, Bool, false, not, is_some, List, [], ◌∷◌, ◌++◌, codes, length, Option, Some, None, option_and_then, if◌then◌else◌}
 use Rattle.std.specs.List.{list_any}
 use Rattle.std.specs.Option.{option_map_or}
 use Rattle.std.specs.Str.{bytes_eq}
@@ -7,9 +7,9 @@ use Rattle.script.specs.Characters.{backslash}
 use Rattle.script.specs.Readings.{arguments}
 use Rattle.script.specs.Words.{word_of}
 use Rattle.explain.specs.Faults.{find_ill_formed, forms_of, is_word}
-use Rattle.explain.specs.Names.{are_digits, are_two_digits, begins_with_digit, comma, ends_with, has_byte, is_one_of, is_redirection, name_in, semicolon, vertical_bar}
+use Rattle.explain.specs.Names.{are_digits, are_two_digits, begins_with, begins_with_digit, comma, ends_with, equals_sign, has_byte, is_one_of, is_redirection, name_in, semicolon, vertical_bar}
 use Rattle.explain.specs.Nearest.{or_else}
-use Rattle.explain.specs.Reasons.{is_bracketed, no_brackets, no_commas, no_redirections, one_sum}
+use Rattle.explain.specs.Reasons.{is_bracketed, no_brackets, no_commas, no_names, no_options, no_redirections, one_sum}
 use Rattle.explain.specs.Signatures.{names_of_arguments}
 
 -- the first word begins with a bracket, and goes on
@@ -55,9 +55,17 @@ marks_reason line pieces many = if many && has_call pieces then Some (codes ": a
     else (if has_redirection pieces then Some no_redirections
     else None)))
 
--- the first argument without its form is a word between numbers
-abbrev pub has_word : List ℕ → List ℕ → List (List ℕ) → Bool
-has_word word line pieces = option_map_or (λ ill. is_word line ill.form ill.argument) (find_ill_formed 0 (forms_of word) (arguments (forms_of word) pieces)) false
+-- the first argument without its form, if it is a word between numbers
+abbrev pub word_between : List ℕ → List ℕ → List (List ℕ) → Option (List ℕ)
+word_between word line pieces = option_and_then (λ ill. if is_word line ill.form ill.argument then Some ill.argument else None)
+    (find_ill_formed 0 (forms_of word) (arguments (forms_of word) pieces))
+
+-- of such a word: by a comma of the line, as a sign of a sum, as an option, or as another
+abbrev pub between_reason : List ℕ → List ℕ → List ℕ
+between_reason line argument = if has_byte comma line then no_commas
+    else (if is_one_of (codes "+ - * / %") argument then codes ": a script computes nothing: an argument is one number, and no expression"
+    else (if begins_with (codes "-") argument then no_options
+    else codes ": numbers alone are arguments: no words stand between them"))
 
 -- of a call with too many
 abbrev pub too_many_reason : List ℕ → Option (List ℕ)
@@ -70,11 +78,10 @@ too_many_reason word = if is_one_of (codes "attrset attron attroff") word then S
     else (if is_one_of (codes "overlay overwrite") word then Some (codes ": copywin copies a part")
     else None))))))
 
--- of arguments that are too many: of a word between numbers, or else of such a call
+-- of arguments that are too many: of what gives them names, of a word between numbers, or else of such a call
 abbrev pub surplus_reason : List ℕ → List ℕ → List (List ℕ) → Option (List ℕ)
-surplus_reason word line pieces = if not (has_word word line pieces) then too_many_reason word
-    else (if has_byte comma line then Some no_commas
-    else Some (codes ": numbers alone are arguments: no words stand between them"))
+surplus_reason word line pieces = if has_byte equals_sign line then Some no_names
+    else option_map_or (λ argument. Some (between_reason line argument)) (word_between word line pieces) (too_many_reason word)
 
 -- of a line with a comma
 abbrev pub comma_reason : List ℕ → Option (List ℕ)

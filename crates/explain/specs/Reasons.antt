@@ -61,6 +61,13 @@ no_commas = codes ": spaces separate arguments, and no commas"
 abbrev pub no_redirections : List ℕ
 no_redirections = codes ": a script has no redirections or pipes"
 
+-- of arguments that others give names, or write as options
+abbrev pub no_names : List ℕ
+no_names = codes ": arguments have no names, and a script no variables: they come in their order"
+
+abbrev pub no_options : List ℕ
+no_options = codes ": a call has no options: its arguments come in their order"
+
 -- of what begins with a mark of other languages
 abbrev pub first_mark_reason : List ℕ → Option (List ℕ)
 first_mark_reason argument = if is_quoted argument then Some (codes ": no quotes are around arguments")
@@ -78,7 +85,7 @@ mark_reason said argument = unwrap_or (first_mark_reason argument)
     else (if has_byte semicolon argument then codes ": a line has no semicolon"
     else (if ends_with backslash argument then codes ": no line goes on in the next, and no argument ends in a backslash"
     else (if has_byte backslash argument then codes ": only texts and characters have escapes, and a call ends with its line"
-    else (if has_byte equals_sign argument then codes ": arguments have no names, and a script no variables: they come in their order"
+    else (if has_byte equals_sign argument then no_names
     else said)))))
 
 -- ---- names that stand for numbers elsewhere
@@ -159,7 +166,7 @@ name_reason word place argument = if are_like_digits argument then no_letters
 
 -- of what is after a minus
 abbrev pub minus_reason : List ℕ → List ℕ
-minus_reason rest = if are_digits rest then codes ": a number here has no minus" else codes ": a call has no options: its arguments come in their order"
+minus_reason rest = if are_digits rest then codes ": a number here has no minus" else no_options
 
 -- of a number without a sign
 abbrev pub unsigned_reason : List ℕ → ℕ → List ℕ → List ℕ

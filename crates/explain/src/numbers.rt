@@ -2,14 +2,16 @@
 
 ghost use Rattle.std.specs.Prelude.{◌≡◌, ◌≤◌, ◌+◌, IfSome, length, option_map};
 ghost use Rattle.script.specs.Pieces.{pieces_of, room_of};
-ghost use Rattle.explain.specs.Numbers.{begins_bracketed, begins_call, begins_number, comma_reason, has_call, has_joined, has_redirection, has_word, is_joined, joins_attributes, marks_reason, number_reason, separation_reason, surplus_reason, takes_text, too_many_reason};
+ghost use Rattle.explain.specs.Numbers.{begins_bracketed, begins_call, begins_number, between_reason, comma_reason, has_call, has_joined, has_redirection, is_joined, joins_attributes, marks_reason, number_reason, separation_reason, surplus_reason, takes_text, too_many_reason, word_between};
 
 use crate::advice::is_among;
 use crate::arguments::{find_ill_formed, forms_of, is_word};
 use crate::names::{
     are_digits, are_two_digits, begins_with_digit, ends_with, has_byte, is_redirection, name_of,
 };
-use crate::reasons::{is_bracketed, no_brackets, no_commas, no_redirections, one_sum};
+use crate::reasons::{
+    is_bracketed, no_brackets, no_commas, no_names, no_options, no_redirections, one_sum,
+};
 use script::{LONGEST_LINE, Word, split_at_space};
 
 /// Whether the first word of a text begins with a bracket, and goes on.
@@ -122,30 +124,46 @@ fn marks_reason(line: &[u8], text: Option<&[u8]>, many: bool) -> Option<&'static
     None
 }
 
-/// Whether the first argument without its form is a word between numbers.
-fn has_word(word: &[u8], line: &[u8], text: Option<&[u8]>) -> bool
+/// The first argument without its form, if it is a word between numbers.
+fn word_between<'a>(word: &[u8], line: &[u8], text: Option<&'a [u8]>) -> Option<&'a [u8]>
     requires { room_of text ≤ LONGEST_LINE + 1 }
-    ensures { result ≡ has_word word.now line.now (pieces_of text.entry) }
+    ensures { option_map (λ argument. argument.now) result ≡ word_between word.now line.now (pieces_of text.entry) }
 {
     match find_ill_formed(0, forms_of(word), text) {
-        Some(ill) => is_word(line, ill),
-        None => false,
+        Some(ill) if is_word(line, ill) => Some(ill.argument),
+        _ => None,
     }
 }
 
-/// What is said of arguments that are too many: of a word between numbers, or else of the call.
+/// What is said of such a word.
+fn between_reason(line: &[u8], argument: &[u8]) -> &'static [u8]
+    ensures text { result.now ≡ between_reason line.now argument.now }
+    ensures short { length result.now ≤ 80 }
+{
+    if has_byte(line, b',') {
+        no_commas()
+    } else if is_among(argument, b"+ - * / %") {
+        b": a script computes nothing: an argument is one number, and no expression"
+    } else if argument.strip_prefix(b"-").is_some() {
+        no_options()
+    } else {
+        b": numbers alone are arguments: no words stand between them"
+    }
+}
+
+/// What is said of arguments that are too many: of what gives them names, of a word between numbers, or else of the call.
 fn surplus_reason(word: &[u8], line: &[u8], text: Option<&[u8]>) -> Option<&'static [u8]>
     requires { room_of text ≤ LONGEST_LINE + 1 }
     ensures text { option_map (λ text. text.now) result ≡ surplus_reason word.now line.now (pieces_of text.entry) }
     ensures short { IfSome result (λ text. length text.now ≤ 80) }
 {
-    if !has_word(word, line, text) {
-        return too_many_reason(word);
+    if has_byte(line, b'=') {
+        return Some(no_names());
     }
-    if has_byte(line, b',') {
-        return Some(no_commas());
+    match word_between(word, line, text) {
+        Some(argument) => Some(between_reason(line, argument)),
+        None => too_many_reason(word),
     }
-    Some(b": numbers alone are arguments: no words stand between them")
 }
 
 /// What is said of a call with too many arguments.

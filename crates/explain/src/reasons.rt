@@ -4,7 +4,7 @@ ghost use Rattle.std.specs.Prelude.{◌≡◌, ◌≤◌, IfSome, length, option
 ghost use Rattle.std.specs.List.{list_any};
 ghost use Rattle.std.specs.Char.{is_ascii_uppercase};
 ghost use Rattle.explain.specs.Names.{name_of_argument};
-ghost use Rattle.explain.specs.Reasons.{attributes_reason, begins_text, copy_reason, digits_reason, first_mark_reason, first_reason, flag_reason, has_colour, is_attribute, is_bracketed, is_colour, is_default, is_list, is_near_number, is_quoted_number, is_text_first, later_reason, mark_reason, minus_reason, more_than_digits, name_reason, no_brackets, no_commas, no_digits_reason, no_letters, no_redirections, numbers_in_digits, one_sum, pair_reason, reason, reason_after, reason_of_call, requirement, requirement_after, requirement_of, second_reason, signed_reason, size_reason, unless_missing, unsigned_or_none_reason, unsigned_reason};
+ghost use Rattle.explain.specs.Reasons.{attributes_reason, begins_text, copy_reason, digits_reason, first_mark_reason, first_reason, flag_reason, has_colour, is_attribute, is_bracketed, is_colour, is_default, is_list, is_near_number, is_quoted_number, is_text_first, later_reason, mark_reason, minus_reason, more_than_digits, name_reason, no_brackets, no_commas, no_digits_reason, no_letters, no_names, no_options, no_redirections, numbers_in_digits, one_sum, pair_reason, reason, reason_after, reason_of_call, requirement, requirement_after, requirement_of, second_reason, signed_reason, size_reason, unless_missing, unsigned_or_none_reason, unsigned_reason};
 
 use crate::advice::is_among;
 use crate::arguments::has_digit;
@@ -107,6 +107,22 @@ pub fn no_redirections() -> &'static [u8]
     b": a script has no redirections or pipes"
 }
 
+/// What is said of arguments that others give names.
+pub fn no_names() -> &'static [u8]
+    ensures text { result.now ≡ no_names }
+    ensures short { length result.now ≤ 80 }
+{
+    b": arguments have no names, and a script no variables: they come in their order"
+}
+
+/// What is said of arguments that others write as options.
+pub fn no_options() -> &'static [u8]
+    ensures text { result.now ≡ no_options }
+    ensures short { length result.now ≤ 80 }
+{
+    b": a call has no options: its arguments come in their order"
+}
+
 /// What is said of an argument that begins with a mark of other languages.
 fn first_mark_reason(argument: &[u8]) -> Option<&'static [u8]>
     ensures text { option_map (λ text. text.now) result ≡ first_mark_reason argument.now }
@@ -152,7 +168,7 @@ fn mark_reason(said: &'static [u8], argument: &[u8]) -> &'static [u8]
         return b": only texts and characters have escapes, and a call ends with its line";
     }
     if has_byte(argument, b'=') {
-        return b": arguments have no names, and a script no variables: they come in their order";
+        return no_names();
     }
     said
 }
@@ -334,7 +350,7 @@ fn minus_reason(rest: &[u8]) -> &'static [u8]
     if are_digits(rest) {
         b": a number here has no minus"
     } else {
-        b": a call has no options: its arguments come in their order"
+        no_options()
     }
 }
 
