@@ -44,7 +44,12 @@ ends_space b = nat_le b last_of_spaces || (nat_le line_separator b && nat_le b n
 
 abbrev pub is_space_elsewhere : List ℕ → Bool
 is_space_elsewhere rest = (begins_with (226 ∷ 128 ∷ []) rest && ends_space (slice_index rest 2)) || begins_with (194 ∷ 160 ∷ []) rest
-    || begins_with (227 ∷ 128 ∷ 128 ∷ []) rest || begins_with (239 ∷ 187 ∷ 191 ∷ []) rest
+    || begins_with (225 ∷ 154 ∷ 128 ∷ []) rest || begins_with (226 ∷ 129 ∷ 159 ∷ []) rest || begins_with (227 ∷ 128 ∷ 128 ∷ []) rest
+
+-- the next line, the soft hyphen, the joiner of words, and the byte order mark
+abbrev pub is_unseen : List ℕ → Bool
+is_unseen rest = begins_with (194 ∷ 133 ∷ []) rest || begins_with (194 ∷ 173 ∷ []) rest || begins_with (226 ∷ 129 ∷ 160 ∷ []) rest
+    || begins_with (239 ∷ 187 ∷ 191 ∷ []) rest
 
 abbrev pub is_mark_elsewhere : List ℕ → Bool
 is_mark_elsewhere rest = begins_with (226 ∷ 128 ∷ []) rest || begins_with (226 ∷ 136 ∷ 146 ∷ []) rest
@@ -52,7 +57,7 @@ is_mark_elsewhere rest = begins_with (226 ∷ 128 ∷ []) rest || begins_with (2
 -- of a bad byte that begins a text
 abbrev pub bad_text_advice : ℕ → List ℕ → List ℕ
 bad_text_advice b rest = if draws_line rest then codes "characters are those of ASCII: lines are drawn by + - and |"
-    else (if is_space_elsewhere rest then codes "this space is not in ASCII: write a plain one, or none"
+    else (if is_space_elsewhere rest || is_unseen rest then codes "this space is not in ASCII: write a plain one, or none"
     else (if is_mark_elsewhere rest then codes "write such marks in ASCII, as \" ' - and ..."
     else byte_advice b))
 

@@ -1,5 +1,5 @@
 -- What a person reads about a faulty line. The texts are Curspan's own.
-use Rattle.std.specs.Prelude.{◌==◌, ℕ, Bool, nat_lt, List, [], ◌∷◌, ◌++◌, codes, decimal, drop, length, slice_index, Option, Some, None, if◌then◌else◌}
+use Rattle.std.specs.Prelude.{◌==◌, ◌&&◌, ℕ, Bool, nat_lt, List, [], ◌∷◌, ◌++◌, codes, decimal, drop, length, slice_index, Option, Some, None, if◌then◌else◌}
 use Rattle.std.specs.List.{slice_split}
 use Rattle.std.specs.Option.{option_map_or, unwrap_or}
 use Rattle.cell.specs.Attributes.{hex_digits}
@@ -12,7 +12,7 @@ use Rattle.explain.specs.Names.{begins_comment, begins_with, quotation_mark}
 use Rattle.explain.specs.Nearest.{call_of_words}
 use Rattle.explain.specs.Numbers.{number_reason, signature_text}
 use Rattle.explain.specs.Reasons.{reason_after, requirement_of}
-use Rattle.explain.specs.Suggestions.{call_advice}
+use Rattle.explain.specs.Suggestions.{begins_with_call, call_advice, nothing_before}
 
 abbrev pub byte_order_mark : List ℕ
 byte_order_mark = 239 ∷ 187 ∷ 191 ∷ []
@@ -46,7 +46,7 @@ ill_formed_text word pieces ill = word ++ codes " wants " ++ requirement_of word
 -- what is said of a bad byte, of a word that is no call (of no word, since the line begins with a space), and of a
 -- wrong number of arguments
 abbrev pub bad_byte_text : ℕ → List ℕ → List ℕ
-bad_byte_text byte rest = codes "bad byte " ++ hex_digits byte ++ codes ": " ++ bad_text_advice byte rest
+bad_byte_text byte said = codes "bad byte " ++ hex_digits byte ++ codes ": " ++ said
 
 abbrev pub no_call_text : List ℕ → List (List ℕ) → List ℕ
 no_call_text word pieces = codes "unknown call " ++ quotation word ++ one_word_or (codes ": " ++ call_advice word pieces) word pieces
@@ -71,12 +71,17 @@ number_advice line many None =
     one_word_or (unwrap_or (number_reason (word_in pieces) line (drop 1 pieces) many) (signature_text (word_in pieces))) (word_in pieces) (drop 1 pieces)
 number_advice line many (Some stray) = stray_text stray.1
 
+-- of a line's bad byte: it may begin the line, as a prompt or a bullet does, where a call comes next
+abbrev pub bad_byte_advice : List ℕ → List ℕ
+bad_byte_advice line = if bad_place line == 0 && begins_with_call (drop 1 (slice_split is_space line)) then nothing_before
+    else bad_text_advice (slice_index line (bad_place line)) (drop (bad_place line) line)
+
 -- what is said of a line with a bad byte
 abbrev pub bad_line_text : List ℕ → List ℕ
 bad_line_text line = if begins_with byte_order_mark line then codes "bad byte ef: a script has no byte order mark"
     else (if begins_with little_endian_mark line then codes "bad byte ff: the script is in UTF-16, and has to be in ASCII"
     else (if begins_with big_endian_mark line then codes "bad byte fe: the script is in UTF-16, and has to be in ASCII"
-    else bad_byte_text (slice_index line (bad_place line)) (drop (bad_place line) line)))
+    else bad_byte_text (slice_index line (bad_place line)) (bad_byte_advice line)))
 
 -- what is said of a fault
 abbrev pub explanation : TextFault → List ℕ → List ℕ

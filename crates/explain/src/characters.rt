@@ -3,7 +3,7 @@
 ghost use Rattle.std.specs.Prelude.{◌≡◌, ◌≤◌, ◌==◌, ◌&&◌, length, slice_index, take};
 ghost use Rattle.std.specs.Char.{is_ascii_hexdigit};
 ghost use Rattle.std.specs.List.{list_all};
-ghost use Rattle.explain.specs.Characters.{after_bad_escape, bad_text_advice, begins_character, begins_escape, begins_escaped, begins_greater_byte, begins_sequence, byte_advice, character_reason, draws_line, end_reason, ends_space, escape_reason, is_space_elsewhere, longer_reason, several_characters_reason, text_reason};
+ghost use Rattle.explain.specs.Characters.{after_bad_escape, bad_text_advice, begins_character, begins_escape, begins_escaped, begins_greater_byte, begins_sequence, byte_advice, character_reason, draws_line, end_reason, ends_space, escape_reason, is_space_elsewhere, is_unseen, longer_reason, several_characters_reason, text_reason};
 
 use crate::advice::is_among;
 use crate::arguments::has_form;
@@ -56,13 +56,25 @@ fn ends_space(byte: u8) -> bool
     byte <= 0x8f || 0xa8 <= byte && byte <= 0xaf
 }
 
-/// Whether a text begins with a space of others, or with what isn't seen, in UTF-8.
+/// Whether a text begins with a space of others, in UTF-8.
 fn is_space_elsewhere(rest: &[u8]) -> bool
     ensures { result ≡ is_space_elsewhere rest.now }
 {
     rest.strip_prefix(b"\xe2\x80").is_some() && ends_space(byte_at(rest, 2))
         || rest.strip_prefix(b"\xc2\xa0").is_some()
+        || rest.strip_prefix(b"\xe1\x9a\x80").is_some()
+        || rest.strip_prefix(b"\xe2\x81\x9f").is_some()
         || rest.strip_prefix(b"\xe3\x80\x80").is_some()
+}
+
+/// Whether a text begins with what isn't seen, in UTF-8: the next line, a soft hyphen, a joiner of words, or a byte
+/// order mark.
+fn is_unseen(rest: &[u8]) -> bool
+    ensures { result ≡ is_unseen rest.now }
+{
+    rest.strip_prefix(b"\xc2\x85").is_some()
+        || rest.strip_prefix(b"\xc2\xad").is_some()
+        || rest.strip_prefix(b"\xe2\x81\xa0").is_some()
         || rest.strip_prefix(b"\xef\xbb\xbf").is_some()
 }
 
@@ -74,7 +86,7 @@ pub fn bad_text_advice(byte: u8, rest: &[u8]) -> &'static [u8]
     if draws_line(rest) {
         return b"characters are those of ASCII: lines are drawn by + - and |";
     }
-    if is_space_elsewhere(rest) {
+    if is_space_elsewhere(rest) || is_unseen(rest) {
         return b"this space is not in ASCII: write a plain one, or none";
     }
     if rest.strip_prefix(b"\xe2\x80").is_some() || rest.strip_prefix(b"\xe2\x88\x92").is_some() {

@@ -19,7 +19,7 @@ fn first_bad(line: &[u8]) -> Option<usize>
 }
 
 /// Where it is, and 0 where there is none.
-fn bad_place(line: &[u8]) -> usize
+pub fn bad_place(line: &[u8]) -> usize
     ensures place { result ≡ bad_place line.now }
     ensures within { result ≤ length line.now }
 {

@@ -4,13 +4,13 @@ ghost use Rattle.std.specs.Prelude.{◌≡◌, ◌≤◌, ◌+◌, ◌-◌, ◌+
 ghost use Rattle.script.specs.Pieces.{pieces_of, room_of};
 ghost use Rattle.explain.specs.Faults.{IllFormed as Ill, forms_of};
 ghost use Rattle.explain.specs.Numbers.{signature_text};
-ghost use Rattle.explain.specs.Explanations.{bad_byte_text, bad_line_text, count_text, explanation, finding, ill_formed_text, no_call_text, number_advice, number_text, one_word, one_word_or, quotation, stray_text, unknown_text};
+ghost use Rattle.explain.specs.Explanations.{bad_byte_advice, bad_byte_text, bad_line_text, count_text, explanation, finding, ill_formed_text, no_call_text, number_advice, number_text, one_word, one_word_or, quotation, stray_text, unknown_text};
 ghost use Rattle.explain.specs.Reasons.{reason_after};
 ghost use Rattle.explain.specs.Suggestions.{call_advice, line_advice, said_of};
 
 use crate::arguments::{IllFormed, Stray, count, find_ill_formed, find_stray, forms_of};
 use crate::characters::bad_text_advice;
-use crate::column::{bad_byte, column_of, from_bad_byte};
+use crate::column::{bad_byte, bad_place, column_of, from_bad_byte};
 use crate::names::{after_dot, begins_comment, name_of};
 use crate::nearest::call_of_words;
 use crate::numbers::number_reason;
@@ -102,16 +102,17 @@ fn append_ill_formed(text: &mut Finding, word: &[u8], arguments: Option<&[u8]>, 
     append_reason(text, word, arguments, ill);
 }
 
-/// Appends what is said of a bad byte, which begins a text.
-fn append_bad_byte(text: &mut Finding, byte: u8, rest: &[u8])
-    requires { length text.old.items ≤ 64 }
-    ensures text { text.new.items ≡ text.old.items ++ bad_byte_text byte rest.now }
+/// Appends a bad byte, and what is said of it.
+fn append_bad_byte(text: &mut Finding, byte: u8, said: &[u8])
+    requires room { length text.old.items ≤ 64 }
+    requires short { length said.now ≤ 80 }
+    ensures text { text.new.items ≡ text.old.items ++ bad_byte_text byte said.now }
     ensures short { length text.new.items < FINDING_ROOM }
 {
     append(text, b"bad byte ");
     append(text, &hex_digits(byte));
     append(text, b": ");
-    append(text, bad_text_advice(byte, rest));
+    append(text, said);
 }
 
 /// What is said where nothing else is, by the words after the first.
@@ -252,6 +253,18 @@ fn append_number_advice(text: &mut Finding, line: &[u8], many: bool, stray: Opti
     }
 }
 
+/// What is said of a line's bad byte, which may begin the line, as a prompt or a bullet does, before a call.
+fn bad_byte_advice(line: &[u8]) -> &'static [u8]
+    ensures text { result.now ≡ bad_byte_advice line.now }
+    ensures short { length result.now ≤ 80 }
+{
+    let (_, arguments) = split_at_space(line);
+    if bad_place(line) == 0 && begins_with_call(arguments) {
+        return nothing_before();
+    }
+    bad_text_advice(bad_byte(line), from_bad_byte(line))
+}
+
 /// Appends what is said of a line with a bad byte.
 fn append_bad_line(text: &mut Finding, line: &[u8])
     requires { length text.old.items ≤ 64 }
@@ -273,7 +286,7 @@ fn append_bad_line(text: &mut Finding, line: &[u8])
             b"bad byte fe: the script is in UTF-16, and has to be in ASCII",
         );
     }
-    append_bad_byte(text, bad_byte(line), from_bad_byte(line));
+    append_bad_byte(text, bad_byte(line), bad_byte_advice(line));
 }
 
 /// Appends what is said of a fault.
