@@ -138,5 +138,5 @@ abbrev pub character_reason : List ℕ → List ℕ → List ℕ
 character_reason word argument = if length argument == 0 then codes ": it is empty, and a space is \\x20, or one space more"
     else (if not (has_form Text argument) then text_reason argument
     else (if begins_with (codes "ACS_") argument then codes ": lines are drawn by characters such as + - and |"
-    else (if has_byte vertical_bar argument && not (bytes_eq word (codes "bkgdset")) then codes ": it is more than one, and attributes are set before it, by attron"
+    else (if has_byte vertical_bar argument && not (bytes_eq word (codes "bkgdset")) then codes ": it is more than one: attron sets attributes before it, and no pipe follows"
     else longer_reason word argument)))

@@ -9,7 +9,7 @@ use Rattle.script.specs.Words.{word_of}
 use Rattle.explain.specs.Faults.{find_ill_formed, forms_of, is_word}
 use Rattle.explain.specs.Names.{are_digits, are_two_digits, begins_with, begins_with_digit, comma, ends_with, equals_sign, has_byte, is_one_of, is_redirection, name_in, semicolon, vertical_bar}
 use Rattle.explain.specs.Nearest.{or_else}
-use Rattle.explain.specs.Reasons.{is_bracketed, no_brackets, no_commas, no_names, no_options, no_redirections, one_sum}
+use Rattle.explain.specs.Reasons.{is_bracketed, no_brackets, no_commas, no_names, no_options, no_redirections}
 use Rattle.explain.specs.Signatures.{names_of_arguments}
 
 -- the first word begins with a bracket, and goes on
@@ -95,7 +95,7 @@ separation_reason line pieces many = or_else (comma_reason line)
 abbrev pub number_reason : List ℕ → List ℕ → List (List ℕ) → Bool → Option (List ℕ)
 number_reason word line pieces many = if begins_bracketed pieces then Some no_brackets
     else (if takes_text word then (if begins_number pieces then separation_reason line pieces many else None)
-    else (if joins_attributes word line then Some one_sum
+    else (if joins_attributes word line then Some (codes ": attributes are one sum, as 11 for 01 bold and 10 reverse; no line has a pipe")
     else or_else (marks_reason line pieces many)
     (or_else (if many then surplus_reason word line pieces else None) (separation_reason line pieces many))))
 

@@ -101,9 +101,14 @@ is_colour name = is_one_of (codes "black red green yellow blue magenta cyan whit
 abbrev pub is_attribute : List ℕ → Bool
 is_attribute name = is_one_of (codes "bold dim underline blink reverse invisible standout") name || begins_with (codes "a_") name
 
--- a colour in place of a number, by its name or its mark
+-- a colour that is mixed of red, green and blue, as `#f00`, `0xff0000` and `rgb(255,0,0)`
+abbrev pub is_mixed : List ℕ → Bool
+is_mixed argument = begins_with (codes "rgb") argument || (is_marked argument && nat_le 4 (length argument))
+    || (begins_with (codes "0x") argument && nat_le 8 (length argument))
+
+-- a colour in place of a number
 abbrev pub has_colour : List ℕ → Bool
-has_colour argument = is_colour (name_of_argument argument) || (is_marked argument && nat_le 4 (length argument))
+has_colour argument = is_colour (name_of_argument argument) || is_mixed argument
 
 -- several as one: a comma is in it, and not at its end
 abbrev pub is_list : List ℕ → Bool
@@ -134,11 +139,15 @@ second_reason word = if bytes_eq word (codes "replace_panel")
     else (if bytes_eq word (codes "scrl") then codes ": it is how many lines go up, or down with a minus"
     else numbers_in_digits))
 
+-- what colours are
+abbrev pub colours : List ℕ
+colours = codes ": 0 black, 1 red, 2 green, 3 yellow, 4 blue, 5 magenta, 6 cyan, 7 white"
+
 -- after so many others: of `init_pair` what the pair is, and what its colours are
 abbrev pub no_digits_reason : List ℕ → ℕ → List ℕ
 no_digits_reason word place = if bytes_eq word (codes "init_pair")
     then (if place == 0 then codes ": the pair comes first, as a number, and then its two colours"
-    else codes ": 0 black, 1 red, 2 green, 3 yellow, 4 blue, 5 magenta, 6 cyan, 7 white")
+    else colours)
     else (if place == 0 then first_reason word
     else (if place == 1 then second_reason word
     else numbers_in_digits))
@@ -243,9 +252,10 @@ abbrev pub later_reason : List ℕ → List ℕ → Option (List ℕ)
 later_reason word argument = if is_one_of (codes "color_set bkgdpair") word then pair_reason argument
     else (if bytes_eq word (codes "init_pair") && (is_one_of (codes "- -1") argument || is_default (name_of_argument argument))
     then Some (codes ": no number is the terminal's own colour, which pairs have until they are set")
+    else (if bytes_eq word (codes "init_pair") && is_mixed argument then Some colours
     else (if bytes_eq word (codes "bkgdset") && is_colour (name_of_argument argument)
     then Some (codes ": a background's pair is set by bkgdpair")
-    else None))
+    else None)))
 
 -- after a quote a number, with a quote at its end
 abbrev pub is_quoted_number : List ℕ → Bool

@@ -273,7 +273,7 @@ pub fn character_reason(word: &[u8], argument: &[u8]) -> &'static [u8]
     } else if argument.strip_prefix(b"ACS_").is_some() {
         b": lines are drawn by characters such as + - and |"
     } else if has_byte(argument, b'|') && word != b"bkgdset".as_slice() {
-        b": it is more than one, and attributes are set before it, by attron"
+        b": it is more than one: attron sets attributes before it, and no pipe follows"
     } else {
         longer_reason(word, argument)
     }

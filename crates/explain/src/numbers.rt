@@ -9,9 +9,7 @@ use crate::arguments::{find_ill_formed, forms_of, is_word};
 use crate::names::{
     are_digits, are_two_digits, begins_with_digit, ends_with, has_byte, is_redirection, name_of,
 };
-use crate::reasons::{
-    is_bracketed, no_brackets, no_commas, no_names, no_options, no_redirections, one_sum,
-};
+use crate::reasons::{is_bracketed, no_brackets, no_commas, no_names, no_options, no_redirections};
 use script::{LONGEST_LINE, Word, split_at_space};
 
 /// Whether the first word of a text begins with a bracket, and goes on.
@@ -244,7 +242,9 @@ pub fn number_reason(
         };
     }
     if joins_attributes(word, line) {
-        return Some(one_sum());
+        return Some(
+            b": attributes are one sum, as 11 for 01 bold and 10 reverse; no line has a pipe",
+        );
     }
     if let Some(said) = marks_reason(line, text, many) {
         return Some(said);

@@ -4,7 +4,7 @@ ghost use Rattle.std.specs.Prelude.{◌≡◌, ◌≤◌, IfSome, length, option
 ghost use Rattle.std.specs.List.{list_any};
 ghost use Rattle.std.specs.Char.{is_ascii_uppercase};
 ghost use Rattle.explain.specs.Names.{name_of_argument};
-ghost use Rattle.explain.specs.Reasons.{attributes_reason, begins_text, copy_reason, digits_reason, first_mark_reason, first_reason, flag_reason, has_colour, is_attribute, is_bracketed, is_colour, is_default, is_list, is_near_number, is_quoted_number, is_text_first, later_reason, mark_reason, minus_reason, more_than_digits, name_reason, no_brackets, no_commas, no_digits_reason, no_letters, no_names, no_options, no_redirections, numbers_in_digits, one_sum, pair_reason, reason, reason_after, reason_of_call, requirement, requirement_after, requirement_of, second_reason, signed_reason, size_reason, unless_missing, unsigned_or_none_reason, unsigned_reason};
+ghost use Rattle.explain.specs.Reasons.{attributes_reason, begins_text, colours, copy_reason, digits_reason, first_mark_reason, first_reason, flag_reason, has_colour, is_attribute, is_bracketed, is_colour, is_default, is_list, is_mixed, is_near_number, is_quoted_number, is_text_first, later_reason, mark_reason, minus_reason, more_than_digits, name_reason, no_brackets, no_commas, no_digits_reason, no_letters, no_names, no_options, no_redirections, numbers_in_digits, one_sum, pair_reason, reason, reason_after, reason_of_call, requirement, requirement_after, requirement_of, second_reason, signed_reason, size_reason, unless_missing, unsigned_or_none_reason, unsigned_reason};
 
 use crate::advice::is_among;
 use crate::arguments::has_digit;
@@ -200,12 +200,21 @@ fn is_attribute(name: &[u8]) -> bool
         || name.strip_prefix(b"a_").is_some()
 }
 
-/// Whether a colour is in place of a number, by its name or its mark.
+/// Whether a colour is mixed of red, green and blue, as `#f00`, `0xff0000` and `rgb(255,0,0)`.
+fn is_mixed(argument: &[u8]) -> bool
+    ensures { result ≡ is_mixed argument.now }
+{
+    argument.strip_prefix(b"rgb").is_some()
+        || is_marked(argument) && 4 <= argument.len()
+        || argument.strip_prefix(b"0x").is_some() && 8 <= argument.len()
+}
+
+/// Whether a colour is in place of a number.
 fn has_colour(name: &[u8], argument: &[u8]) -> bool
     requires { name.now ≡ name_of_argument argument.now }
     ensures { result ≡ has_colour argument.now }
 {
-    is_colour(name) || is_marked(argument) && 4 <= argument.len()
+    is_colour(name) || is_mixed(argument)
 }
 
 /// Whether several arguments are one: a comma is in it, and not at its end.
@@ -270,6 +279,14 @@ fn second_reason(word: &[u8]) -> &'static [u8]
     }
 }
 
+/// What colours are.
+fn colours() -> &'static [u8]
+    ensures text { result.now ≡ colours }
+    ensures short { length result.now ≤ 80 }
+{
+    b": 0 black, 1 red, 2 green, 3 yellow, 4 blue, 5 magenta, 6 cyan, 7 white"
+}
+
 /// What is said of one after so many others: of `init_pair` what the pair is, and what its colours are.
 fn no_digits_reason(word: &[u8], place: usize) -> &'static [u8]
     ensures text { result.now ≡ no_digits_reason word.now place }
@@ -279,7 +296,7 @@ fn no_digits_reason(word: &[u8], place: usize) -> &'static [u8]
         if place == 0 {
             b": the pair comes first, as a number, and then its two colours"
         } else {
-            b": 0 black, 1 red, 2 green, 3 yellow, 4 blue, 5 magenta, 6 cyan, 7 white"
+            colours()
         }
     } else if place == 0 {
         first_reason(word)
@@ -411,7 +428,7 @@ fn has_upper_case(text: &[u8]) -> bool
 }
 
 /// How several attributes are written.
-pub fn one_sum() -> &'static [u8]
+fn one_sum() -> &'static [u8]
     ensures text { result.now ≡ one_sum }
     ensures short { length result.now ≤ 80 }
 {
@@ -557,6 +574,9 @@ fn later_reason(word: &[u8], argument: &[u8]) -> Option<&'static [u8]>
         return Some(
             b": no number is the terminal's own colour, which pairs have until they are set",
         );
+    }
+    if word == b"init_pair".as_slice() && is_mixed(argument) {
+        return Some(colours());
     }
     if word == b"bkgdset".as_slice() && is_colour(name.as_slice()) {
         return Some(b": a background's pair is set by bkgdpair");
