@@ -70,6 +70,11 @@ nearest_other word = nearest_of other_names word
 abbrev pub call_of_two : List ℕ → List ℕ → Option (List ℕ)
 call_of_two word other = or_else (same_call (word ++ other)) (same_call (other ++ word))
 
+-- the call that a word and the next one together are near, as `inti pair`
+abbrev pub near_call_of_words : List ℕ → List (List ℕ) → Option (List ℕ)
+near_call_of_words word [] = None
+near_call_of_words word (piece ∷ pieces) = near_call (word ++ piece)
+
 -- the call whose name a word and the next one are, as `init pair` and `set color`, where each begins with a letter
 abbrev pub call_of_words : List ℕ → List (List ℕ) → Option (List ℕ)
 call_of_words word [] = None

@@ -3,12 +3,13 @@ use Rattle.std.specs.Prelude.{◌==◌, ◌&&◌, ◌||◌, ℕ, Bool, false, no
 use Rattle.std.specs.Prelude.{Option, option_and_then, option_map, Some, None, take, unwrap_or, if◌then◌else◌}
 use Rattle.std.specs.Char.{is_ascii_alphabetic}
 use Rattle.std.specs.List.{list_any}
+use Rattle.std.specs.Option.{option_map_or}
 use Rattle.std.specs.Str.{bytes_eq}
 use Rattle.script.specs.Characters.{backslash}
 use Rattle.script.specs.Words.{word_of}
 use Rattle.explain.specs.Advice.{advice_by_part, advice_on, calls_alone, of_picture, of_shell, on_command_line, pairs_are_numbers, runs_no_programs, screen_size}
 use Rattle.explain.specs.Names.{after_name, apostrophe, begins_comment, begins_with, begins_with_digit, called_name, colon, comma, ends_with, gives_value, has_byte, has_part, has_value, is_comment, is_name_byte, is_one_of, is_quoted, is_redirection, name_in, quotation_mark, round_bracket, square_bracket, vertical_bar}
-use Rattle.explain.specs.Nearest.{nearest, nearest_other, or_else}
+use Rattle.explain.specs.Nearest.{near_call_of_words, nearest, nearest_other, or_else}
 
 -- ---- what is said of a name
 
@@ -208,11 +209,13 @@ said_of word = or_else (said_of_beginning word)
     (or_else (said_of_marks word)
     (said_near_name word))))))))
 
--- what a line is, said where nothing else is, by the words after the first
-unfoldable pub line_advice : List (List ℕ) → List ℕ
-line_advice pieces = if begins_with_call pieces then nothing_before
-    else codes "a line is the name of a call and its arguments: addstr 0 hi writes hi; man curspan lists the calls"
+-- said where nothing else is: what is before a call, where one comes next; the call that the word and the next one are
+-- near; or what a line is
+unfoldable pub line_advice : List ℕ → List (List ℕ) → List ℕ
+line_advice word pieces = if begins_with_call pieces then nothing_before
+    else option_map_or (λ call. codes "see " ++ call) (near_call_of_words word pieces)
+    (codes "a line is the name of a call and its arguments: addstr 0 hi writes hi; man curspan lists the calls")
 
 -- of a word that is no call, and the words after it, which may give it a value or begin a line of something else
 abbrev pub call_advice : List ℕ → List (List ℕ) → List ℕ
-call_advice word pieces = unwrap_or (or_else (said_of_line word pieces) (said_of word)) (line_advice pieces)
+call_advice word pieces = unwrap_or (or_else (said_of_line word pieces) (said_of word)) (line_advice word pieces)

@@ -12,7 +12,7 @@ use crate::arguments::{IllFormed, Stray, count, find_ill_formed, find_stray, for
 use crate::characters::bad_text_advice;
 use crate::column::{bad_byte, bad_place, column_of, from_bad_byte};
 use crate::names::{after_dot, begins_comment, name_of};
-use crate::nearest::call_of_words;
+use crate::nearest::{call_of_words, near_call_of_words};
 use crate::numbers::number_reason;
 use crate::reasons::{reason_after, requirement_of};
 use crate::signatures::names_of_arguments;
@@ -115,23 +115,34 @@ fn append_bad_byte(text: &mut Finding, byte: u8, said: &[u8])
     append(text, said);
 }
 
-/// What is said where nothing else is, by the words after the first.
+/// Appends what is said of a word that is no call and of those after it, where nothing else is said.
 #[tactic(auto, unfolding(crate::specs::Suggestions::line_advice))]
-fn line_advice(arguments: Option<&[u8]>) -> &'static [u8]
-    ensures text { result.now ≡ line_advice (pieces_of arguments.entry) }
-    ensures short { length result.now ≤ 100 }
+fn append_line_advice(text: &mut Finding, word: &[u8], arguments: Option<&[u8]>)
+    requires room { length text.old.items ≤ 602 }
+    requires word { length word.now + room_of arguments ≤ LONGEST_LINE }
+    ensures text { text.new.items ≡ text.old.items ++ line_advice word.now (pieces_of arguments.entry) }
+    ensures short { length text.new.items < FINDING_ROOM }
 {
     if begins_with_call(arguments) {
-        return nothing_before();
+        return append(text, nothing_before());
     }
-    b"a line is the name of a call and its arguments: addstr 0 hi writes hi; man curspan lists the calls"
+    match near_call_of_words(word, arguments) {
+        Some(call) => {
+            append(text, b"see ");
+            append(text, call);
+        }
+        None => append(
+            text,
+            b"a line is the name of a call and its arguments: addstr 0 hi writes hi; man curspan lists the calls",
+        ),
+    }
 }
 
-/// Appends what to write for a word that is no call, or else what a line is, by the words after it.
+/// Appends what to write for a word that is no call, or else what is said of it and of those after it.
 fn append_said(text: &mut Finding, word: &[u8], arguments: Option<&[u8]>)
     requires room { length text.old.items ≤ 602 }
-    requires word { length word.now ≤ LONGEST_LINE }
-    ensures text { text.new.items ≡ text.old.items ++ unwrap_or (said_of word.now) (line_advice (pieces_of arguments.entry)) }
+    requires word { length word.now + room_of arguments ≤ LONGEST_LINE }
+    ensures text { text.new.items ≡ text.old.items ++ unwrap_or (said_of word.now) (line_advice word.now (pieces_of arguments.entry)) }
     ensures short { length text.new.items < FINDING_ROOM }
 {
     let name = name_of(after_dot(after_dot(after_dot(word))));
@@ -140,7 +151,7 @@ fn append_said(text: &mut Finding, word: &[u8], arguments: Option<&[u8]>)
             append(text, said.text);
             append(text, said.call);
         }
-        None => append(text, line_advice(arguments)),
+        None => append_line_advice(text, word, arguments),
     }
 }
 

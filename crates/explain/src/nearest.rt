@@ -4,7 +4,7 @@
 ghost use Rattle.std.specs.Prelude.{◌≡◌, ◌≤◌, ◌<◌, ◌+◌, ◌++◌, ◌∷◌, [], IfSome, MatchOption, length, option_map};
 ghost use Rattle.std.specs.Str.{bytes_eq};
 ghost use Rattle.script.specs.Pieces.{pieces_of, room_of};
-ghost use Rattle.explain.specs.Nearest.{call_of_words, is_first_wrong, is_near, letters_of, near_call, nearest, nearest_of, nearest_other, same_call, same_of};
+ghost use Rattle.explain.specs.Nearest.{call_of_words, is_first_wrong, is_near, letters_of, near_call, near_call_of_words, nearest, nearest_of, nearest_other, same_call, same_of};
 
 use crate::names::{Name, begins_with_letter};
 use script::{LONGEST_LINE, split_at_space};
@@ -148,16 +148,25 @@ pub fn nearest(word: &[u8]) -> Option<&'static [u8]>
     }
 }
 
-/// The call with the letters of two words together.
-fn joined_call(word: &[u8], other: &[u8]) -> Option<&'static [u8]>
+/// Two words together.
+fn joined(word: &[u8], other: &[u8]) -> Name
     requires { length word.now + length other.now ≤ LONGEST_LINE }
-    ensures name { option_map (λ name. name.now) result ≡ same_call (word.now ++ other.now) }
-    ensures short { IfSome result (λ name. length name.now ≤ 80) }
+    ensures { result.items ≡ word.now ++ other.now }
 {
     let mut name = Name::new();
     append(&mut name, word);
     append(&mut name, other);
-    same_call(name.as_slice())
+    name
+}
+
+/// The call that a word and the next one together are near.
+pub fn near_call_of_words(word: &[u8], text: Option<&[u8]>) -> Option<&'static [u8]>
+    requires { length word.now + room_of text ≤ LONGEST_LINE }
+    ensures name { option_map (λ name. name.now) result ≡ near_call_of_words word.now (pieces_of text.entry) }
+    ensures short { IfSome result (λ name. length name.now ≤ 80) }
+{
+    let (other, _) = split_at_space(text?);
+    near_call(joined(word, other).as_slice())
 }
 
 /// The call whose name a word and the next one are, in either order, where each begins with a letter.
@@ -170,9 +179,9 @@ pub fn call_of_words(word: &[u8], text: Option<&[u8]>) -> Option<&'static [u8]>
     if !(begins_with_letter(word) && begins_with_letter(other)) {
         return None;
     }
-    match joined_call(word, other) {
+    match same_call(joined(word, other).as_slice()) {
         Some(call) => Some(call),
-        None => joined_call(other, word),
+        None => same_call(joined(other, word).as_slice()),
     }
 }
 
