@@ -137,7 +137,8 @@ second_reason word = if bytes_eq word (codes "replace_panel")
     then codes ": the window is a number too, from 1 as made, and not 0, which is stdscr"
     else (if is_one_of (codes "overlay overwrite copywin") word then codes ": the second window is a number too, from 1 as made; stdscr is 0"
     else (if bytes_eq word (codes "scrl") then codes ": it is how many lines go up, or down with a minus"
-    else numbers_in_digits))
+    else (if is_one_of (codes "color_set bkgdpair") word then codes ": a pair is a number, which has its colours by init_pair"
+    else numbers_in_digits)))
 
 -- what colours are
 abbrev pub colours : List ℕ

@@ -100,9 +100,10 @@ begins_with_call (piece ∷ pieces) = is_some (word_of piece)
 abbrev pub is_before_call : List ℕ → List (List ℕ) → Bool
 is_before_call word pieces = is_one_of (codes "win window panel pad screen stdscr % PS - * +") word && (begins_with_call pieces || begins_with_call (drop 1 pieces))
 
--- a label, the head of a block, or a setting: the word begins with a letter, ends in a colon, and is no call
+-- a label, the head of a block, or a setting: the word begins with a letter, ends in a colon, and is no call, nor one as in
+-- `printw("Name: %s", name)`
 abbrev pub is_label : List ℕ → Bool
-is_label word = ends_with colon word && list_any is_ascii_alphabetic (take 1 word) && not (is_some (word_of (name_in word)))
+is_label word = ends_with colon word && list_any is_ascii_alphabetic (take 1 word) && not (has_byte round_bracket word) && not (is_some (word_of (name_in word)))
 
 -- what the tables have of a word and the next one with an underscore between them, as of `raise panel`
 abbrev pub said_of_two : List ℕ → List (List ℕ) → Option (List ℕ)

@@ -274,6 +274,8 @@ fn second_reason(word: &[u8]) -> &'static [u8]
         b": the second window is a number too, from 1 as made; stdscr is 0"
     } else if word == b"scrl".as_slice() {
         b": it is how many lines go up, or down with a minus"
+    } else if is_among(word, b"color_set bkgdpair") {
+        b": a pair is a number, which has its colours by init_pair"
     } else {
         numbers_in_digits()
     }

@@ -277,13 +277,14 @@ fn is_before_call(word: &[u8], text: Option<&[u8]>) -> bool
         && (begins_with_call(text) || begins_with_call(rest))
 }
 
-/// Whether a word is a label, the head of a block, or a setting.
+/// Whether a word is a label, the head of a block, or a setting, and not a call of curses with a text.
 fn is_label(word: &[u8]) -> bool
     requires { length word.now ≤ LONGEST_LINE }
     ensures { result ≡ is_label word.now }
 {
     ends_with(word, b':')
         && begins_with_letter(word)
+        && !has_byte(word, b'(')
         && Word::of(name_of(word).as_slice()).is_none()
 }
 
