@@ -193,14 +193,14 @@ fn said_of_given(word: &[u8]) -> Option<&'static [u8]>
     ensures said { option_map (λ text. text.now) result ≡ said_of_given word.now }
     ensures short { IfSome result (λ text. length text.now ≤ 80) }
 {
-    let name = name_of(word);
-    if begins_with_name(word)
-        && gives_value(after_name(word))
-        && Word::of(name.as_slice()).is_none()
-    {
-        return Some(said_of_value(name.as_slice()));
+    if !(begins_with_name(word) && gives_value(after_name(word))) {
+        return None;
     }
-    None
+    let name = name_of(word);
+    if Word::of(name.as_slice()).is_some() {
+        return None;
+    }
+    Some(said_of_value(name.as_slice()))
 }
 
 /// Whether a word and those after it are a line of the log, or of check.
