@@ -127,7 +127,7 @@ end_reason word argument = if ends_with semicolon argument then codes ": it is m
 abbrev pub longer_reason : List ℕ → List ℕ → List ℕ
 longer_reason word argument = if begins_with (codes " ") argument then codes ": it is more than one, and single spaces separate words"
     else (if is_quoted argument then codes ": no quotes are around arguments"
-    else (if are_digits argument || begins_with (codes "0x") argument || begins_with (codes "&") argument
+    else (if are_digits argument || begins_with (codes "0x") argument || begins_with (codes "&") argument || begins_with (codes "\\x") argument
     then codes ": it is more than one; a code is \\x and two hexadecimal digits, as \\x41 for 65"
     else (if is_one_of (codes "space newline enter tab") (name_of_argument argument)
     then codes ": it is more than one; a space is \\x20, a tab is spaces, and addch takes \\n"

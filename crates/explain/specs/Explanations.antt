@@ -8,10 +8,10 @@ use Rattle.script.specs.declared.fault.TextFault.{TextFault}
 use Rattle.script.specs.declared.fault.TextFault.TheVariants.{LineTooLong, BadByte, UnknownCall, WrongNumberOfArguments, BadArgument}
 use Rattle.explain.specs.Characters.{bad_text_advice}
 use Rattle.explain.specs.Faults.{IllFormed, arguments_in, bad_place, column_of, find_ill_formed_in, find_stray_in, forms_of, place_of, word_in}
-use Rattle.explain.specs.Names.{begins_comment, begins_with, quotation_mark}
+use Rattle.explain.specs.Names.{begins_comment, begins_with, is_one_of, quotation_mark}
 use Rattle.explain.specs.Nearest.{call_of_words}
 use Rattle.explain.specs.Numbers.{number_reason, signature_text}
-use Rattle.explain.specs.Reasons.{reason_after, requirement_of}
+use Rattle.explain.specs.Reasons.{no_window, reason_after, requirement_of}
 use Rattle.explain.specs.Suggestions.{begins_with_call, call_advice, nothing_before}
 
 abbrev pub byte_order_mark : List ℕ
@@ -58,18 +58,19 @@ unknown_text word pieces = if length word == 0 then codes "the line begins with 
 abbrev pub number_text : List ℕ → ℕ → ℕ → List ℕ
 number_text word taken given = word ++ codes " takes " ++ count_text taken ++ codes ", " ++ decimal given ++ codes " given"
 
--- what is said of a stray argument
-abbrev pub stray_text : List ℕ → List ℕ
-stray_text argument = if length argument == 0 then codes ": single spaces separate words, and none ends a line"
+-- what is said of a stray argument after a word: a text or a character may begin as a comment does
+abbrev pub stray_text : List ℕ → List ℕ → List ℕ
+stray_text word argument = if length argument == 0 then codes ": single spaces separate words, and none ends a line"
+    else (if is_one_of (codes "addstr addch insch") word then no_window
     else (if begins_comment argument then codes ": a comment has a line of its own, and begins with #"
-    else codes ": a comment has a line of its own")
+    else codes ": a comment has a line of its own"))
 
 -- What is said after the number of arguments, which may be too many: of the stray one, or of the line, or else what they are.
 abbrev pub number_advice : List ℕ → Bool → Option (ℕ × List ℕ) → List ℕ
 number_advice line many None =
     let pieces = slice_split is_space line in
     one_word_or (unwrap_or (number_reason (word_in pieces) line (drop 1 pieces) many) (signature_text (word_in pieces))) (word_in pieces) (drop 1 pieces)
-number_advice line many (Some stray) = stray_text stray.1
+number_advice line many (Some stray) = stray_text (word_in (slice_split is_space line)) stray.1
 
 -- of a line's bad byte: it may begin the line, as a prompt or a bullet does, where a call comes next
 abbrev pub bad_byte_advice : List ℕ → List ℕ

@@ -1,15 +1,15 @@
 -- What is said where a call has too many or too few arguments. The texts are Curspan's own.
-use Rattle.std.specs.Prelude.{◌==◌, ◌&&◌, ◌||◌, ℕ, Bool, false, not, is_some, List, [], ◌∷◌, ◌++◌, codes, length, Option, Some, None, option_and_then, if◌then◌else◌}
+use Rattle.std.specs.Prelude.{◌==◌, ◌&&◌, ◌||◌, ℕ, Bool, false, not, is_some, List, [], ◌∷◌, ◌++◌, codes, length, Option, Some, None, if◌then◌else◌}
 use Rattle.std.specs.List.{list_any}
 use Rattle.std.specs.Option.{option_map_or}
 use Rattle.std.specs.Str.{bytes_eq}
 use Rattle.script.specs.Characters.{backslash}
 use Rattle.script.specs.Readings.{arguments}
 use Rattle.script.specs.Words.{word_of}
-use Rattle.explain.specs.Faults.{find_ill_formed, forms_of, is_word}
-use Rattle.explain.specs.Names.{are_digits, are_two_digits, begins_with, begins_with_digit, comma, ends_with, equals_sign, has_byte, is_one_of, is_redirection, name_in, semicolon, vertical_bar}
+use Rattle.explain.specs.Faults.{IllFormed, find_ill_formed, forms_of, is_word, place_of}
+use Rattle.explain.specs.Names.{are_digits, are_two_digits, begins_with_digit, comma, ends_with, equals_sign, has_byte, is_one_of, is_redirection, name_in, semicolon, vertical_bar}
 use Rattle.explain.specs.Nearest.{or_else}
-use Rattle.explain.specs.Reasons.{is_bracketed, no_brackets, no_commas, no_names, no_options, no_redirections}
+use Rattle.explain.specs.Reasons.{is_bracketed, no_brackets, no_commas, no_names, no_redirections, one_window, reason_after}
 use Rattle.explain.specs.Signatures.{names_of_arguments}
 
 -- the first word begins with a bracket, and goes on
@@ -32,9 +32,9 @@ has_call pieces = list_any begins_call pieces
 abbrev pub has_redirection : List (List ℕ) → Bool
 has_redirection pieces = list_any is_redirection pieces
 
--- attributes that bars join, as in C
-abbrev pub joins_attributes : List ℕ → List ℕ → Bool
-joins_attributes word line = is_one_of (codes "attrset attron attroff") word && has_byte vertical_bar line
+-- attributes that bars or other marks join, as in C
+abbrev pub joins_attributes : List ℕ → List ℕ → List (List ℕ) → Bool
+joins_attributes word line pieces = is_one_of (codes "attrset attron attroff") word && (has_byte vertical_bar line || has_redirection pieces)
 
 -- several arguments as one, as `3x4` and `2-5`: a digit begins it, and it is no number and no attributes
 abbrev pub is_joined : List ℕ → Bool
@@ -55,33 +55,34 @@ marks_reason line pieces many = if many && has_call pieces then Some (codes ": a
     else (if has_redirection pieces then Some no_redirections
     else None)))
 
--- the first argument without its form, if it is a word between numbers
-abbrev pub word_between : List ℕ → List ℕ → List (List ℕ) → Option (List ℕ)
-word_between word line pieces = option_and_then (λ ill. if is_word line ill.form ill.argument then Some ill.argument else None)
-    (find_ill_formed 0 (forms_of word) (arguments (forms_of word) pieces))
-
--- of such a word: by a comma of the line, as a sign of a sum, as an option, or as another
-abbrev pub between_reason : List ℕ → List ℕ → List ℕ
-between_reason line argument = if has_byte comma line then no_commas
-    else (if is_one_of (codes "+ - * / %") argument then codes ": a script computes nothing: an argument is one number, and no expression"
-    else (if begins_with (codes "-") argument then no_options
-    else codes ": numbers alone are arguments: no words stand between them"))
+-- of a word between numbers: by a comma of the line, as a sign of a sum, or else what is said of it where no arguments are
+-- too many
+abbrev pub between_reason : List ℕ → List ℕ → IllFormed → List ℕ
+between_reason word line ill = if has_byte comma line then no_commas
+    else (if is_one_of (codes "+ - * / %") ill.argument && not (bytes_eq word (codes "scrl"))
+    then codes ": a script computes nothing: an argument is one number, and no expression"
+    else reason_after word (place_of word ill) ill.form ill.argument)
 
 -- of a call with too many
 abbrev pub too_many_reason : List ℕ → Option (List ℕ)
 too_many_reason word = if is_one_of (codes "attrset attron attroff") word then Some (codes ": attributes are one sum, as 11; see addstr for a text, color_set for a colour")
     else (if is_one_of (codes "color_set bkgdpair") word then Some (codes ": one pair, which has its colours by init_pair, and no NULL after it")
     else (if is_one_of (codes "getyx getbegyx getmaxyx getparyx") word then Some (codes ": the answer is in the log, and no variables take it")
-    else (if is_one_of (codes "inch delch insertln deleteln clrtoeol clrtobot") word then Some (codes ": one window, in which move sets the place first")
+    else (if is_one_of (codes "inch delch insertln deleteln clrtoeol clrtobot") word then Some one_window
     else (if bytes_eq word (codes "move") then Some (codes ": window, line, column; addstr writes a text after it")
-    else (if is_one_of (codes "new_panel show_panel") word then Some (codes ": mvwin and move_panel set the place")
+    else (if is_one_of (codes "new_panel") word then Some (codes ": one window, which newwin made; the panel's number is its answer")
     else (if is_one_of (codes "overlay overwrite") word then Some (codes ": copywin copies a part")
     else None))))))
 
--- of arguments that are too many: of what gives them names, of a word between numbers, or else of such a call
+-- of arguments that are too many: of the first without its form, if it is a word between numbers, or else of such a call
+abbrev pub surplus_of : List ℕ → List ℕ → Option IllFormed → Option (List ℕ)
+surplus_of word line None = too_many_reason word
+surplus_of word line (Some ill) = if is_word line ill.form ill.argument then Some (between_reason word line ill) else too_many_reason word
+
+-- or of what gives them names
 abbrev pub surplus_reason : List ℕ → List ℕ → List (List ℕ) → Option (List ℕ)
 surplus_reason word line pieces = if has_byte equals_sign line then Some no_names
-    else option_map_or (λ argument. Some (between_reason line argument)) (word_between word line pieces) (too_many_reason word)
+    else surplus_of word line (find_ill_formed 0 (forms_of word) (arguments (forms_of word) pieces))
 
 -- of a line with a comma
 abbrev pub comma_reason : List ℕ → Option (List ℕ)
@@ -93,9 +94,9 @@ separation_reason line pieces many = or_else (comma_reason line)
     (if not many && has_joined pieces then Some (codes ": single spaces separate arguments, and numbers have digits alone") else None)
 
 abbrev pub number_reason : List ℕ → List ℕ → List (List ℕ) → Bool → Option (List ℕ)
-number_reason word line pieces many = if begins_bracketed pieces then Some no_brackets
-    else (if takes_text word then (if begins_number pieces then separation_reason line pieces many else None)
-    else (if joins_attributes word line then Some (codes ": attributes are one sum, as 11 for 01 bold and 10 reverse; no line has a pipe")
+number_reason word line pieces many = if takes_text word then (if begins_number pieces then separation_reason line pieces many else None)
+    else (if begins_bracketed pieces then Some no_brackets
+    else (if joins_attributes word line pieces then Some (codes ": attributes are one sum, as 11 for 01 bold and 10 reverse; no line has a pipe")
     else or_else (marks_reason line pieces many)
     (or_else (if many then surplus_reason word line pieces else None) (separation_reason line pieces many))))
 

@@ -1,5 +1,5 @@
 -- What an argument of a form has to be, and why an argument is faulty. The texts are Curspan's own.
-use Rattle.std.specs.Prelude.{◌==◌, ◌&&◌, ◌||◌, ℕ, Bool, not, List, [], codes, drop, length, nat_le, slice_index, take, Option, Some, None, unwrap_or, if◌then◌else◌}
+use Rattle.std.specs.Prelude.{◌-◌, ◌==◌, ◌&&◌, ◌||◌, ℕ, Bool, not, List, [], codes, drop, length, nat_le, nat_lt, slice_index, take, Option, Some, None, unwrap_or, if◌then◌else◌}
 use Rattle.std.specs.Char.{is_ascii_alphabetic, is_ascii_digit, is_ascii_uppercase}
 use Rattle.std.specs.List.{list_any, take_while}
 use Rattle.std.specs.Str.{bytes_eq}
@@ -8,7 +8,7 @@ use Rattle.script.specs.Characters.{backslash, digit_0, number_sign}
 use Rattle.script.specs.declared.words.Form.{Form}
 use Rattle.script.specs.declared.words.Form.TheVariants.{Number, NumberOrNone, Signed, Attributes, Flag, Character, Text}
 use Rattle.explain.specs.Characters.{character_reason, text_reason}
-use Rattle.explain.specs.Names.{apostrophe, are_digits, are_like_digits, are_like_two_digits, are_two_digits, begins_with, begins_with_digit, comma, ends_with, equals_sign, has_byte, has_part, is_comment, is_marked, is_one_of, is_quoted, is_redirection, name_of_argument, quotation_mark, semicolon, vertical_bar}
+use Rattle.explain.specs.Names.{are_digits, are_like_digits, are_like_two_digits, are_two_digits, begins_with, begins_with_digit, comma, ends_with, equals_sign, has_byte, has_part, is_comment, is_marked, is_name_byte, is_one_of, is_quoted, is_redirection, name_of_argument, semicolon, vertical_bar}
 
 -- what an argument of a form has to be
 abbrev pub requirement : Form → List ℕ
@@ -120,23 +120,33 @@ size_reason word = if is_one_of (codes "newwin subwin derwin") word then codes "
     else codes ": a script has no variables: the command line gives the size; see getmaxyx"
 
 abbrev pub numbers_in_digits : List ℕ
-numbers_in_digits = codes ": numbers are in digits; a script has no variables, and getmaxyx answers a size"
+numbers_in_digits = codes ": numbers alone are arguments, in digits: no words or variables; see getmaxyx"
 
--- of a word with no digits: the number of a window, a pad or a panel comes first, but for calls that take none of them
+-- of calls on the place of the cursor
+abbrev pub one_window : List ℕ
+one_window = codes ": one window, in which move sets the place first; stdscr is 0"
+
+-- of a word with no digits: the number of a window, a pad or a panel comes first, but for calls that take none of them; and
+-- of some calls what is seen for what they don't take
 abbrev pub first_reason : List ℕ → List ℕ
 first_reason word = if is_one_of (codes "newwin newpad") word then codes ": lines and columns come first, in digits: no window or variable; see getmaxyx"
     else (if is_one_of (codes "subpad pnoutrefresh") word then codes ": a pad's number comes first, from 1 as made; stdscr is no pad"
     else (if is_one_of (codes "delwin mvwin mvderwin getparyx new_panel") word
     then codes ": a window's number comes first, from 1 as made, and not 0, which is stdscr"
+    else (if bytes_eq word (codes "move") then codes ": the window of the cursor comes first; stdscr is 0; see also mvwin, move_panel"
+    else (if is_one_of (codes "clear erase") word then codes ": a window's number alone; stdscr is 0; for parts see clrtoeol, clrtobot, delch"
+    else (if bytes_eq word (codes "touchwin") then codes ": a window's number alone; stdscr is 0; for lines see touchline"
+    else (if bytes_eq word (codes "noutrefresh") then codes ": a window's number alone; stdscr is 0; for a pad see pnoutrefresh"
+    else (if is_one_of (codes "inch delch insertln deleteln clrtoeol clrtobot") word then one_window
     else (if has_part (codes "panel") word then codes ": a panel's number comes first, from 1 as made; stdscr is in no panel"
-    else codes ": a window's number comes first, from 1 as made; stdscr is 0")))
+    else codes ": a window's number comes first, from 1 as made; stdscr is 0"))))))))
 
 -- of another argument, the second of which is a window after some words
 abbrev pub second_reason : List ℕ → List ℕ
 second_reason word = if bytes_eq word (codes "replace_panel")
     then codes ": the window is a number too, from 1 as made, and not 0, which is stdscr"
     else (if is_one_of (codes "overlay overwrite copywin") word then codes ": the second window is a number too, from 1 as made; stdscr is 0"
-    else (if bytes_eq word (codes "scrl") then codes ": it is how many lines go up, or down with a minus"
+    else (if bytes_eq word (codes "scrl") then codes ": one number: lines go up, or down with a minus right before its digits"
     else (if is_one_of (codes "color_set bkgdpair") word then codes ": a pair is a number, which has its colours by init_pair"
     else numbers_in_digits)))
 
@@ -169,7 +179,7 @@ more_than_digits argument = if has_byte number_sign argument then codes ": a num
 -- of what may stand for a number elsewhere
 abbrev pub name_reason : List ℕ → ℕ → List ℕ → List ℕ
 name_reason word place argument = if are_like_digits argument then no_letters
-    else (if bytes_eq (name_of_argument argument) (codes "none") then codes ": only panel_above and panel_below take \"none\""
+    else (if bytes_eq argument (codes "none") then codes ": only panel_above and panel_below take \"none\""
     else (if begins_with (codes "0x") argument || begins_with (codes "0X") argument then codes ": a number is decimal"
     else (if is_near_number word argument then more_than_digits argument
     else no_digits_reason word place)))
@@ -181,7 +191,7 @@ minus_reason rest = if are_digits rest then codes ": a number here has no minus"
 -- of a number without a sign
 abbrev pub unsigned_reason : List ℕ → ℕ → List ℕ → List ℕ
 unsigned_reason word place argument = if are_digits argument then digits_reason (codes ": it is too great") argument
-    else (if begins_with (codes "-") argument then minus_reason (drop 1 argument)
+    else (if begins_with (codes "-") argument && nat_lt 1 (length argument) then minus_reason (drop 1 argument)
     else (if begins_with (codes "+") argument then codes ": a number has no plus"
     else (if has_part (codes "LINES") argument || has_part (codes "COLS") argument then size_reason word
     else mark_reason (name_reason word place argument) argument)))
@@ -196,7 +206,7 @@ abbrev pub signed_reason : List ℕ → ℕ → List ℕ → List ℕ
 signed_reason word place argument = if begins_with (codes "-") argument
     then (if bytes_eq argument (codes "-0") then codes ": 0 has no minus"
     else (if are_digits (drop 1 argument) then digits_reason (codes ": it is too small") (drop 1 argument)
-    else codes ": digits alone come after a minus"))
+    else codes ": digits alone come right after a minus"))
     else unsigned_reason word place argument
 
 -- how several attributes are written
@@ -253,26 +263,34 @@ abbrev pub later_reason : List ℕ → List ℕ → Option (List ℕ)
 later_reason word argument = if is_one_of (codes "color_set bkgdpair") word then pair_reason argument
     else (if bytes_eq word (codes "init_pair") && (is_one_of (codes "- -1") argument || is_default (name_of_argument argument))
     then Some (codes ": no number is the terminal's own colour, which pairs have until they are set")
-    else (if bytes_eq word (codes "init_pair") && is_mixed argument then Some colours
+    else (if bytes_eq word (codes "init_pair") && (is_mixed argument || is_list argument) then Some colours
     else (if bytes_eq word (codes "bkgdset") && is_colour (name_of_argument argument)
     then Some (codes ": a background's pair is set by bkgdpair")
     else None)))
 
--- after a quote a number, with a quote at its end
-abbrev pub is_quoted_number : List ℕ → Bool
-is_quoted_number argument = begins_with_digit (drop 1 argument) && (ends_with quotation_mark argument || ends_with apostrophe argument)
+-- the last byte is a mark, and none of a name
+abbrev pub ends_in_mark : List ℕ → Bool
+ends_in_mark argument = list_any (λ byte. not (is_name_byte byte)) (drop (length argument - 1) argument)
 
--- a text or a character in place of the window
-abbrev pub begins_text : List ℕ → Bool
-begins_text argument = if is_quoted argument then not (is_quoted_number argument)
-    else list_any is_ascii_alphabetic (take 1 argument) || bytes_eq argument (codes "-")
+-- meant as the number of a window: one but for its size, a 0 or a letter, or what ends it; or one between marks, as `"0"` and
+-- `(5,`; or a variable; or nothing
+abbrev pub is_like_window : List ℕ → Bool
+is_like_window argument = if begins_with_digit argument then are_like_digits argument || has_byte comma argument || has_byte semicolon argument
+    else (begins_with_digit (drop 1 argument) && ends_in_mark argument) || begins_with (codes "$") argument || length argument == 0
 
-abbrev pub is_text_first : List ℕ → List ℕ → Bool
-is_text_first word argument = is_one_of (codes "addstr addch insch") word && begins_text argument
+-- of a text or a character in place of the window
+abbrev pub no_window : List ℕ
+no_window = codes ": the window's number comes first, then the text or character; stdscr is 0"
+
+-- of the first argument of a call with a text or a character: anything else begins that, without the window
+abbrev pub window_reason : List ℕ → Option (List ℕ)
+window_reason argument = if not (is_like_window argument) then Some no_window
+    else (if has_byte comma argument then Some (codes ": spaces separate arguments, and no commas; move sets the place of a text")
+    else None)
 
 abbrev pub reason_of_call : List ℕ → ℕ → List ℕ → Option (List ℕ)
 reason_of_call word place argument = if not (place == 0) then later_reason word argument
-    else (if is_text_first word argument then Some (codes ": the window's number comes first, then the text or character; stdscr is 0")
+    else (if is_one_of (codes "addstr addch insch") word then window_reason argument
     else (if is_one_of (codes "attrset attron attroff bkgdset") word && are_two_digits argument
     then Some (codes ": the window comes first, then the attributes; a number has no leading 0")
     else None))

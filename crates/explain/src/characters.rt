@@ -249,6 +249,7 @@ fn longer_reason(word: &[u8], argument: &[u8]) -> &'static [u8]
     } else if are_digits(argument)
         || argument.strip_prefix(b"0x").is_some()
         || argument.strip_prefix(b"&").is_some()
+        || argument.strip_prefix(b"\\x").is_some()
     {
         b": it is more than one; a code is \\x and two hexadecimal digits, as \\x41 for 65"
     } else if is_among(name.as_slice(), b"space newline enter tab") {

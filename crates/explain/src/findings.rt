@@ -8,13 +8,14 @@ ghost use Rattle.explain.specs.Explanations.{bad_byte_advice, bad_byte_text, bad
 ghost use Rattle.explain.specs.Reasons.{reason_after};
 ghost use Rattle.explain.specs.Suggestions.{call_advice, line_advice, said_of};
 
+use crate::advice::is_among;
 use crate::arguments::{IllFormed, Stray, count, find_ill_formed, find_stray, forms_of};
 use crate::characters::bad_text_advice;
 use crate::column::{bad_byte, bad_place, column_of, from_bad_byte};
 use crate::names::{after_dot, begins_comment, name_of};
 use crate::nearest::{call_of_words, near_call_of_words};
 use crate::numbers::number_reason;
-use crate::reasons::{reason_after, requirement_of};
+use crate::reasons::{no_window, reason_after, requirement_of};
 use crate::signatures::names_of_arguments;
 use crate::suggestions::{begins_with_call, nothing_before, said_of, said_of_line};
 use arrayvec::ArrayVec;
@@ -217,13 +218,15 @@ fn append_number(text: &mut Finding, word: &[u8], wanted: usize, given: usize)
     append(text, b" given");
 }
 
-/// What is said of a stray argument.
-fn stray_text(argument: &[u8]) -> &'static [u8]
-    ensures text { result.now ≡ stray_text argument.now }
+/// What is said of a stray argument after a word: a text or a character may begin as a comment does.
+fn stray_text(word: &[u8], argument: &[u8]) -> &'static [u8]
+    ensures text { result.now ≡ stray_text word.now argument.now }
     ensures short { length result.now ≤ 80 }
 {
     if argument.is_empty() {
         b": single spaces separate words, and none ends a line"
+    } else if is_among(word, b"addstr addch insch") {
+        no_window()
     } else if begins_comment(argument) {
         b": a comment has a line of its own, and begins with #"
     } else {
@@ -251,10 +254,10 @@ fn append_number_advice(text: &mut Finding, line: &[u8], many: bool, stray: Opti
     ensures text { text.new.items ≡ text.old.items ++ number_advice line.now many (option_map (λ s. (s.column, s.argument.now)) stray.entry) }
     ensures short { length text.new.items < FINDING_ROOM }
 {
-    if let Some(stray) = stray {
-        return append(text, stray_text(stray.argument));
-    }
     let (word, arguments) = split_at_space(line);
+    if let Some(stray) = stray {
+        return append(text, stray_text(word, stray.argument));
+    }
     if let Some(call) = call_of_words(word, arguments) {
         return append_one_word(text, call);
     }

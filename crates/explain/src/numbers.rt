@@ -2,14 +2,17 @@
 
 ghost use Rattle.std.specs.Prelude.{◌≡◌, ◌≤◌, ◌+◌, IfSome, length, option_map};
 ghost use Rattle.script.specs.Pieces.{pieces_of, room_of};
-ghost use Rattle.explain.specs.Numbers.{begins_bracketed, begins_call, begins_number, between_reason, comma_reason, has_call, has_joined, has_redirection, is_joined, joins_attributes, marks_reason, number_reason, separation_reason, surplus_reason, takes_text, too_many_reason, word_between};
+ghost use Rattle.explain.specs.Faults.{IllFormed as Ill};
+ghost use Rattle.explain.specs.Numbers.{begins_bracketed, begins_call, begins_number, between_reason, comma_reason, has_call, has_joined, has_redirection, is_joined, joins_attributes, marks_reason, number_reason, separation_reason, surplus_reason, takes_text, too_many_reason};
 
 use crate::advice::is_among;
-use crate::arguments::{find_ill_formed, forms_of, is_word};
+use crate::arguments::{IllFormed, find_ill_formed, forms_of, is_word};
 use crate::names::{
     are_digits, are_two_digits, begins_with_digit, ends_with, has_byte, is_redirection, name_of,
 };
-use crate::reasons::{is_bracketed, no_brackets, no_commas, no_names, no_options, no_redirections};
+use crate::reasons::{
+    is_bracketed, no_brackets, no_commas, no_names, no_redirections, one_window, reason_after,
+};
 use script::{LONGEST_LINE, Word, split_at_space};
 
 /// Whether the first word of a text begins with a bracket, and goes on.
@@ -68,11 +71,11 @@ fn has_redirection(text: Option<&[u8]>) -> bool
     has_redirection(rest)
 }
 
-/// Whether a line joins attributes by bars, as in C.
-fn joins_attributes(word: &[u8], line: &[u8]) -> bool
-    ensures { result ≡ joins_attributes word.now line.now }
+/// Whether a line joins attributes by bars or other marks, as in C.
+fn joins_attributes(word: &[u8], line: &[u8], text: Option<&[u8]>) -> bool
+    ensures { result ≡ joins_attributes word.now line.now (pieces_of text.entry) }
 {
-    is_among(word, b"attrset attron attroff") && has_byte(line, b'|')
+    is_among(word, b"attrset attron attroff") && (has_byte(line, b'|') || has_redirection(text))
 }
 
 /// Whether a word is several arguments as one.
@@ -122,30 +125,20 @@ fn marks_reason(line: &[u8], text: Option<&[u8]>, many: bool) -> Option<&'static
     None
 }
 
-/// The first argument without its form, if it is a word between numbers.
-fn word_between<'a>(word: &[u8], line: &[u8], text: Option<&'a [u8]>) -> Option<&'a [u8]>
-    requires { room_of text ≤ LONGEST_LINE + 1 }
-    ensures { option_map (λ argument. argument.now) result ≡ word_between word.now line.now (pieces_of text.entry) }
-{
-    match find_ill_formed(0, forms_of(word), text) {
-        Some(ill) if is_word(line, ill) => Some(ill.argument),
-        _ => None,
-    }
-}
-
-/// What is said of such a word.
-fn between_reason(line: &[u8], argument: &[u8]) -> &'static [u8]
-    ensures text { result.now ≡ between_reason line.now argument.now }
+/// What is said of a word between numbers: that the line has commas or computes, or what is said in its place alone.
+fn between_reason(word: &[u8], line: &[u8], ill: IllFormed<'_>) -> &'static [u8]
+    requires { length ill.argument.now ≤ LONGEST_LINE }
+    ensures text { result.now ≡ between_reason word.now line.now (record
+        { column = ill.entry.column; form = ill.entry.form; argument = ill.entry.argument.now; left = ill.entry.left }) }
     ensures short { length result.now ≤ 80 }
 {
     if has_byte(line, b',') {
         no_commas()
-    } else if is_among(argument, b"+ - * / %") {
+    } else if is_among(ill.argument, b"+ - * / %") && word != b"scrl".as_slice() {
         b": a script computes nothing: an argument is one number, and no expression"
-    } else if argument.strip_prefix(b"-").is_some() {
-        no_options()
     } else {
-        b": numbers alone are arguments: no words stand between them"
+        let place = forms_of(word).len().saturating_sub(ill.left);
+        reason_after(word, place, ill.form, ill.argument)
     }
 }
 
@@ -158,9 +151,9 @@ fn surplus_reason(word: &[u8], line: &[u8], text: Option<&[u8]>) -> Option<&'sta
     if has_byte(line, b'=') {
         return Some(no_names());
     }
-    match word_between(word, line, text) {
-        Some(argument) => Some(between_reason(line, argument)),
-        None => too_many_reason(word),
+    match find_ill_formed(0, forms_of(word), text) {
+        Some(ill) if is_word(line, ill) => Some(between_reason(word, line, ill)),
+        _ => too_many_reason(word),
     }
 }
 
@@ -181,13 +174,13 @@ fn too_many_reason(word: &[u8]) -> Option<&'static [u8]>
         return Some(b": the answer is in the log, and no variables take it");
     }
     if is_among(word, b"inch delch insertln deleteln clrtoeol clrtobot") {
-        return Some(b": one window, in which move sets the place first");
+        return Some(one_window());
     }
     if word == b"move".as_slice() {
         return Some(b": window, line, column; addstr writes a text after it");
     }
-    if is_among(word, b"new_panel show_panel") {
-        return Some(b": mvwin and move_panel set the place");
+    if is_among(word, b"new_panel") {
+        return Some(b": one window, which newwin made; the panel's number is its answer");
     }
     if is_among(word, b"overlay overwrite") {
         return Some(b": copywin copies a part");
@@ -231,9 +224,6 @@ pub fn number_reason(
     ensures text { option_map (λ text. text.now) result ≡ number_reason word.now line.now (pieces_of text.entry) many }
     ensures short { IfSome result (λ text. length text.now ≤ 80) }
 {
-    if begins_bracketed(text) {
-        return Some(no_brackets());
-    }
     if takes_text(word) {
         return if begins_number(text) {
             separation_reason(line, text, many)
@@ -241,7 +231,10 @@ pub fn number_reason(
             None
         };
     }
-    if joins_attributes(word, line) {
+    if begins_bracketed(text) {
+        return Some(no_brackets());
+    }
+    if joins_attributes(word, line, text) {
         return Some(
             b": attributes are one sum, as 11 for 01 bold and 10 reverse; no line has a pipe",
         );

@@ -4,7 +4,7 @@ ghost use Rattle.std.specs.Prelude.{◌≡◌, ◌≤◌, IfSome, length, option
 ghost use Rattle.std.specs.List.{list_any};
 ghost use Rattle.std.specs.Char.{is_ascii_uppercase};
 ghost use Rattle.explain.specs.Names.{name_of_argument};
-ghost use Rattle.explain.specs.Reasons.{attributes_reason, begins_text, colours, copy_reason, digits_reason, first_mark_reason, first_reason, flag_reason, has_colour, is_attribute, is_bracketed, is_colour, is_default, is_list, is_mixed, is_near_number, is_quoted_number, is_text_first, later_reason, mark_reason, minus_reason, more_than_digits, name_reason, no_brackets, no_commas, no_digits_reason, no_letters, no_names, no_options, no_redirections, numbers_in_digits, one_sum, pair_reason, reason, reason_after, reason_of_call, requirement, requirement_after, requirement_of, second_reason, signed_reason, size_reason, unless_missing, unsigned_or_none_reason, unsigned_reason};
+ghost use Rattle.explain.specs.Reasons.{attributes_reason, colours, copy_reason, digits_reason, ends_in_mark, first_mark_reason, first_reason, flag_reason, has_colour, is_attribute, is_bracketed, is_colour, is_default, is_like_window, is_list, is_mixed, is_near_number, later_reason, mark_reason, minus_reason, more_than_digits, name_reason, no_brackets, no_commas, no_digits_reason, no_letters, no_names, no_options, no_redirections, no_window, numbers_in_digits, one_sum, one_window, pair_reason, reason, reason_after, reason_of_call, requirement, requirement_after, requirement_of, second_reason, signed_reason, size_reason, unless_missing, unsigned_or_none_reason, unsigned_reason, window_reason};
 
 use crate::advice::is_among;
 use crate::arguments::has_digit;
@@ -12,7 +12,7 @@ use crate::characters::{character_reason, text_reason};
 use crate::names::{
     after_first, are_digits, are_like_digits, are_like_two_digits, are_two_digits,
     begins_with_digit, begins_with_letter, ends_with, has_byte, has_part, is_comment, is_marked,
-    is_quoted, is_redirection, name_of_argument,
+    is_name_byte, is_quoted, is_redirection, name_of_argument,
 };
 use script::{Form, LONGEST_LINE};
 
@@ -241,11 +241,19 @@ fn numbers_in_digits() -> &'static [u8]
     ensures text { result.now ≡ numbers_in_digits }
     ensures short { length result.now ≤ 80 }
 {
-    b": numbers are in digits; a script has no variables, and getmaxyx answers a size"
+    b": numbers alone are arguments, in digits: no words or variables; see getmaxyx"
+}
+
+/// What is said of calls on the place of the cursor.
+pub fn one_window() -> &'static [u8]
+    ensures text { result.now ≡ one_window }
+    ensures short { length result.now ≤ 80 }
+{
+    b": one window, in which move sets the place first; stdscr is 0"
 }
 
 /// What is said of a word with no digits as the first argument: the number of a window, a pad or a panel comes first, but
-/// for calls that take none of them.
+/// for calls that take none of them. Of some calls it is said what else is seen for what they don't take.
 fn first_reason(word: &[u8]) -> &'static [u8]
     ensures text { result.now ≡ first_reason word.now }
     ensures short { length result.now ≤ 80 }
@@ -256,6 +264,16 @@ fn first_reason(word: &[u8]) -> &'static [u8]
         b": a pad's number comes first, from 1 as made; stdscr is no pad"
     } else if is_among(word, b"delwin mvwin mvderwin getparyx new_panel") {
         b": a window's number comes first, from 1 as made, and not 0, which is stdscr"
+    } else if word == b"move".as_slice() {
+        b": the window of the cursor comes first; stdscr is 0; see also mvwin, move_panel"
+    } else if is_among(word, b"clear erase") {
+        b": a window's number alone; stdscr is 0; for parts see clrtoeol, clrtobot, delch"
+    } else if word == b"touchwin".as_slice() {
+        b": a window's number alone; stdscr is 0; for lines see touchline"
+    } else if word == b"noutrefresh".as_slice() {
+        b": a window's number alone; stdscr is 0; for a pad see pnoutrefresh"
+    } else if is_among(word, b"inch delch insertln deleteln clrtoeol clrtobot") {
+        one_window()
     } else if has_part(word, b"panel") {
         b": a panel's number comes first, from 1 as made; stdscr is in no panel"
     } else {
@@ -273,7 +291,7 @@ fn second_reason(word: &[u8]) -> &'static [u8]
     } else if is_among(word, b"overlay overwrite copywin") {
         b": the second window is a number too, from 1 as made; stdscr is 0"
     } else if word == b"scrl".as_slice() {
-        b": it is how many lines go up, or down with a minus"
+        b": one number: lines go up, or down with a minus right before its digits"
     } else if is_among(word, b"color_set bkgdpair") {
         b": a pair is a number, which has its colours by init_pair"
     } else {
@@ -341,15 +359,13 @@ fn more_than_digits(argument: &[u8]) -> &'static [u8]
 
 /// What is said of an argument that may stand for a number elsewhere.
 fn name_reason(word: &[u8], place: usize, argument: &[u8]) -> &'static [u8]
-    requires { length argument.now ≤ LONGEST_LINE }
     ensures text { result.now ≡ name_reason word.now place argument.now }
     ensures short { length result.now ≤ 80 }
 {
-    let name = name_of_argument(argument);
     if are_like_digits(argument) {
         return no_letters();
     }
-    if name.as_slice() == b"none".as_slice() {
+    if argument == b"none".as_slice() {
         return b": only panel_above and panel_below take \"none\"";
     }
     if argument.strip_prefix(b"0x").is_some() || argument.strip_prefix(b"0X").is_some() {
@@ -383,7 +399,9 @@ fn unsigned_reason(word: &[u8], place: usize, argument: &[u8]) -> &'static [u8]
         return digits_reason(b": it is too great", argument);
     }
     if let Some(rest) = argument.strip_prefix(b"-") {
-        return minus_reason(rest);
+        if !rest.is_empty() {
+            return minus_reason(rest);
+        }
     }
     if argument.strip_prefix(b"+").is_some() {
         return b": a number has no plus";
@@ -417,7 +435,7 @@ fn signed_reason(word: &[u8], place: usize, argument: &[u8]) -> &'static [u8]
     }
     match argument.strip_prefix(b"-") {
         Some(digits) if are_digits(digits) => digits_reason(b": it is too small", digits),
-        Some(_) => b": digits alone come after a minus",
+        Some(_) => b": digits alone come right after a minus",
         None => unsigned_reason(word, place, argument),
     }
 }
@@ -577,7 +595,7 @@ fn later_reason(word: &[u8], argument: &[u8]) -> Option<&'static [u8]>
             b": no number is the terminal's own colour, which pairs have until they are set",
         );
     }
-    if word == b"init_pair".as_slice() && is_mixed(argument) {
+    if word == b"init_pair".as_slice() && (is_mixed(argument) || is_list(argument)) {
         return Some(colours());
     }
     if word == b"bkgdset".as_slice() && is_colour(name.as_slice()) {
@@ -586,29 +604,49 @@ fn later_reason(word: &[u8], argument: &[u8]) -> Option<&'static [u8]>
     None
 }
 
-/// Whether a quote begins an argument, and a number follows with a quote at its end.
-fn is_quoted_number(argument: &[u8]) -> bool
-    ensures { result ≡ is_quoted_number argument.now }
+/// Whether an argument's last byte is a mark, and none of a name.
+fn ends_in_mark(argument: &[u8]) -> bool
+    ensures { result ≡ ends_in_mark argument.now }
 {
-    begins_with_digit(after_first(argument))
-        && (ends_with(argument, b'"') || ends_with(argument, b'\''))
-}
-
-/// Whether an argument is a text or a character rather than a window.
-fn begins_text(argument: &[u8]) -> bool
-    ensures { result ≡ begins_text argument.now }
-{
-    if is_quoted(argument) {
-        return !is_quoted_number(argument);
+    match argument.last() {
+        Some(last) => !is_name_byte(*last),
+        None => false,
     }
-    begins_with_letter(argument) || argument == b"-".as_slice()
 }
 
-/// Whether a text or a character is in place of the window.
-fn is_text_first(word: &[u8], argument: &[u8]) -> bool
-    ensures { result ≡ is_text_first word.now argument.now }
+/// Whether an argument is meant as the number of a window: it is one but for its size, a 0 or a letter, or what ends it; or
+/// one between marks; or a variable; or nothing.
+fn is_like_window(argument: &[u8]) -> bool
+    ensures { result ≡ is_like_window argument.now }
 {
-    is_among(word, b"addstr addch insch") && begins_text(argument)
+    if begins_with_digit(argument) {
+        return are_like_digits(argument) || has_byte(argument, b',') || has_byte(argument, b';');
+    }
+    begins_with_digit(after_first(argument)) && ends_in_mark(argument)
+        || argument.strip_prefix(b"$").is_some()
+        || argument.is_empty()
+}
+
+/// What is said where a text or a character is in place of the window.
+pub fn no_window() -> &'static [u8]
+    ensures text { result.now ≡ no_window }
+    ensures short { length result.now ≤ 80 }
+{
+    b": the window's number comes first, then the text or character; stdscr is 0"
+}
+
+/// What is said of the first argument of a call with a text or a character: anything else begins that, without the window.
+fn window_reason(argument: &[u8]) -> Option<&'static [u8]>
+    ensures text { option_map (λ text. text.now) result ≡ window_reason argument.now }
+    ensures short { IfSome result (λ text. length text.now ≤ 80) }
+{
+    if !is_like_window(argument) {
+        return Some(no_window());
+    }
+    if has_byte(argument, b',') {
+        return Some(b": spaces separate arguments, and no commas; move sets the place of a text");
+    }
+    None
 }
 
 /// What more is said after some words, of an argument after so many others.
@@ -620,8 +658,8 @@ fn reason_of_call(word: &[u8], place: usize, argument: &[u8]) -> Option<&'static
     if place != 0 {
         return later_reason(word, argument);
     }
-    if is_text_first(word, argument) {
-        return Some(b": the window's number comes first, then the text or character; stdscr is 0");
+    if is_among(word, b"addstr addch insch") {
+        return window_reason(argument);
     }
     if is_among(word, b"attrset attron attroff bkgdset") && are_two_digits(argument) {
         return Some(b": the window comes first, then the attributes; a number has no leading 0");
