@@ -49,6 +49,9 @@ coloured = codes "see init_pair, color_set"
 abbrev pub screen_size : List ℕ
 screen_size = codes "the command line gives the size, by --lines and --cols; see getmaxyx"
 
+abbrev pub screen_is_there : List ℕ
+screen_is_there = codes "the screen is there from the first line on, and ends with the script"
+
 abbrev pub cursor_shown : List ℕ
 cursor_shown = codes "see move; the shell's tput civis hides the cursor, and tput cnorm shows it"
 
@@ -71,7 +74,7 @@ advised =
     ∷ (codes "a text has \\n for a newline, \\r and \\b, and spaces as they are", codes "nl newline cr tab space backspace")
     ∷ (codes "no call reads the mouse", codes "getmouse ungetmouse mousemask mouseinterval has_mouse mouse_trafo enclose mouse click")
     ∷ (
-      codes "the screen is there from the first line on, and ends with the script",
+      screen_is_there,
       codes "initscr newterm new_prescr endwin isendwin delscreen set_term use_screen use_window exit_curses exit"
           ++ codes " quit bye stop init initscreen init_screen start wrapper setup",
     )
@@ -133,7 +136,7 @@ advised =
     ∷ (codes "see del_panel", codes "deletepanel delete_panel")
     ∷ (codes "see replace_panel", codes "replace")
     ∷ (codes "see newpad", codes "pad")
-    ∷ (codes "see scrollok", codes "scrlok")
+    ∷ (codes "see scrollok", codes "scrlok setscroll")
     ∷ (
       codes "characters are those of ASCII",
       codes "erasewchar getbkgrnd getcchar in_wch in_wchstr in_wchnstr innwstr"
@@ -167,7 +170,7 @@ advised =
     ∷ (codes "see new_panel", codes "panel create_panel add_panel make_panel panel_new")
     ∷ (codes "see show_panel, hide_panel", codes "show hide show_window hide_window panel_show panel_hide")
     ∷ (codes "see top_panel, bottom_panel", codes "raise lower front back raise_panel lower_panel focus top bottom panel_top bring_to_front send_to_back to_front")
-    ∷ (codes "see setscrreg", codes "setscroll setscrollreg set_scroll_region scroll_region")
+    ∷ (codes "see setscrreg", codes "setscrollreg set_scroll_region scroll_region")
     ∷ (codes "see copywin, overwrite, overlay", codes "copy copywindow copy_window")
     ∷ (codes "see touchwin", codes "touch touchwindow touch_window")
     ∷ (codes "see is_wintouched, is_linetouched", codes "is_touched istouched touched")
@@ -228,12 +231,12 @@ like_calls_advised =
     ∷ (codes "see del_panel", codes "destroy_panel remove_panel free_panel")
     ∷ (codes "see scrl, scrollok", codes "scroll")
     ∷ (codes "see move_panel", codes "mvpanel mv_panel panelmove")
-    ∷ (codes "see mvwin", codes "mvwindow mv_window")
-    ∷ (codes "see newwin", codes "create_newwin newwindows winnew")
+    ∷ (codes "see mvwin", codes "mvwindow mv_window win_move")
+    ∷ (codes "see newwin", codes "create_newwin newwindows winnew win_new")
     ∷ (codes "see newwin, derwin", codes "nerwin")
-    ∷ (codes "see delch, deleteln", codes "dellin delln deleln deletelines delete_lines dl1 dch1")
-    ∷ (codes "see insertln", codes "insln insertlines insert_line insert_lines il1")
-    ∷ (codes "see insch, for each character", codes "ich1 insstring insertstr inserttext")
+    ∷ (codes "see delch, deleteln", codes "dellin delln deleln deletelines delete_lines dl1 dch1 dl dch")
+    ∷ (codes "see insertln", codes "insln insertlines insert_line insert_lines il1 il")
+    ∷ (codes "see insch, for each character", codes "ich1 ich insert_char insstring insertstr inserttext")
     ∷ (codes "see move, insch", codes "mvinsstr mvinsnstr mvwinsstr mvwinsnstr")
     ∷ (codes "each call names its window or panel", codes "setwin set_window select_window current")
     ∷ (codes "see pnoutrefresh", codes "refresh_pad refreshpad pad_refresh padrefresh")
@@ -243,10 +246,11 @@ like_calls_advised =
     ∷ (codes "see color_set, init_pair", codes "op oc setfg setbg set_fg set_bg set_colour set_colors set_colours")
     ∷ (
       codes "see move, addstr",
-      codes "draw_text write_text print_text put_text show_text display_text print_at mvaddnstr mvwaddnstr",
+      codes "draw_text write_text print_text put_text show_text display_text print_at mvaddnstr mvwaddnstr"
+          ++ codes " mv_add_str drawtext printat outtext outtextxy cputs add addline str msg message win_write window_write window_print",
     )
     ∷ (codes "no call formats: see move, addstr", codes "mvprintw mvwprintw")
-    ∷ (codes "see getyx, getbegyx, getmaxyx", codes "wherexy wherex getbeg getwinsize getxmaxy")
+    ∷ (codes "see getyx, getbegyx, getmaxyx", codes "wherexy wherex wherey getbeg getwinsize getxmaxy maxx maxy begx begy curx cury")
     ∷ (
       codes "see noutrefresh, update_panels, doupdate",
       codes "updateall update_all updatewin update_win flip swap present blit commit draw_window",
@@ -258,6 +262,16 @@ like_calls_advised =
       codes "add_wch add_wchstr add_wchnstr addwstr addnwstr echo_wchar pecho_wchar",
     )
     ∷ (codes "characters are those of ASCII: see bkgdset", codes "bkgrnd bkgrndset")
+    ∷ (codes "see top_panel, bottom_panel", codes "panel_bottom panel_raise panel_lower")
+    ∷ (codes "see panel_above, panel_below", codes "above_panel below_panel")
+    ∷ (codes "see replace_panel", codes "panel_replace swap_panel")
+    ∷ (codes "see panel_hidden", codes "hidden_panel is_panel_hidden")
+    ∷ (codes "see panel_window", codes "window_panel get_panel_window")
+    ∷ (codes "see delch", codes "delete_char delete_ch")
+    ∷ (codes "see newpad", codes "create_pad pad_new")
+    ∷ (codes "see delwin", codes "delpad del_pad pad_del win_del")
+    ∷ (coloured, codes "new_pair make_pair define_pair pair_init yellow cyan magenta gray")
+    ∷ (no_menus, codes "msgbox yesno gauge inputbox")
     ∷ []
 
 -- words of terminals, shells and other languages, of which it is said where nothing is by these
@@ -276,23 +290,23 @@ foreign_advised =
     ∷ (codes "no call rings or flashes", codes "beep flash bell")
     ∷ (codes "see delwin, del_panel; the screen ends with the script", codes "close")
     ∷ (codes "see addstr; --log belongs on the command line", codes "log")
-    ∷ (codes "the end of a here-document stands alone; the screen ends with the script", codes "end eod here end_of_script")
-    ∷ (codes "see addstr, noutrefresh", codes "display-message append")
+    ∷ (codes "the end of a here-document stands alone; the screen ends with the script", codes "end eod HERE end_of_script")
+    ∷ (codes "see addstr, noutrefresh", codes "display_message append")
     ∷ (codes "a comment begins with #, and has a line of its own", codes "todo fixme note nb dnl")
-    ∷ (codes "see move, which takes a line and a column", codes "home hpa vpa cuu1 cub1 cuf1 cud1 setpos go")
-    ∷ (codes "see clrtoeol, clrtobot", codes "el el1 ed clrline clrtoend")
-    ∷ (renditions, codes "smso rmso smul rmul rev sgr invis style font noattr plain")
-    ∷ (codes "see setscrreg, scrl", codes "csr ind ri")
-    ∷ (codes "see addstr, which draws lines by + - and |", codes "acsc smacs rmacs hr vr hl vl draw_line drawline draw_border")
+    ∷ (codes "see move, which takes a line and a column", codes "home hpa vpa cuu1 cub1 cuf1 cud1 setpos go gotoyx goto_xy gotorc position")
+    ∷ (codes "see clrtoeol, clrtobot", codes "el el1 ed ech clrline clrtoend")
+    ∷ (renditions, codes "smso rmso smul rmul rev sgr invis style font noattr plain bold_on underline_on highvideo lowvideo normvideo")
+    ∷ (codes "see setscrreg, scrl", codes "csr ind indn ri rin")
+    ∷ (codes "see addstr, which draws lines by + - and |", codes "acsc smacs rmacs hr vr hl vl draw_line drawline draw_border draw_rect circle window_box")
     ∷ (codes "no call reads a key", codes "smkx rmkx waitkey wait_key press crmode nocrmode")
     ∷ (codes "zsh's module has names of its own: see newwin, addstr", codes "zcurses")
     ∷ (of_picture, codes "rendition")
+    ∷ (screen_is_there, codes "close_screen start_screen screen_init initialize finish")
     ∷ (of_shell, codes "coproc chmod select")
     ∷ (
       runs_no_programs,
       codes "python3 perl ruby lua node git less gcc cc vi vim nano ssh curl wget find head tail date time env"
-          ++ codes " who xargs sort tr cut seq tee jobs yes which xterm apt pip npm docker swap-window rename-window"
-          ++ codes " select-window",
+          ++ codes " who xargs sort tr cut seq tee jobs yes which xterm apt pip npm docker swap_window rename_window",
     )
     ∷ (
       calls_alone,

@@ -30,6 +30,14 @@ round_bracket = 40
 abbrev pub comma : ℕ
 comma = 44
 
+-- `-`
+abbrev pub hyphen : ℕ
+hyphen = 45
+
+-- `/`
+abbrev pub slash : ℕ
+slash = 47
+
 -- `8`, the first digit of bytes that are none of ASCII
 abbrev pub digit_8 : ℕ
 digit_8 = 56
@@ -151,6 +159,14 @@ is_name_byte b = is_ascii_alphanumeric b || b == underscore
 abbrev pub name_in : List ℕ → List ℕ
 name_in [] = []
 name_in (b ∷ bs) = if is_name_byte b then to_ascii_lowercase b ∷ name_in bs else []
+
+-- a word with underscores for its hyphens, as a table has its names
+abbrev pub underscore_for : ℕ → ℕ
+underscore_for byte = if byte == hyphen then underscore else byte
+
+abbrev pub underscored : List ℕ → List ℕ
+underscored [] = []
+underscored (b ∷ bs) = underscore_for b ∷ underscored bs
 
 -- what follows a name
 abbrev pub after_name : List ℕ → List ℕ

@@ -2,13 +2,13 @@
 use Rattle.std.specs.Prelude.{◌==◌, ◌&&◌, ◌||◌, ℕ, Bool, false, not, List, [], ◌∷◌, ◌++◌, codes, drop, is_some, length, nat_lt}
 use Rattle.std.specs.Prelude.{Option, option_and_then, option_map, Some, None, take, unwrap_or, if◌then◌else◌}
 use Rattle.std.specs.Char.{is_ascii_alphabetic}
-use Rattle.std.specs.List.{list_any}
+use Rattle.std.specs.List.{list_all, list_any}
 use Rattle.std.specs.Option.{option_map_or}
 use Rattle.std.specs.Str.{bytes_eq}
 use Rattle.script.specs.Characters.{backslash}
 use Rattle.script.specs.Words.{word_of}
 use Rattle.explain.specs.Advice.{advice_by_part, advice_on, calls_alone, of_picture, of_shell, on_command_line, pairs_are_numbers, runs_no_programs, screen_size}
-use Rattle.explain.specs.Names.{after_name, apostrophe, begins_comment, begins_with, begins_with_digit, called_name, colon, comma, ends_with, gives_value, has_byte, has_part, has_value, is_comment, is_name_byte, is_one_of, is_quoted, is_redirection, name_in, quotation_mark, round_bracket, square_bracket, vertical_bar}
+use Rattle.explain.specs.Names.{after_name, apostrophe, begins_comment, begins_with, begins_with_digit, called_name, colon, comma, ends_with, gives_value, has_byte, has_part, has_value, is_comment, is_name_byte, is_one_of, is_quoted, is_redirection, name_in, quotation_mark, round_bracket, slash, square_bracket, underscored, vertical_bar}
 use Rattle.explain.specs.Nearest.{near_call_of_words, nearest, nearest_other, or_else}
 
 -- ---- what is said of a name
@@ -76,10 +76,24 @@ abbrev pub last_word : List ℕ → List (List ℕ) → List ℕ
 last_word word [] = word
 last_word word (piece ∷ pieces) = last_word piece pieces
 
--- a line of a picture: of its frame, its colours or attributes, or between bars
+-- a byte that lines and arrows are drawn with
+abbrev pub is_stroke : ℕ → Bool
+is_stroke byte = has_byte byte (codes "-+/\\|<>")
+
+-- of such bytes alone, where no comment and no redirection begins
+abbrev pub is_drawn : List ℕ → Bool
+is_drawn word = nat_lt 1 (length word) && list_all is_stroke word && not (begins_comment word || is_redirection word)
+
+-- between bars or strokes
+abbrev pub is_between : List ℕ → List (List ℕ) → Bool
+is_between word pieces = (begins_with (codes "|") word && ends_with vertical_bar (last_word (drop 1 word) pieces))
+    || (bytes_eq word (codes "/") && ends_with slash (last_word (drop 1 word) pieces))
+    || (bytes_eq word (backslash ∷ []) && ends_with backslash (last_word (drop 1 word) pieces))
+
+-- a line of a picture: of its frame, its colours or attributes, or between bars or strokes
 abbrev pub is_of_picture : List ℕ → List (List ℕ) → Bool
-is_of_picture word pieces = begins_with (codes "+-") word || begins_with (codes "%-") word || ((begins_with (codes ":") word || begins_with (codes "%") word) && begins_with_digit (drop 1 word))
-    || (begins_with (codes "|") word && ends_with vertical_bar (last_word (drop 1 word) pieces))
+is_of_picture word pieces = is_drawn word || is_between word pieces || begins_with (codes "+-") word || begins_with (codes "---") (after_name word)
+    || begins_with (codes "%-") word || ((begins_with (codes ":") word || begins_with (codes "%") word) && begins_with_digit (drop 1 word))
 
 -- a call written by a shell, as `echo 'addstr 0 hi'`
 abbrev pub is_echo : List ℕ → List (List ℕ) → Bool
@@ -89,7 +103,7 @@ is_echo word (piece ∷ pieces) = is_one_of (codes "echo printf") word && is_quo
 -- a statement of other languages whose first word is a name of curses too, which would have a number after it
 abbrev pub is_statement : List ℕ → List (List ℕ) → Bool
 is_statement word [] = false
-is_statement word (piece ∷ pieces) = is_one_of (codes "raise goto GOTO DIM Dim END End") word && list_any is_ascii_alphabetic (take 1 piece)
+is_statement word (piece ∷ pieces) = is_one_of (codes "raise goto GOTO DIM Dim END End end") word && list_any is_ascii_alphabetic (take 1 piece)
 
 -- the first word is a call
 abbrev pub begins_with_call : List (List ℕ) → Bool
@@ -135,9 +149,9 @@ abbrev pub is_step : List ℕ → Bool
 is_step word = begins_with (codes "++") word || (list_any is_name_byte (take 1 word) && begins_with (codes "--") (after_name word))
     || (begins_with (codes "--") word && list_any is_name_byte (take 1 (drop 2 word)) && not (list_any is_name_byte (take 1 (drop 3 word))))
 
--- of shells: a variable, a redirection, a pipe, or a prompt
+-- of shells: a variable, a redirection, a pipe, or a prompt; with `<` a tag begins
 abbrev pub is_of_shell : List ℕ → Bool
-is_of_shell word = begins_with (codes "$") word || is_redirection word
+is_of_shell word = begins_with (codes "$") word || (is_redirection word && not (begins_with (codes "<") word))
 
 -- of a word that begins with no letter
 abbrev pub said_of_marks : List ℕ → Option (List ℕ)
@@ -196,12 +210,12 @@ said_of_beginning word = if begins_comment word then Some (codes "a comment begi
     else (if begins_with (codes "subprocess.") word || begins_with (codes "os.") word || is_of_tmux word then Some runs_no_programs
     else None)))
 
--- of how the word begins, or else what the tables have of it as it is; or else of the value that it gives; or else how
+-- of how the word begins, or else what the tables have of it, with underscores for its hyphens; or else of the value that it gives; or else how
 -- the call in it is written; or else of the name of what it calls; or else of what the word is near, of a part of that name, of
 -- the marks of the word, or of what that name is near
 unfoldable pub said_of : List ℕ → Option (List ℕ)
 said_of word = or_else (said_of_beginning word)
-    (or_else (advice_on word)
+    (or_else (advice_on (underscored word))
     (or_else (said_of_given word)
     (or_else (said_of_written word)
     (or_else (said_of_name (called_name word))

@@ -25,7 +25,7 @@ const ASCII: &[u8] = b"characters are those of ASCII";
 
 const COLOURS: &[u8] = b"colours are there from the first line on: see init_pair";
 
-const SCREEN: &[u8] = b"the screen is there from the first line on, and ends with the script";
+pub const SCREEN: &[u8] = b"the screen is there from the first line on, and ends with the script";
 
 const MOUSE: &[u8] = b"no call reads the mouse";
 
@@ -416,7 +416,7 @@ const ADVICE: [(u8, &[Row]); 28] = [
         (SCREEN_SIZE, b"size"),
         (FLAGS, b"syncok"),
         (POINTERS, b"set_panel_userptr set_userptr"),
-        (b"see scrollok", b"scrlok"),
+        (b"see scrollok", b"scrlok setscroll"),
         (ASCII, b"setcchar setlocale"),
         (LABELS,
             b"slk_attr slk_attr_off slk_attr_on slk_attr_set slk_attroff slk_attron slk_attrset slk_clear \
@@ -426,7 +426,7 @@ const ADVICE: [(u8, &[Row]); 28] = [
         (UPDATES, b"show_screen sync"),
         (SHOWN, b"show show_window"),
         (RAISED, b"send_to_back"),
-        (b"see setscrreg", b"setscroll setscrollreg set_scroll_region scroll_region"),
+        (b"see setscrreg", b"setscrollreg set_scroll_region scroll_region"),
         (COLOURED, b"setcolor set_color setpair set_pair setaf setab"),
         (WAITS, b"sleep"),
         (BEGINNINGS, b"stdscr"),

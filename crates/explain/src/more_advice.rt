@@ -8,7 +8,7 @@ ghost use Rattle.explain.specs.Names.{has_part};
 ghost use Rattle.explain.specs.steps.Tables.{rows_now};
 
 use crate::advice::{
-    CALLS_ALONE, COLOURED, FORMATS, MENUS, PROGRAMS, REFRESHED, Row, UPDATES, look_up,
+    CALLS_ALONE, COLOURED, FORMATS, MENUS, PROGRAMS, REFRESHED, Row, SCREEN, UPDATES, look_up,
 };
 use crate::names::has_part;
 use script::split_at_space;
@@ -26,7 +26,7 @@ pub const SHELL: &[u8] = b"this belongs in the shell: a script has calls alone";
 
 /// Names like those of calls that the table of `advice` has no room for.
 #[rattlefmt::skip]
-const LIKE_CALLS: [Row; 27] = [
+const LIKE_CALLS: [Row; 37] = [
     (b"see delwin, del_panel", b"del remove free"),
     (b"pairs have the terminal's colours until they are set: see init_pair",
         b"use_default_colors assume_default_colors"),
@@ -35,12 +35,12 @@ const LIKE_CALLS: [Row; 27] = [
     (b"see del_panel", b"destroy_panel remove_panel free_panel"),
     (b"see scrl, scrollok", b"scroll"),
     (b"see move_panel", b"mvpanel mv_panel panelmove"),
-    (b"see mvwin", b"mvwindow mv_window"),
-    (b"see newwin", b"create_newwin newwindows winnew"),
+    (b"see mvwin", b"mvwindow mv_window win_move"),
+    (b"see newwin", b"create_newwin newwindows winnew win_new"),
     (b"see newwin, derwin", b"nerwin"),
-    (b"see delch, deleteln", b"dellin delln deleln deletelines delete_lines dl1 dch1"),
-    (b"see insertln", b"insln insertlines insert_line insert_lines il1"),
-    (b"see insch, for each character", b"ich1 insstring insertstr inserttext"),
+    (b"see delch, deleteln", b"dellin delln deleln deletelines delete_lines dl1 dch1 dl dch"),
+    (b"see insertln", b"insln insertlines insert_line insert_lines il1 il"),
+    (b"see insch, for each character", b"ich1 ich insert_char insstring insertstr inserttext"),
     (b"see move, insch", b"mvinsstr mvinsnstr mvwinsstr mvwinsnstr"),
     (b"each call names its window or panel", b"setwin set_window select_window current"),
     (b"see pnoutrefresh", b"refresh_pad refreshpad pad_refresh padrefresh"),
@@ -49,9 +49,11 @@ const LIKE_CALLS: [Row; 27] = [
     (BACKGROUNDS, b"bgset bgpair bkpair bkg"),
     (b"see color_set, init_pair", b"op oc setfg setbg set_fg set_bg set_colour set_colors set_colours"),
     (b"see move, addstr",
-        b"draw_text write_text print_text put_text show_text display_text print_at mvaddnstr mvwaddnstr"),
+        b"draw_text write_text print_text put_text show_text display_text print_at mvaddnstr mvwaddnstr \
+        mv_add_str drawtext printat outtext outtextxy cputs add addline str msg message win_write window_write \
+        window_print"),
     (b"no call formats: see move, addstr", b"mvprintw mvwprintw"),
-    (b"see getyx, getbegyx, getmaxyx", b"wherexy wherex getbeg getwinsize getxmaxy"),
+    (b"see getyx, getbegyx, getmaxyx", b"wherexy wherex wherey getbeg getwinsize getxmaxy maxx maxy begx begy curx cury"),
     (b"see noutrefresh, update_panels, doupdate",
         b"updateall update_all updatewin update_win flip swap present blit commit draw_window"),
     (b"see addstr, update_panels, doupdate", b"draw"),
@@ -59,11 +61,21 @@ const LIKE_CALLS: [Row; 27] = [
     (b"characters are those of ASCII: see addstr, addch",
         b"add_wch add_wchstr add_wchnstr addwstr addnwstr echo_wchar pecho_wchar"),
     (b"characters are those of ASCII: see bkgdset", b"bkgrnd bkgrndset"),
+    (b"see top_panel, bottom_panel", b"panel_bottom panel_raise panel_lower"),
+    (b"see panel_above, panel_below", b"above_panel below_panel"),
+    (b"see replace_panel", b"panel_replace swap_panel"),
+    (b"see panel_hidden", b"hidden_panel is_panel_hidden"),
+    (b"see panel_window", b"window_panel get_panel_window"),
+    (b"see delch", b"delete_char delete_ch"),
+    (b"see newpad", b"create_pad pad_new"),
+    (b"see delwin", b"delpad del_pad pad_del win_del"),
+    (COLOURED, b"new_pair make_pair define_pair pair_init yellow cyan magenta gray"),
+    (MENUS, b"msgbox yesno gauge inputbox"),
 ];
 
 /// Words of terminals, shells and other languages that it has no room for.
 #[rattlefmt::skip]
-const FOREIGN: [Row; 24] = [
+const FOREIGN: [Row; 25] = [
     (b"see move; a script has no jumps", b"goto gosub"),
     (CURSOR_SHOWN,
         b"cursor curs_set civis cnorm hide_cursor show_cursor hidecursor showcursor cursor_hide cursor_show \
@@ -77,22 +89,22 @@ const FOREIGN: [Row; 24] = [
     (b"no call rings or flashes", b"beep flash bell"),
     (b"see delwin, del_panel; the screen ends with the script", b"close"),
     (b"see addstr; --log belongs on the command line", b"log"),
-    (b"the end of a here-document stands alone; the screen ends with the script", b"end eod here end_of_script"),
-    (b"see addstr, noutrefresh", b"display-message append"),
+    (b"the end of a here-document stands alone; the screen ends with the script", b"end eod HERE end_of_script"),
+    (b"see addstr, noutrefresh", b"display_message append"),
     (b"a comment begins with #, and has a line of its own", b"todo fixme note nb dnl"),
-    (b"see move, which takes a line and a column", b"home hpa vpa cuu1 cub1 cuf1 cud1 setpos go"),
-    (b"see clrtoeol, clrtobot", b"el el1 ed clrline clrtoend"),
-    (RENDITIONS, b"smso rmso smul rmul rev sgr invis style font noattr plain"),
-    (b"see setscrreg, scrl", b"csr ind ri"),
-    (b"see addstr, which draws lines by + - and |", b"acsc smacs rmacs hr vr hl vl draw_line drawline draw_border"),
+    (b"see move, which takes a line and a column", b"home hpa vpa cuu1 cub1 cuf1 cud1 setpos go gotoyx goto_xy gotorc position"),
+    (b"see clrtoeol, clrtobot", b"el el1 ed ech clrline clrtoend"),
+    (RENDITIONS, b"smso rmso smul rmul rev sgr invis style font noattr plain bold_on underline_on highvideo lowvideo normvideo"),
+    (b"see setscrreg, scrl", b"csr ind indn ri rin"),
+    (b"see addstr, which draws lines by + - and |", b"acsc smacs rmacs hr vr hl vl draw_line drawline draw_border draw_rect circle window_box"),
     (b"no call reads a key", b"smkx rmkx waitkey wait_key press crmode nocrmode"),
     (b"zsh's module has names of its own: see newwin, addstr", b"zcurses"),
     (PICTURE, b"rendition"),
+    (SCREEN, b"close_screen start_screen screen_init initialize finish"),
     (SHELL, b"coproc chmod select"),
     (PROGRAMS,
         b"python3 perl ruby lua node git less gcc cc vi vim nano ssh curl wget find head tail date time env who \
-        xargs sort tr cut seq tee jobs yes which xterm apt pip npm docker swap-window rename-window \
-        select-window"),
+        xargs sort tr cut seq tee jobs yes which xterm apt pip npm docker swap_window rename_window"),
     (CALLS_ALONE,
         b"assert async yield finally default extern public private package program procedure module proc match \
         impl mod pub defer not typeset readonly getopts shift setenv nil self super malloc strlen memset fopen \

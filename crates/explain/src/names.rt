@@ -4,7 +4,7 @@ ghost use Rattle.std.specs.Prelude.{◌≡◌, ◌≤◌, ◌||◌, drop, length
 ghost use Rattle.std.specs.Char.{is_ascii_alphabetic, is_ascii_hexdigit};
 ghost use Rattle.std.specs.List.{list_all, list_any};
 ghost use Rattle.script.specs.Pieces.{pieces_of};
-ghost use Rattle.explain.specs.Names.{after_dot, after_name, are_digits, are_like_digits, are_like_two_digits, are_two_digits, begins_comment, begins_with_digit, ends_with, gives_value, has_byte, has_part, has_value, is_comment, is_like_digit, is_marked, is_name_byte, is_quoted, is_redirection, name_in, name_of_argument};
+ghost use Rattle.explain.specs.Names.{after_dot, after_name, are_digits, are_like_digits, are_like_two_digits, are_two_digits, begins_comment, begins_with_digit, ends_with, gives_value, has_byte, has_part, has_value, is_comment, is_like_digit, is_marked, is_name_byte, is_quoted, is_redirection, name_in, name_of_argument, underscore_for, underscored};
 
 use crate::advice::is_among;
 use arrayvec::ArrayVec;
@@ -146,6 +146,27 @@ pub fn name_of(word: &[u8]) -> Name
             return name;
         }
         name.push(byte.to_ascii_lowercase());
+        left = rest;
+    }
+    name
+}
+
+/// A byte of a name, with an underscore for a hyphen.
+fn underscore_for(byte: u8) -> u8
+    ensures { result ≡ underscore_for byte }
+{
+    if byte == b'-' { b'_' } else { byte }
+}
+
+/// A word with underscores for its hyphens.
+pub fn underscored(word: &[u8]) -> Name
+    requires { length word.now ≤ LONGEST_LINE }
+    ensures { result.items ≡ underscored word.now }
+{
+    let mut name = Name::new();
+    let mut left = word;
+    while let Some((byte, rest)) = left.split_first() {
+        name.push(underscore_for(*byte));
         left = rest;
     }
     name

@@ -1,10 +1,11 @@
 //! What to write for a word that is no call.
 
 ghost use Rattle.std.specs.Prelude.{◌≡◌, ◌≤◌, ◌+◌, ◌++◌, IfSome, codes, length, option_map, take};
-ghost use Rattle.std.specs.List.{list_any};
+ghost use Rattle.std.specs.List.{list_all, list_any};
 ghost use Rattle.script.specs.Pieces.{pieces_of, room_of};
-ghost use Rattle.explain.specs.Names.{called_name, is_name_byte};
-ghost use Rattle.explain.specs.Suggestions.{advice_on_rest, after_prefix, begins_with_call, gives_place, is_before_call, is_echo, is_label, is_of_log, is_of_picture, is_of_shell, is_of_tmux, is_statement, is_step, last_word, no_variables, nothing_before, number_first, said_near_name, said_of, said_of_backslash, said_of_beginning, said_of_given, said_of_line, said_of_marks, said_of_name, said_of_near, said_of_two, said_of_value, said_of_written, say_call, see_longer, see_nearest, written_advice};
+ghost use Rattle.explain.specs.Advice.{advice_on};
+ghost use Rattle.explain.specs.Names.{called_name, is_name_byte, underscored};
+ghost use Rattle.explain.specs.Suggestions.{advice_on_rest, after_prefix, begins_with_call, gives_place, is_before_call, is_between, is_drawn, is_echo, is_label, is_of_log, is_of_picture, is_of_shell, is_of_tmux, is_statement, is_step, is_stroke, last_word, no_variables, nothing_before, number_first, said_near_name, said_of, said_of_backslash, said_of_beginning, said_of_given, said_of_line, said_of_marks, said_of_name, said_of_near, said_of_two, said_of_value, said_of_written, say_call, see_longer, see_nearest, written_advice};
 ghost use Rattle.explain.specs.steps.Suggestions.{said_now};
 
 use crate::advice::{CALLS_ALONE, COMMAND_LINE, PAIRS, PROGRAMS, SCREEN_SIZE, advice_on, is_among};
@@ -12,7 +13,7 @@ use crate::more_advice::{PICTURE, SHELL, advice_by_part};
 use crate::names::{
     Name, after_first, after_name, begins_comment, begins_with_digit, begins_with_letter,
     ends_with, gives_value, has_byte, has_part, has_value, is_comment, is_name_byte, is_quoted,
-    is_redirection, name_of,
+    is_redirection, name_of, underscored,
 };
 use crate::nearest::{nearest, nearest_other};
 use script::{LONGEST_LINE, Word, split_at_space};
@@ -225,16 +226,48 @@ fn last_word<'a>(word: &'a [u8], text: Option<&'a [u8]>) -> &'a [u8]
     last_word(first, rest)
 }
 
+/// Whether lines and arrows are drawn with a byte.
+fn is_stroke(byte: u8) -> bool
+    ensures { result ≡ is_stroke byte }
+{
+    has_byte(b"-+/\\|<>", byte)
+}
+
+/// Whether they are with all bytes of a text.
+fn are_strokes(text: &[u8]) -> bool
+    ensures { result ≡ list_all is_stroke text.now }
+{
+    text.iter().all(|b| is_stroke(*b))
+}
+
+/// Whether a word is of lines and arrows alone, and begins no comment and no redirection.
+fn is_drawn(word: &[u8]) -> bool
+    ensures { result ≡ is_drawn word.now }
+{
+    1 < word.len() && are_strokes(word) && !(begins_comment(word) || is_redirection(word))
+}
+
+/// Whether a word and those after it stand between bars or strokes.
+fn is_between(word: &[u8], text: Option<&[u8]>) -> bool
+    ensures { result ≡ is_between word.now (pieces_of text.entry) }
+{
+    let last = last_word(after_first(word), text);
+    word.strip_prefix(b"|").is_some() && ends_with(last, b'|')
+        || word == b"/".as_slice() && ends_with(last, b'/')
+        || word == b"\\".as_slice() && ends_with(last, b'\\')
+}
+
 /// Whether a word and those after it are a line of a picture.
 fn is_of_picture(word: &[u8], text: Option<&[u8]>) -> bool
     ensures { result ≡ is_of_picture word.now (pieces_of text.entry) }
 {
-    let rest = after_first(word);
-    word.strip_prefix(b"+-").is_some()
+    is_drawn(word)
+        || is_between(word, text)
+        || word.strip_prefix(b"+-").is_some()
+        || after_name(word).strip_prefix(b"---").is_some()
         || word.strip_prefix(b"%-").is_some()
         || (word.strip_prefix(b":").is_some() || word.strip_prefix(b"%").is_some())
-            && begins_with_digit(rest)
-        || word.strip_prefix(b"|").is_some() && ends_with(last_word(rest, text), b'|')
+            && begins_with_digit(after_first(word))
 }
 
 /// Whether a word and those after it write a call by a shell.
@@ -255,7 +288,7 @@ fn is_statement(word: &[u8], text: Option<&[u8]>) -> bool
 {
     let Some(text) = text else { return false };
     let (first, _) = split_at_space(text);
-    is_among(word, b"raise goto GOTO DIM Dim END End") && begins_with_letter(first)
+    is_among(word, b"raise goto GOTO DIM Dim END End end") && begins_with_letter(first)
 }
 
 /// Whether the first word of a text is a call.
@@ -362,11 +395,11 @@ fn is_step(word: &[u8]) -> bool
         || begins_with_name(word) && after_name(word).strip_prefix(b"--").is_some()
 }
 
-/// Whether a word is one of shells: a variable, a redirection, a pipe, or a prompt.
+/// Whether a word is one of shells: a variable, a redirection, a pipe, or a prompt. With `<` a tag begins.
 fn is_of_shell(word: &[u8]) -> bool
     ensures { result ≡ is_of_shell word.now }
 {
-    word.strip_prefix(b"$").is_some() || is_redirection(word)
+    word.strip_prefix(b"$").is_some() || is_redirection(word) && word.strip_prefix(b"<").is_none()
 }
 
 /// What is said of a word that begins with no letter.
@@ -531,6 +564,15 @@ fn said_of_beginning(word: &[u8]) -> Option<&'static [u8]>
     None
 }
 
+/// What the tables have of a word with underscores for its hyphens.
+fn advice_on_word(word: &[u8]) -> Option<&'static [u8]>
+    requires { length word.now ≤ LONGEST_LINE }
+    ensures said { option_map (λ text. text.now) result ≡ advice_on (underscored word.now) }
+    ensures short { IfSome result (λ text. length text.now ≤ 80) }
+{
+    advice_on(underscored(word).as_slice())
+}
+
 /// What is said of a word that is no call, with the name of what it calls.
 #[tactic(auto, unfolding(crate::specs::Suggestions::said_of))]
 pub fn said_of<'a>(word: &[u8], name: &'a [u8]) -> Option<Said<'a>>
@@ -543,7 +585,7 @@ pub fn said_of<'a>(word: &[u8], name: &'a [u8]) -> Option<Said<'a>>
     if let Some(text) = said_of_beginning(word) {
         return Some(Said { text, call: b"" });
     }
-    if let Some(text) = advice_on(word) {
+    if let Some(text) = advice_on_word(word) {
         return Some(Said { text, call: b"" });
     }
     if let Some(text) = said_of_given(word) {
