@@ -169,7 +169,9 @@ fn end_report<O: Sink>(out: &mut O, checked: Checked) -> bool
 }
 
 /// Reads a script to its end or until a read fails, says on the output of each faulty line where it is and what is
-/// wrong, and after them how many they are, and answers the status.
+/// wrong, and after them how many they are, and answers the status. It isn't inlined, so that what runs a script has no
+/// room for findings on the stack.
+#[inline(never)]
 pub fn check_script<R: Source, O: Sink, L: Sink>(input: &mut R, out: &mut O, log: &mut L) -> u8
     ensures checked { Checks (R.seen input.old) (R.seen input.new) (outputs (O.seen out.old) (L.seen log.old))
         (outputs (O.seen out.new) (L.seen log.new)) result }

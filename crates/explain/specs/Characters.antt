@@ -57,9 +57,10 @@ is_mark_elsewhere rest = begins_with (226 ∷ 128 ∷ []) rest || begins_with (2
 -- of a bad byte that begins a text
 abbrev pub bad_text_advice : ℕ → List ℕ → List ℕ
 bad_text_advice b rest = if draws_line rest then codes "characters are those of ASCII: lines are drawn by + - and |"
-    else (if is_space_elsewhere rest || is_unseen rest then codes "this space is not in ASCII: write a plain one, or none"
+    else (if is_space_elsewhere rest then codes "this space is not in ASCII: write a plain one, or none"
+    else (if is_unseen rest then codes "this character is not seen, and not in ASCII: leave it out"
     else (if is_mark_elsewhere rest then codes "write such marks in ASCII, as \" ' - and ..."
-    else byte_advice b))
+    else byte_advice b)))
 
 -- ---- escapes
 

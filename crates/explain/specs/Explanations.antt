@@ -8,7 +8,8 @@ use Rattle.script.specs.declared.fault.TextFault.{TextFault}
 use Rattle.script.specs.declared.fault.TextFault.TheVariants.{LineTooLong, BadByte, UnknownCall, WrongNumberOfArguments, BadArgument}
 use Rattle.explain.specs.Characters.{bad_text_advice}
 use Rattle.explain.specs.Faults.{IllFormed, arguments_in, bad_place, column_of, find_ill_formed_in, find_stray_in, forms_of, place_of, word_in}
-use Rattle.explain.specs.Names.{begins_comment, begins_with, is_one_of, quotation_mark}
+use Rattle.explain.specs.Groups.{writes}
+use Rattle.explain.specs.Names.{begins_comment, begins_with, quotation_mark}
 use Rattle.explain.specs.Nearest.{call_of_words}
 use Rattle.explain.specs.Numbers.{number_reason, signature_text}
 use Rattle.explain.specs.Reasons.{no_window, reason_after, requirement_of}
@@ -61,7 +62,7 @@ number_text word taken given = word ++ codes " takes " ++ count_text taken ++ co
 -- what is said of a stray argument after a word: a text or a character may begin as a comment does
 abbrev pub stray_text : List ℕ → List ℕ → List ℕ
 stray_text word argument = if length argument == 0 then codes ": single spaces separate words, and none ends a line"
-    else (if is_one_of (codes "addstr addch insch") word then no_window
+    else (if writes word then no_window
     else (if begins_comment argument then codes ": a comment has a line of its own, and begins with #"
     else codes ": a comment has a line of its own"))
 

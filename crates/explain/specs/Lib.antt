@@ -1,4 +1,5 @@
 pub mod Names
+pub mod Groups
 pub mod Nearest
 pub mod Advice
 pub mod Suggestions

@@ -7,6 +7,7 @@ use Rattle.script.specs.Characters.{backslash}
 use Rattle.script.specs.Readings.{arguments}
 use Rattle.script.specs.Words.{word_of}
 use Rattle.explain.specs.Faults.{IllFormed, find_ill_formed, forms_of, is_word, place_of}
+use Rattle.explain.specs.Groups.{sets_attributes, sets_pair, takes_place_of_cursor, writes}
 use Rattle.explain.specs.Names.{are_digits, are_two_digits, begins_with_digit, comma, ends_with, equals_sign, has_byte, is_one_of, is_redirection, name_in, semicolon, vertical_bar}
 use Rattle.explain.specs.Nearest.{or_else}
 use Rattle.explain.specs.Reasons.{is_bracketed, no_brackets, no_commas, no_names, no_redirections, one_window, reason_after}
@@ -34,7 +35,7 @@ has_redirection pieces = list_any is_redirection pieces
 
 -- attributes that bars or other marks join, as in C
 abbrev pub joins_attributes : List ℕ → List ℕ → List (List ℕ) → Bool
-joins_attributes word line pieces = is_one_of (codes "attrset attron attroff") word && (has_byte vertical_bar line || has_redirection pieces)
+joins_attributes word line pieces = sets_attributes word && (has_byte vertical_bar line || has_redirection pieces)
 
 -- several arguments as one, as `3x4` and `2-5`: a digit begins it, and it is no number and no attributes
 abbrev pub is_joined : List ℕ → Bool
@@ -45,7 +46,7 @@ has_joined pieces = list_any is_joined pieces
 
 -- a call with a text or a character, in which most marks may be, takes what is after its other arguments
 abbrev pub takes_text : List ℕ → Bool
-takes_text word = is_one_of (codes "addstr addch insch bkgdset") word
+takes_text word = writes word || bytes_eq word (codes "bkgdset")
 
 -- by the words after the first, which may be too many, and by the marks of the line
 abbrev pub marks_reason : List ℕ → List (List ℕ) → Bool → Option (List ℕ)
@@ -65,12 +66,12 @@ between_reason word line ill = if has_byte comma line then no_commas
 
 -- of a call with too many
 abbrev pub too_many_reason : List ℕ → Option (List ℕ)
-too_many_reason word = if is_one_of (codes "attrset attron attroff") word then Some (codes ": attributes are one sum, as 11; see addstr for a text, color_set for a colour")
-    else (if is_one_of (codes "color_set bkgdpair") word then Some (codes ": one pair, which has its colours by init_pair, and no NULL after it")
+too_many_reason word = if sets_attributes word then Some (codes ": attributes are one sum, as 11; see addstr for a text, color_set for a colour")
+    else (if sets_pair word then Some (codes ": one pair, which has its colours by init_pair, and no NULL after it")
     else (if is_one_of (codes "getyx getbegyx getmaxyx getparyx") word then Some (codes ": the answer is in the log, and no variables take it")
-    else (if is_one_of (codes "inch delch insertln deleteln clrtoeol clrtobot") word then Some one_window
+    else (if takes_place_of_cursor word then Some one_window
     else (if bytes_eq word (codes "move") then Some (codes ": window, line, column; addstr writes a text after it")
-    else (if is_one_of (codes "new_panel") word then Some (codes ": one window, which newwin made; the panel's number is its answer")
+    else (if bytes_eq word (codes "new_panel") then Some (codes ": one window, which newwin made; the panel's number is its answer")
     else (if is_one_of (codes "overlay overwrite") word then Some (codes ": copywin copies a part")
     else None))))))
 

@@ -8,6 +8,7 @@ use Rattle.script.specs.Characters.{backslash, digit_0, number_sign}
 use Rattle.script.specs.declared.words.Form.{Form}
 use Rattle.script.specs.declared.words.Form.TheVariants.{Number, NumberOrNone, Signed, Attributes, Flag, Character, Text}
 use Rattle.explain.specs.Characters.{character_reason, text_reason}
+use Rattle.explain.specs.Groups.{sets_attributes, sets_pair, takes_place_of_cursor, writes}
 use Rattle.explain.specs.Names.{are_digits, are_like_digits, are_like_two_digits, are_two_digits, begins_with, begins_with_digit, comma, ends_with, equals_sign, has_byte, has_part, is_comment, is_marked, is_name_byte, is_one_of, is_quoted, is_redirection, name_of_argument, semicolon, vertical_bar}
 
 -- what an argument of a form has to be
@@ -137,7 +138,7 @@ first_reason word = if is_one_of (codes "newwin newpad") word then codes ": line
     else (if is_one_of (codes "clear erase") word then codes ": a window's number alone; stdscr is 0; for parts see clrtoeol, clrtobot, delch"
     else (if bytes_eq word (codes "touchwin") then codes ": a window's number alone; stdscr is 0; for lines see touchline"
     else (if bytes_eq word (codes "noutrefresh") then codes ": a window's number alone; stdscr is 0; for a pad see pnoutrefresh"
-    else (if is_one_of (codes "inch delch insertln deleteln clrtoeol clrtobot") word then one_window
+    else (if takes_place_of_cursor word then one_window
     else (if has_part (codes "panel") word then codes ": a panel's number comes first, from 1 as made; stdscr is in no panel"
     else codes ": a window's number comes first, from 1 as made; stdscr is 0"))))))))
 
@@ -147,7 +148,7 @@ second_reason word = if bytes_eq word (codes "replace_panel")
     then codes ": the window is a number too, from 1 as made, and not 0, which is stdscr"
     else (if is_one_of (codes "overlay overwrite copywin") word then codes ": the second window is a number too, from 1 as made; stdscr is 0"
     else (if bytes_eq word (codes "scrl") then codes ": one number: lines go up, or down with a minus right before its digits"
-    else (if is_one_of (codes "color_set bkgdpair") word then codes ": a pair is a number, which has its colours by init_pair"
+    else (if sets_pair word then codes ": a pair is a number, which has its colours by init_pair"
     else numbers_in_digits)))
 
 -- what colours are
@@ -260,7 +261,7 @@ pair_reason argument = if begins_with (codes "color_pair") (name_of_argument arg
 
 -- of an argument after the first
 abbrev pub later_reason : List ℕ → List ℕ → Option (List ℕ)
-later_reason word argument = if is_one_of (codes "color_set bkgdpair") word then pair_reason argument
+later_reason word argument = if sets_pair word then pair_reason argument
     else (if bytes_eq word (codes "init_pair") && (is_one_of (codes "- -1") argument || is_default (name_of_argument argument))
     then Some (codes ": no number is the terminal's own colour, which pairs have until they are set")
     else (if bytes_eq word (codes "init_pair") && (is_mixed argument || is_list argument) then Some colours
@@ -290,8 +291,8 @@ window_reason argument = if not (is_like_window argument) then Some no_window
 
 abbrev pub reason_of_call : List ℕ → ℕ → List ℕ → Option (List ℕ)
 reason_of_call word place argument = if not (place == 0) then later_reason word argument
-    else (if is_one_of (codes "addstr addch insch") word then window_reason argument
-    else (if is_one_of (codes "attrset attron attroff bkgdset") word && are_two_digits argument
+    else (if writes word then window_reason argument
+    else (if (sets_attributes word || bytes_eq word (codes "bkgdset")) && are_two_digits argument
     then Some (codes ": the window comes first, then the attributes; a number has no leading 0")
     else None))
 

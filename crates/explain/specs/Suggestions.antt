@@ -210,9 +210,8 @@ said_of_beginning word = if begins_comment word then Some (codes "a comment begi
     else (if begins_with (codes "subprocess.") word || begins_with (codes "os.") word || is_of_tmux word then Some runs_no_programs
     else None)))
 
--- of how the word begins, or else what the tables have of it, with underscores for its hyphens; or else of the value that it gives; or else how
--- the call in it is written; or else of the name of what it calls; or else of what the word is near, of a part of that name, of
--- the marks of the word, or of what that name is near
+-- The first that is said: of how the word begins, of the word as the tables have it, of the value that it gives, of how the
+-- call in it is written, of what it calls, of what it is near, of a part of what it calls, of its marks, of what that is near.
 unfoldable pub said_of : List ℕ → Option (List ℕ)
 said_of word = or_else (said_of_beginning word)
     (or_else (advice_on (underscored word))

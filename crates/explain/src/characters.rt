@@ -78,7 +78,8 @@ fn is_unseen(rest: &[u8]) -> bool
         || rest.strip_prefix(b"\xef\xbb\xbf").is_some()
 }
 
-/// What is said of a bad byte that begins a text: of lines, spaces, quotes and dashes in UTF-8, or of the byte.
+/// What is said of a bad byte that begins a text: of lines, spaces, what isn't seen, quotes and dashes in UTF-8, or of
+/// the byte.
 pub fn bad_text_advice(byte: u8, rest: &[u8]) -> &'static [u8]
     ensures text { result.now ≡ bad_text_advice byte rest.now }
     ensures short { length result.now ≤ 80 }
@@ -86,8 +87,11 @@ pub fn bad_text_advice(byte: u8, rest: &[u8]) -> &'static [u8]
     if draws_line(rest) {
         return b"characters are those of ASCII: lines are drawn by + - and |";
     }
-    if is_space_elsewhere(rest) || is_unseen(rest) {
+    if is_space_elsewhere(rest) {
         return b"this space is not in ASCII: write a plain one, or none";
+    }
+    if is_unseen(rest) {
+        return b"this character is not seen, and not in ASCII: leave it out";
     }
     if rest.strip_prefix(b"\xe2\x80").is_some() || rest.strip_prefix(b"\xe2\x88\x92").is_some() {
         return b"write such marks in ASCII, as \" ' - and ...";

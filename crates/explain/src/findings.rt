@@ -8,10 +8,10 @@ ghost use Rattle.explain.specs.Explanations.{bad_byte_advice, bad_byte_text, bad
 ghost use Rattle.explain.specs.Reasons.{reason_after};
 ghost use Rattle.explain.specs.Suggestions.{call_advice, line_advice, said_of};
 
-use crate::advice::is_among;
 use crate::arguments::{IllFormed, Stray, count, find_ill_formed, find_stray, forms_of};
 use crate::characters::bad_text_advice;
 use crate::column::{bad_byte, bad_place, column_of, from_bad_byte};
+use crate::groups::writes;
 use crate::names::{after_dot, begins_comment, name_of};
 use crate::nearest::{call_of_words, near_call_of_words};
 use crate::numbers::number_reason;
@@ -225,7 +225,7 @@ fn stray_text(word: &[u8], argument: &[u8]) -> &'static [u8]
 {
     if argument.is_empty() {
         b": single spaces separate words, and none ends a line"
-    } else if is_among(word, b"addstr addch insch") {
+    } else if writes(word) {
         no_window()
     } else if begins_comment(argument) {
         b": a comment has a line of its own, and begins with #"

@@ -6,6 +6,7 @@
 //! - `column`: where the fault is
 //! - `everywhere`: the calls that every screen refuses
 //! - `findings`: the line on a fault
+//! - `groups`: the calls of which the same is said
 //! - `laws`: the numerals that are printed are the limits
 //! - `more_advice`: further names, and parts of names
 //! - `names`: the name that a word begins with, and what begins a comment elsewhere
@@ -22,6 +23,7 @@ mod characters;
 mod column;
 mod everywhere;
 mod findings;
+mod groups;
 mod laws;
 mod more_advice;
 mod names;

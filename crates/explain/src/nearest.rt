@@ -1,5 +1,5 @@
-//! The call, or another name, that a word was meant to be, where one letter of it is wrong, or two changed places, or its
-//! case, or what else is no letter.
+//! The call, or another name, that a word was meant to be, where one letter of it is wrong, or two changed places, or
+//! its case, or what else is no letter.
 
 ghost use Rattle.std.specs.Prelude.{◌≡◌, ◌≤◌, ◌<◌, ◌+◌, ◌++◌, ◌∷◌, [], IfSome, MatchOption, length, option_map};
 ghost use Rattle.std.specs.Str.{bytes_eq};

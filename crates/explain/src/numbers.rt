@@ -7,6 +7,7 @@ ghost use Rattle.explain.specs.Numbers.{begins_bracketed, begins_call, begins_nu
 
 use crate::advice::is_among;
 use crate::arguments::{IllFormed, find_ill_formed, forms_of, is_word};
+use crate::groups::{sets_attributes, sets_pair, takes_place_of_cursor, writes};
 use crate::names::{
     are_digits, are_two_digits, begins_with_digit, ends_with, has_byte, is_redirection, name_of,
 };
@@ -75,7 +76,7 @@ fn has_redirection(text: Option<&[u8]>) -> bool
 fn joins_attributes(word: &[u8], line: &[u8], text: Option<&[u8]>) -> bool
     ensures { result ≡ joins_attributes word.now line.now (pieces_of text.entry) }
 {
-    is_among(word, b"attrset attron attroff") && (has_byte(line, b'|') || has_redirection(text))
+    sets_attributes(word) && (has_byte(line, b'|') || has_redirection(text))
 }
 
 /// Whether a word is several arguments as one.
@@ -101,7 +102,7 @@ fn has_joined(text: Option<&[u8]>) -> bool
 fn takes_text(word: &[u8]) -> bool
     ensures { result ≡ takes_text word.now }
 {
-    is_among(word, b"addstr addch insch bkgdset")
+    writes(word) || word == b"bkgdset".as_slice()
 }
 
 /// What is said by the words after the first, which may be too many, and by the marks of the line.
@@ -142,7 +143,8 @@ fn between_reason(word: &[u8], line: &[u8], ill: IllFormed<'_>) -> &'static [u8]
     }
 }
 
-/// What is said of arguments that are too many: of what gives them names, of a word between numbers, or else of the call.
+/// What is said of arguments that are too many: of what gives them names, of a word between numbers, or else of the
+/// call.
 fn surplus_reason(word: &[u8], line: &[u8], text: Option<&[u8]>) -> Option<&'static [u8]>
     requires { room_of text ≤ LONGEST_LINE + 1 }
     ensures text { option_map (λ text. text.now) result ≡ surplus_reason word.now line.now (pieces_of text.entry) }
@@ -162,24 +164,24 @@ fn too_many_reason(word: &[u8]) -> Option<&'static [u8]>
     ensures text { option_map (λ text. text.now) result ≡ too_many_reason word.now }
     ensures short { IfSome result (λ text. length text.now ≤ 80) }
 {
-    if is_among(word, b"attrset attron attroff") {
+    if sets_attributes(word) {
         return Some(
             b": attributes are one sum, as 11; see addstr for a text, color_set for a colour",
         );
     }
-    if is_among(word, b"color_set bkgdpair") {
+    if sets_pair(word) {
         return Some(b": one pair, which has its colours by init_pair, and no NULL after it");
     }
     if is_among(word, b"getyx getbegyx getmaxyx getparyx") {
         return Some(b": the answer is in the log, and no variables take it");
     }
-    if is_among(word, b"inch delch insertln deleteln clrtoeol clrtobot") {
+    if takes_place_of_cursor(word) {
         return Some(one_window());
     }
     if word == b"move".as_slice() {
         return Some(b": window, line, column; addstr writes a text after it");
     }
-    if is_among(word, b"new_panel") {
+    if word == b"new_panel".as_slice() {
         return Some(b": one window, which newwin made; the panel's number is its answer");
     }
     if is_among(word, b"overlay overwrite") {

@@ -9,6 +9,7 @@ ghost use Rattle.explain.specs.Reasons.{attributes_reason, colours, copy_reason,
 use crate::advice::is_among;
 use crate::arguments::has_digit;
 use crate::characters::{character_reason, text_reason};
+use crate::groups::{sets_attributes, sets_pair, takes_place_of_cursor, writes};
 use crate::names::{
     after_first, are_digits, are_like_digits, are_like_two_digits, are_two_digits,
     begins_with_digit, begins_with_letter, ends_with, has_byte, has_part, is_comment, is_marked,
@@ -252,8 +253,8 @@ pub fn one_window() -> &'static [u8]
     b": one window, in which move sets the place first; stdscr is 0"
 }
 
-/// What is said of a word with no digits as the first argument: the number of a window, a pad or a panel comes first, but
-/// for calls that take none of them. Of some calls it is said what else is seen for what they don't take.
+/// What is said of a word with no digits as the first argument: the number of a window, a pad or a panel comes first,
+/// but for calls that take none of them. Of some calls it is said what else is seen for what they don't take.
 fn first_reason(word: &[u8]) -> &'static [u8]
     ensures text { result.now ≡ first_reason word.now }
     ensures short { length result.now ≤ 80 }
@@ -272,7 +273,7 @@ fn first_reason(word: &[u8]) -> &'static [u8]
         b": a window's number alone; stdscr is 0; for lines see touchline"
     } else if word == b"noutrefresh".as_slice() {
         b": a window's number alone; stdscr is 0; for a pad see pnoutrefresh"
-    } else if is_among(word, b"inch delch insertln deleteln clrtoeol clrtobot") {
+    } else if takes_place_of_cursor(word) {
         one_window()
     } else if has_part(word, b"panel") {
         b": a panel's number comes first, from 1 as made; stdscr is in no panel"
@@ -292,7 +293,7 @@ fn second_reason(word: &[u8]) -> &'static [u8]
         b": the second window is a number too, from 1 as made; stdscr is 0"
     } else if word == b"scrl".as_slice() {
         b": one number: lines go up, or down with a minus right before its digits"
-    } else if is_among(word, b"color_set bkgdpair") {
+    } else if sets_pair(word) {
         b": a pair is a number, which has its colours by init_pair"
     } else {
         numbers_in_digits()
@@ -584,7 +585,7 @@ fn later_reason(word: &[u8], argument: &[u8]) -> Option<&'static [u8]>
     ensures text { option_map (λ text. text.now) result ≡ later_reason word.now argument.now }
     ensures short { IfSome result (λ text. length text.now ≤ 80) }
 {
-    if is_among(word, b"color_set bkgdpair") {
+    if sets_pair(word) {
         return pair_reason(name_of_argument(argument).as_slice(), argument);
     }
     let name = name_of_argument(argument);
@@ -614,8 +615,8 @@ fn ends_in_mark(argument: &[u8]) -> bool
     }
 }
 
-/// Whether an argument is meant as the number of a window: it is one but for its size, a 0 or a letter, or what ends it; or
-/// one between marks; or a variable; or nothing.
+/// Whether an argument is meant as the number of a window: it is one but for its size, a 0 or a letter, or what ends
+/// it; or one between marks; or a variable; or nothing.
 fn is_like_window(argument: &[u8]) -> bool
     ensures { result ≡ is_like_window argument.now }
 {
@@ -635,7 +636,8 @@ pub fn no_window() -> &'static [u8]
     b": the window's number comes first, then the text or character; stdscr is 0"
 }
 
-/// What is said of the first argument of a call with a text or a character: anything else begins that, without the window.
+/// What is said of the first argument of a call with a text or a character: anything else begins that, without the
+/// window.
 fn window_reason(argument: &[u8]) -> Option<&'static [u8]>
     ensures text { option_map (λ text. text.now) result ≡ window_reason argument.now }
     ensures short { IfSome result (λ text. length text.now ≤ 80) }
@@ -658,10 +660,10 @@ fn reason_of_call(word: &[u8], place: usize, argument: &[u8]) -> Option<&'static
     if place != 0 {
         return later_reason(word, argument);
     }
-    if is_among(word, b"addstr addch insch") {
+    if writes(word) {
         return window_reason(argument);
     }
-    if is_among(word, b"attrset attron attroff bkgdset") && are_two_digits(argument) {
+    if (sets_attributes(word) || word == b"bkgdset".as_slice()) && are_two_digits(argument) {
         return Some(b": the window comes first, then the attributes; a number has no leading 0");
     }
     None
