@@ -92,7 +92,7 @@ advised =
     ∷ (codes "see insch", codes "insstr insnstr insert inschar inserch insertch")
     ∷ (codes "see insertln, deleteln", codes "insdelln insertline insline deleteline delete_line delline")
     ∷ (codes "see inch", codes "instr innstr inchstr inchnstr inchar")
-    ∷ (codes "see bkgdset, erase", codes "bkgd setbkgd fill")
+    ∷ (codes "see bkgdset, bkgdpair, erase", codes "bkgd setbkgd fill")
     ∷ (codes "no call answers a background: see inch", codes "getbkgd")
     ∷ (codes "a window keeps its size: see newwin, overwrite", codes "resize")
     ∷ (codes "the screen keeps its size, which the command line gives", codes "resizeterm resize_term is_term_resized")
@@ -160,7 +160,7 @@ advised =
     ∷ (codes "to write, see addstr; no call reads keys", codes "echo")
     ∷ (codes "see addch", codes "addchar add_char addc putch putc putchar put_char")
     ∷ (codes "see delch", codes "delchar deletech deletechar")
-    ∷ (codes "see clear, erase", codes "cls clr clrscr clearscreen clear_screen clear_window clearscr wipe reset")
+    ∷ (codes "see clear, erase", codes "cls clr clrscr clr_screen clearscreen clear_screen clear_window clearscr wipe reset")
     ∷ (codes "see clrtobot", codes "clrtobottom clrtoeos")
     ∷ (codes "see clrtoeol", codes "clear_line clearline erase_line clreol cleareol clear_to_eol")
     ∷ (updates, codes "update update_screen updatescreen flush redraw render display show_screen sync refresh_screen repaint fflush")
@@ -232,11 +232,11 @@ like_calls_advised =
     ∷ (codes "see scrl, scrollok", codes "scroll")
     ∷ (codes "see move_panel", codes "mvpanel mv_panel panelmove")
     ∷ (codes "see mvwin", codes "mvwindow mv_window win_move")
-    ∷ (codes "see newwin", codes "create_newwin newwindows winnew win_new")
+    ∷ (codes "see newwin", codes "create_newwin newwindows winnew win_new create_win make_win open_win")
     ∷ (codes "see newwin, derwin", codes "nerwin")
-    ∷ (codes "see delch, deleteln", codes "dellin delln deleln deletelines delete_lines dl1 dch1 dl dch")
-    ∷ (codes "see insertln", codes "insln insertlines insert_line insert_lines il1 il")
-    ∷ (codes "see insch, for each character", codes "ich1 ich insert_char insstring insertstr inserttext")
+    ∷ (codes "see delch, deleteln", codes "dellin delln deleln deletelines delete_lines dl1 dch1 dl dch del_line remove_line del_char")
+    ∷ (codes "see insertln", codes "insln insertlines insert_line insert_lines il1 il ins_line")
+    ∷ (codes "see insch, for each character", codes "ich1 ich insert_char insstring insertstr inserttext ins_char")
     ∷ (codes "see move, insch", codes "mvinsstr mvinsnstr mvwinsstr mvwinsnstr")
     ∷ (codes "each call names its window or panel", codes "setwin set_window select_window current")
     ∷ (codes "see pnoutrefresh", codes "refresh_pad refreshpad pad_refresh padrefresh")
@@ -247,13 +247,15 @@ like_calls_advised =
     ∷ (
       codes "see move, addstr",
       codes "draw_text write_text print_text put_text show_text display_text print_at mvaddnstr mvwaddnstr"
-          ++ codes " mv_add_str drawtext printat outtext outtextxy cputs add addline str msg message win_write window_write window_print",
+          ++ codes " mv_add_str drawtext printat outtext outtextxy cputs add addline str msg message win_write window_write window_print"
+          ++ codes " put_str put_string print_str print_string write_string write_char print_char addln setcontent moveprint",
     )
     ∷ (codes "no call formats: see move, addstr", codes "mvprintw mvwprintw")
-    ∷ (codes "see getyx, getbegyx, getmaxyx", codes "wherexy wherex wherey getbeg getwinsize getxmaxy maxx maxy begx begy curx cury")
+    ∷ (codes "see getyx, getbegyx, getmaxyx", codes "wherexy wherex wherey getbeg getwinsize getxmaxy maxx maxy begx begy curx cury get_pos max_yx")
     ∷ (
       codes "see noutrefresh, update_panels, doupdate",
-      codes "updateall update_all updatewin update_win flip swap present blit commit draw_window",
+      codes "updateall update_all updatewin update_win flip swap present blit commit draw_window display_window"
+          ++ codes " draw_screen redraw_screen redraw_win",
     )
     ∷ (codes "see addstr, update_panels, doupdate", codes "draw")
     ∷ (codes "see getmaxyx, move, addstr", codes "center centre print_center")
@@ -262,16 +264,17 @@ like_calls_advised =
       codes "add_wch add_wchstr add_wchnstr addwstr addnwstr echo_wchar pecho_wchar",
     )
     ∷ (codes "characters are those of ASCII: see bkgdset", codes "bkgrnd bkgrndset")
-    ∷ (codes "see top_panel, bottom_panel", codes "panel_bottom panel_raise panel_lower")
+    ∷ (codes "see top_panel, bottom_panel", codes "panel_bottom panel_raise panel_lower raise_window lower_window top_window bottom_window")
     ∷ (codes "see panel_above, panel_below", codes "above_panel below_panel")
-    ∷ (codes "see replace_panel", codes "panel_replace swap_panel")
+    ∷ (updates, codes "redraw_panels draw_panels refresh_panels")
+    ∷ (codes "see replace_panel", codes "panel_replace swap_panel replace_window")
     ∷ (codes "see panel_hidden", codes "hidden_panel is_panel_hidden")
     ∷ (codes "see panel_window", codes "window_panel get_panel_window")
     ∷ (codes "see delch", codes "delete_char delete_ch")
     ∷ (codes "see newpad", codes "create_pad pad_new")
-    ∷ (codes "see delwin", codes "delpad del_pad pad_del win_del")
+    ∷ (codes "see delwin", codes "delpad del_pad pad_del win_del delete_win remove_win close_win free_win delete_pad free_pad")
     ∷ (coloured, codes "new_pair make_pair define_pair pair_init yellow cyan magenta gray")
-    ∷ (no_menus, codes "msgbox yesno gauge inputbox")
+    ∷ (no_menus, codes "msgbox yesno gauge inputbox infobox checklist zenity")
     ∷ []
 
 -- words of terminals, shells and other languages, of which it is said where nothing is by these
@@ -293,15 +296,18 @@ foreign_advised =
     ∷ (codes "the end of a here-document stands alone; the screen ends with the script", codes "end eod HERE end_of_script")
     ∷ (codes "see addstr, noutrefresh", codes "display_message append")
     ∷ (codes "a comment begins with #, and has a line of its own", codes "todo fixme note nb dnl")
-    ∷ (codes "see move, which takes a line and a column", codes "home hpa vpa cuu1 cub1 cuf1 cud1 setpos go gotoyx goto_xy gotorc position")
-    ∷ (codes "see clrtoeol, clrtobot", codes "el el1 ed ech clrline clrtoend")
+    ∷ (
+      codes "see move, which takes a line and a column",
+      codes "home hpa vpa cuu1 cub1 cuf1 cud1 setpos go gotoyx goto_xy gotorc position set_pos set_position goto_pos move_pos",
+    )
+    ∷ (codes "see clrtoeol, clrtobot", codes "el el1 ed ech clrline clrtoend clr_line clr_eol")
     ∷ (renditions, codes "smso rmso smul rmul rev sgr invis style font noattr plain bold_on underline_on highvideo lowvideo normvideo")
     ∷ (codes "see setscrreg, scrl", codes "csr ind indn ri rin")
     ∷ (codes "see addstr, which draws lines by + - and |", codes "acsc smacs rmacs hr vr hl vl draw_line drawline draw_border draw_rect circle window_box")
     ∷ (codes "no call reads a key", codes "smkx rmkx waitkey wait_key press crmode nocrmode")
     ∷ (codes "zsh's module has names of its own: see newwin, addstr", codes "zcurses")
     ∷ (of_picture, codes "rendition")
-    ∷ (screen_is_there, codes "close_screen start_screen screen_init initialize finish")
+    ∷ (screen_is_there, codes "close_screen start_screen screen_init initialize finish fini newscreen")
     ∷ (of_shell, codes "coproc chmod select")
     ∷ (
       runs_no_programs,
@@ -312,7 +318,8 @@ foreign_advised =
       calls_alone,
       codes "assert async yield finally default extern public private package program procedure module proc match"
           ++ codes " impl mod pub defer not typeset readonly getopts shift setenv nil self super malloc strlen memset"
-          ++ codes " fopen fclose fgets abort atexit perror signal sizeof len",
+          ++ codes " fopen fclose fgets abort atexit perror signal sizeof len"
+          ++ codes " auto float double size_t val fun our sub foreach unless elseif namespace template catch throw final",
     )
     ∷ []
 

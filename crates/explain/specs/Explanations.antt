@@ -1,5 +1,5 @@
 -- What a person reads about a faulty line. The texts are Curspan's own.
-use Rattle.std.specs.Prelude.{◌==◌, ◌&&◌, ℕ, Bool, nat_lt, List, [], ◌∷◌, ◌++◌, codes, decimal, drop, length, slice_index, Option, Some, None, if◌then◌else◌}
+use Rattle.std.specs.Prelude.{◌==◌, ◌&&◌, ℕ, Bool, nat_lt, not, List, [], ◌∷◌, ◌++◌, codes, decimal, drop, length, slice_index, Option, Some, None, if◌then◌else◌}
 use Rattle.std.specs.List.{slice_split}
 use Rattle.std.specs.Option.{option_map_or, unwrap_or}
 use Rattle.cell.specs.Attributes.{hex_digits}
@@ -9,7 +9,7 @@ use Rattle.script.specs.declared.fault.TextFault.TheVariants.{LineTooLong, BadBy
 use Rattle.explain.specs.Characters.{bad_text_advice}
 use Rattle.explain.specs.Faults.{IllFormed, arguments_in, bad_place, column_of, find_ill_formed_in, find_stray_in, forms_of, place_of, word_in}
 use Rattle.explain.specs.Groups.{writes}
-use Rattle.explain.specs.Names.{begins_comment, begins_with, quotation_mark}
+use Rattle.explain.specs.Names.{begins_comment, begins_with, has_comment, quotation_mark}
 use Rattle.explain.specs.Nearest.{call_of_words}
 use Rattle.explain.specs.Numbers.{number_reason, signature_text}
 use Rattle.explain.specs.Reasons.{no_window, reason_after, requirement_of}
@@ -59,9 +59,14 @@ unknown_text word pieces = if length word == 0 then codes "the line begins with 
 abbrev pub number_text : List ℕ → ℕ → ℕ → List ℕ
 number_text word taken given = word ++ codes " takes " ++ count_text taken ++ codes ", " ++ decimal given ++ codes " given"
 
--- what is said of a stray argument after a word: a text or a character may begin as a comment does
-abbrev pub stray_text : List ℕ → List ℕ → List ℕ
-stray_text word argument = if length argument == 0 then codes ": single spaces separate words, and none ends a line"
+-- of two spaces, or one at the end, after a word and others: they may be before a comment, but for a text
+abbrev pub spaces_text : List ℕ → List (List ℕ) → List ℕ
+spaces_text word pieces = if has_comment pieces && not (writes word) then codes ": a comment has a line of its own, and begins with #"
+    else codes ": single spaces separate words, and none ends a line"
+
+-- what is said of a stray argument of those after a word: a text or a character may begin as a comment does
+abbrev pub stray_text : List ℕ → List (List ℕ) → List ℕ → List ℕ
+stray_text word pieces argument = if length argument == 0 then spaces_text word pieces
     else (if writes word then no_window
     else (if begins_comment argument then codes ": a comment has a line of its own, and begins with #"
     else codes ": a comment has a line of its own"))
@@ -71,7 +76,9 @@ abbrev pub number_advice : List ℕ → Bool → Option (ℕ × List ℕ) → Li
 number_advice line many None =
     let pieces = slice_split is_space line in
     one_word_or (unwrap_or (number_reason (word_in pieces) line (drop 1 pieces) many) (signature_text (word_in pieces))) (word_in pieces) (drop 1 pieces)
-number_advice line many (Some stray) = stray_text (word_in (slice_split is_space line)) stray.1
+number_advice line many (Some stray) =
+    let pieces = slice_split is_space line in
+    stray_text (word_in pieces) (drop 1 pieces) stray.1
 
 -- of a line's bad byte: it may begin the line, as a prompt or a bullet does, where a call comes next
 abbrev pub bad_byte_advice : List ℕ → List ℕ

@@ -132,6 +132,9 @@ is_marked text = begins_with (codes "#") text && nat_lt 1 (length text) && list_
 abbrev pub is_comment : List ℕ → Bool
 is_comment text = (begins_with (codes "#") text && not (is_marked text)) || begins_comment text
 
+abbrev pub has_comment : List (List ℕ) → Bool
+has_comment pieces = list_any is_comment pieces
+
 abbrev pub is_quoted : List ℕ → Bool
 is_quoted text = begins_with (codes "\"") text || begins_with (codes "'") text
 
@@ -183,6 +186,22 @@ after_dot word = if begins_with (codes ".") (after_name word) then drop 1 (after
 -- the name of what a word calls: `win.refresh()`, `win->refresh()`, `self.ui.win.refresh()` and `refresh()` have the same
 abbrev pub called_name : List ℕ → List ℕ
 called_name word = name_in (after_dot (after_dot (after_dot word)))
+
+-- a name without what libraries for curses begin theirs with
+abbrev pub without_library : List ℕ → List ℕ
+without_library name = if begins_with (codes "curspan_") name || begins_with (codes "ncurses_") name then drop 8 name else name
+
+-- what follows the first comma
+abbrev pub after_comma : List ℕ → List ℕ
+after_comma [] = []
+after_comma (b ∷ bs) = if b == comma then bs else after_comma bs
+
+-- a colour pair as curses writes it
+abbrev pub names_pair : List ℕ → Bool
+names_pair text = has_part (codes "COLOR_PAIR(") text || has_part (codes "color_pair(") text
+
+abbrev pub has_pair : List (List ℕ) → Bool
+has_pair pieces = list_any names_pair pieces
 
 -- the name in an argument, in lower case: `curses.A_BOLD`, `A_BOLD|x` and `a_bold` have the same
 abbrev pub name_of_argument : List ℕ → List ℕ

@@ -8,7 +8,7 @@ use Rattle.script.specs.Readings.{arguments}
 use Rattle.script.specs.Words.{word_of}
 use Rattle.explain.specs.Faults.{IllFormed, find_ill_formed, forms_of, is_word, place_of}
 use Rattle.explain.specs.Groups.{sets_attributes, sets_pair, takes_place_of_cursor, writes}
-use Rattle.explain.specs.Names.{are_digits, are_two_digits, begins_with_digit, comma, ends_with, equals_sign, has_byte, is_one_of, is_redirection, name_in, semicolon, vertical_bar}
+use Rattle.explain.specs.Names.{are_digits, are_two_digits, begins_with_digit, comma, ends_with, equals_sign, has_byte, has_pair, is_one_of, is_redirection, name_in, semicolon, vertical_bar}
 use Rattle.explain.specs.Nearest.{or_else}
 use Rattle.explain.specs.Reasons.{is_bracketed, no_brackets, no_commas, no_names, no_redirections, one_window, reason_after}
 use Rattle.explain.specs.Signatures.{names_of_arguments}
@@ -36,6 +36,11 @@ has_redirection pieces = list_any is_redirection pieces
 -- attributes that bars or other marks join, as in C
 abbrev pub joins_attributes : List ℕ → List ℕ → List (List ℕ) → Bool
 joins_attributes word line pieces = sets_attributes word && (has_byte vertical_bar line || has_redirection pieces)
+
+-- of such words, which may have a pair of curses
+abbrev pub joined_reason : List (List ℕ) → List ℕ
+joined_reason pieces = if has_pair pieces then codes ": attributes are one sum, as 11; no line has a pipe; color_set sets colours"
+    else codes ": attributes are one sum, as 11 for 01 bold and 10 reverse; no line has a pipe"
 
 -- several arguments as one, as `3x4` and `2-5`: a digit begins it, and it is no number and no attributes
 abbrev pub is_joined : List ℕ → Bool
@@ -66,12 +71,12 @@ between_reason word line ill = if has_byte comma line then no_commas
 
 -- of a call with too many
 abbrev pub too_many_reason : List ℕ → Option (List ℕ)
-too_many_reason word = if sets_attributes word then Some (codes ": attributes are one sum, as 11; see addstr for a text, color_set for a colour")
+too_many_reason word = if bytes_eq word (codes "move") then Some (codes ": window, line, column; addstr writes a text after it")
+    else (if bytes_eq word (codes "new_panel") then Some (codes ": one window, which newwin made; the panel's number is its answer")
+    else (if sets_attributes word then Some (codes ": attributes are one sum, as 11; see addstr for a text, color_set for a colour")
     else (if sets_pair word then Some (codes ": one pair, which has its colours by init_pair, and no NULL after it")
     else (if is_one_of (codes "getyx getbegyx getmaxyx getparyx") word then Some (codes ": the answer is in the log, and no variables take it")
     else (if takes_place_of_cursor word then Some one_window
-    else (if bytes_eq word (codes "move") then Some (codes ": window, line, column; addstr writes a text after it")
-    else (if bytes_eq word (codes "new_panel") then Some (codes ": one window, which newwin made; the panel's number is its answer")
     else (if is_one_of (codes "overlay overwrite") word then Some (codes ": copywin copies a part")
     else None))))))
 
@@ -97,7 +102,7 @@ separation_reason line pieces many = or_else (comma_reason line)
 abbrev pub number_reason : List ℕ → List ℕ → List (List ℕ) → Bool → Option (List ℕ)
 number_reason word line pieces many = if takes_text word then (if begins_number pieces then separation_reason line pieces many else None)
     else (if begins_bracketed pieces then Some no_brackets
-    else (if joins_attributes word line pieces then Some (codes ": attributes are one sum, as 11 for 01 bold and 10 reverse; no line has a pipe")
+    else (if joins_attributes word line pieces then Some (joined_reason pieces)
     else or_else (marks_reason line pieces many)
     (or_else (if many then surplus_reason word line pieces else None) (separation_reason line pieces many))))
 

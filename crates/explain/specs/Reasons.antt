@@ -9,7 +9,7 @@ use Rattle.script.specs.declared.words.Form.{Form}
 use Rattle.script.specs.declared.words.Form.TheVariants.{Number, NumberOrNone, Signed, Attributes, Flag, Character, Text}
 use Rattle.explain.specs.Characters.{character_reason, text_reason}
 use Rattle.explain.specs.Groups.{sets_attributes, sets_pair, takes_place_of_cursor, writes}
-use Rattle.explain.specs.Names.{are_digits, are_like_digits, are_like_two_digits, are_two_digits, begins_with, begins_with_digit, comma, ends_with, equals_sign, has_byte, has_part, is_comment, is_marked, is_name_byte, is_one_of, is_quoted, is_redirection, name_of_argument, semicolon, vertical_bar}
+use Rattle.explain.specs.Names.{are_digits, are_like_digits, are_like_two_digits, are_two_digits, begins_with, begins_with_digit, comma, ends_with, equals_sign, has_byte, has_part, is_comment, is_marked, is_name_byte, is_one_of, is_quoted, is_redirection, name_of_argument, names_pair, semicolon, vertical_bar}
 
 -- what an argument of a form has to be
 abbrev pub requirement : Form → List ℕ
@@ -218,7 +218,7 @@ one_sum = codes ": attributes are one sum, as 11 for 01 bold and 10 reverse"
 abbrev pub attributes_reason : List ℕ → List ℕ
 attributes_reason argument = if is_default (name_of_argument argument) && not (has_byte vertical_bar argument)
     then codes ": 00 stands for no attributes, and 3f for all that attroff takes away"
-    else (if has_colour argument then codes ": a colour is set by color_set"
+    else (if has_colour argument || names_pair argument then codes ": a colour is set by color_set"
     else (if begins_with (codes "0x") argument || begins_with (codes "0X") argument then codes ": the two digits have no 0x before them"
     else (if is_list argument then one_sum
     else (if are_two_digits argument then (if list_any is_ascii_uppercase argument then codes ": the digits are in lower case" else codes ": it is too great")
@@ -285,7 +285,7 @@ no_window = codes ": the window's number comes first, then the text or character
 
 -- of the first argument of a call with a text or a character: anything else begins that, without the window
 abbrev pub window_reason : List ℕ → Option (List ℕ)
-window_reason argument = if not (is_like_window argument) then Some no_window
+window_reason argument = if not (is_like_window argument) then Some (if begins_with (codes "(") argument then no_brackets else no_window)
     else (if has_byte comma argument then Some (codes ": spaces separate arguments, and no commas; move sets the place of a text")
     else None)
 

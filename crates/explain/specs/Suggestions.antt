@@ -8,8 +8,8 @@ use Rattle.std.specs.Str.{bytes_eq}
 use Rattle.script.specs.Characters.{backslash}
 use Rattle.script.specs.Words.{word_of}
 use Rattle.explain.specs.Advice.{advice_by_part, advice_on, calls_alone, of_picture, of_shell, on_command_line, pairs_are_numbers, runs_no_programs, screen_size}
-use Rattle.explain.specs.Names.{after_name, apostrophe, begins_comment, begins_with, begins_with_digit, called_name, colon, comma, ends_with, gives_value, has_byte, has_part, has_value, is_comment, is_name_byte, is_one_of, is_quoted, is_redirection, name_in, quotation_mark, round_bracket, slash, square_bracket, underscored, vertical_bar}
-use Rattle.explain.specs.Nearest.{near_call_of_words, nearest, nearest_other, or_else}
+use Rattle.explain.specs.Names.{after_comma, after_name, apostrophe, begins_comment, begins_with, begins_with_digit, called_name, colon, comma, ends_with, gives_value, has_byte, has_pair, has_part, has_value, is_comment, is_name_byte, is_one_of, is_quoted, is_redirection, name_in, names_pair, quotation_mark, round_bracket, slash, square_bracket, underscored, vertical_bar, without_library}
+use Rattle.explain.specs.Nearest.{near_call_of_words, nearest, nearest_other, or_else, same_call}
 
 -- ---- what is said of a name
 
@@ -20,23 +20,30 @@ advice_on_rest said rest = if is_some (word_of rest) then Some (said ++ rest) el
 abbrev pub after_prefix : List ℕ → List ℕ → List ℕ → Option (List ℕ)
 after_prefix prefix said word = if begins_with prefix word then advice_on_rest said (drop (length prefix) word) else None
 
--- what is said of it without a prefix; or else, where it begins with `mvw`, `mv` or `w`, or as names of libraries do, of the rest
-unfoldable pub said_of_name : List ℕ → Option (List ℕ)
-said_of_name name =
-    or_else (advice_on_rest (codes "see ") name)
-    (or_else (after_prefix (codes "mvw") (codes "see move, ") name)
+-- where it begins with `mvw`, `mv` or `w`, of the rest
+unfoldable pub said_of_variant : List ℕ → Option (List ℕ)
+said_of_variant name =
+    or_else (after_prefix (codes "mvw") (codes "see move, ") name)
     (or_else (after_prefix (codes "mv") (codes "see move, ") name)
-    (or_else (after_prefix (codes "w") (codes "see ") name)
-    (or_else (after_prefix (codes "curspan_") (codes "see ") name)
-    (after_prefix (codes "ncurses_") (codes "see ") name)))))
+    (after_prefix (codes "w") (codes "see ") name))
+
+-- what is said of it as it is; or else without what names of libraries begin with
+unfoldable pub said_of_name : List ℕ → Option (List ℕ)
+said_of_name name = or_else (advice_on_rest (codes "see ") name)
+    (or_else (said_of_variant (without_library name))
+    (advice_on_rest (codes "see ") (without_library name)))
 
 -- the call that is near the word
 abbrev pub see_nearest : List ℕ → Option (List ℕ)
 see_nearest word = option_map (λ name. codes "see " ++ name) (nearest word)
 
--- the call that is near a text; or else what is said of the other name that is near it
+-- the call that is near what follows a `w`, with which curses names calls that take a window
+abbrev pub see_nearest_rest : List ℕ → Option (List ℕ)
+see_nearest_rest word = if begins_with (codes "w") word then see_nearest (drop 1 word) else None
+
+-- the call that is near a text; or else what is said of the other name that is near it; or else the call that is near its rest
 unfoldable pub said_of_near : List ℕ → Option (List ℕ)
-said_of_near text = or_else (see_nearest text) (option_and_then said_of_name (nearest_other text))
+said_of_near text = or_else (see_nearest text) (or_else (option_and_then said_of_name (nearest_other text)) (see_nearest_rest text))
 
 -- of the name of what a word calls, where that isn't all of the word; or else of a part of the word, as of `split-window`
 abbrev pub said_near_name : List ℕ → Option (List ℕ)
@@ -110,9 +117,21 @@ abbrev pub begins_with_call : List (List ℕ) → Bool
 begins_with_call [] = false
 begins_with_call (piece ∷ pieces) = is_some (word_of piece)
 
--- a call after the name of a window or panel, with or without its number, or after a prompt or a bullet
+-- a call after the name of a window or panel, with or without its number, or after a prompt or a bullet; or a call with one
+-- before it in the same word, as `-addstr` and `"addstr`
+abbrev pub begins_marked : List ℕ → Bool
+begins_marked word = list_any (λ byte. has_byte byte (codes "-+*$`'\"")) (take 1 word) && is_some (same_call word)
+
 abbrev pub is_before_call : List ℕ → List (List ℕ) → Bool
-is_before_call word pieces = is_one_of (codes "win window panel pad screen stdscr % PS - * +") word && (begins_with_call pieces || begins_with_call (drop 1 pieces))
+is_before_call word pieces = begins_marked word
+    || (is_one_of (codes "win window panel pad screen stdscr % PS - * +") word && (begins_with_call pieces || begins_with_call (drop 1 pieces)))
+
+-- of a word and those after it with a pair of curses, where the word has attributes or a background to set
+abbrev pub said_of_pair : List ℕ → List (List ℕ) → Option (List ℕ)
+said_of_pair word pieces = if not (names_pair word || has_pair pieces) then None
+    else (if has_part (codes "attr") word then Some pairs_are_numbers
+    else (if has_part (codes "bkgd") word then Some (codes "a pair is its number: see init_pair, bkgdpair")
+    else None))
 
 -- a label, the head of a block, or a setting: the word begins with a letter, ends in a colon, and is no call, nor one as in
 -- `printw("Name: %s", name)`
@@ -126,7 +145,7 @@ said_of_two word (piece ∷ pieces) = advice_on (word ++ codes "_" ++ piece)
 
 -- of a word that is no call and the words after it; where a bracket is in the word, an equals sign is part of an argument
 abbrev pub said_of_line : List ℕ → List (List ℕ) → Option (List ℕ)
-said_of_line word pieces = or_else (said_of_two word pieces)
+said_of_line word pieces = or_else (or_else (said_of_two word pieces) (said_of_pair word pieces))
     (if is_of_log word pieces then Some (codes "a line of the log or of check is no line of a script")
     else (if is_of_picture word pieces then Some of_picture
     else (if is_echo word pieces then Some of_shell
@@ -177,10 +196,10 @@ see_longer word = option_and_then (λ name. if nat_lt (length (called_name word)
 abbrev pub say_call : List ℕ → List ℕ → Option (List ℕ)
 say_call said name = if is_some (word_of name) then Some (said ++ name) else None
 
--- a place is given to a call that writes, as in `win.addstr(0,`
+-- a place is given to a call that writes, as in `win.addstr(0,` and `addstr(1,2,"hi");`
 abbrev pub gives_place : List ℕ → Bool
-gives_place word = ends_with comma word && not (has_byte quotation_mark word) && not (has_byte apostrophe word)
-    && (has_part (codes "addstr(") word || has_part (codes "addch(") word)
+gives_place word = (has_part (codes "addstr(") word || has_part (codes "addch(") word)
+    && (begins_with_digit (after_comma word) || (ends_with comma word && not (has_byte quotation_mark word) && not (has_byte apostrophe word)))
 
 -- how a call is written whose name has marks after it
 abbrev pub written_advice : List ℕ → List ℕ
@@ -201,12 +220,12 @@ said_of_written word = if length (called_name word) == length word then say_call
 abbrev pub is_of_tmux : List ℕ → Bool
 is_of_tmux word = is_one_of (codes "-pane -panes -session -sessions -key -keys -client -clients -server -buffer -layout") (after_name word)
 
--- of what begins a comment elsewhere, that # does here; of `panel.move`, which is near no call, the call; of a pair of curses
--- in an attribute, what it is here; of what runs a program in Python, or is a command of tmux
+-- of what begins a comment elsewhere, that # does here; of `panel.move`, which is near no call, the call; of a pad that is
+-- refreshed, the call for pads; of what runs a program in Python, or is a command of tmux
 abbrev pub said_of_beginning : List ℕ → Option (List ℕ)
 said_of_beginning word = if begins_comment word then Some (codes "a comment begins with #")
     else (if begins_with (codes "panel.move") word then Some (codes "see move_panel")
-    else (if has_part (codes "attr") word && (has_part (codes "COLOR_PAIR(") word || has_part (codes "color_pair(") word) then Some pairs_are_numbers
+    else (if begins_with (codes "pad.refresh") word || begins_with (codes "pad.noutrefresh") word then Some (codes "see pnoutrefresh, doupdate")
     else (if begins_with (codes "subprocess.") word || begins_with (codes "os.") word || is_of_tmux word then Some runs_no_programs
     else None)))
 

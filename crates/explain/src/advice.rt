@@ -92,7 +92,7 @@ pub const SCREEN_SIZE: &[u8] =
 
 const LINES_INSERTED: &[u8] = b"see insertln, deleteln";
 
-const BACKGROUND: &[u8] = b"see bkgdset, erase";
+const BACKGROUND: &[u8] = b"see bkgdset, bkgdpair, erase";
 
 const COMMENT: &[u8] = b"a comment begins with #";
 
@@ -174,7 +174,7 @@ const ADVICE: [(u8, &[Row]); 28] = [
         (b"see panel_below, with none", b"ceiling_panel"),
         (TERMINAL, b"cur_term"),
         (TRACES, b"curses_trace curses_version"),
-        (ERASED, b"cls clr clrscr clearscreen clear_screen clear_window clearscr"),
+        (ERASED, b"cls clr clrscr clr_screen clearscreen clear_screen clear_window clearscr"),
         (b"see clrtobot", b"clrtobottom clrtoeos"),
         (LINE_ERASED, b"clear_line clearline clreol cleareol clear_to_eol"),
         (WINDOWS, b"create_window createwin"),

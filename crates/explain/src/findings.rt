@@ -4,7 +4,7 @@ ghost use Rattle.std.specs.Prelude.{◌≡◌, ◌≤◌, ◌+◌, ◌-◌, ◌+
 ghost use Rattle.script.specs.Pieces.{pieces_of, room_of};
 ghost use Rattle.explain.specs.Faults.{IllFormed as Ill, forms_of};
 ghost use Rattle.explain.specs.Numbers.{signature_text};
-ghost use Rattle.explain.specs.Explanations.{bad_byte_advice, bad_byte_text, bad_line_text, count_text, explanation, finding, ill_formed_text, no_call_text, number_advice, number_text, one_word, one_word_or, quotation, stray_text, unknown_text};
+ghost use Rattle.explain.specs.Explanations.{bad_byte_advice, bad_byte_text, bad_line_text, count_text, explanation, finding, ill_formed_text, no_call_text, number_advice, number_text, one_word, one_word_or, quotation, spaces_text, stray_text, unknown_text};
 ghost use Rattle.explain.specs.Reasons.{reason_after};
 ghost use Rattle.explain.specs.Suggestions.{call_advice, line_advice, said_of};
 
@@ -12,7 +12,7 @@ use crate::arguments::{IllFormed, Stray, count, find_ill_formed, find_stray, for
 use crate::characters::bad_text_advice;
 use crate::column::{bad_byte, bad_place, column_of, from_bad_byte};
 use crate::groups::writes;
-use crate::names::{after_dot, begins_comment, name_of};
+use crate::names::{after_dot, begins_comment, has_comment, name_of};
 use crate::nearest::{call_of_words, near_call_of_words};
 use crate::numbers::number_reason;
 use crate::reasons::{no_window, reason_after, requirement_of};
@@ -218,13 +218,25 @@ fn append_number(text: &mut Finding, word: &[u8], wanted: usize, given: usize)
     append(text, b" given");
 }
 
-/// What is said of a stray argument after a word: a text or a character may begin as a comment does.
-fn stray_text(word: &[u8], argument: &[u8]) -> &'static [u8]
-    ensures text { result.now ≡ stray_text word.now argument.now }
+/// What is said of two spaces, or one at the end, after a word and others: they may be before a comment, but for a text.
+fn spaces_text(word: &[u8], arguments: Option<&[u8]>) -> &'static [u8]
+    ensures text { result.now ≡ spaces_text word.now (pieces_of arguments.entry) }
+    ensures short { length result.now ≤ 80 }
+{
+    if has_comment(arguments) && !writes(word) {
+        b": a comment has a line of its own, and begins with #"
+    } else {
+        b": single spaces separate words, and none ends a line"
+    }
+}
+
+/// What is said of a stray argument of those after a word: a text or a character may begin as a comment does.
+fn stray_text(word: &[u8], arguments: Option<&[u8]>, argument: &[u8]) -> &'static [u8]
+    ensures text { result.now ≡ stray_text word.now (pieces_of arguments.entry) argument.now }
     ensures short { length result.now ≤ 80 }
 {
     if argument.is_empty() {
-        b": single spaces separate words, and none ends a line"
+        spaces_text(word, arguments)
     } else if writes(word) {
         no_window()
     } else if begins_comment(argument) {
@@ -256,7 +268,7 @@ fn append_number_advice(text: &mut Finding, line: &[u8], many: bool, stray: Opti
 {
     let (word, arguments) = split_at_space(line);
     if let Some(stray) = stray {
-        return append(text, stray_text(word, stray.argument));
+        return append(text, stray_text(word, arguments, stray.argument));
     }
     if let Some(call) = call_of_words(word, arguments) {
         return append_one_word(text, call);

@@ -26,7 +26,7 @@ pub const SHELL: &[u8] = b"this belongs in the shell: a script has calls alone";
 
 /// Names like those of calls that the table of `advice` has no room for.
 #[rattlefmt::skip]
-const LIKE_CALLS: [Row; 37] = [
+const LIKE_CALLS: [Row; 38] = [
     (b"see delwin, del_panel", b"del remove free"),
     (b"pairs have the terminal's colours until they are set: see init_pair",
         b"use_default_colors assume_default_colors"),
@@ -36,11 +36,12 @@ const LIKE_CALLS: [Row; 37] = [
     (b"see scrl, scrollok", b"scroll"),
     (b"see move_panel", b"mvpanel mv_panel panelmove"),
     (b"see mvwin", b"mvwindow mv_window win_move"),
-    (b"see newwin", b"create_newwin newwindows winnew win_new"),
+    (b"see newwin", b"create_newwin newwindows winnew win_new create_win make_win open_win"),
     (b"see newwin, derwin", b"nerwin"),
-    (b"see delch, deleteln", b"dellin delln deleln deletelines delete_lines dl1 dch1 dl dch"),
-    (b"see insertln", b"insln insertlines insert_line insert_lines il1 il"),
-    (b"see insch, for each character", b"ich1 ich insert_char insstring insertstr inserttext"),
+    (b"see delch, deleteln",
+        b"dellin delln deleln deletelines delete_lines dl1 dch1 dl dch del_line remove_line del_char"),
+    (b"see insertln", b"insln insertlines insert_line insert_lines il1 il ins_line"),
+    (b"see insch, for each character", b"ich1 ich insert_char insstring insertstr inserttext ins_char"),
     (b"see move, insch", b"mvinsstr mvinsnstr mvwinsstr mvwinsnstr"),
     (b"each call names its window or panel", b"setwin set_window select_window current"),
     (b"see pnoutrefresh", b"refresh_pad refreshpad pad_refresh padrefresh"),
@@ -51,27 +52,31 @@ const LIKE_CALLS: [Row; 37] = [
     (b"see move, addstr",
         b"draw_text write_text print_text put_text show_text display_text print_at mvaddnstr mvwaddnstr \
         mv_add_str drawtext printat outtext outtextxy cputs add addline str msg message win_write window_write \
-        window_print"),
+        window_print put_str put_string print_str print_string write_string write_char print_char addln \
+        setcontent moveprint"),
     (b"no call formats: see move, addstr", b"mvprintw mvwprintw"),
     (b"see getyx, getbegyx, getmaxyx",
-        b"wherexy wherex wherey getbeg getwinsize getxmaxy maxx maxy begx begy curx cury"),
+        b"wherexy wherex wherey getbeg getwinsize getxmaxy maxx maxy begx begy curx cury get_pos max_yx"),
     (b"see noutrefresh, update_panels, doupdate",
-        b"updateall update_all updatewin update_win flip swap present blit commit draw_window"),
+        b"updateall update_all updatewin update_win flip swap present blit commit draw_window display_window \
+        draw_screen redraw_screen redraw_win"),
     (b"see addstr, update_panels, doupdate", b"draw"),
     (b"see getmaxyx, move, addstr", b"center centre print_center"),
     (b"characters are those of ASCII: see addstr, addch",
         b"add_wch add_wchstr add_wchnstr addwstr addnwstr echo_wchar pecho_wchar"),
     (b"characters are those of ASCII: see bkgdset", b"bkgrnd bkgrndset"),
-    (b"see top_panel, bottom_panel", b"panel_bottom panel_raise panel_lower"),
+    (b"see top_panel, bottom_panel",
+        b"panel_bottom panel_raise panel_lower raise_window lower_window top_window bottom_window"),
     (b"see panel_above, panel_below", b"above_panel below_panel"),
-    (b"see replace_panel", b"panel_replace swap_panel"),
+    (UPDATES, b"redraw_panels draw_panels refresh_panels"),
+    (b"see replace_panel", b"panel_replace swap_panel replace_window"),
     (b"see panel_hidden", b"hidden_panel is_panel_hidden"),
     (b"see panel_window", b"window_panel get_panel_window"),
     (b"see delch", b"delete_char delete_ch"),
     (b"see newpad", b"create_pad pad_new"),
-    (b"see delwin", b"delpad del_pad pad_del win_del"),
+    (b"see delwin", b"delpad del_pad pad_del win_del delete_win remove_win close_win free_win delete_pad free_pad"),
     (COLOURED, b"new_pair make_pair define_pair pair_init yellow cyan magenta gray"),
-    (MENUS, b"msgbox yesno gauge inputbox"),
+    (MENUS, b"msgbox yesno gauge inputbox infobox checklist zenity"),
 ];
 
 /// Words of terminals, shells and other languages that it has no room for.
@@ -94,8 +99,9 @@ const FOREIGN: [Row; 25] = [
     (b"see addstr, noutrefresh", b"display_message append"),
     (b"a comment begins with #, and has a line of its own", b"todo fixme note nb dnl"),
     (b"see move, which takes a line and a column",
-        b"home hpa vpa cuu1 cub1 cuf1 cud1 setpos go gotoyx goto_xy gotorc position"),
-    (b"see clrtoeol, clrtobot", b"el el1 ed ech clrline clrtoend"),
+        b"home hpa vpa cuu1 cub1 cuf1 cud1 setpos go gotoyx goto_xy gotorc position set_pos set_position \
+        goto_pos move_pos"),
+    (b"see clrtoeol, clrtobot", b"el el1 ed ech clrline clrtoend clr_line clr_eol"),
     (RENDITIONS,
         b"smso rmso smul rmul rev sgr invis style font noattr plain \
         bold_on underline_on highvideo lowvideo normvideo"),
@@ -105,7 +111,7 @@ const FOREIGN: [Row; 25] = [
     (b"no call reads a key", b"smkx rmkx waitkey wait_key press crmode nocrmode"),
     (b"zsh's module has names of its own: see newwin, addstr", b"zcurses"),
     (PICTURE, b"rendition"),
-    (SCREEN, b"close_screen start_screen screen_init initialize finish"),
+    (SCREEN, b"close_screen start_screen screen_init initialize finish fini newscreen"),
     (SHELL, b"coproc chmod select"),
     (PROGRAMS,
         b"python3 perl ruby lua node git less gcc cc vi vim nano ssh curl wget find head tail date time env who \
@@ -113,7 +119,8 @@ const FOREIGN: [Row; 25] = [
     (CALLS_ALONE,
         b"assert async yield finally default extern public private package program procedure module proc match \
         impl mod pub defer not typeset readonly getopts shift setenv nil self super malloc strlen memset fopen \
-        fclose fgets abort atexit perror signal sizeof len"),
+        fclose fgets abort atexit perror signal sizeof len auto float double size_t val \
+        fun our sub foreach unless elseif namespace template catch throw final"),
 ];
 
 /// What is said of names that have a part, and the parts, with a space between any two.

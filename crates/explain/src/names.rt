@@ -4,7 +4,7 @@ ghost use Rattle.std.specs.Prelude.{◌≡◌, ◌≤◌, ◌||◌, drop, length
 ghost use Rattle.std.specs.Char.{is_ascii_alphabetic, is_ascii_hexdigit};
 ghost use Rattle.std.specs.List.{list_all, list_any};
 ghost use Rattle.script.specs.Pieces.{pieces_of};
-ghost use Rattle.explain.specs.Names.{after_dot, after_name, are_digits, are_like_digits, are_like_two_digits, are_two_digits, begins_comment, begins_with_digit, ends_with, gives_value, has_byte, has_part, has_value, is_comment, is_like_digit, is_marked, is_name_byte, is_quoted, is_redirection, name_in, name_of_argument, underscore_for, underscored};
+ghost use Rattle.explain.specs.Names.{after_comma, after_dot, after_name, are_digits, are_like_digits, are_like_two_digits, are_two_digits, begins_comment, begins_with_digit, ends_with, gives_value, has_byte, has_comment, has_pair, has_part, has_value, is_comment, is_like_digit, is_marked, is_name_byte, is_quoted, is_redirection, name_in, name_of_argument, names_pair, underscore_for, underscored, without_library};
 
 use crate::advice::is_among;
 use arrayvec::ArrayVec;
@@ -38,6 +38,18 @@ pub fn is_comment(text: &[u8]) -> bool
     ensures { result ≡ is_comment text.now }
 {
     text.strip_prefix(b"#").is_some() && !is_marked(text) || begins_comment(text)
+}
+
+/// Whether some of the words in a text would.
+pub fn has_comment(text: Option<&[u8]>) -> bool
+    ensures { result ≡ has_comment (pieces_of text.entry) }
+{
+    let Some(text) = text else { return false };
+    let (first, rest) = split_at_space(text);
+    if is_comment(first) {
+        return true;
+    }
+    has_comment(rest)
 }
 
 /// Whether a word is one of shells: a redirection, a pipe, or what joins commands.
@@ -203,6 +215,53 @@ pub fn after_dot(word: &[u8]) -> &[u8]
         Some(name) => name,
         None => word,
     }
+}
+
+/// A name without what libraries for curses begin theirs with.
+pub fn without_library(name: &[u8]) -> &[u8]
+    ensures name { result.now ≡ without_library name.now }
+    ensures short { length result.now ≤ length name.now }
+{
+    if let Some(rest) = name.strip_prefix(b"curspan_") {
+        return rest;
+    }
+    match name.strip_prefix(b"ncurses_") {
+        Some(rest) => rest,
+        None => name,
+    }
+}
+
+/// What follows the first comma of a text.
+pub fn after_comma(text: &[u8]) -> &[u8]
+    ensures { result.now ≡ after_comma text.now }
+{
+    let mut left = text;
+    while let Some((first, rest)) = left.split_first() {
+        if *first == b',' {
+            return rest;
+        }
+        left = rest;
+    }
+    left
+}
+
+/// Whether a text has a colour pair as curses writes it.
+pub fn names_pair(text: &[u8]) -> bool
+    ensures { result ≡ names_pair text.now }
+{
+    has_part(text, b"COLOR_PAIR(") || has_part(text, b"color_pair(")
+}
+
+/// Whether some of the words in a text have a pair of curses.
+pub fn has_pair(text: Option<&[u8]>) -> bool
+    ensures { result ≡ has_pair (pieces_of text.entry) }
+{
+    let Some(text) = text else { return false };
+    let (first, rest) = split_at_space(text);
+    if names_pair(first) {
+        return true;
+    }
+    has_pair(rest)
 }
 
 /// Whether a text has a byte.

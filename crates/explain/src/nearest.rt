@@ -121,7 +121,7 @@ fn same_in(word: &[u8], names: Option<&'static [u8]>) -> Option<&'static [u8]>
 }
 
 /// The call with a word's letters.
-fn same_call(word: &[u8]) -> Option<&'static [u8]>
+pub fn same_call(word: &[u8]) -> Option<&'static [u8]>
     ensures name { option_map (λ name. name.now) result ≡ same_call word.now }
     ensures short { IfSome result (λ name. length name.now ≤ 80) }
 {

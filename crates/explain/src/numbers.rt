@@ -3,13 +3,14 @@
 ghost use Rattle.std.specs.Prelude.{◌≡◌, ◌≤◌, ◌+◌, IfSome, length, option_map};
 ghost use Rattle.script.specs.Pieces.{pieces_of, room_of};
 ghost use Rattle.explain.specs.Faults.{IllFormed as Ill};
-ghost use Rattle.explain.specs.Numbers.{begins_bracketed, begins_call, begins_number, between_reason, comma_reason, has_call, has_joined, has_redirection, is_joined, joins_attributes, marks_reason, number_reason, separation_reason, surplus_reason, takes_text, too_many_reason};
+ghost use Rattle.explain.specs.Numbers.{begins_bracketed, begins_call, begins_number, between_reason, comma_reason, has_call, has_joined, has_redirection, is_joined, joined_reason, joins_attributes, marks_reason, number_reason, separation_reason, surplus_reason, takes_text, too_many_reason};
 
 use crate::advice::is_among;
 use crate::arguments::{IllFormed, find_ill_formed, forms_of, is_word};
 use crate::groups::{sets_attributes, sets_pair, takes_place_of_cursor, writes};
 use crate::names::{
-    are_digits, are_two_digits, begins_with_digit, ends_with, has_byte, is_redirection, name_of,
+    are_digits, are_two_digits, begins_with_digit, ends_with, has_byte, has_pair, is_redirection,
+    name_of,
 };
 use crate::reasons::{
     is_bracketed, no_brackets, no_commas, no_names, no_redirections, one_window, reason_after,
@@ -77,6 +78,18 @@ fn joins_attributes(word: &[u8], line: &[u8], text: Option<&[u8]>) -> bool
     ensures { result ≡ joins_attributes word.now line.now (pieces_of text.entry) }
 {
     sets_attributes(word) && (has_byte(line, b'|') || has_redirection(text))
+}
+
+/// What is said of the words of such a line, which may have a pair of curses.
+fn joined_reason(text: Option<&[u8]>) -> &'static [u8]
+    ensures text { result.now ≡ joined_reason (pieces_of text.entry) }
+    ensures short { length result.now ≤ 80 }
+{
+    if has_pair(text) {
+        b": attributes are one sum, as 11; no line has a pipe; color_set sets colours"
+    } else {
+        b": attributes are one sum, as 11 for 01 bold and 10 reverse; no line has a pipe"
+    }
 }
 
 /// Whether a word is several arguments as one.
@@ -164,6 +177,12 @@ fn too_many_reason(word: &[u8]) -> Option<&'static [u8]>
     ensures text { option_map (λ text. text.now) result ≡ too_many_reason word.now }
     ensures short { IfSome result (λ text. length text.now ≤ 80) }
 {
+    if word == b"move".as_slice() {
+        return Some(b": window, line, column; addstr writes a text after it");
+    }
+    if word == b"new_panel".as_slice() {
+        return Some(b": one window, which newwin made; the panel's number is its answer");
+    }
     if sets_attributes(word) {
         return Some(
             b": attributes are one sum, as 11; see addstr for a text, color_set for a colour",
@@ -177,12 +196,6 @@ fn too_many_reason(word: &[u8]) -> Option<&'static [u8]>
     }
     if takes_place_of_cursor(word) {
         return Some(one_window());
-    }
-    if word == b"move".as_slice() {
-        return Some(b": window, line, column; addstr writes a text after it");
-    }
-    if word == b"new_panel".as_slice() {
-        return Some(b": one window, which newwin made; the panel's number is its answer");
     }
     if is_among(word, b"overlay overwrite") {
         return Some(b": copywin copies a part");
@@ -237,9 +250,7 @@ pub fn number_reason(
         return Some(no_brackets());
     }
     if joins_attributes(word, line, text) {
-        return Some(
-            b": attributes are one sum, as 11 for 01 bold and 10 reverse; no line has a pipe",
-        );
+        return Some(joined_reason(text));
     }
     if let Some(said) = marks_reason(line, text, many) {
         return Some(said);

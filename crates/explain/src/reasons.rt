@@ -13,7 +13,7 @@ use crate::groups::{sets_attributes, sets_pair, takes_place_of_cursor, writes};
 use crate::names::{
     after_first, are_digits, are_like_digits, are_like_two_digits, are_two_digits,
     begins_with_digit, begins_with_letter, ends_with, has_byte, has_part, is_comment, is_marked,
-    is_name_byte, is_quoted, is_redirection, name_of_argument,
+    is_name_byte, is_quoted, is_redirection, name_of_argument, names_pair,
 };
 use script::{Form, LONGEST_LINE};
 
@@ -465,7 +465,7 @@ fn attributes_reason(argument: &[u8]) -> &'static [u8]
     let name = name_of_argument(argument);
     if is_default(name.as_slice()) && !has_byte(argument, b'|') {
         b": 00 stands for no attributes, and 3f for all that attroff takes away"
-    } else if has_colour(name.as_slice(), argument) {
+    } else if has_colour(name.as_slice(), argument) || names_pair(argument) {
         b": a colour is set by color_set"
     } else if argument.strip_prefix(b"0x").is_some() || argument.strip_prefix(b"0X").is_some() {
         b": the two digits have no 0x before them"
@@ -643,7 +643,11 @@ fn window_reason(argument: &[u8]) -> Option<&'static [u8]>
     ensures short { IfSome result (λ text. length text.now ≤ 80) }
 {
     if !is_like_window(argument) {
-        return Some(no_window());
+        return Some(if argument.strip_prefix(b"(").is_some() {
+            no_brackets()
+        } else {
+            no_window()
+        });
     }
     if has_byte(argument, b',') {
         return Some(b": spaces separate arguments, and no commas; move sets the place of a text");

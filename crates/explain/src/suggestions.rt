@@ -1,21 +1,23 @@
 //! What to write for a word that is no call.
 
-ghost use Rattle.std.specs.Prelude.{◌≡◌, ◌≤◌, ◌+◌, ◌++◌, IfSome, codes, length, option_map, take};
+ghost use Rattle.std.specs.Prelude.{◌≡◌, ◌≤◌, ◌+◌, ◌++◌, IfSome, codes, length, option_and_then, option_map, take};
 ghost use Rattle.std.specs.List.{list_all, list_any};
 ghost use Rattle.script.specs.Pieces.{pieces_of, room_of};
 ghost use Rattle.explain.specs.Advice.{advice_on};
 ghost use Rattle.explain.specs.Names.{called_name, is_name_byte, underscored};
-ghost use Rattle.explain.specs.Suggestions.{advice_on_rest, after_prefix, begins_with_call, gives_place, is_before_call, is_between, is_drawn, is_echo, is_label, is_of_log, is_of_picture, is_of_shell, is_of_tmux, is_statement, is_step, is_stroke, last_word, no_variables, nothing_before, number_first, said_near_name, said_of, said_of_backslash, said_of_beginning, said_of_given, said_of_line, said_of_marks, said_of_name, said_of_near, said_of_two, said_of_value, said_of_written, say_call, see_longer, see_nearest, written_advice};
+ghost use Rattle.explain.specs.Nearest.{nearest_other};
+ghost use Rattle.explain.specs.Suggestions.{advice_on_rest, after_prefix, begins_marked, begins_with_call, gives_place, is_before_call, is_between, is_drawn, is_echo, is_label, is_of_log, is_of_picture, is_of_shell, is_of_tmux, is_statement, is_step, is_stroke, last_word, no_variables, nothing_before, number_first, said_near_name, said_of, said_of_backslash, said_of_beginning, said_of_given, said_of_line, said_of_marks, said_of_name, said_of_near, said_of_pair, said_of_two, said_of_variant, said_of_value, said_of_written, say_call, see_longer, see_nearest, see_nearest_rest, written_advice};
 ghost use Rattle.explain.specs.steps.Suggestions.{said_now};
 
 use crate::advice::{CALLS_ALONE, COMMAND_LINE, PAIRS, PROGRAMS, SCREEN_SIZE, advice_on, is_among};
 use crate::more_advice::{PICTURE, SHELL, advice_by_part};
 use crate::names::{
-    Name, after_first, after_name, begins_comment, begins_with_digit, begins_with_letter,
-    ends_with, gives_value, has_byte, has_part, has_value, is_comment, is_name_byte, is_quoted,
-    is_redirection, name_of, underscored,
+    Name, after_comma, after_first, after_name, begins_comment, begins_with_digit,
+    begins_with_letter, ends_with, gives_value, has_byte, has_pair, has_part, has_value,
+    is_comment, is_name_byte, is_quoted, is_redirection, name_of, names_pair, underscored,
+    without_library,
 };
-use crate::nearest::{nearest, nearest_other};
+use crate::nearest::{nearest, nearest_other, same_call};
 use script::{LONGEST_LINE, Word, split_at_space};
 use streams::append;
 
@@ -82,7 +84,23 @@ fn see_nearest<'a>(word: &[u8]) -> Option<Said<'a>>
     }
 }
 
-/// What is said of a name: with no prefix, or else with one of five.
+/// What is said of a name with one of three prefixes.
+#[tactic(auto, unfolding(crate::specs::Suggestions::said_of_variant))]
+fn said_of_variant<'a>(name: &'a [u8]) -> Option<Said<'a>>
+    ensures said { said_now result ≡ said_of_variant name.now }
+    ensures short { IfSome result (λ s. length s.text.now ≤ 80) }
+    ensures call { IfSome result (λ s. length s.call.now ≤ length name.now) }
+{
+    if let Some(said) = after_prefix(b"mvw", b"see move, ", name) {
+        return Some(said);
+    }
+    if let Some(said) = after_prefix(b"mv", b"see move, ", name) {
+        return Some(said);
+    }
+    after_prefix(b"w", b"see ", name)
+}
+
+/// What is said of a name as it is, or else without what names of libraries begin with.
 #[tactic(auto, unfolding(crate::specs::Suggestions::said_of_name))]
 fn said_of_name<'a>(name: &'a [u8]) -> Option<Said<'a>>
     ensures said { said_now result ≡ said_of_name name.now }
@@ -92,22 +110,38 @@ fn said_of_name<'a>(name: &'a [u8]) -> Option<Said<'a>>
     if let Some(said) = advice_on_rest(b"see ", name) {
         return Some(said);
     }
-    if let Some(said) = after_prefix(b"mvw", b"see move, ", name) {
+    let rest = without_library(name);
+    if let Some(said) = said_of_variant(rest) {
         return Some(said);
     }
-    if let Some(said) = after_prefix(b"mv", b"see move, ", name) {
-        return Some(said);
-    }
-    if let Some(said) = after_prefix(b"w", b"see ", name) {
-        return Some(said);
-    }
-    if let Some(said) = after_prefix(b"curspan_", b"see ", name) {
-        return Some(said);
-    }
-    after_prefix(b"ncurses_", b"see ", name)
+    advice_on_rest(b"see ", rest)
 }
 
-/// What is said of the call that is near a text, or else of the other name that is.
+/// The call that is nearest to what follows a `w`, with which curses names calls that take a window.
+fn see_nearest_rest<'a>(word: &[u8]) -> Option<Said<'a>>
+    ensures said { said_now result ≡ see_nearest_rest word.now }
+    ensures short { IfSome result (λ s. length s.text.now ≤ 80) }
+    ensures call { IfSome result (λ s. length s.call.now ≤ 80) }
+{
+    if word.strip_prefix(b"w").is_none() {
+        return None;
+    }
+    see_nearest(after_first(word))
+}
+
+/// What is said of the other name that is near a text.
+fn said_near_other<'a>(text: &[u8]) -> Option<Said<'a>>
+    ensures said { said_now result ≡ option_and_then said_of_name (nearest_other text.now) }
+    ensures short { IfSome result (λ s. length s.text.now ≤ 80) }
+    ensures call { IfSome result (λ s. length s.call.now ≤ 80) }
+{
+    match nearest_other(text) {
+        Some(name) => said_of_name(name),
+        None => None,
+    }
+}
+
+/// What is said of the call that is near a text, or else of the other name that is, or else of the call near its rest.
 #[tactic(auto, unfolding(crate::specs::Suggestions::said_of_near))]
 fn said_of_near<'a>(text: &[u8]) -> Option<Said<'a>>
     ensures said { said_now result ≡ said_of_near text.now }
@@ -117,10 +151,10 @@ fn said_of_near<'a>(text: &[u8]) -> Option<Said<'a>>
     if let Some(said) = see_nearest(text) {
         return Some(said);
     }
-    match nearest_other(text) {
-        Some(name) => said_of_name(name),
-        None => None,
+    if let Some(said) = said_near_other(text) {
+        return Some(said);
     }
+    see_nearest_rest(text)
 }
 
 /// What is said of what the name of a word's call is near, where that isn't all of the word; or else of a part of it.
@@ -300,14 +334,46 @@ pub fn begins_with_call(text: Option<&[u8]>) -> bool
     Word::of(first).is_some()
 }
 
-/// Whether a word names a window or panel, or is a prompt or a bullet, and a call comes next or one word later.
+/// Whether a word is a call with a mark of others before it.
+fn begins_marked(word: &[u8]) -> bool
+    ensures { result ≡ begins_marked word.now }
+{
+    match word.first() {
+        Some(first) => has_byte(b"-+*$`'\"", *first) && same_call(word).is_some(),
+        None => false,
+    }
+}
+
+/// Whether a word is a call with a mark before it; or names a window or panel, or is a prompt or a bullet, and a call
+/// comes next or one word later.
 fn is_before_call(word: &[u8], text: Option<&[u8]>) -> bool
     ensures { result ≡ is_before_call word.now (pieces_of text.entry) }
 {
+    if begins_marked(word) {
+        return true;
+    }
     let Some(first) = text else { return false };
     let (_, rest) = split_at_space(first);
     is_among(word, b"win window panel pad screen stdscr % PS - * +")
         && (begins_with_call(text) || begins_with_call(rest))
+}
+
+/// What is said of a word and those after it with a pair of curses, where the word has attributes or a background to
+/// set.
+fn said_of_pair(word: &[u8], text: Option<&[u8]>) -> Option<&'static [u8]>
+    ensures said { option_map (λ text. text.now) result ≡ said_of_pair word.now (pieces_of text.entry) }
+    ensures short { IfSome result (λ text. length text.now ≤ 80) }
+{
+    if !(names_pair(word) || has_pair(text)) {
+        return None;
+    }
+    if has_part(word, b"attr") {
+        return Some(PAIRS);
+    }
+    if has_part(word, b"bkgd") {
+        return Some(b"a pair is its number: see init_pair, bkgdpair");
+    }
+    None
 }
 
 /// Whether a word is a label, the head of a block, or a setting, and not a call of curses with a text.
@@ -342,6 +408,9 @@ pub fn said_of_line(word: &[u8], text: Option<&[u8]>) -> Option<&'static [u8]>
     ensures short { IfSome result (λ text. length text.now ≤ 80) }
 {
     if let Some(said) = said_of_two(word, text) {
+        return Some(said);
+    }
+    if let Some(said) = said_of_pair(word, text) {
         return Some(said);
     }
     if is_of_log(word, text) {
@@ -483,10 +552,9 @@ fn say_call<'a>(said: &'static [u8], name: &'a [u8]) -> Option<Said<'a>>
 fn gives_place(word: &[u8]) -> bool
     ensures { result ≡ gives_place word.now }
 {
-    ends_with(word, b',')
-        && !has_byte(word, b'"')
-        && !has_byte(word, b'\'')
-        && (has_part(word, b"addstr(") || has_part(word, b"addch("))
+    (has_part(word, b"addstr(") || has_part(word, b"addch("))
+        && (begins_with_digit(after_comma(word))
+            || ends_with(word, b',') && !has_byte(word, b'"') && !has_byte(word, b'\''))
 }
 
 /// How a call is written whose name has marks after it.
@@ -550,10 +618,10 @@ fn said_of_beginning(word: &[u8]) -> Option<&'static [u8]>
     if word.strip_prefix(b"panel.move").is_some() {
         return Some(b"see move_panel");
     }
-    if has_part(word, b"attr")
-        && (has_part(word, b"COLOR_PAIR(") || has_part(word, b"color_pair("))
+    if word.strip_prefix(b"pad.refresh").is_some()
+        || word.strip_prefix(b"pad.noutrefresh").is_some()
     {
-        return Some(PAIRS);
+        return Some(b"see pnoutrefresh, doupdate");
     }
     if word.strip_prefix(b"subprocess.").is_some()
         || word.strip_prefix(b"os.").is_some()
