@@ -1,5 +1,5 @@
 -- The name that a word begins with, and the marks of other languages in it.
-use Rattle.std.specs.Prelude.{◌-◌, ◌==◌, ◌&&◌, ◌||◌, ℕ, Bool, false, not, List, [], ◌∷◌, codes, drop, length, nat_lt, take, if◌then◌else◌}
+use Rattle.std.specs.Prelude.{◌-◌, ◌==◌, ◌&&◌, ◌||◌, ℕ, Bool, false, not, List, [], ◌∷◌, codes, drop, length, nat_lt, take, Option, Some, None, if◌then◌else◌}
 use Rattle.std.specs.Char.{is_ascii_alphanumeric, is_ascii_digit, is_ascii_hexdigit, to_ascii_lowercase}
 use Rattle.std.specs.List.{list_all, list_any, slice_split}
 use Rattle.std.specs.Str.{bytes_eq}
@@ -187,9 +187,9 @@ after_dot word = if begins_with (codes ".") (after_name word) then drop 1 (after
 abbrev pub called_name : List ℕ → List ℕ
 called_name word = name_in (after_dot (after_dot (after_dot word)))
 
--- a name without what libraries for curses begin theirs with
-abbrev pub without_library : List ℕ → List ℕ
-without_library name = if begins_with (codes "curspan_") name || begins_with (codes "ncurses_") name then drop 8 name else name
+-- what follows the prefix that libraries for curses give to their names
+abbrev pub after_library : List ℕ → Option (List ℕ)
+after_library name = if begins_with (codes "curspan_") name || begins_with (codes "ncurses_") name then Some (drop 8 name) else None
 
 -- what follows the first comma
 abbrev pub after_comma : List ℕ → List ℕ

@@ -8,7 +8,7 @@ use Rattle.std.specs.Str.{bytes_eq}
 use Rattle.script.specs.Characters.{backslash}
 use Rattle.script.specs.Words.{word_of}
 use Rattle.explain.specs.Advice.{advice_by_part, advice_on, calls_alone, of_picture, of_shell, on_command_line, pairs_are_numbers, runs_no_programs, screen_size}
-use Rattle.explain.specs.Names.{after_comma, after_name, apostrophe, begins_comment, begins_with, begins_with_digit, called_name, colon, comma, ends_with, gives_value, has_byte, has_pair, has_part, has_value, is_comment, is_name_byte, is_one_of, is_quoted, is_redirection, name_in, names_pair, quotation_mark, round_bracket, slash, square_bracket, underscored, vertical_bar, without_library}
+use Rattle.explain.specs.Names.{after_comma, after_library, after_name, apostrophe, begins_comment, begins_with, begins_with_digit, called_name, colon, comma, ends_with, gives_value, has_byte, has_pair, has_part, has_value, is_comment, is_name_byte, is_one_of, is_quoted, is_redirection, name_in, names_pair, quotation_mark, round_bracket, slash, square_bracket, underscored, vertical_bar}
 use Rattle.explain.specs.Nearest.{near_call_of_words, nearest, nearest_other, or_else, same_call}
 
 -- ---- what is said of a name
@@ -20,18 +20,16 @@ advice_on_rest said rest = if is_some (word_of rest) then Some (said ++ rest) el
 abbrev pub after_prefix : List ℕ → List ℕ → List ℕ → Option (List ℕ)
 after_prefix prefix said word = if begins_with prefix word then advice_on_rest said (drop (length prefix) word) else None
 
--- where it begins with `mvw`, `mv` or `w`, of the rest
-unfoldable pub said_of_variant : List ℕ → Option (List ℕ)
-said_of_variant name =
-    or_else (after_prefix (codes "mvw") (codes "see move, ") name)
+-- what is said of it without a prefix; or else, where it begins with `mvw`, `mv` or `w`, of the rest
+unfoldable pub said_of_curses : List ℕ → Option (List ℕ)
+said_of_curses name = or_else (advice_on_rest (codes "see ") name)
+    (or_else (after_prefix (codes "mvw") (codes "see move, ") name)
     (or_else (after_prefix (codes "mv") (codes "see move, ") name)
-    (after_prefix (codes "w") (codes "see ") name))
+    (after_prefix (codes "w") (codes "see ") name)))
 
--- what is said of it as it is; or else without what names of libraries begin with
+-- the same, or else of what follows the prefix of a library
 unfoldable pub said_of_name : List ℕ → Option (List ℕ)
-said_of_name name = or_else (advice_on_rest (codes "see ") name)
-    (or_else (said_of_variant (without_library name))
-    (advice_on_rest (codes "see ") (without_library name)))
+said_of_name name = or_else (said_of_curses name) (option_and_then said_of_curses (after_library name))
 
 -- the call that is near the word
 abbrev pub see_nearest : List ℕ → Option (List ℕ)
@@ -128,10 +126,9 @@ is_before_call word pieces = begins_marked word
 
 -- of a word and those after it with a pair of curses, where the word has attributes or a background to set
 abbrev pub said_of_pair : List ℕ → List (List ℕ) → Option (List ℕ)
-said_of_pair word pieces = if not (names_pair word || has_pair pieces) then None
-    else (if has_part (codes "attr") word then Some pairs_are_numbers
-    else (if has_part (codes "bkgd") word then Some (codes "a pair is its number: see init_pair, bkgdpair")
-    else None))
+said_of_pair word pieces = if has_part (codes "attr") word && (names_pair word || has_pair pieces) then Some pairs_are_numbers
+    else (if has_part (codes "bkgd") word && (names_pair word || has_pair pieces) then Some (codes "a pair is its number: see init_pair, bkgdpair")
+    else None)
 
 -- a label, the head of a block, or a setting: the word begins with a letter, ends in a colon, and is no call, nor one as in
 -- `printw("Name: %s", name)`

@@ -1,10 +1,10 @@
 //! The name that a word begins with, and the marks of other languages in it.
 
-ghost use Rattle.std.specs.Prelude.{◌≡◌, ◌≤◌, ◌||◌, drop, length, take};
+ghost use Rattle.std.specs.Prelude.{◌≡◌, ◌≤◌, ◌||◌, IfSome, drop, length, option_map, take};
 ghost use Rattle.std.specs.Char.{is_ascii_alphabetic, is_ascii_hexdigit};
 ghost use Rattle.std.specs.List.{list_all, list_any};
 ghost use Rattle.script.specs.Pieces.{pieces_of};
-ghost use Rattle.explain.specs.Names.{after_comma, after_dot, after_name, are_digits, are_like_digits, are_like_two_digits, are_two_digits, begins_comment, begins_with_digit, ends_with, gives_value, has_byte, has_comment, has_pair, has_part, has_value, is_comment, is_like_digit, is_marked, is_name_byte, is_quoted, is_redirection, name_in, name_of_argument, names_pair, underscore_for, underscored, without_library};
+ghost use Rattle.explain.specs.Names.{after_comma, after_dot, after_library, after_name, are_digits, are_like_digits, are_like_two_digits, are_two_digits, begins_comment, begins_with_digit, ends_with, gives_value, has_byte, has_comment, has_pair, has_part, has_value, is_comment, is_like_digit, is_marked, is_name_byte, is_quoted, is_redirection, name_in, name_of_argument, names_pair, underscore_for, underscored};
 
 use crate::advice::is_among;
 use arrayvec::ArrayVec;
@@ -217,17 +217,14 @@ pub fn after_dot(word: &[u8]) -> &[u8]
     }
 }
 
-/// A name without what libraries for curses begin theirs with.
-pub fn without_library(name: &[u8]) -> &[u8]
-    ensures name { result.now ≡ without_library name.now }
-    ensures short { length result.now ≤ length name.now }
+/// What follows the prefix that libraries for curses give to their names.
+pub fn after_library(name: &[u8]) -> Option<&[u8]>
+    ensures name { option_map (λ rest. rest.now) result ≡ after_library name.now }
+    ensures short { IfSome result (λ rest. length rest.now ≤ length name.now) }
 {
-    if let Some(rest) = name.strip_prefix(b"curspan_") {
-        return rest;
-    }
-    match name.strip_prefix(b"ncurses_") {
-        Some(rest) => rest,
-        None => name,
+    match name.strip_prefix(b"curspan_") {
+        Some(rest) => Some(rest),
+        None => name.strip_prefix(b"ncurses_"),
     }
 }
 

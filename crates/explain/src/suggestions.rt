@@ -6,16 +6,15 @@ ghost use Rattle.script.specs.Pieces.{pieces_of, room_of};
 ghost use Rattle.explain.specs.Advice.{advice_on};
 ghost use Rattle.explain.specs.Names.{called_name, is_name_byte, underscored};
 ghost use Rattle.explain.specs.Nearest.{nearest_other};
-ghost use Rattle.explain.specs.Suggestions.{advice_on_rest, after_prefix, begins_marked, begins_with_call, gives_place, is_before_call, is_between, is_drawn, is_echo, is_label, is_of_log, is_of_picture, is_of_shell, is_of_tmux, is_statement, is_step, is_stroke, last_word, no_variables, nothing_before, number_first, said_near_name, said_of, said_of_backslash, said_of_beginning, said_of_given, said_of_line, said_of_marks, said_of_name, said_of_near, said_of_pair, said_of_two, said_of_variant, said_of_value, said_of_written, say_call, see_longer, see_nearest, see_nearest_rest, written_advice};
+ghost use Rattle.explain.specs.Suggestions.{advice_on_rest, after_prefix, begins_marked, begins_with_call, gives_place, is_before_call, is_between, is_drawn, is_echo, is_label, is_of_log, is_of_picture, is_of_shell, is_of_tmux, is_statement, is_step, is_stroke, last_word, no_variables, nothing_before, number_first, said_near_name, said_of, said_of_backslash, said_of_beginning, said_of_curses, said_of_given, said_of_line, said_of_marks, said_of_name, said_of_near, said_of_pair, said_of_two, said_of_value, said_of_written, say_call, see_longer, see_nearest, see_nearest_rest, written_advice};
 ghost use Rattle.explain.specs.steps.Suggestions.{said_now};
 
 use crate::advice::{CALLS_ALONE, COMMAND_LINE, PAIRS, PROGRAMS, SCREEN_SIZE, advice_on, is_among};
 use crate::more_advice::{PICTURE, SHELL, advice_by_part};
 use crate::names::{
-    Name, after_comma, after_first, after_name, begins_comment, begins_with_digit,
+    Name, after_comma, after_first, after_library, after_name, begins_comment, begins_with_digit,
     begins_with_letter, ends_with, gives_value, has_byte, has_pair, has_part, has_value,
     is_comment, is_name_byte, is_quoted, is_redirection, name_of, names_pair, underscored,
-    without_library,
 };
 use crate::nearest::{nearest, nearest_other, same_call};
 use script::{LONGEST_LINE, Word, split_at_space};
@@ -84,13 +83,16 @@ fn see_nearest<'a>(word: &[u8]) -> Option<Said<'a>>
     }
 }
 
-/// What is said of a name with one of three prefixes.
-#[tactic(auto, unfolding(crate::specs::Suggestions::said_of_variant))]
-fn said_of_variant<'a>(name: &'a [u8]) -> Option<Said<'a>>
-    ensures said { said_now result ≡ said_of_variant name.now }
+/// What is said of a name without a prefix, or else with one of three.
+#[tactic(auto, unfolding(crate::specs::Suggestions::said_of_curses))]
+fn said_of_curses<'a>(name: &'a [u8]) -> Option<Said<'a>>
+    ensures said { said_now result ≡ said_of_curses name.now }
     ensures short { IfSome result (λ s. length s.text.now ≤ 80) }
     ensures call { IfSome result (λ s. length s.call.now ≤ length name.now) }
 {
+    if let Some(said) = advice_on_rest(b"see ", name) {
+        return Some(said);
+    }
     if let Some(said) = after_prefix(b"mvw", b"see move, ", name) {
         return Some(said);
     }
@@ -100,21 +102,20 @@ fn said_of_variant<'a>(name: &'a [u8]) -> Option<Said<'a>>
     after_prefix(b"w", b"see ", name)
 }
 
-/// What is said of a name as it is, or else without what names of libraries begin with.
+/// What is said of a name as it is, or else of what follows the prefix of a library.
 #[tactic(auto, unfolding(crate::specs::Suggestions::said_of_name))]
 fn said_of_name<'a>(name: &'a [u8]) -> Option<Said<'a>>
     ensures said { said_now result ≡ said_of_name name.now }
     ensures short { IfSome result (λ s. length s.text.now ≤ 80) }
     ensures call { IfSome result (λ s. length s.call.now ≤ length name.now) }
 {
-    if let Some(said) = advice_on_rest(b"see ", name) {
+    if let Some(said) = said_of_curses(name) {
         return Some(said);
     }
-    let rest = without_library(name);
-    if let Some(said) = said_of_variant(rest) {
-        return Some(said);
+    match after_library(name) {
+        Some(rest) => said_of_curses(rest),
+        None => None,
     }
-    advice_on_rest(b"see ", rest)
 }
 
 /// The call that is nearest to what follows a `w`, with which curses names calls that take a window.
@@ -364,13 +365,10 @@ fn said_of_pair(word: &[u8], text: Option<&[u8]>) -> Option<&'static [u8]>
     ensures said { option_map (λ text. text.now) result ≡ said_of_pair word.now (pieces_of text.entry) }
     ensures short { IfSome result (λ text. length text.now ≤ 80) }
 {
-    if !(names_pair(word) || has_pair(text)) {
-        return None;
-    }
-    if has_part(word, b"attr") {
+    if has_part(word, b"attr") && (names_pair(word) || has_pair(text)) {
         return Some(PAIRS);
     }
-    if has_part(word, b"bkgd") {
+    if has_part(word, b"bkgd") && (names_pair(word) || has_pair(text)) {
         return Some(b"a pair is its number: see init_pair, bkgdpair");
     }
     None
