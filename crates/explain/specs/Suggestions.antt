@@ -115,11 +115,11 @@ abbrev pub begins_with_call : List (List ℕ) → Bool
 begins_with_call [] = false
 begins_with_call (piece ∷ pieces) = is_some (word_of piece)
 
--- a call after the name of a window or panel, with or without its number, or after a prompt or a bullet; or a call with one
--- before it in the same word, as `-addstr` and `"addstr`
+-- a mark and then a call, as in `-addstr` and `"addstr`
 abbrev pub begins_marked : List ℕ → Bool
 begins_marked word = list_any (λ byte. has_byte byte (codes "-+*$`'\"")) (take 1 word) && is_some (same_call word)
 
+-- such a word; or a call after the name of a window or panel, with or without its number, or after a prompt or a bullet
 abbrev pub is_before_call : List ℕ → List (List ℕ) → Bool
 is_before_call word pieces = begins_marked word
     || (is_one_of (codes "win window panel pad screen stdscr % PS - * +") word && (begins_with_call pieces || begins_with_call (drop 1 pieces)))
