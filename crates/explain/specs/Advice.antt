@@ -98,7 +98,7 @@ advised =
     ∷ (codes "the screen keeps its size, which the command line gives", codes "resizeterm resize_term is_term_resized")
     ∷ (codes "see newwin, overwrite", codes "dupwin")
     ∷ (codes "see attron, with 10", codes "standout invert")
-    ∷ (codes "see attroff", codes "attrof")
+    ∷ (codes "see attroff", codes "attrof attof")
     ∷ (codes "see attrset, with 00", codes "standend sgr0")
     ∷ (
       codes "see attrset, attron, attroff, color_set",
@@ -228,30 +228,38 @@ like_calls_advised =
       codes "the eight colours can't be changed: see init_pair",
       codes "init_color init_colour initcolor init_extended_color can_change_color",
     )
-    ∷ (codes "see del_panel", codes "destroy_panel remove_panel free_panel")
+    ∷ (codes "see del_panel", codes "destroy_panel remove_panel free_panel delpan rm_panel panel_delete close_panel")
+    ∷ (codes "see new_panel", codes "open_panel panel_create")
     ∷ (codes "see scrl, scrollok", codes "scroll")
-    ∷ (codes "see move_panel", codes "mvpanel mv_panel panelmove")
-    ∷ (codes "see mvwin", codes "mvwindow mv_window win_move")
-    ∷ (codes "see newwin", codes "create_newwin newwindows winnew win_new create_win make_win open_win")
+    ∷ (codes "see move_panel", codes "mvpanel mv_panel panelmove mvpan")
+    ∷ (codes "see mvwin", codes "mvwindow mv_window win_move window_move")
+    ∷ (codes "see newwin", codes "create_newwin newwindows winnew win_new create_win make_win open_win window_new")
     ∷ (codes "see newwin, derwin", codes "nerwin")
-    ∷ (codes "see delch, deleteln", codes "dellin delln deleln deletelines delete_lines dl1 dch1 dl dch del_line remove_line del_char")
+    ∷ (codes "see derwin, subwin", codes "derive derived derive_window inner_window")
+    ∷ (codes "see newpad, new_panel", codes "newpan")
+    ∷ (codes "see delch, deleteln", codes "dellin delln deleln deletelines delete_lines dl1 dch1 dl dch del_line remove_line del_char remove_char")
     ∷ (codes "see insertln", codes "insln insertlines insert_line insert_lines il1 il ins_line")
     ∷ (codes "see insch, for each character", codes "ich1 ich insert_char insstring insertstr inserttext ins_char")
     ∷ (codes "see move, insch", codes "mvinsstr mvinsnstr mvwinsstr mvwinsnstr")
     ∷ (codes "each call names its window or panel", codes "setwin set_window select_window current")
-    ∷ (codes "see pnoutrefresh", codes "refresh_pad refreshpad pad_refresh padrefresh")
-    ∷ (codes "a window is hidden with its panel: see hide_panel, show_panel", codes "hidewin showwin hide_win show_win")
+    ∷ (codes "see pnoutrefresh", codes "refresh_pad refreshpad pad_refresh padrefresh show_pad pad_show viewport")
+    ∷ (codes "a window is hidden with its panel: see hide_panel, show_panel", codes "hidewin showwin hide_win show_win win_hide win_show window_hide window_show hide_all show_all")
     ∷ (codes "a window keeps its size: see newwin, copywin", codes "resizewin resize_win resize_window")
+    ∷ (codes "a window keeps its size: see newwin, replace_panel", codes "panel_resize resize_panel")
+    ∷ (codes "a panel shows its window: see panel_window, addstr", codes "panel_write write_panel panel_print panel_addstr")
+    ∷ (codes "a panel shows its window: see panel_window, erase", codes "panel_clear clear_panel panel_erase erase_panel")
     ∷ (backgrounds, codes "bgset bgpair bkpair bkg")
     ∷ (codes "see color_set, init_pair", codes "op oc setfg setbg set_fg set_bg set_colour set_colors set_colours")
     ∷ (
       codes "see move, addstr",
       codes "draw_text write_text print_text put_text show_text display_text print_at mvaddnstr mvwaddnstr"
           ++ codes " mv_add_str drawtext printat outtext outtextxy cputs add addline str msg message win_write window_write window_print"
-          ++ codes " put_str put_string print_str print_string write_string write_char print_char addln setcontent moveprint",
+          ++ codes " put_str put_string print_str print_string write_string write_char print_char addln setcontent moveprint text_write win_print set_text"
+          ++ codes " set_title insert_text",
     )
     ∷ (codes "no call formats: see move, addstr", codes "mvprintw mvwprintw")
-    ∷ (codes "see getyx, getbegyx, getmaxyx", codes "wherexy wherex wherey getbeg getwinsize getxmaxy maxx maxy begx begy curx cury get_pos max_yx")
+    ∷ (codes "see getyx, getbegyx, getmaxyx", codes "wherexy wherex wherey getbeg getwinsize getxmaxy maxx maxy begx begy curx cury get_pos max_yx get_position")
+    ∷ (codes "see getyx, move", codes "save_cursor restore_cursor")
     ∷ (
       codes "see noutrefresh, update_panels, doupdate",
       codes "updateall update_all updatewin update_win flip swap present blit commit draw_window display_window"
@@ -264,15 +272,23 @@ like_calls_advised =
       codes "add_wch add_wchstr add_wchnstr addwstr addnwstr echo_wchar pecho_wchar",
     )
     ∷ (codes "characters are those of ASCII: see bkgdset", codes "bkgrnd bkgrndset")
-    ∷ (codes "see top_panel, bottom_panel", codes "panel_bottom panel_raise panel_lower raise_window lower_window top_window bottom_window")
-    ∷ (codes "see panel_above, panel_below", codes "above_panel below_panel")
-    ∷ (updates, codes "redraw_panels draw_panels refresh_panels")
+    ∷ (
+      codes "see top_panel, bottom_panel",
+      codes "panel_bottom panel_raise panel_lower raise_window lower_window top_window bottom_window window_top window_raise"
+          ++ codes " window_lower win_top zorder z_order order push_panel panel_focus activate select_panel switch_panel order_panel",
+    )
+    ∷ (codes "see panel_above, panel_below", codes "above_panel below_panel next_panel prev_panel previous_panel current_panel")
+    ∷ (updates, codes "redraw_panels draw_panels refresh_panels refresh_panel draw_panel redraw_all force_redraw")
     ∷ (codes "see replace_panel", codes "panel_replace swap_panel replace_window")
-    ∷ (codes "see panel_hidden", codes "hidden_panel is_panel_hidden")
+    ∷ (codes "see panel_hidden", codes "hidden_panel is_panel_hidden panel_visible")
     ∷ (codes "see panel_window", codes "window_panel get_panel_window")
     ∷ (codes "see delch", codes "delete_char delete_ch")
     ∷ (codes "see newpad", codes "create_pad pad_new")
-    ∷ (codes "see delwin", codes "delpad del_pad pad_del win_del delete_win remove_win close_win free_win delete_pad free_pad")
+    ∷ (
+      codes "see delwin",
+      codes "delpad del_pad pad_del win_del delete_win remove_win close_win free_win delete_pad free_pad remove_window kill_window"
+          ++ codes " free_window window_delete",
+    )
     ∷ (coloured, codes "new_pair make_pair define_pair pair_init yellow cyan magenta gray")
     ∷ (no_menus, codes "msgbox yesno gauge inputbox infobox checklist zenity")
     ∷ []
@@ -300,13 +316,13 @@ foreign_advised =
       codes "see move, which takes a line and a column",
       codes "home hpa vpa cuu1 cub1 cuf1 cud1 setpos go gotoyx goto_xy gotorc position set_pos set_position goto_pos move_pos",
     )
-    ∷ (codes "see clrtoeol, clrtobot", codes "el el1 ed ech clrline clrtoend clr_line clr_eol")
-    ∷ (renditions, codes "smso rmso smul rmul rev sgr invis style font noattr plain bold_on underline_on highvideo lowvideo normvideo")
+    ∷ (codes "see clrtoeol, clrtobot", codes "el el1 ed ech clrline clrtoend clr_line clr_eol clrbot")
+    ∷ (renditions, codes "smso rmso smul rmul rev sgr invis style font noattr plain bold_on bold_off underline_on highvideo lowvideo normvideo")
     ∷ (codes "see setscrreg, scrl", codes "csr ind indn ri rin")
     ∷ (codes "see addstr, which draws lines by + - and |", codes "acsc smacs rmacs hr vr hl vl draw_line drawline draw_border draw_rect circle window_box")
-    ∷ (codes "no call reads a key", codes "smkx rmkx waitkey wait_key press crmode nocrmode")
+    ∷ (codes "no call reads a key", codes "smkx rmkx waitkey wait_key press crmode nocrmode readline get_char textbox")
     ∷ (codes "zsh's module has names of its own: see newwin, addstr", codes "zcurses")
-    ∷ (of_picture, codes "rendition")
+    ∷ (of_picture, codes "rendition cursor_unknown")
     ∷ (screen_is_there, codes "close_screen start_screen screen_init initialize finish fini newscreen")
     ∷ (of_shell, codes "coproc chmod select")
     ∷ (
@@ -319,7 +335,7 @@ foreign_advised =
       codes "assert async yield finally default extern public private package program procedure module proc match"
           ++ codes " impl mod pub defer not typeset readonly getopts shift setenv nil self super malloc strlen memset"
           ++ codes " fopen fclose fgets abort atexit perror signal sizeof len"
-          ++ codes " auto float double size_t val fun our sub foreach unless elseif namespace template catch throw final",
+          ++ codes " auto float double size_t val fun our sub foreach unless elseif namespace template catch throw final endif await die short",
     )
     ∷ []
 

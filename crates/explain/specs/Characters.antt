@@ -1,12 +1,12 @@
 -- What is said of bytes that no line has, of faulty texts, and of what is no character. The texts are Curspan's own.
 use Rattle.std.specs.Prelude.{◌==◌, ◌&&◌, ◌||◌, ℕ, Bool, not, List, [], ◌∷◌, codes, drop, length, nat_le, slice_index, take, if◌then◌else◌}
 use Rattle.std.specs.Char.{is_ascii_alphabetic, is_ascii_hexdigit}
-use Rattle.std.specs.List.{list_all, list_any}
+use Rattle.std.specs.List.{list_all, list_any, slice_split}
 use Rattle.std.specs.Str.{bytes_eq}
-use Rattle.script.specs.Characters.{backslash, backspace, carriage_return, number_sign, space}
+use Rattle.script.specs.Characters.{backslash, backspace, carriage_return, is_space, number_sign, space}
 use Rattle.script.specs.declared.words.Form.TheVariants.{Text}
 use Rattle.explain.specs.Faults.{has_form}
-use Rattle.explain.specs.Names.{after_name, are_digits, are_two_digits, begins_with, begins_with_digit, comma, digit_8, ends_with, escape, has_byte, has_part, is_one_of, is_quoted, name_of_argument, semicolon, tab, vertical_bar}
+use Rattle.explain.specs.Names.{after_name, are_digits, are_two_digits, begins_with, begins_with_digit, comma, digit_8, ends_with, escape, has_byte, has_call, has_part, is_one_of, is_quoted, name_of_argument, semicolon, tab, vertical_bar}
 
 -- ---- bytes that no line has
 
@@ -16,8 +16,8 @@ byte_advice b = if b == carriage_return then codes "a line ends with a newline a
     else (if b == tab then codes "no line has tabs: a call begins it, one space separates words, a text has spaces"
     else (if b == backspace then codes "a text has it as a backslash and b"
     else (if b == escape then codes "a text has no control sequences: see attrset, color_set, move"
-    else (if b == 0 then codes "a character is one byte, and not two as in UTF-16"
-    else codes "characters are those of ASCII, from the space to the tilde"))))
+    else (if b == 0 then codes "no line has it, and a character is one byte, not two as in UTF-16"
+    else codes "characters are those of ASCII, from the space to the tilde; others may look alike"))))
 
 -- In UTF-8: the last byte of the last block that is drawn with; those of the last of many spaces, of the first mark that
 -- separates lines, and of the last space.
@@ -112,9 +112,10 @@ text_reason text = escape_reason (after_bad_escape text)
 
 -- of several characters in place of one, which may be several words
 abbrev pub several_characters_reason : List ℕ → List ℕ → List ℕ
-several_characters_reason word argument = if bytes_eq word (codes "bkgdset") then codes ": it is more than one, and attributes come before it, as one sum"
+several_characters_reason word argument = if has_call (drop 1 (slice_split is_space argument)) then codes ": it is more than one, and a line has one call"
+    else (if bytes_eq word (codes "bkgdset") then codes ": it is more than one, and attributes come before it, as one sum"
     else (if has_byte space argument then codes ": it is more than one: addstr writes a text; see move, attrset, color_set"
-    else codes ": it is more than one: addstr writes a text, and a code is as \\x41 for 65")
+    else codes ": it is more than one: addstr writes a text, and a code is as \\x41 for 65"))
 
 -- of what ends with something else than the character
 abbrev pub end_reason : List ℕ → List ℕ → List ℕ
@@ -128,7 +129,7 @@ end_reason word argument = if ends_with semicolon argument then codes ": it is m
 abbrev pub longer_reason : List ℕ → List ℕ → List ℕ
 longer_reason word argument = if begins_with (codes " ") argument then codes ": it is more than one, and single spaces separate words"
     else (if is_quoted argument then codes ": no quotes are around arguments"
-    else (if are_digits argument || begins_with (codes "0x") argument || begins_with (codes "&") argument || begins_with (codes "\\x") argument
+    else (if are_digits argument || begins_with (codes "0x") argument || begins_with (codes "&") argument || (begins_with (codes "\\x") argument && not (has_byte space argument))
     then codes ": it is more than one; a code is \\x and two hexadecimal digits, as \\x41 for 65"
     else (if is_one_of (codes "space newline enter tab") (name_of_argument argument)
     then codes ": it is more than one; a space is \\x20, a tab is spaces, and addch takes \\n"

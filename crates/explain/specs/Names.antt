@@ -1,9 +1,10 @@
 -- The name that a word begins with, and the marks of other languages in it.
-use Rattle.std.specs.Prelude.{◌-◌, ◌==◌, ◌&&◌, ◌||◌, ℕ, Bool, false, not, List, [], ◌∷◌, codes, drop, length, nat_lt, take, Option, Some, None, if◌then◌else◌}
-use Rattle.std.specs.Char.{is_ascii_alphanumeric, is_ascii_digit, is_ascii_hexdigit, to_ascii_lowercase}
+use Rattle.std.specs.Prelude.{◌-◌, ◌==◌, ◌&&◌, ◌||◌, ℕ, Bool, false, not, is_some, List, [], ◌∷◌, codes, drop, length, nat_lt, take, Option, Some, None, if◌then◌else◌}
+use Rattle.std.specs.Char.{is_ascii_alphabetic, is_ascii_alphanumeric, is_ascii_digit, is_ascii_hexdigit, to_ascii_lowercase}
 use Rattle.std.specs.List.{list_all, list_any, slice_split}
 use Rattle.std.specs.Str.{bytes_eq}
 use Rattle.script.specs.Characters.{is_space}
+use Rattle.script.specs.Words.{word_of}
 
 -- ---- bytes that have a meaning elsewhere, by name
 
@@ -163,6 +164,13 @@ abbrev pub name_in : List ℕ → List ℕ
 name_in [] = []
 name_in (b ∷ bs) = if is_name_byte b then to_ascii_lowercase b ∷ name_in bs else []
 
+-- a word begins with the name of a call, or with one that curses has
+abbrev pub begins_call : List ℕ → Bool
+begins_call piece = is_some (word_of (name_in piece)) || is_one_of (codes "refresh wrefresh getch endwin mvaddstr mvaddch mvprintw printw") (name_in piece)
+
+abbrev pub has_call : List (List ℕ) → Bool
+has_call pieces = list_any begins_call pieces
+
 -- a word with underscores for its hyphens, as a table has its names
 abbrev pub underscore_for : ℕ → ℕ
 underscore_for byte = if byte == hyphen then underscore else byte
@@ -176,16 +184,21 @@ abbrev pub after_name : List ℕ → List ℕ
 after_name [] = []
 after_name (b ∷ bs) = if is_name_byte b then after_name bs else b ∷ bs
 
--- what follows a name and a dot, an arrow or two colons; or else the word
+-- what follows a name and a dot, an arrow, two colons, or one colon before a letter, as in `win:refresh()`; or else the word
 abbrev pub after_dot : List ℕ → List ℕ
 after_dot word = if begins_with (codes ".") (after_name word) then drop 1 (after_name word)
     else (if begins_with (codes "->") (after_name word) then drop 2 (after_name word)
     else (if begins_with (codes "::") (after_name word) then drop 2 (after_name word)
-    else word))
+    else (if begins_with (codes ":") (after_name word) && list_any is_ascii_alphabetic (take 1 (drop 1 (after_name word))) then drop 1 (after_name word)
+    else word)))
+
+-- a word without the mark that Perl has before a variable, where it calls a method of that, as in `$win->refresh()`
+abbrev pub after_sigil : List ℕ → List ℕ
+after_sigil word = if begins_with (codes "$") word && has_part (codes "->") (drop 1 word) then drop 1 word else word
 
 -- the name of what a word calls: `win.refresh()`, `win->refresh()`, `self.ui.win.refresh()` and `refresh()` have the same
 abbrev pub called_name : List ℕ → List ℕ
-called_name word = name_in (after_dot (after_dot (after_dot word)))
+called_name word = name_in (after_dot (after_dot (after_dot (after_sigil word))))
 
 -- what follows the prefix that libraries for curses give to their names
 abbrev pub after_library : List ℕ → Option (List ℕ)

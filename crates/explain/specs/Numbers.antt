@@ -8,7 +8,7 @@ use Rattle.script.specs.Readings.{arguments}
 use Rattle.script.specs.Words.{word_of}
 use Rattle.explain.specs.Faults.{IllFormed, find_ill_formed, forms_of, is_word, place_of}
 use Rattle.explain.specs.Groups.{sets_attributes, sets_pair, takes_place_of_cursor, writes}
-use Rattle.explain.specs.Names.{are_digits, are_two_digits, begins_with_digit, comma, ends_with, equals_sign, has_byte, has_pair, is_one_of, is_redirection, name_in, semicolon, vertical_bar}
+use Rattle.explain.specs.Names.{are_digits, are_two_digits, begins_with_digit, comma, ends_with, equals_sign, has_byte, has_call, has_pair, is_one_of, is_redirection, semicolon, vertical_bar}
 use Rattle.explain.specs.Nearest.{or_else}
 use Rattle.explain.specs.Reasons.{is_bracketed, no_brackets, no_commas, no_names, no_redirections, one_window, reason_after}
 use Rattle.explain.specs.Signatures.{names_of_arguments}
@@ -22,13 +22,6 @@ begins_bracketed (piece ∷ pieces) = is_bracketed piece && not (length piece ==
 abbrev pub begins_number : List (List ℕ) → Bool
 begins_number [] = false
 begins_number (piece ∷ pieces) = begins_with_digit piece
-
--- a word begins with the name of a call, or with one that curses has
-abbrev pub begins_call : List ℕ → Bool
-begins_call piece = is_some (word_of (name_in piece)) || is_one_of (codes "refresh wrefresh getch endwin mvaddstr mvaddch mvprintw printw") (name_in piece)
-
-abbrev pub has_call : List (List ℕ) → Bool
-has_call pieces = list_any begins_call pieces
 
 abbrev pub has_redirection : List (List ℕ) → Bool
 has_redirection pieces = list_any is_redirection pieces

@@ -120,8 +120,10 @@ abbrev pub size_reason : List ℕ → List ℕ
 size_reason word = if is_one_of (codes "newwin subwin derwin") word then codes ": no variables: a size of 0 reaches to the edge, and a place is a number"
     else codes ": a script has no variables: the command line gives the size; see getmaxyx"
 
-abbrev pub numbers_in_digits : List ℕ
-numbers_in_digits = codes ": numbers alone are arguments, in digits: no words or variables; see getmaxyx"
+-- what numbers are, after a word: some calls take a flag last
+abbrev pub numbers_in_digits : List ℕ → List ℕ
+numbers_in_digits word = if is_one_of (codes "copywin touchln") word then codes ": on or off comes last, and numbers before it, in digits: no words or variables"
+    else codes ": numbers alone are arguments, in digits: no words or variables; see getmaxyx"
 
 -- of calls on the place of the cursor
 abbrev pub one_window : List ℕ
@@ -149,7 +151,7 @@ second_reason word = if bytes_eq word (codes "replace_panel")
     else (if is_one_of (codes "overlay overwrite copywin") word then codes ": the second window is a number too, from 1 as made; stdscr is 0"
     else (if bytes_eq word (codes "scrl") then codes ": one number: lines go up, or down with a minus right before its digits"
     else (if sets_pair word then codes ": a pair is a number, which has its colours by init_pair"
-    else numbers_in_digits)))
+    else numbers_in_digits word)))
 
 -- what colours are
 abbrev pub colours : List ℕ
@@ -162,7 +164,7 @@ no_digits_reason word place = if bytes_eq word (codes "init_pair")
     else colours)
     else (if place == 0 then first_reason word
     else (if place == 1 then second_reason word
-    else numbers_in_digits))
+    else numbers_in_digits word))
 
 -- of letters that are taken for digits
 abbrev pub no_letters : List ℕ
@@ -177,11 +179,15 @@ abbrev pub more_than_digits : List ℕ → List ℕ
 more_than_digits argument = if has_byte number_sign argument then codes ": a number has digits alone, and a comment has a line of its own"
     else codes ": a number has digits alone"
 
+-- a number of another base, as C, Python and others write them
+abbrev pub has_base : List ℕ → Bool
+has_base argument = begins_with (codes "0x") argument || begins_with (codes "0X") argument || begins_with (codes "0o") argument || begins_with (codes "0b") argument
+
 -- of what may stand for a number elsewhere
 abbrev pub name_reason : List ℕ → ℕ → List ℕ → List ℕ
-name_reason word place argument = if are_like_digits argument then no_letters
+name_reason word place argument = if has_base argument then codes ": a number is decimal"
+    else (if are_like_digits argument then no_letters
     else (if bytes_eq argument (codes "none") then codes ": only panel_above and panel_below take \"none\""
-    else (if begins_with (codes "0x") argument || begins_with (codes "0X") argument then codes ": a number is decimal"
     else (if is_near_number word argument then more_than_digits argument
     else no_digits_reason word place)))
 
@@ -292,9 +298,11 @@ window_reason argument = if not (is_like_window argument) then Some (if begins_w
 abbrev pub reason_of_call : List ℕ → ℕ → List ℕ → Option (List ℕ)
 reason_of_call word place argument = if not (place == 0) then later_reason word argument
     else (if writes word then window_reason argument
+    else (if bytes_eq word (codes "scrl") && begins_with (codes "-") argument
+    then Some (codes ": the window comes first, then how many lines, down with a minus")
     else (if (sets_attributes word || bytes_eq word (codes "bkgdset")) && are_two_digits argument
     then Some (codes ": the window comes first, then the attributes; a number has no leading 0")
-    else None))
+    else None)))
 
 -- of an argument after a word and so many others: what is said after that word, or else of its form
 abbrev pub reason_after : List ℕ → ℕ → Form → List ℕ → List ℕ

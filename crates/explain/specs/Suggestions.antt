@@ -1,5 +1,5 @@
 -- What to write for a word that is no call, by its name and its marks. The texts are Curspan's own.
-use Rattle.std.specs.Prelude.{◌==◌, ◌&&◌, ◌||◌, ℕ, Bool, false, not, List, [], ◌∷◌, ◌++◌, codes, drop, is_some, length, nat_lt}
+use Rattle.std.specs.Prelude.{◌-◌, ◌==◌, ◌&&◌, ◌||◌, ℕ, Bool, false, not, List, [], ◌∷◌, ◌++◌, codes, drop, is_some, length, nat_lt}
 use Rattle.std.specs.Prelude.{Option, option_and_then, option_map, Some, None, take, unwrap_or, if◌then◌else◌}
 use Rattle.std.specs.Char.{is_ascii_alphabetic}
 use Rattle.std.specs.List.{list_all, list_any}
@@ -117,12 +117,16 @@ begins_with_call (piece ∷ pieces) = is_some (word_of piece)
 
 -- a mark and then a call, as in `-addstr` and `"addstr`
 abbrev pub begins_marked : List ℕ → Bool
-begins_marked word = list_any (λ byte. has_byte byte (codes "-+*$`'\"")) (take 1 word) && is_some (same_call word)
+begins_marked word = list_any (λ byte. has_byte byte (codes "-+*$`'\"@!([{<:")) (take 1 word) && is_some (same_call word)
 
--- such a word; or a call after the name of a window or panel, with or without its number, or after a prompt or a bullet
+-- several bytes that end as a prompt does, as `bash$`; or an arrow or the like
+abbrev pub is_prompt : List ℕ → Bool
+is_prompt word = nat_lt 1 (length word) && (list_any (λ byte. has_byte byte (codes "$#%>")) (drop (length word - 1) word) || is_drawn word)
+
+-- such a word; or a call after the name of a window or panel, with or without its number, or after a prompt, a bullet or the command
 abbrev pub is_before_call : List ℕ → List (List ℕ) → Bool
 is_before_call word pieces = begins_marked word
-    || (is_one_of (codes "win window panel pad screen stdscr % PS - * +") word && (begins_with_call pieces || begins_with_call (drop 1 pieces)))
+    || (is_one_of (codes "win window panel pad screen stdscr curspan ./curspan % PS - * +") word && (begins_with_call pieces || begins_with_call (drop 1 pieces)))
 
 -- of a word and those after it with a pair of curses, where the word has attributes or a background to set
 abbrev pub said_of_pair : List ℕ → List (List ℕ) → Option (List ℕ)
@@ -144,13 +148,14 @@ said_of_two word (piece ∷ pieces) = advice_on (word ++ codes "_" ++ piece)
 abbrev pub said_of_line : List ℕ → List (List ℕ) → Option (List ℕ)
 said_of_line word pieces = or_else (or_else (said_of_two word pieces) (said_of_pair word pieces))
     (if is_of_log word pieces then Some (codes "a line of the log or of check is no line of a script")
+    else (if is_prompt word && begins_with_call pieces then Some nothing_before
     else (if is_of_picture word pieces then Some of_picture
     else (if is_echo word pieces then Some of_shell
     else (if is_statement word pieces then Some calls_alone
     else (if is_label word then Some (codes "a script has calls alone, and no labels or settings; a comment begins with #")
     else (if has_value word pieces && not (has_byte round_bracket word) then Some (said_of_value (name_in word))
     else (if is_before_call word pieces then Some nothing_before
-    else None)))))))
+    else None))))))))
 
 -- ---- what is said of the marks of a word
 

@@ -135,7 +135,7 @@ const ADVICE: [(u8, &[Row]); 28] = [
     (b'a', &[
         (LINES, b"acs_hline acs_vline"),
         (TEXTS, b"addnstr addchstr addchnstr addstring addtext add_string add_text"),
-        (b"see attroff", b"attrof"),
+        (b"see attroff", b"attrof attof"),
         (ATTRIBUTES,
             b"attr_set attr_on attr_off attr attribute attributes a_bold a_dim a_underline a_blink a_reverse \
             a_invis a_standout a_normal attrs"),

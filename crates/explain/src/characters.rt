@@ -9,9 +9,9 @@ use crate::advice::is_among;
 use crate::arguments::has_form;
 use crate::names::{
     after_first, after_name, are_digits, are_hexadecimal, are_two_digits, begins_with_digit,
-    begins_with_letter, ends_with, has_byte, has_part, is_quoted, name_of_argument,
+    begins_with_letter, ends_with, has_byte, has_call, has_part, is_quoted, name_of_argument,
 };
-use script::{Form, LONGEST_LINE};
+use script::{Form, LONGEST_LINE, split_at_space};
 
 /// What is said of a bad byte: a carriage return, a tab, a backspace, an escape, a 0, or another.
 fn byte_advice(byte: u8) -> &'static [u8]
@@ -25,8 +25,8 @@ fn byte_advice(byte: u8) -> &'static [u8]
         },
         8 => b"a text has it as a backslash and b",
         27 => b"a text has no control sequences: see attrset, color_set, move",
-        0 => b"a character is one byte, and not two as in UTF-16",
-        _ => b"characters are those of ASCII, from the space to the tilde",
+        0 => b"no line has it, and a character is one byte, not two as in UTF-16",
+        _ => b"characters are those of ASCII, from the space to the tilde; others may look alike",
     }
 }
 
@@ -209,10 +209,14 @@ fn escape_reason(rest: &[u8]) -> &'static [u8]
 
 /// What is said of several characters in place of one, which may be several words.
 fn several_characters_reason(word: &[u8], argument: &[u8]) -> &'static [u8]
+    requires { length argument.now ≤ LONGEST_LINE }
     ensures text { result.now ≡ several_characters_reason word.now argument.now }
     ensures short { length result.now ≤ 80 }
 {
-    if word == b"bkgdset".as_slice() {
+    let (_, others) = split_at_space(argument);
+    if has_call(others) {
+        b": it is more than one, and a line has one call"
+    } else if word == b"bkgdset".as_slice() {
         b": it is more than one, and attributes come before it, as one sum"
     } else if has_byte(argument, b' ') {
         b": it is more than one: addstr writes a text; see move, attrset, color_set"
@@ -223,6 +227,7 @@ fn several_characters_reason(word: &[u8], argument: &[u8]) -> &'static [u8]
 
 /// What is said of an argument that ends with something else than the character.
 fn end_reason(word: &[u8], argument: &[u8]) -> &'static [u8]
+    requires { length argument.now ≤ LONGEST_LINE }
     ensures text { result.now ≡ end_reason word.now argument.now }
     ensures short { length result.now ≤ 80 }
 {
@@ -253,7 +258,7 @@ fn longer_reason(word: &[u8], argument: &[u8]) -> &'static [u8]
     } else if are_digits(argument)
         || argument.strip_prefix(b"0x").is_some()
         || argument.strip_prefix(b"&").is_some()
-        || argument.strip_prefix(b"\\x").is_some()
+        || argument.strip_prefix(b"\\x").is_some() && !has_byte(argument, b' ')
     {
         b": it is more than one; a code is \\x and two hexadecimal digits, as \\x41 for 65"
     } else if is_among(name.as_slice(), b"space newline enter tab") {

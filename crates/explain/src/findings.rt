@@ -12,7 +12,7 @@ use crate::arguments::{IllFormed, Stray, count, find_ill_formed, find_stray, for
 use crate::characters::bad_text_advice;
 use crate::column::{bad_byte, bad_place, column_of, from_bad_byte};
 use crate::groups::writes;
-use crate::names::{after_dot, begins_comment, has_comment, name_of};
+use crate::names::{after_dot, after_sigil, begins_comment, has_comment, name_of};
 use crate::nearest::{call_of_words, near_call_of_words};
 use crate::numbers::number_reason;
 use crate::reasons::{no_window, reason_after, requirement_of};
@@ -146,7 +146,7 @@ fn append_said(text: &mut Finding, word: &[u8], arguments: Option<&[u8]>)
     ensures text { text.new.items ≡ text.old.items ++ unwrap_or (said_of word.now) (line_advice word.now (pieces_of arguments.entry)) }
     ensures short { length text.new.items < FINDING_ROOM }
 {
-    let name = name_of(after_dot(after_dot(after_dot(word))));
+    let name = name_of(after_dot(after_dot(after_dot(after_sigil(word)))));
     match said_of(word, name.as_slice()) {
         Some(said) => {
             append(text, said.text);

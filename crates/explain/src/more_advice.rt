@@ -26,37 +26,44 @@ pub const SHELL: &[u8] = b"this belongs in the shell: a script has calls alone";
 
 /// Names like those of calls that the table of `advice` has no room for.
 #[rattlefmt::skip]
-const LIKE_CALLS: [Row; 38] = [
+const LIKE_CALLS: [Row; 45] = [
     (b"see delwin, del_panel", b"del remove free"),
     (b"pairs have the terminal's colours until they are set: see init_pair",
         b"use_default_colors assume_default_colors"),
     (b"the eight colours can't be changed: see init_pair",
         b"init_color init_colour initcolor init_extended_color can_change_color"),
-    (b"see del_panel", b"destroy_panel remove_panel free_panel"),
+    (b"see del_panel", b"destroy_panel remove_panel free_panel delpan rm_panel panel_delete close_panel"),
+    (b"see new_panel", b"open_panel panel_create"),
     (b"see scrl, scrollok", b"scroll"),
-    (b"see move_panel", b"mvpanel mv_panel panelmove"),
-    (b"see mvwin", b"mvwindow mv_window win_move"),
-    (b"see newwin", b"create_newwin newwindows winnew win_new create_win make_win open_win"),
+    (b"see move_panel", b"mvpanel mv_panel panelmove mvpan"),
+    (b"see mvwin", b"mvwindow mv_window win_move window_move"),
+    (b"see newwin", b"create_newwin newwindows winnew win_new create_win make_win open_win window_new"),
     (b"see newwin, derwin", b"nerwin"),
+    (b"see derwin, subwin", b"derive derived derive_window inner_window"),
+    (b"see newpad, new_panel", b"newpan"),
     (b"see delch, deleteln",
-        b"dellin delln deleln deletelines delete_lines dl1 dch1 dl dch del_line remove_line del_char"),
+        b"dellin delln deleln deletelines delete_lines dl1 dch1 dl dch del_line remove_line del_char remove_char"),
     (b"see insertln", b"insln insertlines insert_line insert_lines il1 il ins_line"),
     (b"see insch, for each character", b"ich1 ich insert_char insstring insertstr inserttext ins_char"),
     (b"see move, insch", b"mvinsstr mvinsnstr mvwinsstr mvwinsnstr"),
     (b"each call names its window or panel", b"setwin set_window select_window current"),
-    (b"see pnoutrefresh", b"refresh_pad refreshpad pad_refresh padrefresh"),
-    (b"a window is hidden with its panel: see hide_panel, show_panel", b"hidewin showwin hide_win show_win"),
+    (b"see pnoutrefresh", b"refresh_pad refreshpad pad_refresh padrefresh show_pad pad_show viewport"),
+    (b"a window is hidden with its panel: see hide_panel, show_panel", b"hidewin showwin hide_win show_win win_hide win_show window_hide window_show hide_all show_all"),
     (b"a window keeps its size: see newwin, copywin", b"resizewin resize_win resize_window"),
+    (b"a window keeps its size: see newwin, replace_panel", b"panel_resize resize_panel"),
+    (b"a panel shows its window: see panel_window, addstr", b"panel_write write_panel panel_print panel_addstr"),
+    (b"a panel shows its window: see panel_window, erase", b"panel_clear clear_panel panel_erase erase_panel"),
     (BACKGROUNDS, b"bgset bgpair bkpair bkg"),
     (b"see color_set, init_pair", b"op oc setfg setbg set_fg set_bg set_colour set_colors set_colours"),
     (b"see move, addstr",
         b"draw_text write_text print_text put_text show_text display_text print_at mvaddnstr mvwaddnstr \
         mv_add_str drawtext printat outtext outtextxy cputs add addline str msg message win_write window_write \
         window_print put_str put_string print_str print_string write_string write_char print_char addln \
-        setcontent moveprint"),
+        setcontent moveprint text_write win_print set_text set_title insert_text"),
     (b"no call formats: see move, addstr", b"mvprintw mvwprintw"),
     (b"see getyx, getbegyx, getmaxyx",
-        b"wherexy wherex wherey getbeg getwinsize getxmaxy maxx maxy begx begy curx cury get_pos max_yx"),
+        b"wherexy wherex wherey getbeg getwinsize getxmaxy maxx maxy begx begy curx cury get_pos max_yx get_position"),
+    (b"see getyx, move", b"save_cursor restore_cursor"),
     (b"see noutrefresh, update_panels, doupdate",
         b"updateall update_all updatewin update_win flip swap present blit commit draw_window display_window \
         draw_screen redraw_screen redraw_win"),
@@ -66,15 +73,18 @@ const LIKE_CALLS: [Row; 38] = [
         b"add_wch add_wchstr add_wchnstr addwstr addnwstr echo_wchar pecho_wchar"),
     (b"characters are those of ASCII: see bkgdset", b"bkgrnd bkgrndset"),
     (b"see top_panel, bottom_panel",
-        b"panel_bottom panel_raise panel_lower raise_window lower_window top_window bottom_window"),
-    (b"see panel_above, panel_below", b"above_panel below_panel"),
-    (UPDATES, b"redraw_panels draw_panels refresh_panels"),
+        b"panel_bottom panel_raise panel_lower raise_window lower_window top_window bottom_window window_top \
+        window_raise window_lower win_top zorder z_order order push_panel panel_focus activate select_panel \
+        switch_panel order_panel"),
+    (b"see panel_above, panel_below", b"above_panel below_panel next_panel prev_panel previous_panel current_panel"),
+    (UPDATES, b"redraw_panels draw_panels refresh_panels refresh_panel draw_panel redraw_all force_redraw"),
     (b"see replace_panel", b"panel_replace swap_panel replace_window"),
-    (b"see panel_hidden", b"hidden_panel is_panel_hidden"),
+    (b"see panel_hidden", b"hidden_panel is_panel_hidden panel_visible"),
     (b"see panel_window", b"window_panel get_panel_window"),
     (b"see delch", b"delete_char delete_ch"),
     (b"see newpad", b"create_pad pad_new"),
-    (b"see delwin", b"delpad del_pad pad_del win_del delete_win remove_win close_win free_win delete_pad free_pad"),
+    (b"see delwin", b"delpad del_pad pad_del win_del delete_win remove_win close_win free_win delete_pad free_pad \
+        remove_window kill_window free_window window_delete"),
     (COLOURED, b"new_pair make_pair define_pair pair_init yellow cyan magenta gray"),
     (MENUS, b"msgbox yesno gauge inputbox infobox checklist zenity"),
 ];
@@ -101,16 +111,16 @@ const FOREIGN: [Row; 25] = [
     (b"see move, which takes a line and a column",
         b"home hpa vpa cuu1 cub1 cuf1 cud1 setpos go gotoyx goto_xy gotorc position set_pos set_position \
         goto_pos move_pos"),
-    (b"see clrtoeol, clrtobot", b"el el1 ed ech clrline clrtoend clr_line clr_eol"),
+    (b"see clrtoeol, clrtobot", b"el el1 ed ech clrline clrtoend clr_line clr_eol clrbot"),
     (RENDITIONS,
         b"smso rmso smul rmul rev sgr invis style font noattr plain \
-        bold_on underline_on highvideo lowvideo normvideo"),
+        bold_on bold_off underline_on highvideo lowvideo normvideo"),
     (b"see setscrreg, scrl", b"csr ind indn ri rin"),
     (b"see addstr, which draws lines by + - and |",
         b"acsc smacs rmacs hr vr hl vl draw_line drawline draw_border draw_rect circle window_box"),
-    (b"no call reads a key", b"smkx rmkx waitkey wait_key press crmode nocrmode"),
+    (b"no call reads a key", b"smkx rmkx waitkey wait_key press crmode nocrmode readline get_char textbox"),
     (b"zsh's module has names of its own: see newwin, addstr", b"zcurses"),
-    (PICTURE, b"rendition"),
+    (PICTURE, b"rendition cursor_unknown"),
     (SCREEN, b"close_screen start_screen screen_init initialize finish fini newscreen"),
     (SHELL, b"coproc chmod select"),
     (PROGRAMS,
@@ -120,7 +130,8 @@ const FOREIGN: [Row; 25] = [
         b"assert async yield finally default extern public private package program procedure module proc match \
         impl mod pub defer not typeset readonly getopts shift setenv nil self super malloc strlen memset fopen \
         fclose fgets abort atexit perror signal sizeof len auto float double size_t val \
-        fun our sub foreach unless elseif namespace template catch throw final"),
+        fun our sub foreach unless elseif namespace template catch throw final \
+        endif await die short"),
 ];
 
 /// What is said of names that have a part, and the parts, with a space between any two.

@@ -1,14 +1,14 @@
 //! The name that a word begins with, and the marks of other languages in it.
 
-ghost use Rattle.std.specs.Prelude.{◌≡◌, ◌≤◌, ◌||◌, IfSome, drop, length, option_map, take};
+ghost use Rattle.std.specs.Prelude.{◌≡◌, ◌≤◌, ◌+◌, ◌||◌, IfSome, drop, length, option_map, take};
 ghost use Rattle.std.specs.Char.{is_ascii_alphabetic, is_ascii_hexdigit};
 ghost use Rattle.std.specs.List.{list_all, list_any};
-ghost use Rattle.script.specs.Pieces.{pieces_of};
-ghost use Rattle.explain.specs.Names.{after_comma, after_dot, after_library, after_name, are_digits, are_like_digits, are_like_two_digits, are_two_digits, begins_comment, begins_with_digit, ends_with, gives_value, has_byte, has_comment, has_pair, has_part, has_value, is_comment, is_like_digit, is_marked, is_name_byte, is_quoted, is_redirection, name_in, name_of_argument, names_pair, underscore_for, underscored};
+ghost use Rattle.script.specs.Pieces.{pieces_of, room_of};
+ghost use Rattle.explain.specs.Names.{after_comma, after_dot, after_library, after_name, after_sigil, are_digits, are_like_digits, are_like_two_digits, are_two_digits, begins_call, begins_comment, begins_with_digit, ends_with, gives_value, has_byte, has_call, has_comment, has_pair, has_part, has_value, is_comment, is_like_digit, is_marked, is_name_byte, is_quoted, is_redirection, name_in, name_of_argument, names_pair, underscore_for, underscored};
 
 use crate::advice::is_among;
 use arrayvec::ArrayVec;
-use script::{LONGEST_LINE, has_digits_alone, split_at_space};
+use script::{LONGEST_LINE, Word, has_digits_alone, split_at_space};
 
 /// Room for the name of a word.
 pub type Name = ArrayVec<u8, LONGEST_LINE>;
@@ -199,7 +199,7 @@ pub fn after_name(word: &[u8]) -> &[u8]
     left
 }
 
-/// What follows a name and a dot, an arrow or two colons; or else the word.
+/// What follows a name and a dot, an arrow, two colons, or one colon before a letter; or else the word.
 pub fn after_dot(word: &[u8]) -> &[u8]
     ensures text { result.now ≡ after_dot word.now }
     ensures short { length result.now ≤ length word.now }
@@ -211,10 +211,50 @@ pub fn after_dot(word: &[u8]) -> &[u8]
     if let Some(name) = rest.strip_prefix(b"->") {
         return name;
     }
-    match rest.strip_prefix(b"::") {
-        Some(name) => name,
-        None => word,
+    if let Some(name) = rest.strip_prefix(b"::") {
+        return name;
     }
+    match rest.strip_prefix(b":") {
+        Some(name) if begins_with_letter(name) => name,
+        _ => word,
+    }
+}
+
+/// A word without the mark that Perl has before a variable, where it calls a method of that.
+pub fn after_sigil(word: &[u8]) -> &[u8]
+    ensures text { result.now ≡ after_sigil word.now }
+    ensures short { length result.now ≤ length word.now }
+{
+    match word.strip_prefix(b"$") {
+        Some(name) if has_part(name, b"->") => name,
+        _ => word,
+    }
+}
+
+/// Whether a word begins with the name of a call, or with one that curses has.
+fn begins_call(piece: &[u8]) -> bool
+    requires { length piece.now ≤ LONGEST_LINE }
+    ensures { result ≡ begins_call piece.now }
+{
+    let name = name_of(piece);
+    Word::of(name.as_slice()).is_some()
+        || is_among(
+            name.as_slice(),
+            b"refresh wrefresh getch endwin mvaddstr mvaddch mvprintw printw",
+        )
+}
+
+/// Whether some of the words in a text does.
+pub fn has_call(text: Option<&[u8]>) -> bool
+    requires { room_of text ≤ LONGEST_LINE + 1 }
+    ensures { result ≡ has_call (pieces_of text.entry) }
+{
+    let Some(text) = text else { return false };
+    let (first, rest) = split_at_space(text);
+    if begins_call(first) {
+        return true;
+    }
+    has_call(rest)
 }
 
 /// What follows the prefix that libraries for curses give to their names.

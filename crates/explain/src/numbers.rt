@@ -3,19 +3,19 @@
 ghost use Rattle.std.specs.Prelude.{◌≡◌, ◌≤◌, ◌+◌, IfSome, length, option_map};
 ghost use Rattle.script.specs.Pieces.{pieces_of, room_of};
 ghost use Rattle.explain.specs.Faults.{IllFormed as Ill};
-ghost use Rattle.explain.specs.Numbers.{begins_bracketed, begins_call, begins_number, between_reason, comma_reason, has_call, has_joined, has_redirection, is_joined, joined_reason, joins_attributes, marks_reason, number_reason, separation_reason, surplus_reason, takes_text, too_many_reason};
+ghost use Rattle.explain.specs.Numbers.{begins_bracketed, begins_number, between_reason, comma_reason, has_joined, has_redirection, is_joined, joined_reason, joins_attributes, marks_reason, number_reason, separation_reason, surplus_reason, takes_text, too_many_reason};
 
 use crate::advice::is_among;
 use crate::arguments::{IllFormed, find_ill_formed, forms_of, is_word};
 use crate::groups::{sets_attributes, sets_pair, takes_place_of_cursor, writes};
 use crate::names::{
-    are_digits, are_two_digits, begins_with_digit, ends_with, has_byte, has_pair, is_redirection,
-    name_of,
+    are_digits, are_two_digits, begins_with_digit, ends_with, has_byte, has_call, has_pair,
+    is_redirection,
 };
 use crate::reasons::{
     is_bracketed, no_brackets, no_commas, no_names, no_redirections, one_window, reason_after,
 };
-use script::{LONGEST_LINE, Word, split_at_space};
+use script::{LONGEST_LINE, split_at_space};
 
 /// Whether the first word of a text begins with a bracket, and goes on.
 fn begins_bracketed(text: Option<&[u8]>) -> bool
@@ -33,32 +33,6 @@ fn begins_number(text: Option<&[u8]>) -> bool
     let Some(text) = text else { return false };
     let (first, _) = split_at_space(text);
     begins_with_digit(first)
-}
-
-/// Whether a word begins with the name of a call, or with one that curses has.
-fn begins_call(piece: &[u8]) -> bool
-    requires { length piece.now ≤ LONGEST_LINE }
-    ensures { result ≡ begins_call piece.now }
-{
-    let name = name_of(piece);
-    Word::of(name.as_slice()).is_some()
-        || is_among(
-            name.as_slice(),
-            b"refresh wrefresh getch endwin mvaddstr mvaddch mvprintw printw",
-        )
-}
-
-/// Whether some of the words in a text does.
-fn has_call(text: Option<&[u8]>) -> bool
-    requires { room_of text ≤ LONGEST_LINE + 1 }
-    ensures { result ≡ has_call (pieces_of text.entry) }
-{
-    let Some(text) = text else { return false };
-    let (first, rest) = split_at_space(text);
-    if begins_call(first) {
-        return true;
-    }
-    has_call(rest)
 }
 
 /// Whether some of the words in a text are of shells.

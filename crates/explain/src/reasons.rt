@@ -4,7 +4,7 @@ ghost use Rattle.std.specs.Prelude.{◌≡◌, ◌≤◌, IfSome, length, option
 ghost use Rattle.std.specs.List.{list_any};
 ghost use Rattle.std.specs.Char.{is_ascii_uppercase};
 ghost use Rattle.explain.specs.Names.{name_of_argument};
-ghost use Rattle.explain.specs.Reasons.{attributes_reason, colours, copy_reason, digits_reason, ends_in_mark, first_mark_reason, first_reason, flag_reason, has_colour, is_attribute, is_bracketed, is_colour, is_default, is_like_window, is_list, is_mixed, is_near_number, later_reason, mark_reason, minus_reason, more_than_digits, name_reason, no_brackets, no_commas, no_digits_reason, no_letters, no_names, no_options, no_redirections, no_window, numbers_in_digits, one_sum, one_window, pair_reason, reason, reason_after, reason_of_call, requirement, requirement_after, requirement_of, second_reason, signed_reason, size_reason, unless_missing, unsigned_or_none_reason, unsigned_reason, window_reason};
+ghost use Rattle.explain.specs.Reasons.{attributes_reason, colours, copy_reason, digits_reason, ends_in_mark, first_mark_reason, first_reason, flag_reason, has_base, has_colour, is_attribute, is_bracketed, is_colour, is_default, is_like_window, is_list, is_mixed, is_near_number, later_reason, mark_reason, minus_reason, more_than_digits, name_reason, no_brackets, no_commas, no_digits_reason, no_letters, no_names, no_options, no_redirections, no_window, numbers_in_digits, one_sum, one_window, pair_reason, reason, reason_after, reason_of_call, requirement, requirement_after, requirement_of, second_reason, signed_reason, size_reason, unless_missing, unsigned_or_none_reason, unsigned_reason, window_reason};
 
 use crate::advice::is_among;
 use crate::arguments::has_digit;
@@ -237,12 +237,16 @@ fn size_reason(word: &[u8]) -> &'static [u8]
     }
 }
 
-/// What numbers are.
-fn numbers_in_digits() -> &'static [u8]
-    ensures text { result.now ≡ numbers_in_digits }
+/// What numbers are, after a word.
+fn numbers_in_digits(word: &[u8]) -> &'static [u8]
+    ensures text { result.now ≡ numbers_in_digits word.now }
     ensures short { length result.now ≤ 80 }
 {
-    b": numbers alone are arguments, in digits: no words or variables; see getmaxyx"
+    if is_among(word, b"copywin touchln") {
+        b": on or off comes last, and numbers before it, in digits: no words or variables"
+    } else {
+        b": numbers alone are arguments, in digits: no words or variables; see getmaxyx"
+    }
 }
 
 /// What is said of calls on the place of the cursor.
@@ -296,7 +300,7 @@ fn second_reason(word: &[u8]) -> &'static [u8]
     } else if sets_pair(word) {
         b": a pair is a number, which has its colours by init_pair"
     } else {
-        numbers_in_digits()
+        numbers_in_digits(word)
     }
 }
 
@@ -324,7 +328,7 @@ fn no_digits_reason(word: &[u8], place: usize) -> &'static [u8]
     } else if place == 1 {
         second_reason(word)
     } else {
-        numbers_in_digits()
+        numbers_in_digits(word)
     }
 }
 
@@ -358,19 +362,29 @@ fn more_than_digits(argument: &[u8]) -> &'static [u8]
     }
 }
 
+/// Whether a number is one of another base, as C, Python and others write them.
+fn has_base(argument: &[u8]) -> bool
+    ensures { result ≡ has_base argument.now }
+{
+    argument.strip_prefix(b"0x").is_some()
+        || argument.strip_prefix(b"0X").is_some()
+        || argument.strip_prefix(b"0o").is_some()
+        || argument.strip_prefix(b"0b").is_some()
+}
+
 /// What is said of an argument that may stand for a number elsewhere.
 fn name_reason(word: &[u8], place: usize, argument: &[u8]) -> &'static [u8]
     ensures text { result.now ≡ name_reason word.now place argument.now }
     ensures short { length result.now ≤ 80 }
 {
+    if has_base(argument) {
+        return b": a number is decimal";
+    }
     if are_like_digits(argument) {
         return no_letters();
     }
     if argument == b"none".as_slice() {
         return b": only panel_above and panel_below take \"none\"";
-    }
-    if argument.strip_prefix(b"0x").is_some() || argument.strip_prefix(b"0X").is_some() {
-        return b": a number is decimal";
     }
     if is_near_number(word, argument) {
         return more_than_digits(argument);
@@ -666,6 +680,9 @@ fn reason_of_call(word: &[u8], place: usize, argument: &[u8]) -> Option<&'static
     }
     if writes(word) {
         return window_reason(argument);
+    }
+    if word == b"scrl".as_slice() && argument.strip_prefix(b"-").is_some() {
+        return Some(b": the window comes first, then how many lines, down with a minus");
     }
     if (sets_attributes(word) || word == b"bkgdset".as_slice()) && are_two_digits(argument) {
         return Some(b": the window comes first, then the attributes; a number has no leading 0");

@@ -6,7 +6,7 @@ ghost use Rattle.script.specs.Pieces.{pieces_of, room_of};
 ghost use Rattle.explain.specs.Advice.{advice_on};
 ghost use Rattle.explain.specs.Names.{called_name, is_name_byte, underscored};
 ghost use Rattle.explain.specs.Nearest.{nearest_other};
-ghost use Rattle.explain.specs.Suggestions.{advice_on_rest, after_prefix, begins_marked, begins_with_call, gives_place, is_before_call, is_between, is_drawn, is_echo, is_label, is_of_log, is_of_picture, is_of_shell, is_of_tmux, is_statement, is_step, is_stroke, last_word, no_variables, nothing_before, number_first, said_near_name, said_of, said_of_backslash, said_of_beginning, said_of_curses, said_of_given, said_of_line, said_of_marks, said_of_name, said_of_near, said_of_pair, said_of_two, said_of_value, said_of_written, say_call, see_longer, see_nearest, see_nearest_rest, written_advice};
+ghost use Rattle.explain.specs.Suggestions.{advice_on_rest, after_prefix, begins_marked, begins_with_call, gives_place, is_before_call, is_between, is_drawn, is_echo, is_label, is_of_log, is_of_picture, is_of_shell, is_of_tmux, is_prompt, is_statement, is_step, is_stroke, last_word, no_variables, nothing_before, number_first, said_near_name, said_of, said_of_backslash, said_of_beginning, said_of_curses, said_of_given, said_of_line, said_of_marks, said_of_name, said_of_near, said_of_pair, said_of_two, said_of_value, said_of_written, say_call, see_longer, see_nearest, see_nearest_rest, written_advice};
 ghost use Rattle.explain.specs.steps.Suggestions.{said_now};
 
 use crate::advice::{CALLS_ALONE, COMMAND_LINE, PAIRS, PROGRAMS, SCREEN_SIZE, advice_on, is_among};
@@ -340,13 +340,23 @@ fn begins_marked(word: &[u8]) -> bool
     ensures { result ≡ begins_marked word.now }
 {
     match word.first() {
-        Some(first) => has_byte(b"-+*$`'\"", *first) && same_call(word).is_some(),
+        Some(first) => has_byte(b"-+*$`'\"@!([{<:", *first) && same_call(word).is_some(),
         None => false,
     }
 }
 
-/// Whether a word is a call with a mark before it; or names a window or panel, or is a prompt or a bullet, and a call
-/// comes next or one word later.
+/// Whether a word of several bytes ends as a prompt does, or is an arrow or the like.
+fn is_prompt(word: &[u8]) -> bool
+    ensures { result ≡ is_prompt word.now }
+{
+    match word.last() {
+        Some(last) => 1 < word.len() && (has_byte(b"$#%>", *last) || is_drawn(word)),
+        None => false,
+    }
+}
+
+/// Whether a word is a call with a mark before it; or names a window or panel, or is a prompt, a bullet or the command,
+/// and a call comes next or one word later.
 fn is_before_call(word: &[u8], text: Option<&[u8]>) -> bool
     ensures { result ≡ is_before_call word.now (pieces_of text.entry) }
 {
@@ -355,8 +365,10 @@ fn is_before_call(word: &[u8], text: Option<&[u8]>) -> bool
     }
     let Some(first) = text else { return false };
     let (_, rest) = split_at_space(first);
-    is_among(word, b"win window panel pad screen stdscr % PS - * +")
-        && (begins_with_call(text) || begins_with_call(rest))
+    is_among(
+        word,
+        b"win window panel pad screen stdscr curspan ./curspan % PS - * +",
+    ) && (begins_with_call(text) || begins_with_call(rest))
 }
 
 /// What is said of a word and those after it with a pair of curses, where the word has attributes or a background to
@@ -413,6 +425,9 @@ pub fn said_of_line(word: &[u8], text: Option<&[u8]>) -> Option<&'static [u8]>
     }
     if is_of_log(word, text) {
         return Some(b"a line of the log or of check is no line of a script");
+    }
+    if is_prompt(word) && begins_with_call(text) {
+        return Some(nothing_before());
     }
     if is_of_picture(word, text) {
         return Some(PICTURE);
