@@ -34,6 +34,9 @@ updates = codes "see update_panels, doupdate"
 abbrev pub of_picture : List ℕ
 of_picture = codes "a line of a picture is no line of a script; addstr writes a text"
 
+abbrev pub of_log : List ℕ
+of_log = codes "a line of the log or of check is no line of a script"
+
 abbrev pub of_shell : List ℕ
 of_shell = codes "this belongs in the shell: a script has calls alone"
 
@@ -98,11 +101,13 @@ advised =
     ∷ (codes "the screen keeps its size, which the command line gives", codes "resizeterm resize_term is_term_resized")
     ∷ (codes "see newwin, overwrite", codes "dupwin")
     ∷ (codes "see attron, with 10", codes "standout invert")
-    ∷ (codes "see attroff", codes "attrof attof")
+    ∷ (codes "see attroff", codes "attrof attof attr_off")
+    ∷ (codes "see attron", codes "attr_on")
+    ∷ (codes "what stands there keeps its attributes: see attrset, addstr", codes "chgat")
     ∷ (codes "see attrset, with 00", codes "standend sgr0")
     ∷ (
       codes "see attrset, attron, attroff, color_set",
-      codes "attr_set attr_on attr_off chgat attr attribute attributes bold dim underline blink reverse inverse"
+      codes "attr_set attr attribute attributes bold dim underline blink reverse inverse"
           ++ codes " a_bold a_dim a_underline a_blink a_reverse a_invis a_standout a_normal highlight italic normal"
           ++ codes " setattr set_attr attrs underscore",
     )
@@ -186,20 +191,22 @@ advised =
       codes "menu new_menu free_menu post_menu unpost_menu menu_driver new_item free_item form new_form free_form"
           ++ codes " post_form unpost_form form_driver new_field free_field button dialog whiptail",
     )
+    ∷ (codes "stdscr is window 0, and a line begins with a call", codes "stdscr")
     ∷ (
       codes "a line begins with a call",
-      codes "stdscr curscr newscr null true false curses",
+      codes "curscr newscr null true false curses",
     )
+    ∷ (codes "a script takes in no other: the shell's cat joins them", codes "include source")
     ∷ (
       calls_alone,
       codes "if then else elif fi for while until do done case esac switch break continue return int void char const"
           ++ codes " static struct let local export set declare function def import from { } begin repeat next try except"
-          ++ codes " pass with class fn var bool long unsigned enum typedef include using use my loop require main lambda global func unset",
+          ++ codes " pass with class fn var bool long unsigned enum typedef using use my loop require main lambda global func unset",
     )
     ∷ (codes "a comment begins with #", codes "; % rem")
     ∷ (
       runs_no_programs,
-      codes "ls cat cd pwd cp rm mkdir grep sed awk sudo sh bash python test source eval alias trap exec kill tmux",
+      codes "ls cat cd pwd cp rm mkdir grep sed awk sudo sh bash python test eval alias trap exec kill tmux",
     )
     ∷ (on_command_line, codes "curspan ./curspan run paint check version quiet")
     ∷ (codes "the end of a here-document stands alone in the shell, and is no call", codes "eof eot end_of_file")
@@ -255,7 +262,7 @@ like_calls_advised =
       codes "draw_text write_text print_text put_text show_text display_text print_at mvaddnstr mvwaddnstr"
           ++ codes " mv_add_str drawtext printat outtext outtextxy cputs add addline str msg message win_write window_write window_print"
           ++ codes " put_str put_string print_str print_string write_string write_char print_char addln setcontent moveprint text_write win_print set_text"
-          ++ codes " set_title insert_text",
+          ++ codes " set_title insert_text stradd str_add",
     )
     ∷ (codes "no call formats: see move, addstr", codes "mvprintw mvwprintw")
     ∷ (codes "see getyx, getbegyx, getmaxyx", codes "wherexy wherex wherey getbeg getwinsize getxmaxy maxx maxy begx begy curx cury get_pos max_yx get_position")
@@ -275,10 +282,15 @@ like_calls_advised =
     ∷ (
       codes "see top_panel, bottom_panel",
       codes "panel_bottom panel_raise panel_lower raise_window lower_window top_window bottom_window window_top window_raise"
-          ++ codes " window_lower win_top zorder z_order order push_panel panel_focus activate select_panel switch_panel order_panel",
+          ++ codes " window_lower win_top zorder z_order order push_panel panel_focus activate select_panel switch_panel order_panel paneltop",
     )
+    ∷ (codes "see hide_panel, show_panel", codes "panelhide panelshow")
     ∷ (codes "see panel_above, panel_below", codes "above_panel below_panel next_panel prev_panel previous_panel current_panel")
-    ∷ (updates, codes "redraw_panels draw_panels refresh_panels refresh_panel draw_panel redraw_all force_redraw")
+    ∷ (
+      updates,
+      codes "redraw_panels draw_panels refresh_panels refresh_panel draw_panel redraw_all force_redraw upd_panels upd_panel"
+          ++ codes " udpate_panel uptade_panels",
+    )
     ∷ (codes "see replace_panel", codes "panel_replace swap_panel replace_window")
     ∷ (codes "see panel_hidden", codes "hidden_panel is_panel_hidden panel_visible")
     ∷ (codes "see panel_window", codes "window_panel get_panel_window")
@@ -323,6 +335,7 @@ foreign_advised =
     ∷ (codes "no call reads a key", codes "smkx rmkx waitkey wait_key press crmode nocrmode readline get_char textbox")
     ∷ (codes "zsh's module has names of its own: see newwin, addstr", codes "zcurses")
     ∷ (of_picture, codes "rendition cursor_unknown")
+    ∷ (of_log, codes "reading_failed writing_failed")
     ∷ (screen_is_there, codes "close_screen start_screen screen_init initialize finish fini newscreen")
     ∷ (of_shell, codes "coproc chmod select")
     ∷ (

@@ -17,7 +17,7 @@ byte_advice b = if b == carriage_return then codes "a line ends with a newline a
     else (if b == backspace then codes "a text has it as a backslash and b"
     else (if b == escape then codes "a text has no control sequences: see attrset, color_set, move"
     else (if b == 0 then codes "no line has it, and a character is one byte, not two as in UTF-16"
-    else codes "characters are those of ASCII, from the space to the tilde; others may look alike"))))
+    else codes "characters are those of ASCII, from space to tilde; others may look alike"))))
 
 -- In UTF-8: the last byte of the last block that is drawn with; those of the last of many spaces, of the first mark that
 -- separates lines, and of the last space.
@@ -99,7 +99,7 @@ escape_reason rest = if begins_with (codes "t") rest then codes ": a tab is writ
     else (if begins_sequence rest then codes ": a text has no control sequences: see attrset, color_set, move"
     else (if begins_character rest then codes ": characters are those of ASCII, each as it is, or by its code as \\x41 for A"
     else (if begins_with_digit rest then codes ": a code is \\x and two hexadecimal digits, from \\x20 to \\x7e"
-    else (if begins_with (codes "x") rest || begins_with (codes "X") rest then codes ": two digits in lower case come after \\x, and a backslash itself is two"
+    else (if begins_with (codes "x") rest || begins_with (codes "X") rest then codes ": two digits in lower case come after \\x, from 20 to 7e; a backslash is two"
     else (if list_any is_ascii_alphabetic (take 1 rest) then codes ": a backslash is written as two, and other control characters have no escape"
     else (if length rest == 0 then codes ": a backslash itself is written as two, and no line goes on in the next"
     else codes ": no other mark needs a backslash, and a backslash itself is written as two"))))))
@@ -125,11 +125,16 @@ end_reason word argument = if ends_with semicolon argument then codes ": it is m
     else (if has_part (codes " >") argument then codes ": it is more than one, and a script has no redirections"
     else several_characters_reason word argument)))
 
+-- a character's code, as others write it, or more than one of here
+abbrev pub is_code : List ℕ → Bool
+is_code argument = are_digits argument || begins_with (codes "0x") argument || begins_with (codes "&") argument
+    || (begins_with (codes "\\x") argument && not (has_byte space argument))
+
 -- of more than one character
 abbrev pub longer_reason : List ℕ → List ℕ → List ℕ
 longer_reason word argument = if begins_with (codes " ") argument then codes ": it is more than one, and single spaces separate words"
     else (if is_quoted argument then codes ": no quotes are around arguments"
-    else (if are_digits argument || begins_with (codes "0x") argument || begins_with (codes "&") argument || (begins_with (codes "\\x") argument && not (has_byte space argument))
+    else (if is_code argument
     then codes ": it is more than one; a code is \\x and two hexadecimal digits, as \\x41 for 65"
     else (if is_one_of (codes "space newline enter tab") (name_of_argument argument)
     then codes ": it is more than one; a space is \\x20, a tab is spaces, and addch takes \\n"

@@ -39,6 +39,10 @@ hyphen = 45
 abbrev pub slash : ℕ
 slash = 47
 
+-- `3`, the first digit of the greatest sum of attributes
+abbrev pub digit_3 : ℕ
+digit_3 = 51
+
 -- `8`, the first digit of bytes that are none of ASCII
 abbrev pub digit_8 : ℕ
 digit_8 = 56

@@ -9,7 +9,7 @@ use Rattle.script.specs.declared.words.Form.{Form}
 use Rattle.script.specs.declared.words.Form.TheVariants.{Number, NumberOrNone, Signed, Attributes, Flag, Character, Text}
 use Rattle.explain.specs.Characters.{character_reason, text_reason}
 use Rattle.explain.specs.Groups.{sets_attributes, sets_pair, takes_place_of_cursor, writes}
-use Rattle.explain.specs.Names.{are_digits, are_like_digits, are_like_two_digits, are_two_digits, begins_with, begins_with_digit, comma, ends_with, equals_sign, has_byte, has_part, is_comment, is_marked, is_name_byte, is_one_of, is_quoted, is_redirection, name_of_argument, names_pair, semicolon, vertical_bar}
+use Rattle.explain.specs.Names.{are_digits, are_like_digits, are_like_two_digits, are_two_digits, begins_with, begins_with_digit, comma, digit_3, ends_with, equals_sign, has_byte, has_part, is_comment, is_marked, is_name_byte, is_one_of, is_quoted, is_redirection, name_of_argument, names_pair, semicolon, vertical_bar}
 
 -- what an argument of a form has to be
 abbrev pub requirement : Form → List ℕ
@@ -227,7 +227,8 @@ attributes_reason argument = if is_default (name_of_argument argument) && not (h
     else (if has_colour argument || names_pair argument then codes ": a colour is set by color_set"
     else (if begins_with (codes "0x") argument || begins_with (codes "0X") argument then codes ": the two digits have no 0x before them"
     else (if is_list argument then one_sum
-    else (if are_two_digits argument then (if list_any is_ascii_uppercase argument then codes ": the digits are in lower case" else codes ": it is too great")
+    else (if are_two_digits argument then (if list_any is_ascii_uppercase argument && nat_le (slice_index argument 0) digit_3 then codes ": the digits are in lower case"
+    else codes ": it is too great, as the sum of all is 3f")
     else (if are_like_two_digits argument then no_letters
     else mark_reason (codes ": a sum of 01 bold, 02 dim, 04 underline, 08 blink, 10 reverse, 20 invisible") argument)))))
 
@@ -279,11 +280,11 @@ later_reason word argument = if sets_pair word then pair_reason argument
 abbrev pub ends_in_mark : List ℕ → Bool
 ends_in_mark argument = list_any (λ byte. not (is_name_byte byte)) (drop (length argument - 1) argument)
 
--- meant as the number of a window: one but for its size, a 0 or a letter, or what ends it; or one between marks, as `"0"` and
+-- meant as the number of a window: one but for its size, a 0 or a letter, or what ends it; or the letter that is taken for 0; or one between marks, as `"0"` and
 -- `(5,`; or a variable; or nothing
 abbrev pub is_like_window : List ℕ → Bool
 is_like_window argument = if begins_with_digit argument then are_like_digits argument || has_byte comma argument || has_byte semicolon argument
-    else (begins_with_digit (drop 1 argument) && ends_in_mark argument) || begins_with (codes "$") argument || length argument == 0
+    else is_one_of (codes "O o") argument || (begins_with_digit (drop 1 argument) && ends_in_mark argument) || begins_with (codes "$") argument || length argument == 0
 
 -- of a text or a character in place of the window
 abbrev pub no_window : List ℕ

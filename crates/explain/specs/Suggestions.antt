@@ -7,7 +7,7 @@ use Rattle.std.specs.Option.{option_map_or}
 use Rattle.std.specs.Str.{bytes_eq}
 use Rattle.script.specs.Characters.{backslash}
 use Rattle.script.specs.Words.{word_of}
-use Rattle.explain.specs.Advice.{advice_by_part, advice_on, calls_alone, of_picture, of_shell, on_command_line, pairs_are_numbers, runs_no_programs, screen_size}
+use Rattle.explain.specs.Advice.{advice_by_part, advice_on, calls_alone, of_log, of_picture, of_shell, on_command_line, pairs_are_numbers, runs_no_programs, screen_size}
 use Rattle.explain.specs.Names.{after_comma, after_library, after_name, apostrophe, begins_comment, begins_with, begins_with_digit, called_name, colon, comma, ends_with, gives_value, has_byte, has_pair, has_part, has_value, is_comment, is_name_byte, is_one_of, is_quoted, is_redirection, name_in, names_pair, quotation_mark, round_bracket, slash, square_bracket, underscored, vertical_bar}
 use Rattle.explain.specs.Nearest.{near_call_of_words, nearest, nearest_other, or_else, same_call}
 
@@ -62,18 +62,21 @@ number_first = codes "a line begins with the name of its call, and numbers come 
 abbrev pub nothing_before : List ℕ
 nothing_before = codes "a line begins with the name of its call, and has nothing before it"
 
--- of a name that is given a value: the size of the screen has an option for it
+-- of a name that is given a value: the size of the screen has an option for it, and the screen a number
 abbrev pub said_of_value : List ℕ → List ℕ
-said_of_value name = if is_one_of (codes "lines cols columns rows") name then screen_size else no_variables
+said_of_value name = if is_one_of (codes "lines cols columns rows") name then screen_size
+    else (if is_one_of (codes "stdscr scr screen") name
+    then codes "the screen is window 0, which is there from the first line on"
+    else no_variables)
 
 -- of a word that gives a value to its name, which is no call
 abbrev pub said_of_given : List ℕ → Option (List ℕ)
 said_of_given word = if list_any is_name_byte (take 1 word) && gives_value (after_name word) && not (is_some (word_of (name_in word))) then Some (said_of_value (name_in word)) else None
 
--- a line of the log, or of check: `line`, and a number with a colon or a comma; or a refusal, as `E5`; or `3 faulty lines`
+-- a line of the log, or of check: `line` or `offset`, and a number with a colon or a comma; or a refusal, as `E5`; or `3 faulty lines`
 abbrev pub is_of_log : List ℕ → List (List ℕ) → Bool
 is_of_log word [] = false
-is_of_log word (piece ∷ pieces) = (bytes_eq word (codes "line") && begins_with_digit piece && (ends_with colon piece || ends_with comma piece))
+is_of_log word (piece ∷ pieces) = (is_one_of (codes "line offset") word && begins_with_digit piece && (ends_with colon piece || ends_with comma piece))
     || (begins_with (codes "E") word && begins_with_digit (drop 1 word)) || (begins_with_digit word && bytes_eq piece (codes "faulty"))
 
 -- the last of a word and others
@@ -147,7 +150,7 @@ said_of_two word (piece ∷ pieces) = advice_on (word ++ codes "_" ++ piece)
 -- of a word that is no call and the words after it; where a bracket is in the word, an equals sign is part of an argument
 abbrev pub said_of_line : List ℕ → List (List ℕ) → Option (List ℕ)
 said_of_line word pieces = or_else (or_else (said_of_two word pieces) (said_of_pair word pieces))
-    (if is_of_log word pieces then Some (codes "a line of the log or of check is no line of a script")
+    (if is_of_log word pieces then Some of_log
     else (if is_prompt word && begins_with_call pieces then Some nothing_before
     else (if is_of_picture word pieces then Some of_picture
     else (if is_echo word pieces then Some of_shell

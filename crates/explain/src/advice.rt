@@ -115,6 +115,8 @@ const ESCAPES: &[u8] = b"a text has \\n for a newline, \\r and \\b, and spaces a
 
 const HIDDEN: &[u8] = b"see panel_hidden";
 
+const INCLUDES: &[u8] = b"a script takes in no other: the shell's cat joins them";
+
 const PANELS_NEAR: &[u8] = b"see panel_above, panel_below";
 
 /// Names of curses, and words of other languages, that are no words of scripts, by their first bytes.
@@ -135,9 +137,10 @@ const ADVICE: [(u8, &[Row]); 28] = [
     (b'a', &[
         (LINES, b"acs_hline acs_vline"),
         (TEXTS, b"addnstr addchstr addchnstr addstring addtext add_string add_text"),
-        (b"see attroff", b"attrof attof"),
+        (b"see attroff", b"attrof attof attr_off"),
+        (b"see attron", b"attr_on"),
         (ATTRIBUTES,
-            b"attr_set attr_on attr_off attr attribute attributes a_bold a_dim a_underline a_blink a_reverse \
+            b"attr_set attr attribute attributes a_bold a_dim a_underline a_blink a_reverse \
             a_invis a_standout a_normal attrs"),
         (RENDITION, b"attr_get"),
         (PAIRS, b"alloc_pair"),
@@ -166,7 +169,7 @@ const ADVICE: [(u8, &[Row]); 28] = [
         (ESCAPES, b"cr"),
         (MOUSE, b"click"),
         (TEXTS, b"cout"),
-        (ATTRIBUTES, b"chgat"),
+        (b"what stands there keeps its attributes: see attrset, addstr", b"chgat"),
         (CONTENTS, b"color_content"),
         (PAIRS, b"color_pair"),
         (CURSOR, b"cursyncup cup"),
@@ -288,7 +291,8 @@ const ADVICE: [(u8, &[Row]); 28] = [
         (HIDDEN, b"is_hidden"),
         (ASCII, b"in_wch in_wchstr in_wchnstr innwstr ins_nwstr ins_wch ins_wstr inwstr"),
         (b"see is_wintouched, is_linetouched", b"is_touched istouched"),
-        (CALLS_ALONE, b"if int import include"),
+        (INCLUDES, b"include"),
+        (CALLS_ALONE, b"if int import"),
         (HELP, b"info"),
     ]),
     (b'k', &[
@@ -429,9 +433,10 @@ const ADVICE: [(u8, &[Row]); 28] = [
         (b"see setscrreg", b"setscrollreg set_scroll_region scroll_region"),
         (COLOURED, b"setcolor set_color setpair set_pair setaf setab"),
         (WAITS, b"sleep"),
-        (BEGINNINGS, b"stdscr"),
+        (b"stdscr is window 0, and a line begins with a call", b"stdscr"),
+        (INCLUDES, b"source"),
         (CALLS_ALONE, b"switch static struct set"),
-        (PROGRAMS, b"sed sudo sh source"),
+        (PROGRAMS, b"sed sudo sh"),
         (b"see subwin, derwin", b"subwindow"),
     ]),
     (b't', &[

@@ -3,7 +3,7 @@
 ghost use Rattle.std.specs.Prelude.{◌≡◌, ◌≤◌, ◌==◌, ◌&&◌, length, slice_index, take};
 ghost use Rattle.std.specs.Char.{is_ascii_hexdigit};
 ghost use Rattle.std.specs.List.{list_all};
-ghost use Rattle.explain.specs.Characters.{after_bad_escape, bad_text_advice, begins_character, begins_escape, begins_escaped, begins_greater_byte, begins_sequence, byte_advice, character_reason, draws_line, end_reason, ends_space, escape_reason, is_space_elsewhere, is_unseen, longer_reason, several_characters_reason, text_reason};
+ghost use Rattle.explain.specs.Characters.{after_bad_escape, bad_text_advice, begins_character, begins_escape, begins_escaped, begins_greater_byte, begins_sequence, byte_advice, character_reason, draws_line, end_reason, ends_space, escape_reason, is_code, is_space_elsewhere, is_unseen, longer_reason, several_characters_reason, text_reason};
 
 use crate::advice::is_among;
 use crate::arguments::has_form;
@@ -26,7 +26,7 @@ fn byte_advice(byte: u8) -> &'static [u8]
         8 => b"a text has it as a backslash and b",
         27 => b"a text has no control sequences: see attrset, color_set, move",
         0 => b"no line has it, and a character is one byte, not two as in UTF-16",
-        _ => b"characters are those of ASCII, from the space to the tilde; others may look alike",
+        _ => b"characters are those of ASCII, from space to tilde; others may look alike",
     }
 }
 
@@ -197,7 +197,7 @@ fn escape_reason(rest: &[u8]) -> &'static [u8]
     } else if begins_with_digit(rest) {
         b": a code is \\x and two hexadecimal digits, from \\x20 to \\x7e"
     } else if rest.strip_prefix(b"x").is_some() || rest.strip_prefix(b"X").is_some() {
-        b": two digits in lower case come after \\x, and a backslash itself is two"
+        b": two digits in lower case come after \\x, from 20 to 7e; a backslash is two"
     } else if begins_with_letter(rest) {
         b": a backslash is written as two, and other control characters have no escape"
     } else if rest.is_empty() {
@@ -244,6 +244,16 @@ fn end_reason(word: &[u8], argument: &[u8]) -> &'static [u8]
     }
 }
 
+/// Whether an argument is a character's code, as others write it, or more than one of here.
+fn is_code(argument: &[u8]) -> bool
+    ensures { result ≡ is_code argument.now }
+{
+    are_digits(argument)
+        || argument.strip_prefix(b"0x").is_some()
+        || argument.strip_prefix(b"&").is_some()
+        || argument.strip_prefix(b"\\x").is_some() && !has_byte(argument, b' ')
+}
+
 /// What is said of more than one character.
 fn longer_reason(word: &[u8], argument: &[u8]) -> &'static [u8]
     requires { length argument.now ≤ LONGEST_LINE }
@@ -255,11 +265,7 @@ fn longer_reason(word: &[u8], argument: &[u8]) -> &'static [u8]
         b": it is more than one, and single spaces separate words"
     } else if is_quoted(argument) {
         b": no quotes are around arguments"
-    } else if are_digits(argument)
-        || argument.strip_prefix(b"0x").is_some()
-        || argument.strip_prefix(b"&").is_some()
-        || argument.strip_prefix(b"\\x").is_some() && !has_byte(argument, b' ')
-    {
+    } else if is_code(argument) {
         b": it is more than one; a code is \\x and two hexadecimal digits, as \\x41 for 65"
     } else if is_among(name.as_slice(), b"space newline enter tab") {
         b": it is more than one; a space is \\x20, a tab is spaces, and addch takes \\n"

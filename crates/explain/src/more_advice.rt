@@ -22,11 +22,13 @@ const CURSOR_SHOWN: &[u8] =
 
 pub const PICTURE: &[u8] = b"a line of a picture is no line of a script; addstr writes a text";
 
+pub const LOG_LINE: &[u8] = b"a line of the log or of check is no line of a script";
+
 pub const SHELL: &[u8] = b"this belongs in the shell: a script has calls alone";
 
 /// Names like those of calls that the table of `advice` has no room for.
 #[rattlefmt::skip]
-const LIKE_CALLS: [Row; 45] = [
+const LIKE_CALLS: [Row; 46] = [
     (b"see delwin, del_panel", b"del remove free"),
     (b"pairs have the terminal's colours until they are set: see init_pair",
         b"use_default_colors assume_default_colors"),
@@ -59,7 +61,7 @@ const LIKE_CALLS: [Row; 45] = [
         b"draw_text write_text print_text put_text show_text display_text print_at mvaddnstr mvwaddnstr \
         mv_add_str drawtext printat outtext outtextxy cputs add addline str msg message win_write window_write \
         window_print put_str put_string print_str print_string write_string write_char print_char addln \
-        setcontent moveprint text_write win_print set_text set_title insert_text"),
+        setcontent moveprint text_write win_print set_text set_title insert_text stradd str_add"),
     (b"no call formats: see move, addstr", b"mvprintw mvwprintw"),
     (b"see getyx, getbegyx, getmaxyx",
         b"wherexy wherex wherey getbeg getwinsize getxmaxy maxx maxy begx begy curx cury get_pos max_yx get_position"),
@@ -75,9 +77,11 @@ const LIKE_CALLS: [Row; 45] = [
     (b"see top_panel, bottom_panel",
         b"panel_bottom panel_raise panel_lower raise_window lower_window top_window bottom_window window_top \
         window_raise window_lower win_top zorder z_order order push_panel panel_focus activate select_panel \
-        switch_panel order_panel"),
+        switch_panel order_panel paneltop"),
+    (b"see hide_panel, show_panel", b"panelhide panelshow"),
     (b"see panel_above, panel_below", b"above_panel below_panel next_panel prev_panel previous_panel current_panel"),
-    (UPDATES, b"redraw_panels draw_panels refresh_panels refresh_panel draw_panel redraw_all force_redraw"),
+    (UPDATES, b"redraw_panels draw_panels refresh_panels refresh_panel draw_panel redraw_all force_redraw \
+        upd_panels upd_panel udpate_panel uptade_panels"),
     (b"see replace_panel", b"panel_replace swap_panel replace_window"),
     (b"see panel_hidden", b"hidden_panel is_panel_hidden panel_visible"),
     (b"see panel_window", b"window_panel get_panel_window"),
@@ -91,7 +95,7 @@ const LIKE_CALLS: [Row; 45] = [
 
 /// Words of terminals, shells and other languages that it has no room for.
 #[rattlefmt::skip]
-const FOREIGN: [Row; 25] = [
+const FOREIGN: [Row; 26] = [
     (b"see move; a script has no jumps", b"goto gosub"),
     (CURSOR_SHOWN,
         b"cursor curs_set civis cnorm hide_cursor show_cursor hidecursor showcursor cursor_hide cursor_show \
@@ -121,6 +125,7 @@ const FOREIGN: [Row; 25] = [
     (b"no call reads a key", b"smkx rmkx waitkey wait_key press crmode nocrmode readline get_char textbox"),
     (b"zsh's module has names of its own: see newwin, addstr", b"zcurses"),
     (PICTURE, b"rendition cursor_unknown"),
+    (LOG_LINE, b"reading_failed writing_failed"),
     (SCREEN, b"close_screen start_screen screen_init initialize finish fini newscreen"),
     (SHELL, b"coproc chmod select"),
     (PROGRAMS,

@@ -486,10 +486,10 @@ fn attributes_reason(argument: &[u8]) -> &'static [u8]
     } else if is_list(argument) {
         one_sum()
     } else if are_two_digits(argument) {
-        if has_upper_case(argument) {
+        if has_upper_case(argument) && argument[0] <= b'3' {
             b": the digits are in lower case"
         } else {
-            b": it is too great"
+            b": it is too great, as the sum of all is 3f"
         }
     } else if are_like_two_digits(argument) {
         no_letters()
@@ -630,12 +630,15 @@ fn ends_in_mark(argument: &[u8]) -> bool
 }
 
 /// Whether an argument is meant as the number of a window: it is one but for its size, a 0 or a letter, or what ends
-/// it; or one between marks; or a variable; or nothing.
+/// it; or the letter that is taken for 0; or one between marks; or a variable; or nothing.
 fn is_like_window(argument: &[u8]) -> bool
     ensures { result ≡ is_like_window argument.now }
 {
     if begins_with_digit(argument) {
         return are_like_digits(argument) || has_byte(argument, b',') || has_byte(argument, b';');
+    }
+    if is_among(argument, b"O o") {
+        return true;
     }
     begins_with_digit(after_first(argument)) && ends_in_mark(argument)
         || argument.strip_prefix(b"$").is_some()

@@ -10,7 +10,7 @@ ghost use Rattle.explain.specs.Suggestions.{advice_on_rest, after_prefix, begins
 ghost use Rattle.explain.specs.steps.Suggestions.{said_now};
 
 use crate::advice::{CALLS_ALONE, COMMAND_LINE, PAIRS, PROGRAMS, SCREEN_SIZE, advice_on, is_among};
-use crate::more_advice::{PICTURE, SHELL, advice_by_part};
+use crate::more_advice::{LOG_LINE, PICTURE, SHELL, advice_by_part};
 use crate::names::{
     Name, after_comma, after_first, after_library, after_name, begins_comment, begins_with_digit,
     begins_with_letter, ends_with, gives_value, has_byte, has_pair, has_part, has_value,
@@ -218,6 +218,8 @@ fn said_of_value(name: &[u8]) -> &'static [u8]
 {
     if is_among(name, b"lines cols columns rows") {
         SCREEN_SIZE
+    } else if is_among(name, b"stdscr scr screen") {
+        b"the screen is window 0, which is there from the first line on"
     } else {
         no_variables()
     }
@@ -245,7 +247,7 @@ fn is_of_log(word: &[u8], text: Option<&[u8]>) -> bool
 {
     let Some(text) = text else { return false };
     let (first, _) = split_at_space(text);
-    word == b"line".as_slice()
+    is_among(word, b"line offset")
         && begins_with_digit(first)
         && (ends_with(first, b':') || ends_with(first, b','))
         || word.strip_prefix(b"E").is_some() && begins_with_digit(after_first(word))
@@ -424,7 +426,7 @@ pub fn said_of_line(word: &[u8], text: Option<&[u8]>) -> Option<&'static [u8]>
         return Some(said);
     }
     if is_of_log(word, text) {
-        return Some(b"a line of the log or of check is no line of a script");
+        return Some(LOG_LINE);
     }
     if is_prompt(word) && begins_with_call(text) {
         return Some(nothing_before());
