@@ -90,7 +90,7 @@ advised =
     ∷ (
       codes "see addstr",
       codes "addnstr addchstr addchnstr print println puts putstr put write writestr text say string addstring"
-          ++ codes " addtext type add_string add_text title label cout writeln fputs output out",
+          ++ codes " addtext type add_string add_text title label cout writeln fputs output out stradd str_add straddr strdd",
     )
     ∷ (codes "see insch", codes "insstr insnstr insert inschar inserch insertch")
     ∷ (codes "see insertln, deleteln", codes "insdelln insertline insline deleteline delete_line delline")
@@ -171,7 +171,7 @@ advised =
     ∷ (updates, codes "update update_screen updatescreen flush redraw render display show_screen sync refresh_screen repaint fflush")
     ∷ (codes "windows are numbered from 1 as they are made: see newwin", codes "window win newwindow new_window create_window createwin makewin mkwin openwin open_window")
     ∷ (codes "see delwin", codes "delwindow delete_window del_window destroy_window rmwin closewin close_window destroy delete deletewin killwin destroy_win destroywin")
-    ∷ (codes "see mvwin, move_panel", codes "move_window move_win movewin movewindow panel_move")
+    ∷ (codes "see mvwin, move_panel", codes "move_window move_win movewin movewindow")
     ∷ (codes "see new_panel", codes "panel create_panel add_panel make_panel panel_new")
     ∷ (codes "see show_panel, hide_panel", codes "show hide show_window hide_window panel_show panel_hide")
     ∷ (codes "see top_panel, bottom_panel", codes "raise lower front back raise_panel lower_panel focus top bottom panel_top bring_to_front send_to_back to_front")
@@ -203,13 +203,14 @@ advised =
           ++ codes " static struct let local export set declare function def import from { } begin repeat next try except"
           ++ codes " pass with class fn var bool long unsigned enum typedef using use my loop require main lambda global func unset",
     )
-    ∷ (codes "a comment begins with #", codes "; % rem")
+    ∷ (codes "a comment begins with #", codes "; rem")
+    ∷ (codes "a comment begins with #, and a script has no prompts", codes "%")
     ∷ (
       runs_no_programs,
       codes "ls cat cd pwd cp rm mkdir grep sed awk sudo sh bash python test eval alias trap exec kill tmux",
     )
     ∷ (on_command_line, codes "curspan ./curspan run paint check version quiet")
-    ∷ (codes "the end of a here-document stands alone in the shell, and is no call", codes "eof eot end_of_file")
+    ∷ (codes "this ends a here-document in the shell, where it has a line of its own", codes "eof eot end_of_file")
     ∷ (codes "see subwin, derwin", codes "subwindow derwindow")
     ∷ (codes "curspan --help and the manual page, man curspan, give help", codes "help ? man info usage")
     ∷ (codes "see newwin, newpad, new_panel", codes "new create make open")
@@ -235,13 +236,18 @@ like_calls_advised =
       codes "the eight colours can't be changed: see init_pair",
       codes "init_color init_colour initcolor init_extended_color can_change_color",
     )
-    ∷ (codes "see del_panel", codes "destroy_panel remove_panel free_panel delpan rm_panel panel_delete close_panel")
-    ∷ (codes "see new_panel", codes "open_panel panel_create")
+    ∷ (codes "see del_panel", codes "destroy_panel remove_panel free_panel delpan rm_panel panel_delete panel_del close_panel")
+    ∷ (codes "see new_panel", codes "open_panel panel_create panelnew")
     ∷ (codes "see scrl, scrollok", codes "scroll")
-    ∷ (codes "see move_panel", codes "mvpanel mv_panel panelmove mvpan")
-    ∷ (codes "see mvwin", codes "mvwindow mv_window win_move window_move")
+    ∷ (codes "see move_panel", codes "mvpanel mv_panel panelmove panel_move mvpan")
+    ∷ (codes "see mvwin", codes "mvwindow mv_window win_move window_move mvwwin")
     ∷ (codes "see newwin", codes "create_newwin newwindows winnew win_new create_win make_win open_win window_new")
     ∷ (codes "see newwin, derwin", codes "nerwin")
+    ∷ (codes "see newwin, delwin", codes "nelwin")
+    ∷ (codes "see delwin, derwin", codes "dewin")
+    ∷ (codes "see mvderwin", codes "vderwin mderwin")
+    ∷ (codes "see untouchwin", codes "utouchwin ntouchwin")
+    ∷ (codes "see inch, insch", codes "innch incch")
     ∷ (codes "see derwin, subwin", codes "derive derived derive_window inner_window")
     ∷ (codes "see newpad, new_panel", codes "newpan")
     ∷ (codes "see delch, deleteln", codes "dellin delln deleln deletelines delete_lines dl1 dch1 dl dch del_line remove_line del_char remove_char")
@@ -249,7 +255,7 @@ like_calls_advised =
     ∷ (codes "see insch, for each character", codes "ich1 ich insert_char insstring insertstr inserttext ins_char")
     ∷ (codes "see move, insch", codes "mvinsstr mvinsnstr mvwinsstr mvwinsnstr")
     ∷ (codes "each call names its window or panel", codes "setwin set_window select_window current")
-    ∷ (codes "see pnoutrefresh", codes "refresh_pad refreshpad pad_refresh padrefresh show_pad pad_show viewport")
+    ∷ (codes "see pnoutrefresh", codes "refresh_pad refreshpad pad_refresh padrefresh show_pad pad_show viewport poutrefresh npoutrefresh")
     ∷ (codes "a window is hidden with its panel: see hide_panel, show_panel", codes "hidewin showwin hide_win show_win win_hide win_show window_hide window_show hide_all show_all")
     ∷ (codes "a window keeps its size: see newwin, copywin", codes "resizewin resize_win resize_window")
     ∷ (codes "a window keeps its size: see newwin, replace_panel", codes "panel_resize resize_panel")
@@ -262,10 +268,10 @@ like_calls_advised =
       codes "draw_text write_text print_text put_text show_text display_text print_at mvaddnstr mvwaddnstr"
           ++ codes " mv_add_str drawtext printat outtext outtextxy cputs add addline str msg message win_write window_write window_print"
           ++ codes " put_str put_string print_str print_string write_string write_char print_char addln setcontent moveprint text_write win_print set_text"
-          ++ codes " set_title insert_text stradd str_add",
+          ++ codes " set_title insert_text",
     )
     ∷ (codes "no call formats: see move, addstr", codes "mvprintw mvwprintw")
-    ∷ (codes "see getyx, getbegyx, getmaxyx", codes "wherexy wherex wherey getbeg getwinsize getxmaxy maxx maxy begx begy curx cury get_pos max_yx get_position")
+    ∷ (codes "see getyx, getbegyx, getmaxyx", codes "wherexy wherex wherey getbeg getwinsize getxmaxy maxx maxy begx begy curx cury get_pos max_yx get_position getcur winsize window_size")
     ∷ (codes "see getyx, move", codes "save_cursor restore_cursor")
     ∷ (
       codes "see noutrefresh, update_panels, doupdate",
@@ -284,7 +290,7 @@ like_calls_advised =
       codes "panel_bottom panel_raise panel_lower raise_window lower_window top_window bottom_window window_top window_raise"
           ++ codes " window_lower win_top zorder z_order order push_panel panel_focus activate select_panel switch_panel order_panel paneltop",
     )
-    ∷ (codes "see hide_panel, show_panel", codes "panelhide panelshow")
+    ∷ (codes "see hide_panel, show_panel", codes "panelhide panelshow unhide_panel unhide toggle_panel")
     ∷ (codes "see panel_above, panel_below", codes "above_panel below_panel next_panel prev_panel previous_panel current_panel")
     ∷ (
       updates,
@@ -321,11 +327,11 @@ foreign_advised =
     ∷ (codes "no call rings or flashes", codes "beep flash bell")
     ∷ (codes "see delwin, del_panel; the screen ends with the script", codes "close")
     ∷ (codes "see addstr; --log belongs on the command line", codes "log")
-    ∷ (codes "the end of a here-document stands alone; the screen ends with the script", codes "end eod HERE end_of_script")
+    ∷ (codes "a script has no blocks, and ends with its last line, or with the here-document", codes "end eod HERE end_of_script _eof_ SCRIPT")
     ∷ (codes "see addstr, noutrefresh", codes "display_message append")
     ∷ (codes "a comment begins with #, and has a line of its own", codes "todo fixme note nb dnl")
     ∷ (
-      codes "see move, which takes a line and a column",
+      codes "see move, which takes a window, a line and a column",
       codes "home hpa vpa cuu1 cub1 cuf1 cud1 setpos go gotoyx goto_xy gotorc position set_pos set_position goto_pos move_pos",
     )
     ∷ (codes "see clrtoeol, clrtobot", codes "el el1 ed ech clrline clrtoend clr_line clr_eol clrbot")
@@ -341,7 +347,7 @@ foreign_advised =
     ∷ (
       runs_no_programs,
       codes "python3 perl ruby lua node git less gcc cc vi vim nano ssh curl wget find head tail date time env"
-          ++ codes " who xargs sort tr cut seq tee jobs yes which xterm apt pip npm docker swap_window rename_window",
+          ++ codes " who xargs sort tr cut seq tee jobs yes which xterm apt pip npm docker swap_window rename_window system popen",
     )
     ∷ (
       calls_alone,
@@ -369,7 +375,8 @@ advice_on name = or_else (table_advice name) (more_advice name)
 -- what is said of names that have a part, and the parts
 unfoldable pub parts_advised : List (List ℕ × List ℕ)
 parts_advised =
-    (no_menus, codes "menu item form field")
+    (codes "no call reads a key", codes "key_")
+    ∷ (no_menus, codes "menu item form field")
     ∷ (no_formats, codes "printf printw")
     ∷ (refreshed, codes "refresh")
     ∷ (updates, codes "update")

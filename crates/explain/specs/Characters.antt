@@ -1,12 +1,12 @@
 -- What is said of bytes that no line has, of faulty texts, and of what is no character. The texts are Curspan's own.
 use Rattle.std.specs.Prelude.{◌==◌, ◌&&◌, ◌||◌, ℕ, Bool, not, List, [], ◌∷◌, codes, drop, length, nat_le, slice_index, take, if◌then◌else◌}
-use Rattle.std.specs.Char.{is_ascii_alphabetic, is_ascii_hexdigit}
+use Rattle.std.specs.Char.{is_ascii_alphabetic, is_ascii_control, is_ascii_hexdigit}
 use Rattle.std.specs.List.{list_all, list_any, slice_split}
 use Rattle.std.specs.Str.{bytes_eq}
 use Rattle.script.specs.Characters.{backslash, backspace, carriage_return, is_space, number_sign, space}
 use Rattle.script.specs.declared.words.Form.TheVariants.{Text}
 use Rattle.explain.specs.Faults.{has_form}
-use Rattle.explain.specs.Names.{after_name, are_digits, are_two_digits, begins_with, begins_with_digit, comma, digit_8, ends_with, escape, has_byte, has_call, has_part, is_one_of, is_quoted, name_of_argument, semicolon, tab, vertical_bar}
+use Rattle.explain.specs.Names.{after_name, are_digits, are_two_digits, begins_with, begins_with_digit, begins_with_one, comma, digit_8, ends_with, escape, has_byte, has_call, has_part, is_one_of, is_quoted, name_of_argument, semicolon, tab, vertical_bar}
 
 -- ---- bytes that no line has
 
@@ -17,7 +17,8 @@ byte_advice b = if b == carriage_return then codes "a line ends with a newline a
     else (if b == backspace then codes "a text has it as a backslash and b"
     else (if b == escape then codes "a text has no control sequences: see attrset, color_set, move"
     else (if b == 0 then codes "no line has it, and a character is one byte, not two as in UTF-16"
-    else codes "characters are those of ASCII, from space to tilde; others may look alike"))))
+    else (if is_ascii_control b then codes "it is a control character, and a text has none but by \\n, \\r and \\b"
+    else codes "characters are those of ASCII, from space to tilde; others may look alike")))))
 
 -- In UTF-8: the last byte of the last block that is drawn with; those of the last of many spaces, of the first mark that
 -- separates lines, and of the last space.
@@ -76,12 +77,12 @@ after_bad_escape (b ∷ c ∷ bs) = if b == backslash then (if begins_escape (b 
 
 -- what is after a backslash is an `e` that begins a control sequence: no letter follows
 abbrev pub begins_escaped : List ℕ → Bool
-begins_escaped rest = (begins_with (codes "e") rest || begins_with (codes "E") rest) && not (list_any is_ascii_alphabetic (take 1 (drop 1 rest)))
+begins_escaped rest = begins_with_one (codes "e E") rest && not (list_any is_ascii_alphabetic (take 1 (drop 1 rest)))
 
 -- what is after a backslash begins a control sequence in other languages
 abbrev pub begins_sequence : List ℕ → Bool
-begins_sequence rest = begins_escaped rest || begins_with (codes "033") rest || begins_with (codes "x1b") rest || begins_with (codes "x1B") rest
-    || begins_with (codes "u001b") rest || begins_with (codes "u001B") rest || (begins_with_digit rest && begins_with (codes "[") (after_name rest))
+begins_sequence rest = begins_escaped rest || begins_with_one (codes "033 x1b x1B u001b u001B") rest
+    || (begins_with_digit rest && begins_with (codes "[") (after_name rest))
 
 -- It begins a byte that is none of ASCII, in two hexadecimal digits.
 abbrev pub begins_greater_byte : List ℕ → Bool
@@ -90,7 +91,7 @@ begins_greater_byte rest = begins_with (codes "x") rest && are_two_digits (take 
 -- It begins a character by its name, or by its number, with four hexadecimal digits or a bracket; or such a byte.
 abbrev pub begins_character : List ℕ → Bool
 begins_character rest = begins_with (codes "N{") rest || begins_greater_byte rest
-    || ((begins_with (codes "u") rest || begins_with (codes "U") rest)
+    || (begins_with_one (codes "u U") rest
     && (begins_with (codes "{") (drop 1 rest) || (length (take 4 (drop 1 rest)) == 4 && list_all is_ascii_hexdigit (take 4 (drop 1 rest)))))
 
 -- by what is after a backslash that begins no escape
@@ -98,11 +99,12 @@ abbrev pub escape_reason : List ℕ → List ℕ
 escape_reason rest = if begins_with (codes "t") rest then codes ": a tab is written as spaces, a backslash itself as two"
     else (if begins_sequence rest then codes ": a text has no control sequences: see attrset, color_set, move"
     else (if begins_character rest then codes ": characters are those of ASCII, each as it is, or by its code as \\x41 for A"
-    else (if begins_with_digit rest then codes ": a code is \\x and two hexadecimal digits, from \\x20 to \\x7e"
-    else (if begins_with (codes "x") rest || begins_with (codes "X") rest then codes ": two digits in lower case come after \\x, from 20 to 7e; a backslash is two"
+    else (if begins_with_digit rest then codes ": a code is \\x and two hexadecimal digits, as \\x41 for A"
+    else (if begins_with_one (codes "x X") rest then codes ": two digits in lower case come after \\x, as \\x41 for A; a backslash is two"
+    else (if list_any (λ byte. has_byte byte (codes "NRB")) (take 1 rest) then codes ": escapes are in lower case, and a backslash itself is written as two"
     else (if list_any is_ascii_alphabetic (take 1 rest) then codes ": a backslash is written as two, and other control characters have no escape"
     else (if length rest == 0 then codes ": a backslash itself is written as two, and no line goes on in the next"
-    else codes ": no other mark needs a backslash, and a backslash itself is written as two"))))))
+    else codes ": no other mark needs a backslash, and a backslash itself is written as two")))))))
 
 -- of a text with such a backslash, by the first one
 abbrev pub text_reason : List ℕ → List ℕ
@@ -113,7 +115,7 @@ text_reason text = escape_reason (after_bad_escape text)
 -- of several characters in place of one, which may be several words
 abbrev pub several_characters_reason : List ℕ → List ℕ → List ℕ
 several_characters_reason word argument = if has_call (drop 1 (slice_split is_space argument)) then codes ": it is more than one, and a line has one call"
-    else (if bytes_eq word (codes "bkgdset") then codes ": it is more than one, and attributes come before it, as one sum"
+    else (if bytes_eq word (codes "bkgdset") then codes ": it is more than one; attributes come before it, and bkgdpair sets a pair"
     else (if has_byte space argument then codes ": it is more than one: addstr writes a text; see move, attrset, color_set"
     else codes ": it is more than one: addstr writes a text, and a code is as \\x41 for 65"))
 
@@ -127,7 +129,7 @@ end_reason word argument = if ends_with semicolon argument then codes ": it is m
 
 -- a character's code, as others write it, or more than one of here
 abbrev pub is_code : List ℕ → Bool
-is_code argument = are_digits argument || begins_with (codes "0x") argument || begins_with (codes "&") argument
+is_code argument = are_digits argument || begins_with_one (codes "0x &") argument
     || (begins_with (codes "\\x") argument && not (has_byte space argument))
 
 -- of more than one character
@@ -145,5 +147,5 @@ abbrev pub character_reason : List ℕ → List ℕ → List ℕ
 character_reason word argument = if length argument == 0 then codes ": it is empty, and a space is \\x20, or one space more"
     else (if not (has_form Text argument) then text_reason argument
     else (if begins_with (codes "ACS_") argument then codes ": lines are drawn by characters such as + - and |"
-    else (if has_byte vertical_bar argument && not (bytes_eq word (codes "bkgdset")) then codes ": it is more than one: attron sets attributes before it, and no pipe follows"
+    else (if has_byte vertical_bar argument && not (bytes_eq word (codes "bkgdset")) then codes ": it is more than one: attron sets attributes first, and no | comes after it"
     else longer_reason word argument)))

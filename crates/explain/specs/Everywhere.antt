@@ -102,9 +102,9 @@ refusal_everywhere call = None
 -- what a refusal by the arguments alone means
 abbrev pub meaning : Refusal → List ℕ
 meaning NoSuchPanel = codes ": panels are numbered from 1 to 1000, or \"none\" for panel_above and panel_below"
-meaning OffScreen = codes ": a screen has at most 999 lines and 999 columns"
-meaning OutsideParent = codes ": a screen has at most 999 lines and 999 columns"
-meaning OutsideWindow = codes ": a screen has at most 999 lines and 999 columns"
+meaning OffScreen = codes ": lines and columns count from 0, and a screen has at most 999 of each"
+meaning OutsideParent = codes ": lines and columns count from 0, and a screen has at most 999 of each"
+meaning OutsideWindow = codes ": lines and columns count from 0, and a screen has at most 999 of each"
 meaning NotPad = codes ": window 0 is the standard screen, and no pad"
 meaning NotDerived = codes ": window 0 is the standard screen, and derives from no window"
 meaning BadSize = codes ": a pad has 1 to 1000 lines and 1 to 1000 columns"

@@ -52,6 +52,9 @@ abbrev pub colon : ℕ
 colon = 58
 
 -- `;`
+abbrev pub plus_sign : ℕ
+plus_sign = 43
+
 abbrev pub semicolon : ℕ
 semicolon = 59
 
@@ -123,11 +126,15 @@ abbrev pub has_part : List ℕ → List ℕ → Bool
 has_part part [] = false
 has_part part (b ∷ bs) = begins_with part (b ∷ bs) || has_part part bs
 
+-- the text begins with one of some, with a space between any two
+abbrev pub begins_with_one : List ℕ → List ℕ → Bool
+begins_with_one prefixes text = list_any (λ prefix. begins_with prefix text) (names_in prefixes)
+
 -- ---- marks of other languages
 
 -- what begins a comment in other languages, of which two hyphens stand alone
 abbrev pub begins_comment : List ℕ → Bool
-begins_comment text = begins_with (codes "//") text || begins_with (codes "/*") text || begins_with (codes "<!--") text || bytes_eq text (codes "--")
+begins_comment text = begins_with_one (codes "// /* <!--") text || bytes_eq text (codes "--")
 
 -- a number or a colour of other languages, as `#1` and `#f00`
 abbrev pub is_marked : List ℕ → Bool
@@ -141,17 +148,16 @@ abbrev pub has_comment : List (List ℕ) → Bool
 has_comment pieces = list_any is_comment pieces
 
 abbrev pub is_quoted : List ℕ → Bool
-is_quoted text = begins_with (codes "\"") text || begins_with (codes "'") text
+is_quoted text = begins_with_one (codes "\" '") text
 
 -- of shells: a redirection, a pipe, or what joins commands; `<win>` is in brackets
 abbrev pub is_redirection : List ℕ → Bool
-is_redirection text = begins_with (codes ">") text || (begins_with (codes "<") text && not (has_byte greater_sign text)) || begins_with (codes "|") text
-    || begins_with (codes "&>") text || is_one_of (codes "& &&") text || (begins_with_digit text && has_byte greater_sign text)
+is_redirection text = begins_with_one (codes "> | &>") text || (begins_with (codes "<") text && not (has_byte greater_sign text))
+    || is_one_of (codes "& &&") text || (begins_with_digit text && has_byte greater_sign text)
 
 -- a text begins as what gives a value to a name
 abbrev pub gives_value : List ℕ → Bool
-gives_value text = begins_with (codes "=") text || begins_with (codes "+=") text || begins_with (codes "-=") text || begins_with (codes ":=") text
-    || begins_with (codes "<-") text || begins_with (codes "++") text
+gives_value text = begins_with_one (codes "= += -= := <- ++") text
 
 -- the first word after one does, or, where that ends in a comma, some word
 abbrev pub has_value : List ℕ → List (List ℕ) → Bool

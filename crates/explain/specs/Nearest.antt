@@ -1,10 +1,13 @@
--- What a word was meant to be: the first name whose letters are the word's but for one, or two that changed places.
-use Rattle.std.specs.Prelude.{◌==◌, ◌&&◌, ◌||◌, ℕ, Bool, false, List, [], ◌∷◌, ◌++◌, codes, find, length, map, nat_le, take, Option, None, Some, option_and_then, if◌then◌else◌}
+-- What a word was meant to be: a name with its letters, or that it begins, or whose letters are the word's but for one, or
+-- two that changed places.
+use Rattle.std.specs.Prelude.{◌==◌, ◌&&◌, ◌||◌, ℕ, Bool, false, true, List, [], ◌∷◌, ◌++◌, codes, find, length, map, nat_le, nat_lt, take, Option, None, Some, if◌then◌else◌}
 use Rattle.std.specs.Char.{is_ascii_alphabetic, to_ascii_lowercase}
 use Rattle.std.specs.List.{flat_map, list_any, slice_split}
 use Rattle.std.specs.Str.{bytes_eq}
 use Rattle.script.specs.Characters.{is_space}
 use Rattle.script.specs.Words.{entry_of, words}
+use Rattle.explain.specs.declared.nearest.Likeness.{Likeness}
+use Rattle.explain.specs.declared.nearest.Likeness.TheVariants.{Same, Beginning, Near}
 
 -- the letters of a text, in lower case: `new_win`, `Newwin` and `newwin()` have the same
 abbrev pub letters_of : List ℕ → List ℕ
@@ -41,30 +44,43 @@ other_names = slice_split is_space (
     ++ codes " wborder hline vline insstr resize standout standend timeout nodelay wattron wattroff print write window colour"
     ++ codes " wnoutrefresh")
 
--- the first of some names that is near a word
-abbrev pub nearest_of : List (List ℕ) → List ℕ → Option (List ℕ)
-nearest_of names word = find (λ name. is_near (letters_of word) (letters_of name)) names
+-- the first letters are those of the text
+abbrev pub is_beginning : List ℕ → List ℕ → Bool
+is_beginning [] others = true
+is_beginning (a ∷ letters) [] = false
+is_beginning (a ∷ letters) (b ∷ others) = a == b && is_beginning letters others
 
--- the first with its letters
-abbrev pub same_of : List (List ℕ) → List ℕ → Option (List ℕ)
-same_of names word = find (λ name. bytes_eq (letters_of word) (letters_of name)) names
+-- how a word is like a name: it has its letters, or the first of them, or all but one
+abbrev pub is_like : Likeness → List ℕ → List ℕ → Bool
+is_like Same word name = bytes_eq (letters_of word) (letters_of name)
+is_like Beginning word name = is_beginning (letters_of word) (letters_of name)
+is_like Near word name = is_near (letters_of word) (letters_of name)
+
+-- the first of some names that a word is like
+abbrev pub first_like : Likeness → List (List ℕ) → List ℕ → Option (List ℕ)
+first_like likeness names word = find (is_like likeness word) names
+
+abbrev pub call_like : Likeness → List ℕ → Option (List ℕ)
+call_like likeness word = first_like likeness call_words word
 
 abbrev pub or_else : Option (List ℕ) → Option (List ℕ) → Option (List ℕ)
 or_else None other = other
 or_else (Some said) other = Some said
 
+-- the call with a word's letters
 abbrev pub same_call : List ℕ → Option (List ℕ)
-same_call word = same_of call_words word
+same_call word = call_like Same word
 
-abbrev pub near_call : List ℕ → Option (List ℕ)
-near_call word = nearest_of call_words word
+-- the first call that begins with the letters of a word, which are four or more
+abbrev pub begun_call : List ℕ → Option (List ℕ)
+begun_call word = if nat_lt (length (letters_of word)) 4 then None else call_like Beginning word
 
--- of the calls that are near a word the one with its letters, or else the first
+-- the call with the word's letters, or else the first that it begins, or else the first that it is near
 abbrev pub nearest : List ℕ → Option (List ℕ)
-nearest word = option_and_then (λ first. or_else (same_call word) (Some first)) (near_call word)
+nearest word = or_else (same_call word) (or_else (begun_call word) (call_like Near word))
 
 abbrev pub nearest_other : List ℕ → Option (List ℕ)
-nearest_other word = nearest_of other_names word
+nearest_other word = first_like Near other_names word
 
 -- the call with the letters of two words, in either order
 abbrev pub call_of_two : List ℕ → List ℕ → Option (List ℕ)
@@ -73,7 +89,7 @@ call_of_two word other = or_else (same_call (word ++ other)) (same_call (other +
 -- the call that a word and the next one together are near, as `inti pair`
 abbrev pub near_call_of_words : List ℕ → List (List ℕ) → Option (List ℕ)
 near_call_of_words word [] = None
-near_call_of_words word (piece ∷ pieces) = near_call (word ++ piece)
+near_call_of_words word (piece ∷ pieces) = call_like Near (word ++ piece)
 
 -- the call whose name a word and the next one are, as `init pair` and `set color`, where each begins with a letter
 abbrev pub call_of_words : List ℕ → List (List ℕ) → Option (List ℕ)

@@ -8,7 +8,7 @@ use Rattle.script.specs.Readings.{arguments}
 use Rattle.script.specs.Words.{word_of}
 use Rattle.explain.specs.Faults.{IllFormed, find_ill_formed, forms_of, is_word, place_of}
 use Rattle.explain.specs.Groups.{sets_attributes, sets_pair, takes_place_of_cursor, writes}
-use Rattle.explain.specs.Names.{are_digits, are_two_digits, begins_with_digit, comma, ends_with, equals_sign, has_byte, has_call, has_pair, is_one_of, is_redirection, semicolon, vertical_bar}
+use Rattle.explain.specs.Names.{are_digits, are_two_digits, begins_with_digit, comma, ends_with, equals_sign, has_byte, has_call, has_pair, has_part, is_one_of, is_redirection, semicolon, vertical_bar}
 use Rattle.explain.specs.Nearest.{or_else}
 use Rattle.explain.specs.Reasons.{is_bracketed, no_brackets, no_commas, no_names, no_redirections, one_window, reason_after}
 use Rattle.explain.specs.Signatures.{names_of_arguments}
@@ -32,8 +32,8 @@ joins_attributes word line pieces = sets_attributes word && (has_byte vertical_b
 
 -- of such words, which may have a pair of curses
 abbrev pub joined_reason : List (List ℕ) → List ℕ
-joined_reason pieces = if has_pair pieces then codes ": attributes are one sum, as 11; no line has a pipe; color_set sets colours"
-    else codes ": attributes are one sum, as 11 for 01 bold and 10 reverse; no line has a pipe"
+joined_reason pieces = if has_pair pieces then codes ": attributes are one sum, as 11, and no bars join them; color_set sets colours"
+    else codes ": attributes are one sum, as 11 for 01 bold and 10 reverse; no bars join them"
 
 -- several arguments as one, as `3x4` and `2-5`: a digit begins it, and it is no number and no attributes
 abbrev pub is_joined : List ℕ → Bool
@@ -51,8 +51,9 @@ abbrev pub marks_reason : List ℕ → List (List ℕ) → Bool → Option (List
 marks_reason line pieces many = if many && has_call pieces then Some (codes ": a line has one call")
     else (if has_byte semicolon line then Some (codes ": a line has one call, and no semicolon")
     else (if ends_with backslash line then Some (codes ": no line goes on in the next")
+    else (if has_part (codes "\\n") line then Some (codes ": only texts and characters have escapes, and a call ends with its line")
     else (if has_redirection pieces then Some no_redirections
-    else None)))
+    else None))))
 
 -- of a word between numbers: by a comma of the line, as a sign of a sum, or else what is said of it where no arguments are
 -- too many
@@ -67,7 +68,7 @@ abbrev pub too_many_reason : List ℕ → Option (List ℕ)
 too_many_reason word = if bytes_eq word (codes "move") then Some (codes ": window, line, column; addstr writes a text after it")
     else (if bytes_eq word (codes "new_panel") then Some (codes ": one window, which newwin made; the panel's number is its answer")
     else (if sets_attributes word then Some (codes ": attributes are one sum, as 11; see addstr for a text, color_set for a colour")
-    else (if sets_pair word then Some (codes ": one pair, which has its colours by init_pair, and no NULL after it")
+    else (if sets_pair word then Some (codes ": one pair, which has its colours by init_pair, and nothing after it")
     else (if is_one_of (codes "getyx getbegyx getmaxyx getparyx") word then Some (codes ": the answer is in the log, and no variables take it")
     else (if takes_place_of_cursor word then Some one_window
     else (if is_one_of (codes "overlay overwrite") word then Some (codes ": copywin copies a part")

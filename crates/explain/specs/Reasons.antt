@@ -9,7 +9,7 @@ use Rattle.script.specs.declared.words.Form.{Form}
 use Rattle.script.specs.declared.words.Form.TheVariants.{Number, NumberOrNone, Signed, Attributes, Flag, Character, Text}
 use Rattle.explain.specs.Characters.{character_reason, text_reason}
 use Rattle.explain.specs.Groups.{sets_attributes, sets_pair, takes_place_of_cursor, writes}
-use Rattle.explain.specs.Names.{are_digits, are_like_digits, are_like_two_digits, are_two_digits, begins_with, begins_with_digit, comma, digit_3, ends_with, equals_sign, has_byte, has_part, is_comment, is_marked, is_name_byte, is_one_of, is_quoted, is_redirection, name_of_argument, names_pair, semicolon, vertical_bar}
+use Rattle.explain.specs.Names.{are_digits, are_like_digits, are_like_two_digits, are_two_digits, begins_with, begins_with_digit, begins_with_one, colon, comma, digit_3, ends_with, equals_sign, has_byte, has_part, is_comment, is_marked, is_name_byte, is_one_of, is_quoted, is_redirection, name_of_argument, names_pair, plus_sign, semicolon, vertical_bar}
 
 -- what an argument of a form has to be
 abbrev pub requirement : Form → List ℕ
@@ -50,7 +50,7 @@ digits_reason said digits = if slice_index digits 0 == digit_0 then codes ": a n
 
 -- what begins with a bracket
 abbrev pub is_bracketed : List ℕ → Bool
-is_bracketed text = begins_with (codes "(") text || begins_with (codes "[") text || begins_with (codes "{") text || begins_with (codes "<") text
+is_bracketed text = begins_with_one (codes "( [ { <") text
 
 -- how arguments are written that others put in brackets, and that others separate by commas; and what shells have after them
 abbrev pub no_brackets : List ℕ
@@ -75,7 +75,7 @@ first_mark_reason argument = if is_quoted argument then Some (codes ": no quotes
     else (if is_comment argument then Some (codes ": a comment has a line of its own")
     else (if is_redirection argument then Some no_redirections
     else (if is_bracketed argument then Some no_brackets
-    else (if begins_with (codes "$") argument || begins_with (codes "`") argument
+    else (if begins_with_one (codes "$ `") argument
     then Some (codes ": a script has no variables, and runs no programs")
     else None))))
 
@@ -83,10 +83,10 @@ first_mark_reason argument = if is_quoted argument then Some (codes ": no quotes
 abbrev pub mark_reason : List ℕ → List ℕ → List ℕ
 mark_reason said argument = unwrap_or (first_mark_reason argument)
     (if has_byte comma argument then no_commas
-    else (if has_byte semicolon argument then codes ": a line has no semicolon"
+    else (if has_byte semicolon argument then codes ": no semicolon comes after an argument, and a line has one call"
     else (if ends_with backslash argument then codes ": no line goes on in the next, and no argument ends in a backslash"
     else (if has_byte backslash argument then codes ": only texts and characters have escapes, and a call ends with its line"
-    else (if has_byte equals_sign argument then no_names
+    else (if has_byte equals_sign argument || (has_byte colon argument && list_any is_ascii_alphabetic (take 1 argument)) then no_names
     else said)))))
 
 -- ---- names that stand for numbers elsewhere
@@ -97,7 +97,7 @@ is_default name = is_one_of (codes "none off default normal a_normal reset plain
 
 -- of a colour, or of a pair of them
 abbrev pub is_colour : List ℕ → Bool
-is_colour name = is_one_of (codes "black red green yellow blue magenta cyan white") name || begins_with (codes "color") name || begins_with (codes "colour") name
+is_colour name = is_one_of (codes "black red green yellow blue magenta cyan white a_color") name || begins_with_one (codes "color colour") name
 
 abbrev pub is_attribute : List ℕ → Bool
 is_attribute name = is_one_of (codes "bold dim underline blink reverse invisible standout") name || begins_with (codes "a_") name
@@ -105,7 +105,7 @@ is_attribute name = is_one_of (codes "bold dim underline blink reverse invisible
 -- a colour that is mixed of red, green and blue, as `#f00`, `0xff0000` and `rgb(255,0,0)`
 abbrev pub is_mixed : List ℕ → Bool
 is_mixed argument = begins_with (codes "rgb") argument || (is_marked argument && nat_le 4 (length argument))
-    || (begins_with (codes "0x") argument && nat_le 8 (length argument))
+    || (begins_with (codes "0x") argument && nat_le 8 (length argument) && not (has_byte vertical_bar argument))
 
 -- a colour in place of a number
 abbrev pub has_colour : List ℕ → Bool
@@ -123,7 +123,7 @@ size_reason word = if is_one_of (codes "newwin subwin derwin") word then codes "
 -- what numbers are, after a word: some calls take a flag last
 abbrev pub numbers_in_digits : List ℕ → List ℕ
 numbers_in_digits word = if is_one_of (codes "copywin touchln") word then codes ": on or off comes last, and numbers before it, in digits: no words or variables"
-    else codes ": numbers alone are arguments, in digits: no words or variables; see getmaxyx"
+    else codes ": numbers alone are arguments, in digits: no words or variables"
 
 -- of calls on the place of the cursor
 abbrev pub one_window : List ℕ
@@ -181,7 +181,7 @@ more_than_digits argument = if has_byte number_sign argument then codes ": a num
 
 -- a number of another base, as C, Python and others write them
 abbrev pub has_base : List ℕ → Bool
-has_base argument = begins_with (codes "0x") argument || begins_with (codes "0X") argument || begins_with (codes "0o") argument || begins_with (codes "0b") argument
+has_base argument = begins_with_one (codes "0x 0X 0o 0b") argument
 
 -- of what may stand for a number elsewhere
 abbrev pub name_reason : List ℕ → ℕ → List ℕ → List ℕ
@@ -200,7 +200,7 @@ abbrev pub unsigned_reason : List ℕ → ℕ → List ℕ → List ℕ
 unsigned_reason word place argument = if are_digits argument then digits_reason (codes ": it is too great") argument
     else (if begins_with (codes "-") argument && nat_lt 1 (length argument) then minus_reason (drop 1 argument)
     else (if begins_with (codes "+") argument then codes ": a number has no plus"
-    else (if has_part (codes "LINES") argument || has_part (codes "COLS") argument then size_reason word
+    else (if has_part (codes "LINES") argument || has_part (codes "COLS") argument || is_one_of (codes "max full MAX") argument then size_reason word
     else mark_reason (name_reason word place argument) argument)))
 
 -- of one that may be none
@@ -216,21 +216,34 @@ signed_reason word place argument = if begins_with (codes "-") argument
     else codes ": digits alone come right after a minus"))
     else unsigned_reason word place argument
 
+-- attributes in one argument: with a comma between them, or another mark after a digit
+abbrev pub are_joined : List ℕ → Bool
+are_joined argument = is_list argument || (begins_with_digit argument && (has_byte plus_sign argument || has_byte vertical_bar argument))
+
 -- how several attributes are written
 abbrev pub one_sum : List ℕ
 one_sum = codes ": attributes are one sum, as 11 for 01 bold and 10 reverse"
 
--- of attributes that are more than one, or as other languages write them
-abbrev pub attributes_reason : List ℕ → List ℕ
-attributes_reason argument = if is_default (name_of_argument argument) && not (has_byte vertical_bar argument)
-    then codes ": 00 stands for no attributes, and 3f for all that attroff takes away"
-    else (if has_colour argument || names_pair argument then codes ": a colour is set by color_set"
-    else (if begins_with (codes "0x") argument || begins_with (codes "0X") argument then codes ": the two digits have no 0x before them"
-    else (if is_list argument then one_sum
+-- a name that stands for no attributes, or for all
+abbrev pub is_none_or_all : List ℕ → Bool
+is_none_or_all name = is_default name || is_one_of (codes "all a_attributes") name
+
+-- of a sum of attributes, or of what is meant as one
+abbrev pub sum_reason : List ℕ → List ℕ
+sum_reason argument = if are_joined argument then one_sum
     else (if are_two_digits argument then (if list_any is_ascii_uppercase argument && nat_le (slice_index argument 0) digit_3 then codes ": the digits are in lower case"
     else codes ": it is too great, as the sum of all is 3f")
     else (if are_like_two_digits argument then no_letters
-    else mark_reason (codes ": a sum of 01 bold, 02 dim, 04 underline, 08 blink, 10 reverse, 20 invisible") argument)))))
+    else mark_reason (codes ": a sum of 01 bold, 02 dim, 04 underline, 08 blink, 10 reverse, 20 invisible") argument))
+
+-- of attributes as other languages write them, or of their sum
+abbrev pub attributes_reason : List ℕ → List ℕ
+attributes_reason argument = if is_none_or_all (name_of_argument argument) && not (has_byte vertical_bar argument)
+    then codes ": 00 is no attribute, and 3f is all of them"
+    else (if is_one_of (codes "standout a_standout") (name_of_argument argument) then codes ": a standout is 10, as reverse"
+    else (if has_colour argument || names_pair argument then codes ": a colour is set by color_set"
+    else (if begins_with_one (codes "0x 0X") argument then codes ": the two digits have no 0x before them"
+    else sum_reason argument)))
 
 -- of a flag after a word: the last of `copywin` says how it copies
 abbrev pub copy_reason : List ℕ → List ℕ
@@ -280,10 +293,10 @@ later_reason word argument = if sets_pair word then pair_reason argument
 abbrev pub ends_in_mark : List ℕ → Bool
 ends_in_mark argument = list_any (λ byte. not (is_name_byte byte)) (drop (length argument - 1) argument)
 
--- meant as the number of a window: one but for its size, a 0 or a letter, or what ends it; or the letter that is taken for 0; or one between marks, as `"0"` and
+-- meant as the number of a window: one but for its size, its base, a 0 or a letter, or what ends it; or the letter that is taken for 0; or one between marks, as `"0"` and
 -- `(5,`; or a variable; or nothing
 abbrev pub is_like_window : List ℕ → Bool
-is_like_window argument = if begins_with_digit argument then are_like_digits argument || has_byte comma argument || has_byte semicolon argument
+is_like_window argument = if begins_with_digit argument then are_like_digits argument || has_base argument || has_byte comma argument || has_byte semicolon argument
     else is_one_of (codes "O o") argument || (begins_with_digit (drop 1 argument) && ends_in_mark argument) || begins_with (codes "$") argument || length argument == 0
 
 -- of a text or a character in place of the window

@@ -44,7 +44,7 @@ names_of_arguments (word.Writing writing.Bkgdpair) = codes "window (0 is the sta
 -- copies and marks
 names_of_arguments (word.Copying copying.Overlay) = codes "window, window to write in"
 names_of_arguments (word.Copying copying.Overwrite) = codes "window, window to write in"
-names_of_arguments (word.Copying copying.Copywin) = codes "window, window to write in, line, column, there top, left, bottom, right, on to overlay, or off"
+names_of_arguments (word.Copying copying.Copywin) = codes "window, window to write in, line, column, in the second top, left, bottom, right, on or off"
 names_of_arguments (word.Copying copying.Touchwin) = codes "window"
 names_of_arguments (word.Copying copying.Untouchwin) = codes "window"
 names_of_arguments (word.Copying copying.Touchline) = codes "window, first line, how many lines"

@@ -8,7 +8,7 @@ use Rattle.std.specs.Str.{bytes_eq}
 use Rattle.script.specs.Characters.{backslash}
 use Rattle.script.specs.Words.{word_of}
 use Rattle.explain.specs.Advice.{advice_by_part, advice_on, calls_alone, of_log, of_picture, of_shell, on_command_line, pairs_are_numbers, runs_no_programs, screen_size}
-use Rattle.explain.specs.Names.{after_comma, after_library, after_name, apostrophe, begins_comment, begins_with, begins_with_digit, called_name, colon, comma, ends_with, gives_value, has_byte, has_pair, has_part, has_value, is_comment, is_name_byte, is_one_of, is_quoted, is_redirection, name_in, names_pair, quotation_mark, round_bracket, slash, square_bracket, underscored, vertical_bar}
+use Rattle.explain.specs.Names.{after_comma, after_library, after_name, apostrophe, are_digits, begins_comment, begins_with, begins_with_digit, begins_with_one, called_name, colon, comma, ends_with, gives_value, greater_sign, has_byte, has_pair, has_part, has_value, is_comment, is_name_byte, is_one_of, is_quoted, is_redirection, name_in, names_pair, quotation_mark, round_bracket, slash, square_bracket, underscored, vertical_bar}
 use Rattle.explain.specs.Nearest.{near_call_of_words, nearest, nearest_other, or_else, same_call}
 
 -- ---- what is said of a name
@@ -52,7 +52,7 @@ said_near_name word = if length (called_name word) == length word then None
 
 -- what a script has in place of variables
 abbrev pub no_variables : List ℕ
-no_variables = codes "a script has no variables: windows and panels are numbered from 1"
+no_variables = codes "there are no variables: windows and panels count from 1, answers are in the log"
 
 -- where a number stands
 abbrev pub number_first : List ℕ
@@ -62,12 +62,13 @@ number_first = codes "a line begins with the name of its call, and numbers come 
 abbrev pub nothing_before : List ℕ
 nothing_before = codes "a line begins with the name of its call, and has nothing before it"
 
--- of a name that is given a value: the size of the screen has an option for it, and the screen a number
+-- of a name that is given a value: the size of the screen has an option for it, and the screen a number; and some are given a key
 abbrev pub said_of_value : List ℕ → List ℕ
 said_of_value name = if is_one_of (codes "lines cols columns rows") name then screen_size
     else (if is_one_of (codes "stdscr scr screen") name
     then codes "the screen is window 0, which is there from the first line on"
-    else no_variables)
+    else (if is_one_of (codes "key ch c k input") name then codes "a script has no variables, and no call reads keys"
+    else no_variables))
 
 -- of a word that gives a value to its name, which is no call
 abbrev pub said_of_given : List ℕ → Option (List ℕ)
@@ -100,18 +101,18 @@ is_between word pieces = (begins_with (codes "|") word && ends_with vertical_bar
 
 -- a line of a picture: of its frame, its colours or attributes, or between bars or strokes
 abbrev pub is_of_picture : List ℕ → List (List ℕ) → Bool
-is_of_picture word pieces = is_drawn word || is_between word pieces || begins_with (codes "+-") word || begins_with (codes "---") (after_name word)
-    || begins_with (codes "%-") word || ((begins_with (codes ":") word || begins_with (codes "%") word) && begins_with_digit (drop 1 word))
+is_of_picture word pieces = is_drawn word || is_between word pieces || begins_with_one (codes "+- %-") word || begins_with (codes "---") (after_name word)
+    || (begins_with_one (codes ": %") word && begins_with_digit (drop 1 word))
 
 -- a call written by a shell, as `echo 'addstr 0 hi'`
 abbrev pub is_echo : List ℕ → List (List ℕ) → Bool
 is_echo word [] = false
 is_echo word (piece ∷ pieces) = is_one_of (codes "echo printf") word && is_quoted piece && is_some (word_of (name_in (drop 1 piece)))
 
--- a statement of other languages whose first word is a name of curses too, which would have a number after it
+-- a statement of other languages: its first word is a name of curses too, which would have a number after it; or a block begins
 abbrev pub is_statement : List ℕ → List (List ℕ) → Bool
 is_statement word [] = false
-is_statement word (piece ∷ pieces) = is_one_of (codes "raise goto GOTO DIM Dim END End end") word && list_any is_ascii_alphabetic (take 1 piece)
+is_statement word (piece ∷ pieces) = (is_one_of (codes "raise goto GOTO DIM Dim END End end") word && list_any is_ascii_alphabetic (take 1 piece)) || bytes_eq piece (codes "{")
 
 -- the first word is a call
 abbrev pub begins_with_call : List (List ℕ) → Bool
@@ -142,10 +143,15 @@ said_of_pair word pieces = if has_part (codes "attr") word && (names_pair word |
 abbrev pub is_label : List ℕ → Bool
 is_label word = ends_with colon word && list_any is_ascii_alphabetic (take 1 word) && not (has_byte round_bracket word) && not (is_some (word_of (name_in word)))
 
--- what the tables have of a word and the next one with an underscore between them, as of `raise panel`
+-- what the tables have of a word and the next one with an underscore between them
+abbrev pub advice_on_next : List ℕ → List (List ℕ) → Option (List ℕ)
+advice_on_next word [] = None
+advice_on_next word (piece ∷ pieces) = advice_on (word ++ codes "_" ++ piece)
+
+-- the same, or with the one after a number, as of `raise panel` and `panel 1 raise`
 abbrev pub said_of_two : List ℕ → List (List ℕ) → Option (List ℕ)
 said_of_two word [] = None
-said_of_two word (piece ∷ pieces) = advice_on (word ++ codes "_" ++ piece)
+said_of_two word (piece ∷ pieces) = if are_digits piece then advice_on_next word pieces else advice_on (word ++ codes "_" ++ piece)
 
 -- of a word that is no call and the words after it; where a bracket is in the word, an equals sign is part of an argument
 abbrev pub said_of_line : List ℕ → List (List ℕ) → Option (List ℕ)
@@ -186,9 +192,10 @@ said_of_marks word = if begins_with (codes "\\") word then Some (said_of_backsla
     else (if is_of_shell word
     then Some (codes "a script has no variables, prompts or redirections: a line begins with a call")
     else (if is_quoted word then Some (codes "a text is an argument of addstr, without quotes; a comment begins with #")
-    else (if begins_with (codes "```") word then Some (codes "marks of Markdown are no part of a script")
+    else (if begins_with (codes "```") word || (begins_with (codes "<") word && has_byte greater_sign word)
+    then Some (codes "marks of Markdown and HTML are no part of a script: see addstr, attron")
     else (if has_part (codes "/curspan") word then Some on_command_line
-    else (if begins_with (codes "/") word || begins_with (codes "./") word || begins_with (codes "~/") word then Some runs_no_programs
+    else (if begins_with_one (codes "/ ./ ~/") word then Some runs_no_programs
     else (if begins_with_digit word then Some number_first
     else (if not (list_any is_name_byte (take 1 word)) then Some (codes "a line begins with the name of a call, and a comment with #")
     else None))))))))))
@@ -201,10 +208,10 @@ see_longer word = option_and_then (λ name. if nat_lt (length (called_name word)
 abbrev pub say_call : List ℕ → List ℕ → Option (List ℕ)
 say_call said name = if is_some (word_of name) then Some (said ++ name) else None
 
--- a place is given to a call that writes, as in `win.addstr(0,` and `addstr(1,2,"hi");`
+-- a place is given to a call that writes, as in `win.addstr(0,` and `addstr(1,2,"hi");`; in `addstr(0,` it is the window
 abbrev pub gives_place : List ℕ → Bool
 gives_place word = (has_part (codes "addstr(") word || has_part (codes "addch(") word)
-    && (begins_with_digit (after_comma word) || (ends_with comma word && not (has_byte quotation_mark word) && not (has_byte apostrophe word)))
+    && (begins_with_digit (after_comma word) || (ends_with comma word && not (begins_with (codes "add") word) && not (has_byte quotation_mark word) && not (has_byte apostrophe word)))
 
 -- how a call is written whose name has marks after it
 abbrev pub written_advice : List ℕ → List ℕ
@@ -230,8 +237,8 @@ is_of_tmux word = is_one_of (codes "-pane -panes -session -sessions -key -keys -
 abbrev pub said_of_beginning : List ℕ → Option (List ℕ)
 said_of_beginning word = if begins_comment word then Some (codes "a comment begins with #")
     else (if begins_with (codes "panel.move") word then Some (codes "see move_panel")
-    else (if begins_with (codes "pad.refresh") word || begins_with (codes "pad.noutrefresh") word then Some (codes "see pnoutrefresh, doupdate")
-    else (if begins_with (codes "subprocess.") word || begins_with (codes "os.") word || is_of_tmux word then Some runs_no_programs
+    else (if begins_with_one (codes "pad.refresh pad.noutrefresh") word then Some (codes "see pnoutrefresh, doupdate")
+    else (if begins_with_one (codes "subprocess. os.") word || is_of_tmux word then Some runs_no_programs
     else None)))
 
 -- The first that is said: of how the word begins, of the word as the tables have it, of the value that it gives, of how the

@@ -105,7 +105,7 @@ pub const PROGRAMS: &[u8] = b"a script runs no programs: each line of it is a ca
 pub const COMMAND_LINE: &[u8] = b"this belongs on the command line: a script has calls alone";
 
 const HERE_DOCUMENT: &[u8] =
-    b"the end of a here-document stands alone in the shell, and is no call";
+    b"this ends a here-document in the shell, where it has a line of its own";
 
 const HELP: &[u8] = b"curspan --help and the manual page, man curspan, give help";
 
@@ -123,7 +123,7 @@ const PANELS_NEAR: &[u8] = b"see panel_above, panel_below";
 #[rattlefmt::skip]
 const ADVICE: [(u8, &[Row]); 28] = [
     (b'%', &[
-        (COMMENT, b"%"),
+        (b"a comment begins with #, and a script has no prompts", b"%"),
     ]),
     (b'.', &[
         (COMMAND_LINE, b"./curspan"),
@@ -363,7 +363,6 @@ const ADVICE: [(u8, &[Row]); 28] = [
         (TERMINAL, b"putp"),
         (SAVED, b"putwin"),
         (CHARACTERS, b"putch putc putchar put_char"),
-        (b"see mvwin, move_panel", b"panel_move"),
         (PANELS, b"panel panel_new"),
         (SHOWN, b"panel_show panel_hide"),
         (RAISED, b"panel_top"),
@@ -408,7 +407,7 @@ const ADVICE: [(u8, &[Row]); 28] = [
         (ESCAPES, b"space"),
         (SCREEN, b"set_term stop start setup"),
         (FORMATS, b"sprintf"),
-        (TEXTS, b"say string"),
+        (TEXTS, b"say string stradd str_add straddr strdd"),
         (BACKGROUND, b"setbkgd"),
         (b"see attron, with 10", b"standout"),
         (b"see attrset, with 00", b"standend sgr0"),

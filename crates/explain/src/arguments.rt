@@ -7,7 +7,7 @@ ghost use Rattle.std.specs.Char.{is_ascii_digit};
 ghost use Rattle.std.specs.List.{list_any};
 ghost use Rattle.explain.specs.Faults.{IllFormed as Ill, find_ill_formed, find_stray, forms_of, has_form, is_of_number, is_stray, is_word};
 
-use crate::names::is_comment;
+use crate::names::{begins_with, is_comment};
 use script::{Arguments, Form, LONGEST_LINE, MOST_ARGUMENTS, Word, next_argument, split_at_space};
 
 /// An argument without its form, its column, and how many are wanted from it on.
@@ -99,7 +99,7 @@ pub fn has_digit(text: &[u8]) -> bool
 fn is_stray(argument: &[u8]) -> bool
     ensures { result ≡ is_stray argument.now }
 {
-    if argument.strip_prefix(b"#").is_some() && !has_digit(argument) {
+    if begins_with(argument, b"#") && !has_digit(argument) {
         return true;
     }
     argument.is_empty() || is_comment(argument)

@@ -1,15 +1,17 @@
 //! What is said of bytes that no line has, of faulty texts, and of what is no character.
 
-ghost use Rattle.std.specs.Prelude.{◌≡◌, ◌≤◌, ◌==◌, ◌&&◌, length, slice_index, take};
+ghost use Rattle.std.specs.Prelude.{◌≡◌, ◌≤◌, ◌==◌, ◌&&◌, codes, length, slice_index, take};
 ghost use Rattle.std.specs.Char.{is_ascii_hexdigit};
-ghost use Rattle.std.specs.List.{list_all};
+ghost use Rattle.std.specs.List.{list_all, list_any};
 ghost use Rattle.explain.specs.Characters.{after_bad_escape, bad_text_advice, begins_character, begins_escape, begins_escaped, begins_greater_byte, begins_sequence, byte_advice, character_reason, draws_line, end_reason, ends_space, escape_reason, is_code, is_space_elsewhere, is_unseen, longer_reason, several_characters_reason, text_reason};
+ghost use Rattle.explain.specs.Names.{has_byte};
 
 use crate::advice::is_among;
 use crate::arguments::has_form;
 use crate::names::{
-    after_first, after_name, are_digits, are_hexadecimal, are_two_digits, begins_with_digit,
-    begins_with_letter, ends_with, has_byte, has_call, has_part, is_quoted, name_of_argument,
+    after_first, after_name, are_digits, are_hexadecimal, are_two_digits, begins_with,
+    begins_with_digit, begins_with_letter, begins_with_one, ends_with, has_byte, has_call,
+    has_part, is_quoted, name_of_argument,
 };
 use script::{Form, LONGEST_LINE, split_at_space};
 
@@ -26,6 +28,9 @@ fn byte_advice(byte: u8) -> &'static [u8]
         8 => b"a text has it as a backslash and b",
         27 => b"a text has no control sequences: see attrset, color_set, move",
         0 => b"no line has it, and a character is one byte, not two as in UTF-16",
+        _ if byte.is_ascii_control() => {
+            b"it is a control character, and a text has none but by \\n, \\r and \\b"
+        }
         _ => b"characters are those of ASCII, from space to tilde; others may look alike",
     }
 }
@@ -44,9 +49,9 @@ fn byte_at(text: &[u8], place: usize) -> u8
 fn draws_line(rest: &[u8]) -> bool
     ensures { result ≡ draws_line rest.now }
 {
-    rest.strip_prefix(b"\xe2\x94").is_some()
-        || rest.strip_prefix(b"\xe2\x95").is_some()
-        || rest.strip_prefix(b"\xe2\x96").is_some() && byte_at(rest, 2) <= 0x9f
+    begins_with(rest, b"\xe2\x94")
+        || begins_with(rest, b"\xe2\x95")
+        || begins_with(rest, b"\xe2\x96") && byte_at(rest, 2) <= 0x9f
 }
 
 /// Whether a byte is the last one of many spaces of others.
@@ -60,11 +65,11 @@ fn ends_space(byte: u8) -> bool
 fn is_space_elsewhere(rest: &[u8]) -> bool
     ensures { result ≡ is_space_elsewhere rest.now }
 {
-    rest.strip_prefix(b"\xe2\x80").is_some() && ends_space(byte_at(rest, 2))
-        || rest.strip_prefix(b"\xc2\xa0").is_some()
-        || rest.strip_prefix(b"\xe1\x9a\x80").is_some()
-        || rest.strip_prefix(b"\xe2\x81\x9f").is_some()
-        || rest.strip_prefix(b"\xe3\x80\x80").is_some()
+    begins_with(rest, b"\xe2\x80") && ends_space(byte_at(rest, 2))
+        || begins_with(rest, b"\xc2\xa0")
+        || begins_with(rest, b"\xe1\x9a\x80")
+        || begins_with(rest, b"\xe2\x81\x9f")
+        || begins_with(rest, b"\xe3\x80\x80")
 }
 
 /// Whether a text begins with what isn't seen, in UTF-8: the next line, a soft hyphen, a joiner of words, or a byte
@@ -72,10 +77,10 @@ fn is_space_elsewhere(rest: &[u8]) -> bool
 fn is_unseen(rest: &[u8]) -> bool
     ensures { result ≡ is_unseen rest.now }
 {
-    rest.strip_prefix(b"\xc2\x85").is_some()
-        || rest.strip_prefix(b"\xc2\xad").is_some()
-        || rest.strip_prefix(b"\xe2\x81\xa0").is_some()
-        || rest.strip_prefix(b"\xef\xbb\xbf").is_some()
+    begins_with(rest, b"\xc2\x85")
+        || begins_with(rest, b"\xc2\xad")
+        || begins_with(rest, b"\xe2\x81\xa0")
+        || begins_with(rest, b"\xef\xbb\xbf")
 }
 
 /// What is said of a bad byte that begins a text: of lines, spaces, what isn't seen, quotes and dashes in UTF-8, or of
@@ -93,7 +98,7 @@ pub fn bad_text_advice(byte: u8, rest: &[u8]) -> &'static [u8]
     if is_unseen(rest) {
         return b"this character is not seen, and not in ASCII: leave it out";
     }
-    if rest.strip_prefix(b"\xe2\x80").is_some() || rest.strip_prefix(b"\xe2\x88\x92").is_some() {
+    if begins_with(rest, b"\xe2\x80") || begins_with(rest, b"\xe2\x88\x92") {
         return b"write such marks in ASCII, as \" ' - and ...";
     }
     byte_advice(byte)
@@ -128,8 +133,7 @@ fn after_bad_escape(text: &[u8]) -> &[u8]
 fn begins_escaped(rest: &[u8]) -> bool
     ensures { result ≡ begins_escaped rest.now }
 {
-    (rest.strip_prefix(b"e").is_some() || rest.strip_prefix(b"E").is_some())
-        && !begins_with_letter(after_first(rest))
+    begins_with_one(rest, b"e E") && !begins_with_letter(after_first(rest))
 }
 
 /// Whether what is after a backslash begins a control sequence in other languages.
@@ -137,12 +141,8 @@ fn begins_sequence(rest: &[u8]) -> bool
     ensures { result ≡ begins_sequence rest.now }
 {
     begins_escaped(rest)
-        || rest.strip_prefix(b"033").is_some()
-        || rest.strip_prefix(b"x1b").is_some()
-        || rest.strip_prefix(b"x1B").is_some()
-        || rest.strip_prefix(b"u001b").is_some()
-        || rest.strip_prefix(b"u001B").is_some()
-        || begins_with_digit(rest) && after_name(rest).strip_prefix(b"[").is_some()
+        || begins_with_one(rest, b"033 x1b x1B u001b u001B")
+        || begins_with_digit(rest) && begins_with(after_name(rest), b"[")
 }
 
 /// Whether a text begins with four hexadecimal digits.
@@ -157,7 +157,7 @@ fn begins_greater_byte(rest: &[u8]) -> bool
     ensures { result ≡ begins_greater_byte rest.now }
 {
     let digits = after_first(rest);
-    rest.strip_prefix(b"x").is_some()
+    begins_with(rest, b"x")
         && 2 <= digits.len()
         && are_two_digits(&digits[..2])
         && b'8' <= digits[0]
@@ -168,11 +168,20 @@ fn begins_character(rest: &[u8]) -> bool
     ensures { result ≡ begins_character rest.now }
 {
     let number = after_first(rest);
-    if rest.strip_prefix(b"N{").is_some() || begins_greater_byte(rest) {
+    if begins_with(rest, b"N{") || begins_greater_byte(rest) {
         return true;
     }
-    (rest.strip_prefix(b"u").is_some() || rest.strip_prefix(b"U").is_some())
-        && (number.strip_prefix(b"{").is_some() || begins_with_number(number))
+    begins_with_one(rest, b"u U") && (begins_with(number, b"{") || begins_with_number(number))
+}
+
+/// Whether what is after a backslash begins with the letter of an escape, in upper case.
+fn begins_upper_case(rest: &[u8]) -> bool
+    ensures { result ≡ list_any (λ byte. has_byte byte (codes "NRB")) (take 1 rest.now) }
+{
+    match rest.first() {
+        Some(first) => has_byte(b"NRB", *first),
+        None => false,
+    }
 }
 
 /// What is said of a text with a backslash that begins no escape.
@@ -188,16 +197,18 @@ fn escape_reason(rest: &[u8]) -> &'static [u8]
     ensures text { result.now ≡ escape_reason rest.now }
     ensures short { length result.now ≤ 80 }
 {
-    if rest.strip_prefix(b"t").is_some() {
+    if begins_with(rest, b"t") {
         b": a tab is written as spaces, a backslash itself as two"
     } else if begins_sequence(rest) {
         b": a text has no control sequences: see attrset, color_set, move"
     } else if begins_character(rest) {
         b": characters are those of ASCII, each as it is, or by its code as \\x41 for A"
     } else if begins_with_digit(rest) {
-        b": a code is \\x and two hexadecimal digits, from \\x20 to \\x7e"
-    } else if rest.strip_prefix(b"x").is_some() || rest.strip_prefix(b"X").is_some() {
-        b": two digits in lower case come after \\x, from 20 to 7e; a backslash is two"
+        b": a code is \\x and two hexadecimal digits, as \\x41 for A"
+    } else if begins_with_one(rest, b"x X") {
+        b": two digits in lower case come after \\x, as \\x41 for A; a backslash is two"
+    } else if begins_upper_case(rest) {
+        b": escapes are in lower case, and a backslash itself is written as two"
     } else if begins_with_letter(rest) {
         b": a backslash is written as two, and other control characters have no escape"
     } else if rest.is_empty() {
@@ -217,7 +228,7 @@ fn several_characters_reason(word: &[u8], argument: &[u8]) -> &'static [u8]
     if has_call(others) {
         b": it is more than one, and a line has one call"
     } else if word == b"bkgdset".as_slice() {
-        b": it is more than one, and attributes come before it, as one sum"
+        b": it is more than one; attributes come before it, and bkgdpair sets a pair"
     } else if has_byte(argument, b' ') {
         b": it is more than one: addstr writes a text; see move, attrset, color_set"
     } else {
@@ -249,9 +260,8 @@ fn is_code(argument: &[u8]) -> bool
     ensures { result ≡ is_code argument.now }
 {
     are_digits(argument)
-        || argument.strip_prefix(b"0x").is_some()
-        || argument.strip_prefix(b"&").is_some()
-        || argument.strip_prefix(b"\\x").is_some() && !has_byte(argument, b' ')
+        || begins_with_one(argument, b"0x &")
+        || begins_with(argument, b"\\x") && !has_byte(argument, b' ')
 }
 
 /// What is said of more than one character.
@@ -261,7 +271,7 @@ fn longer_reason(word: &[u8], argument: &[u8]) -> &'static [u8]
     ensures short { length result.now ≤ 80 }
 {
     let name = name_of_argument(argument);
-    if argument.strip_prefix(b" ").is_some() {
+    if begins_with(argument, b" ") {
         b": it is more than one, and single spaces separate words"
     } else if is_quoted(argument) {
         b": no quotes are around arguments"
@@ -286,10 +296,10 @@ pub fn character_reason(word: &[u8], argument: &[u8]) -> &'static [u8]
         b": it is empty, and a space is \\x20, or one space more"
     } else if !has_form(Form::Text, argument) {
         text_reason(argument)
-    } else if argument.strip_prefix(b"ACS_").is_some() {
+    } else if begins_with(argument, b"ACS_") {
         b": lines are drawn by characters such as + - and |"
     } else if has_byte(argument, b'|') && word != b"bkgdset".as_slice() {
-        b": it is more than one: attron sets attributes before it, and no pipe follows"
+        b": it is more than one: attron sets attributes first, and no | comes after it"
     } else {
         longer_reason(word, argument)
     }

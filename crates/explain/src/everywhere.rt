@@ -219,7 +219,7 @@ fn meaning(why: Refusal) -> &'static [u8]
             b": panels are numbered from 1 to 1000, or \"none\" for panel_above and panel_below"
         }
         Refusal::OffScreen | Refusal::OutsideParent | Refusal::OutsideWindow =>
-            b": a screen has at most 999 lines and 999 columns",
+            b": lines and columns count from 0, and a screen has at most 999 of each",
         Refusal::NotPad => b": window 0 is the standard screen, and no pad",
         Refusal::NotDerived => b": window 0 is the standard screen, and derives from no window",
         Refusal::BadSize => b": a pad has 1 to 1000 lines and 1 to 1000 columns",

@@ -12,7 +12,7 @@ use crate::arguments::{IllFormed, Stray, count, find_ill_formed, find_stray, for
 use crate::characters::bad_text_advice;
 use crate::column::{bad_byte, bad_place, column_of, from_bad_byte};
 use crate::groups::writes;
-use crate::names::{after_dot, after_sigil, begins_comment, has_comment, name_of};
+use crate::names::{after_dot, after_sigil, begins_comment, begins_with, has_comment, name_of};
 use crate::nearest::{call_of_words, near_call_of_words};
 use crate::numbers::number_reason;
 use crate::reasons::{no_window, reason_after, requirement_of};
@@ -297,16 +297,16 @@ fn append_bad_line(text: &mut Finding, line: &[u8])
     ensures text { text.new.items ≡ text.old.items ++ bad_line_text line.now }
     ensures short { length text.new.items < FINDING_ROOM }
 {
-    if line.strip_prefix(b"\xef\xbb\xbf").is_some() {
+    if begins_with(line, b"\xef\xbb\xbf") {
         return append(text, b"bad byte ef: a script has no byte order mark");
     }
-    if line.strip_prefix(b"\xff\xfe").is_some() {
+    if begins_with(line, b"\xff\xfe") {
         return append(
             text,
             b"bad byte ff: the script is in UTF-16, and has to be in ASCII",
         );
     }
-    if line.strip_prefix(b"\xfe\xff").is_some() {
+    if begins_with(line, b"\xfe\xff") {
         return append(
             text,
             b"bad byte fe: the script is in UTF-16, and has to be in ASCII",

@@ -22,7 +22,7 @@ pub fn limits_in_texts()
     ensures colours { (numeral_in 17 pair_and_colours ≡ LAST_PAIR) × (numeral_in 47 pair_and_colours ≡ LAST_COLOUR) }
     ensures pairs { numeral_in 31 window_and_pair ≡ LAST_PAIR }
     ensures panels { numeral_in 32 (meaning NoSuchPanel) ≡ MOST_PANELS }
-    ensures screens { (numeral_in 23 (meaning OffScreen) ≡ LARGEST_SCREEN) × (numeral_in 37 (meaning OffScreen) ≡ LARGEST_SCREEN) }
+    ensures screens { numeral_in 59 (meaning OffScreen) ≡ LARGEST_SCREEN }
     ensures pads { (numeral_in 17 (meaning BadSize) ≡ LARGEST_PAD) × (numeral_in 37 (meaning BadSize) ≡ LARGEST_PAD) }
     ensures regions { numeral_in 68 (meaning BadRegion) + 1 ≡ LARGEST_SCREEN }
     ensures sets { (numeral_in 17 (meaning BadPair) ≡ LAST_PAIR) × (numeral_in 38 (meaning BadPair) ≡ LAST_COLOUR) }

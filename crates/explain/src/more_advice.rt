@@ -28,19 +28,24 @@ pub const SHELL: &[u8] = b"this belongs in the shell: a script has calls alone";
 
 /// Names like those of calls that the table of `advice` has no room for.
 #[rattlefmt::skip]
-const LIKE_CALLS: [Row; 46] = [
+const LIKE_CALLS: [Row; 51] = [
     (b"see delwin, del_panel", b"del remove free"),
     (b"pairs have the terminal's colours until they are set: see init_pair",
         b"use_default_colors assume_default_colors"),
     (b"the eight colours can't be changed: see init_pair",
         b"init_color init_colour initcolor init_extended_color can_change_color"),
-    (b"see del_panel", b"destroy_panel remove_panel free_panel delpan rm_panel panel_delete close_panel"),
-    (b"see new_panel", b"open_panel panel_create"),
+    (b"see del_panel", b"destroy_panel remove_panel free_panel delpan rm_panel panel_delete panel_del close_panel"),
+    (b"see new_panel", b"open_panel panel_create panelnew"),
     (b"see scrl, scrollok", b"scroll"),
-    (b"see move_panel", b"mvpanel mv_panel panelmove mvpan"),
-    (b"see mvwin", b"mvwindow mv_window win_move window_move"),
+    (b"see move_panel", b"mvpanel mv_panel panelmove panel_move mvpan"),
+    (b"see mvwin", b"mvwindow mv_window win_move window_move mvwwin"),
     (b"see newwin", b"create_newwin newwindows winnew win_new create_win make_win open_win window_new"),
     (b"see newwin, derwin", b"nerwin"),
+    (b"see newwin, delwin", b"nelwin"),
+    (b"see delwin, derwin", b"dewin"),
+    (b"see mvderwin", b"vderwin mderwin"),
+    (b"see untouchwin", b"utouchwin ntouchwin"),
+    (b"see inch, insch", b"innch incch"),
     (b"see derwin, subwin", b"derive derived derive_window inner_window"),
     (b"see newpad, new_panel", b"newpan"),
     (b"see delch, deleteln",
@@ -49,7 +54,7 @@ const LIKE_CALLS: [Row; 46] = [
     (b"see insch, for each character", b"ich1 ich insert_char insstring insertstr inserttext ins_char"),
     (b"see move, insch", b"mvinsstr mvinsnstr mvwinsstr mvwinsnstr"),
     (b"each call names its window or panel", b"setwin set_window select_window current"),
-    (b"see pnoutrefresh", b"refresh_pad refreshpad pad_refresh padrefresh show_pad pad_show viewport"),
+    (b"see pnoutrefresh", b"refresh_pad refreshpad pad_refresh padrefresh show_pad pad_show viewport poutrefresh npoutrefresh"),
     (b"a window is hidden with its panel: see hide_panel, show_panel", b"hidewin showwin hide_win show_win win_hide win_show window_hide window_show hide_all show_all"),
     (b"a window keeps its size: see newwin, copywin", b"resizewin resize_win resize_window"),
     (b"a window keeps its size: see newwin, replace_panel", b"panel_resize resize_panel"),
@@ -61,10 +66,11 @@ const LIKE_CALLS: [Row; 46] = [
         b"draw_text write_text print_text put_text show_text display_text print_at mvaddnstr mvwaddnstr \
         mv_add_str drawtext printat outtext outtextxy cputs add addline str msg message win_write window_write \
         window_print put_str put_string print_str print_string write_string write_char print_char addln \
-        setcontent moveprint text_write win_print set_text set_title insert_text stradd str_add"),
+        setcontent moveprint text_write win_print set_text set_title insert_text"),
     (b"no call formats: see move, addstr", b"mvprintw mvwprintw"),
     (b"see getyx, getbegyx, getmaxyx",
-        b"wherexy wherex wherey getbeg getwinsize getxmaxy maxx maxy begx begy curx cury get_pos max_yx get_position"),
+        b"wherexy wherex wherey getbeg getwinsize getxmaxy maxx maxy begx begy curx cury get_pos max_yx get_position \
+        getcur winsize window_size"),
     (b"see getyx, move", b"save_cursor restore_cursor"),
     (b"see noutrefresh, update_panels, doupdate",
         b"updateall update_all updatewin update_win flip swap present blit commit draw_window display_window \
@@ -78,7 +84,7 @@ const LIKE_CALLS: [Row; 46] = [
         b"panel_bottom panel_raise panel_lower raise_window lower_window top_window bottom_window window_top \
         window_raise window_lower win_top zorder z_order order push_panel panel_focus activate select_panel \
         switch_panel order_panel paneltop"),
-    (b"see hide_panel, show_panel", b"panelhide panelshow"),
+    (b"see hide_panel, show_panel", b"panelhide panelshow unhide_panel unhide toggle_panel"),
     (b"see panel_above, panel_below", b"above_panel below_panel next_panel prev_panel previous_panel current_panel"),
     (UPDATES, b"redraw_panels draw_panels refresh_panels refresh_panel draw_panel redraw_all force_redraw \
         upd_panels upd_panel udpate_panel uptade_panels"),
@@ -109,10 +115,11 @@ const FOREIGN: [Row; 26] = [
     (b"no call rings or flashes", b"beep flash bell"),
     (b"see delwin, del_panel; the screen ends with the script", b"close"),
     (b"see addstr; --log belongs on the command line", b"log"),
-    (b"the end of a here-document stands alone; the screen ends with the script", b"end eod HERE end_of_script"),
+    (b"a script has no blocks, and ends with its last line, or with the here-document",
+        b"end eod HERE end_of_script _eof_ SCRIPT"),
     (b"see addstr, noutrefresh", b"display_message append"),
     (b"a comment begins with #, and has a line of its own", b"todo fixme note nb dnl"),
-    (b"see move, which takes a line and a column",
+    (b"see move, which takes a window, a line and a column",
         b"home hpa vpa cuu1 cub1 cuf1 cud1 setpos go gotoyx goto_xy gotorc position set_pos set_position \
         goto_pos move_pos"),
     (b"see clrtoeol, clrtobot", b"el el1 ed ech clrline clrtoend clr_line clr_eol clrbot"),
@@ -130,7 +137,7 @@ const FOREIGN: [Row; 26] = [
     (SHELL, b"coproc chmod select"),
     (PROGRAMS,
         b"python3 perl ruby lua node git less gcc cc vi vim nano ssh curl wget find head tail date time env who \
-        xargs sort tr cut seq tee jobs yes which xterm apt pip npm docker swap_window rename_window"),
+        xargs sort tr cut seq tee jobs yes which xterm apt pip npm docker swap_window rename_window system popen"),
     (CALLS_ALONE,
         b"assert async yield finally default extern public private package program procedure module proc match \
         impl mod pub defer not typeset readonly getopts shift setenv nil self super malloc strlen memset fopen \
@@ -141,7 +148,8 @@ const FOREIGN: [Row; 26] = [
 
 /// What is said of names that have a part, and the parts, with a space between any two.
 #[rattlefmt::skip]
-const PARTS: [Row; 13] = [
+const PARTS: [Row; 14] = [
+    (b"no call reads a key", b"key_"),
     (MENUS, b"menu item form field"),
     (FORMATS, b"printf printw"),
     (REFRESHED, b"refresh"),

@@ -4,7 +4,7 @@ ghost use Rattle.std.specs.Prelude.{◌≡◌, ◌≤◌, ◌+◌, ◌||◌, IfS
 ghost use Rattle.std.specs.Char.{is_ascii_alphabetic, is_ascii_hexdigit};
 ghost use Rattle.std.specs.List.{list_all, list_any};
 ghost use Rattle.script.specs.Pieces.{pieces_of, room_of};
-ghost use Rattle.explain.specs.Names.{after_comma, after_dot, after_library, after_name, after_sigil, are_digits, are_like_digits, are_like_two_digits, are_two_digits, begins_call, begins_comment, begins_with_digit, ends_with, gives_value, has_byte, has_call, has_comment, has_pair, has_part, has_value, is_comment, is_like_digit, is_marked, is_name_byte, is_quoted, is_redirection, name_in, name_of_argument, names_pair, underscore_for, underscored};
+ghost use Rattle.explain.specs.Names.{after_comma, after_dot, after_library, after_name, after_sigil, are_digits, are_like_digits, are_like_two_digits, are_two_digits, begins_call, begins_comment, begins_with, begins_with_digit, begins_with_one, ends_with, gives_value, has_byte, has_call, has_comment, has_pair, has_part, has_value, is_comment, is_like_digit, is_marked, is_name_byte, is_quoted, is_redirection, name_in, name_of_argument, names_pair, underscore_for, underscored};
 
 use crate::advice::is_among;
 use arrayvec::ArrayVec;
@@ -13,14 +13,39 @@ use script::{LONGEST_LINE, Word, has_digits_alone, split_at_space};
 /// Room for the name of a word.
 pub type Name = ArrayVec<u8, LONGEST_LINE>;
 
+/// Whether a text begins with another.
+pub fn begins_with(text: &[u8], prefix: &[u8]) -> bool
+    ensures { result ≡ begins_with prefix.now text.now }
+{
+    text.strip_prefix(prefix).is_some()
+}
+
+/// Whether a text begins with one of those in another.
+fn begins_with_some(text: &[u8], prefixes: Option<&[u8]>) -> bool
+    ensures { result ≡ list_any (λ prefix. begins_with prefix text.now) (pieces_of prefixes.entry) }
+{
+    let Some(prefixes) = prefixes else {
+        return false
+    };
+    let (first, rest) = split_at_space(prefixes);
+    if begins_with(text, first) {
+        return true;
+    }
+    begins_with_some(text, rest)
+}
+
+/// Whether a text begins with one of some, with a space between any two.
+pub fn begins_with_one(text: &[u8], prefixes: &[u8]) -> bool
+    ensures { result ≡ begins_with_one prefixes.now text.now }
+{
+    begins_with_some(text, Some(prefixes))
+}
+
 /// Whether a text begins as comments do in other languages. Two hyphens stand alone.
 pub fn begins_comment(text: &[u8]) -> bool
     ensures { result ≡ begins_comment text.now }
 {
-    text.strip_prefix(b"//").is_some()
-        || text.strip_prefix(b"/*").is_some()
-        || text.strip_prefix(b"<!--").is_some()
-        || text == b"--".as_slice()
+    begins_with_one(text, b"// /* <!--") || text == b"--".as_slice()
 }
 
 /// Whether a text is a number or a colour of other languages, as `#1` and `#f00`.
@@ -37,7 +62,7 @@ pub fn is_marked(text: &[u8]) -> bool
 pub fn is_comment(text: &[u8]) -> bool
     ensures { result ≡ is_comment text.now }
 {
-    text.strip_prefix(b"#").is_some() && !is_marked(text) || begins_comment(text)
+    begins_with(text, b"#") && !is_marked(text) || begins_comment(text)
 }
 
 /// Whether some of the words in a text would.
@@ -56,10 +81,8 @@ pub fn has_comment(text: Option<&[u8]>) -> bool
 pub fn is_redirection(text: &[u8]) -> bool
     ensures { result ≡ is_redirection text.now }
 {
-    text.strip_prefix(b">").is_some()
-        || text.strip_prefix(b"<").is_some() && !has_byte(text, b'>')
-        || text.strip_prefix(b"|").is_some()
-        || text.strip_prefix(b"&>").is_some()
+    begins_with_one(text, b"> | &>")
+        || begins_with(text, b"<") && !has_byte(text, b'>')
         || is_among(text, b"& &&")
         || begins_with_digit(text) && has_byte(text, b'>')
 }
@@ -88,12 +111,7 @@ pub fn ends_with(text: &[u8], byte: u8) -> bool
 pub fn gives_value(text: &[u8]) -> bool
     ensures { result ≡ gives_value text.now }
 {
-    text.strip_prefix(b"=").is_some()
-        || text.strip_prefix(b"+=").is_some()
-        || text.strip_prefix(b"-=").is_some()
-        || text.strip_prefix(b":=").is_some()
-        || text.strip_prefix(b"<-").is_some()
-        || text.strip_prefix(b"++").is_some()
+    begins_with_one(text, b"= += -= := <- ++")
 }
 
 /// Whether some of the words in a text does.
@@ -121,7 +139,7 @@ pub fn has_value(word: &[u8], text: Option<&[u8]>) -> bool
 pub fn is_quoted(text: &[u8]) -> bool
     ensures { result ≡ is_quoted text.now }
 {
-    text.strip_prefix(b"\"").is_some() || text.strip_prefix(b"'").is_some()
+    begins_with_one(text, b"\" '")
 }
 
 /// Whether a text has another in it.
@@ -130,7 +148,7 @@ pub fn has_part(text: &[u8], part: &[u8]) -> bool
 {
     let mut left = text;
     while let Some((_, rest)) = left.split_first() {
-        if left.strip_prefix(part).is_some() {
+        if begins_with(left, part) {
             return true;
         }
         left = rest;

@@ -4,7 +4,7 @@
 ghost use Rattle.std.specs.Prelude.{◌≡◌, ◌≤◌, ◌<◌, ◌+◌, ◌++◌, ◌∷◌, [], IfSome, MatchOption, length, option_map};
 ghost use Rattle.std.specs.Str.{bytes_eq};
 ghost use Rattle.script.specs.Pieces.{pieces_of, room_of};
-ghost use Rattle.explain.specs.Nearest.{call_of_words, is_first_wrong, is_near, letters_of, near_call, near_call_of_words, nearest, nearest_of, nearest_other, same_call, same_of};
+ghost use Rattle.explain.specs.Nearest.{begun_call, call_like, call_of_words, first_like, is_beginning, is_first_wrong, is_like, is_near, letters_of, near_call_of_words, nearest, nearest_other, same_call};
 
 use crate::names::{Name, begins_with_letter};
 use script::{LONGEST_LINE, split_at_space};
@@ -98,26 +98,59 @@ fn is_near(text: &[u8], other: &[u8]) -> bool
     }
 }
 
-/// The first of some names that is near a word.
-fn nearest_in(word: &[u8], names: Option<&'static [u8]>) -> Option<&'static [u8]>
-    ensures { option_map (λ name. name.now) result ≡ nearest_of (pieces_of names.entry) word.now }
+/// Whether the letters of a text begin those of another.
+fn is_beginning(text: &[u8], other: &[u8]) -> bool
+    ensures { result ≡ is_beginning (letters_of text.now) (letters_of other.now) }
 {
-    let (first, rest) = split_at_space(names?);
-    if is_near(word, first) {
-        return Some(first);
+    match (first_letter(text), first_letter(other)) {
+        (None, _) => true,
+        (Some(_), None) => false,
+        (Some((letter, rest)), Some((other_letter, others))) => {
+            letter == other_letter && is_beginning(rest, others)
+        }
     }
-    nearest_in(word, rest)
 }
 
-/// The first of some names with a word's letters.
-fn same_in(word: &[u8], names: Option<&'static [u8]>) -> Option<&'static [u8]>
-    ensures { option_map (λ name. name.now) result ≡ same_of (pieces_of names.entry) word.now }
+/// How a word is like a name: it has its letters, or the first of them, or all but one.
+#[derive(Clone, Copy)]
+pub enum Likeness {
+    Same,
+    Beginning,
+    Near,
+}
+
+/// Whether a word is like a name.
+fn is_like(likeness: Likeness, word: &[u8], name: &[u8]) -> bool
+    ensures { result ≡ is_like likeness word.now name.now }
+{
+    match likeness {
+        Likeness::Same => has_letters_of(word, name),
+        Likeness::Beginning => is_beginning(word, name),
+        Likeness::Near => is_near(word, name),
+    }
+}
+
+/// The first of some names that a word is like.
+fn first_like(
+    likeness: Likeness,
+    word: &[u8],
+    names: Option<&'static [u8]>,
+) -> Option<&'static [u8]>
+    ensures { option_map (λ name. name.now) result ≡ first_like likeness (pieces_of names.entry) word.now }
 {
     let (first, rest) = split_at_space(names?);
-    if has_letters_of(word, first) {
+    if is_like(likeness, word, first) {
         return Some(first);
     }
-    same_in(word, rest)
+    first_like(likeness, word, rest)
+}
+
+/// The first call that a word is like.
+fn call_like(likeness: Likeness, word: &[u8]) -> Option<&'static [u8]>
+    ensures name { option_map (λ name. name.now) result ≡ call_like likeness word.now }
+    ensures short { IfSome result (λ name. length name.now ≤ 80) }
+{
+    first_like(likeness, word, Some(CALLS))
 }
 
 /// The call with a word's letters.
@@ -125,26 +158,43 @@ pub fn same_call(word: &[u8]) -> Option<&'static [u8]>
     ensures name { option_map (λ name. name.now) result ≡ same_call word.now }
     ensures short { IfSome result (λ name. length name.now ≤ 80) }
 {
-    same_in(word, Some(CALLS))
+    call_like(Likeness::Same, word)
 }
 
-/// The first call that is near a word.
-fn near_call(word: &[u8]) -> Option<&'static [u8]>
-    ensures name { option_map (λ name. name.now) result ≡ near_call word.now }
+/// How many letters a text has.
+fn count_letters(text: &[u8]) -> usize
+    ensures count { result ≡ length (letters_of text.now) }
+    ensures short { result ≤ length text.now }
+{
+    match first_letter(text) {
+        None => 0,
+        Some((_, rest)) => 1 + count_letters(rest),
+    }
+}
+
+/// The first call that begins with the letters of a word, which are four or more.
+fn begun_call(word: &[u8]) -> Option<&'static [u8]>
+    ensures name { option_map (λ name. name.now) result ≡ begun_call word.now }
     ensures short { IfSome result (λ name. length name.now ≤ 80) }
 {
-    nearest_in(word, Some(CALLS))
+    if count_letters(word) < 4 {
+        return None;
+    }
+    call_like(Likeness::Beginning, word)
 }
 
-/// The call that is nearest to a word: of those that are near it the one with its letters, or else the first.
+/// The call that is nearest to a word: the one with its letters, or else the first that it begins, or else the first
+/// that it is near.
 pub fn nearest(word: &[u8]) -> Option<&'static [u8]>
     ensures name { option_map (λ name. name.now) result ≡ nearest word.now }
     ensures short { IfSome result (λ name. length name.now ≤ 80) }
 {
-    let first = near_call(word)?;
-    match same_call(word) {
+    if let Some(call) = same_call(word) {
+        return Some(call);
+    }
+    match begun_call(word) {
         Some(call) => Some(call),
-        None => Some(first),
+        None => call_like(Likeness::Near, word),
     }
 }
 
@@ -166,7 +216,7 @@ pub fn near_call_of_words(word: &[u8], text: Option<&[u8]>) -> Option<&'static [
     ensures short { IfSome result (λ name. length name.now ≤ 80) }
 {
     let (other, _) = split_at_space(text?);
-    near_call(joined(word, other).as_slice())
+    call_like(Likeness::Near, joined(word, other).as_slice())
 }
 
 /// The call whose name a word and the next one are, in either order, where each begins with a letter.
@@ -190,5 +240,5 @@ pub fn nearest_other(word: &[u8]) -> Option<&'static [u8]>
     ensures name { option_map (λ name. name.now) result ≡ nearest_other word.now }
     ensures short { IfSome result (λ name. length name.now ≤ 80) }
 {
-    nearest_in(word, Some(OTHER_NAMES))
+    first_like(Likeness::Near, word, Some(OTHER_NAMES))
 }

@@ -10,7 +10,7 @@ use crate::arguments::{IllFormed, find_ill_formed, forms_of, is_word};
 use crate::groups::{sets_attributes, sets_pair, takes_place_of_cursor, writes};
 use crate::names::{
     are_digits, are_two_digits, begins_with_digit, ends_with, has_byte, has_call, has_pair,
-    is_redirection,
+    has_part, is_redirection,
 };
 use crate::reasons::{
     is_bracketed, no_brackets, no_commas, no_names, no_redirections, one_window, reason_after,
@@ -60,9 +60,9 @@ fn joined_reason(text: Option<&[u8]>) -> &'static [u8]
     ensures short { length result.now ≤ 80 }
 {
     if has_pair(text) {
-        b": attributes are one sum, as 11; no line has a pipe; color_set sets colours"
+        b": attributes are one sum, as 11, and no bars join them; color_set sets colours"
     } else {
-        b": attributes are one sum, as 11 for 01 bold and 10 reverse; no line has a pipe"
+        b": attributes are one sum, as 11 for 01 bold and 10 reverse; no bars join them"
     }
 }
 
@@ -106,6 +106,9 @@ fn marks_reason(line: &[u8], text: Option<&[u8]>, many: bool) -> Option<&'static
     }
     if ends_with(line, b'\\') {
         return Some(b": no line goes on in the next");
+    }
+    if has_part(line, b"\\n") {
+        return Some(b": only texts and characters have escapes, and a call ends with its line");
     }
     if has_redirection(text) {
         return Some(no_redirections());
@@ -163,7 +166,7 @@ fn too_many_reason(word: &[u8]) -> Option<&'static [u8]>
         );
     }
     if sets_pair(word) {
-        return Some(b": one pair, which has its colours by init_pair, and no NULL after it");
+        return Some(b": one pair, which has its colours by init_pair, and nothing after it");
     }
     if is_among(word, b"getyx getbegyx getmaxyx getparyx") {
         return Some(b": the answer is in the log, and no variables take it");

@@ -4,16 +4,16 @@ ghost use Rattle.std.specs.Prelude.{◌≡◌, ◌≤◌, IfSome, length, option
 ghost use Rattle.std.specs.List.{list_any};
 ghost use Rattle.std.specs.Char.{is_ascii_uppercase};
 ghost use Rattle.explain.specs.Names.{name_of_argument};
-ghost use Rattle.explain.specs.Reasons.{attributes_reason, colours, copy_reason, digits_reason, ends_in_mark, first_mark_reason, first_reason, flag_reason, has_base, has_colour, is_attribute, is_bracketed, is_colour, is_default, is_like_window, is_list, is_mixed, is_near_number, later_reason, mark_reason, minus_reason, more_than_digits, name_reason, no_brackets, no_commas, no_digits_reason, no_letters, no_names, no_options, no_redirections, no_window, numbers_in_digits, one_sum, one_window, pair_reason, reason, reason_after, reason_of_call, requirement, requirement_after, requirement_of, second_reason, signed_reason, size_reason, unless_missing, unsigned_or_none_reason, unsigned_reason, window_reason};
+ghost use Rattle.explain.specs.Reasons.{are_joined, attributes_reason, colours, copy_reason, digits_reason, ends_in_mark, first_mark_reason, first_reason, flag_reason, has_base, has_colour, is_none_or_all, sum_reason, is_attribute, is_bracketed, is_colour, is_default, is_like_window, is_list, is_mixed, is_near_number, later_reason, mark_reason, minus_reason, more_than_digits, name_reason, no_brackets, no_commas, no_digits_reason, no_letters, no_names, no_options, no_redirections, no_window, numbers_in_digits, one_sum, one_window, pair_reason, reason, reason_after, reason_of_call, requirement, requirement_after, requirement_of, second_reason, signed_reason, size_reason, unless_missing, unsigned_or_none_reason, unsigned_reason, window_reason};
 
 use crate::advice::is_among;
 use crate::arguments::has_digit;
 use crate::characters::{character_reason, text_reason};
 use crate::groups::{sets_attributes, sets_pair, takes_place_of_cursor, writes};
 use crate::names::{
-    after_first, are_digits, are_like_digits, are_like_two_digits, are_two_digits,
-    begins_with_digit, begins_with_letter, ends_with, has_byte, has_part, is_comment, is_marked,
-    is_name_byte, is_quoted, is_redirection, name_of_argument, names_pair,
+    after_first, are_digits, are_like_digits, are_like_two_digits, are_two_digits, begins_with,
+    begins_with_digit, begins_with_letter, begins_with_one, ends_with, has_byte, has_part,
+    is_comment, is_marked, is_name_byte, is_quoted, is_redirection, name_of_argument, names_pair,
 };
 use script::{Form, LONGEST_LINE};
 
@@ -78,10 +78,7 @@ fn digits_reason(said: &'static [u8], digits: &[u8]) -> &'static [u8]
 pub fn is_bracketed(text: &[u8]) -> bool
     ensures { result ≡ is_bracketed text.now }
 {
-    text.strip_prefix(b"(").is_some()
-        || text.strip_prefix(b"[").is_some()
-        || text.strip_prefix(b"{").is_some()
-        || text.strip_prefix(b"<").is_some()
+    begins_with_one(text, b"( [ { <")
 }
 
 /// How arguments are written that others put in brackets.
@@ -141,7 +138,7 @@ fn first_mark_reason(argument: &[u8]) -> Option<&'static [u8]>
     if is_bracketed(argument) {
         return Some(no_brackets());
     }
-    if argument.strip_prefix(b"$").is_some() || argument.strip_prefix(b"`").is_some() {
+    if begins_with_one(argument, b"$ `") {
         return Some(b": a script has no variables, and runs no programs");
     }
     None
@@ -160,7 +157,7 @@ fn mark_reason(said: &'static [u8], argument: &[u8]) -> &'static [u8]
         return no_commas();
     }
     if has_byte(argument, b';') {
-        return b": a line has no semicolon";
+        return b": no semicolon comes after an argument, and a line has one call";
     }
     if ends_with(argument, b'\\') {
         return b": no line goes on in the next, and no argument ends in a backslash";
@@ -168,7 +165,7 @@ fn mark_reason(said: &'static [u8], argument: &[u8]) -> &'static [u8]
     if has_byte(argument, b'\\') {
         return b": only texts and characters have escapes, and a call ends with its line";
     }
-    if has_byte(argument, b'=') {
+    if has_byte(argument, b'=') || has_byte(argument, b':') && begins_with_letter(argument) {
         return no_names();
     }
     said
@@ -188,9 +185,10 @@ fn is_default(name: &[u8]) -> bool
 fn is_colour(name: &[u8]) -> bool
     ensures { result ≡ is_colour name.now }
 {
-    is_among(name, b"black red green yellow blue magenta cyan white")
-        || name.strip_prefix(b"color").is_some()
-        || name.strip_prefix(b"colour").is_some()
+    is_among(
+        name,
+        b"black red green yellow blue magenta cyan white a_color",
+    ) || begins_with_one(name, b"color colour")
 }
 
 /// Whether a name is one of attributes.
@@ -198,16 +196,16 @@ fn is_attribute(name: &[u8]) -> bool
     ensures { result ≡ is_attribute name.now }
 {
     is_among(name, b"bold dim underline blink reverse invisible standout")
-        || name.strip_prefix(b"a_").is_some()
+        || begins_with(name, b"a_")
 }
 
 /// Whether a colour is mixed of red, green and blue, as `#f00`, `0xff0000` and `rgb(255,0,0)`.
 fn is_mixed(argument: &[u8]) -> bool
     ensures { result ≡ is_mixed argument.now }
 {
-    argument.strip_prefix(b"rgb").is_some()
+    begins_with(argument, b"rgb")
         || is_marked(argument) && 4 <= argument.len()
-        || argument.strip_prefix(b"0x").is_some() && 8 <= argument.len()
+        || begins_with(argument, b"0x") && 8 <= argument.len() && !has_byte(argument, b'|')
 }
 
 /// Whether a colour is in place of a number.
@@ -245,7 +243,7 @@ fn numbers_in_digits(word: &[u8]) -> &'static [u8]
     if is_among(word, b"copywin touchln") {
         b": on or off comes last, and numbers before it, in digits: no words or variables"
     } else {
-        b": numbers alone are arguments, in digits: no words or variables; see getmaxyx"
+        b": numbers alone are arguments, in digits: no words or variables"
     }
 }
 
@@ -366,10 +364,7 @@ fn more_than_digits(argument: &[u8]) -> &'static [u8]
 fn has_base(argument: &[u8]) -> bool
     ensures { result ≡ has_base argument.now }
 {
-    argument.strip_prefix(b"0x").is_some()
-        || argument.strip_prefix(b"0X").is_some()
-        || argument.strip_prefix(b"0o").is_some()
-        || argument.strip_prefix(b"0b").is_some()
+    begins_with_one(argument, b"0x 0X 0o 0b")
 }
 
 /// What is said of an argument that may stand for a number elsewhere.
@@ -418,10 +413,13 @@ fn unsigned_reason(word: &[u8], place: usize, argument: &[u8]) -> &'static [u8]
             return minus_reason(rest);
         }
     }
-    if argument.strip_prefix(b"+").is_some() {
+    if begins_with(argument, b"+") {
         return b": a number has no plus";
     }
-    if has_part(argument, b"LINES") || has_part(argument, b"COLS") {
+    if has_part(argument, b"LINES")
+        || has_part(argument, b"COLS")
+        || is_among(argument, b"max full MAX")
+    {
         return size_reason(word);
     }
     mark_reason(name_reason(word, place, argument), argument)
@@ -462,6 +460,14 @@ fn has_upper_case(text: &[u8]) -> bool
     text.iter().any(|b| b.is_ascii_uppercase())
 }
 
+/// Whether attributes are in one argument: with a comma between them, or another mark after a digit.
+fn are_joined(argument: &[u8]) -> bool
+    ensures { result ≡ are_joined argument.now }
+{
+    is_list(argument)
+        || begins_with_digit(argument) && (has_byte(argument, b'+') || has_byte(argument, b'|'))
+}
+
 /// How several attributes are written.
 fn one_sum() -> &'static [u8]
     ensures text { result.now ≡ one_sum }
@@ -470,20 +476,19 @@ fn one_sum() -> &'static [u8]
     b": attributes are one sum, as 11 for 01 bold and 10 reverse"
 }
 
-/// Why it is no set of attributes.
-fn attributes_reason(argument: &[u8]) -> &'static [u8]
-    requires { length argument.now ≤ LONGEST_LINE }
-    ensures text { result.now ≡ attributes_reason argument.now }
+/// Whether a name stands for no attributes, or for all.
+fn is_none_or_all(name: &[u8]) -> bool
+    ensures { result ≡ is_none_or_all name.now }
+{
+    is_default(name) || is_among(name, b"all a_attributes")
+}
+
+/// What is said of a sum of attributes, or of what is meant as one.
+fn sum_reason(argument: &[u8]) -> &'static [u8]
+    ensures text { result.now ≡ sum_reason argument.now }
     ensures short { length result.now ≤ 80 }
 {
-    let name = name_of_argument(argument);
-    if is_default(name.as_slice()) && !has_byte(argument, b'|') {
-        b": 00 stands for no attributes, and 3f for all that attroff takes away"
-    } else if has_colour(name.as_slice(), argument) || names_pair(argument) {
-        b": a colour is set by color_set"
-    } else if argument.strip_prefix(b"0x").is_some() || argument.strip_prefix(b"0X").is_some() {
-        b": the two digits have no 0x before them"
-    } else if is_list(argument) {
+    if are_joined(argument) {
         one_sum()
     } else if are_two_digits(argument) {
         if has_upper_case(argument) && argument[0] <= b'3' {
@@ -498,6 +503,26 @@ fn attributes_reason(argument: &[u8]) -> &'static [u8]
             b": a sum of 01 bold, 02 dim, 04 underline, 08 blink, 10 reverse, 20 invisible",
             argument,
         )
+    }
+}
+
+/// Why it is no set of attributes.
+fn attributes_reason(argument: &[u8]) -> &'static [u8]
+    requires { length argument.now ≤ LONGEST_LINE }
+    ensures text { result.now ≡ attributes_reason argument.now }
+    ensures short { length result.now ≤ 80 }
+{
+    let name = name_of_argument(argument);
+    if is_none_or_all(name.as_slice()) && !has_byte(argument, b'|') {
+        b": 00 is no attribute, and 3f is all of them"
+    } else if is_among(name.as_slice(), b"standout a_standout") {
+        b": a standout is 10, as reverse"
+    } else if has_colour(name.as_slice(), argument) || names_pair(argument) {
+        b": a colour is set by color_set"
+    } else if begins_with_one(argument, b"0x 0X") {
+        b": the two digits have no 0x before them"
+    } else {
+        sum_reason(argument)
     }
 }
 
@@ -572,7 +597,7 @@ fn pair_reason(name: &[u8], argument: &[u8]) -> Option<&'static [u8]>
     ensures text { option_map (λ text. text.now) result ≡ pair_reason argument.now }
     ensures short { IfSome result (λ text. length text.now ≤ 80) }
 {
-    if name.strip_prefix(b"color_pair").is_some() {
+    if begins_with(name, b"color_pair") {
         return Some(b": a pair is its number");
     }
     if is_among(name, b"null nullptr nil") {
@@ -629,19 +654,22 @@ fn ends_in_mark(argument: &[u8]) -> bool
     }
 }
 
-/// Whether an argument is meant as the number of a window: it is one but for its size, a 0 or a letter, or what ends
-/// it; or the letter that is taken for 0; or one between marks; or a variable; or nothing.
+/// Whether an argument is meant as the number of a window: it is one but for its size, its base, a 0 or a letter, or
+/// what ends it; or the letter that is taken for 0; or one between marks; or a variable; or nothing.
 fn is_like_window(argument: &[u8]) -> bool
     ensures { result ≡ is_like_window argument.now }
 {
     if begins_with_digit(argument) {
-        return are_like_digits(argument) || has_byte(argument, b',') || has_byte(argument, b';');
+        return are_like_digits(argument)
+            || has_base(argument)
+            || has_byte(argument, b',')
+            || has_byte(argument, b';');
     }
     if is_among(argument, b"O o") {
         return true;
     }
     begins_with_digit(after_first(argument)) && ends_in_mark(argument)
-        || argument.strip_prefix(b"$").is_some()
+        || begins_with(argument, b"$")
         || argument.is_empty()
 }
 
@@ -660,7 +688,7 @@ fn window_reason(argument: &[u8]) -> Option<&'static [u8]>
     ensures short { IfSome result (λ text. length text.now ≤ 80) }
 {
     if !is_like_window(argument) {
-        return Some(if argument.strip_prefix(b"(").is_some() {
+        return Some(if begins_with(argument, b"(") {
             no_brackets()
         } else {
             no_window()
@@ -684,7 +712,7 @@ fn reason_of_call(word: &[u8], place: usize, argument: &[u8]) -> Option<&'static
     if writes(word) {
         return window_reason(argument);
     }
-    if word == b"scrl".as_slice() && argument.strip_prefix(b"-").is_some() {
+    if word == b"scrl".as_slice() && begins_with(argument, b"-") {
         return Some(b": the window comes first, then how many lines, down with a minus");
     }
     if (sets_attributes(word) || word == b"bkgdset".as_slice()) && are_two_digits(argument) {

@@ -60,7 +60,7 @@ fn copying_arguments(word: CopyingWord) -> &'static [u8]
     match word {
         CopyingWord::Overlay | CopyingWord::Overwrite => b"window, window to write in",
         CopyingWord::Copywin => {
-            b"window, window to write in, line, column, there top, left, bottom, right, on to overlay, or off"
+            b"window, window to write in, line, column, in the second top, left, bottom, right, on or off"
         }
         CopyingWord::Touchwin
         | CopyingWord::Untouchwin

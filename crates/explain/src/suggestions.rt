@@ -6,15 +6,16 @@ ghost use Rattle.script.specs.Pieces.{pieces_of, room_of};
 ghost use Rattle.explain.specs.Advice.{advice_on};
 ghost use Rattle.explain.specs.Names.{called_name, is_name_byte, underscored};
 ghost use Rattle.explain.specs.Nearest.{nearest_other};
-ghost use Rattle.explain.specs.Suggestions.{advice_on_rest, after_prefix, begins_marked, begins_with_call, gives_place, is_before_call, is_between, is_drawn, is_echo, is_label, is_of_log, is_of_picture, is_of_shell, is_of_tmux, is_prompt, is_statement, is_step, is_stroke, last_word, no_variables, nothing_before, number_first, said_near_name, said_of, said_of_backslash, said_of_beginning, said_of_curses, said_of_given, said_of_line, said_of_marks, said_of_name, said_of_near, said_of_pair, said_of_two, said_of_value, said_of_written, say_call, see_longer, see_nearest, see_nearest_rest, written_advice};
+ghost use Rattle.explain.specs.Suggestions.{advice_on_next, advice_on_rest, after_prefix, begins_marked, begins_with_call, gives_place, is_before_call, is_between, is_drawn, is_echo, is_label, is_of_log, is_of_picture, is_of_shell, is_of_tmux, is_prompt, is_statement, is_step, is_stroke, last_word, no_variables, nothing_before, number_first, said_near_name, said_of, said_of_backslash, said_of_beginning, said_of_curses, said_of_given, said_of_line, said_of_marks, said_of_name, said_of_near, said_of_pair, said_of_two, said_of_value, said_of_written, say_call, see_longer, see_nearest, see_nearest_rest, written_advice};
 ghost use Rattle.explain.specs.steps.Suggestions.{said_now};
 
 use crate::advice::{CALLS_ALONE, COMMAND_LINE, PAIRS, PROGRAMS, SCREEN_SIZE, advice_on, is_among};
 use crate::more_advice::{LOG_LINE, PICTURE, SHELL, advice_by_part};
 use crate::names::{
-    Name, after_comma, after_first, after_library, after_name, begins_comment, begins_with_digit,
-    begins_with_letter, ends_with, gives_value, has_byte, has_pair, has_part, has_value,
-    is_comment, is_name_byte, is_quoted, is_redirection, name_of, names_pair, underscored,
+    Name, after_comma, after_first, after_library, after_name, are_digits, begins_comment,
+    begins_with, begins_with_digit, begins_with_letter, begins_with_one, ends_with, gives_value,
+    has_byte, has_pair, has_part, has_value, is_comment, is_name_byte, is_quoted, is_redirection,
+    name_of, names_pair, underscored,
 };
 use crate::nearest::{nearest, nearest_other, same_call};
 use script::{LONGEST_LINE, Word, split_at_space};
@@ -124,7 +125,7 @@ fn see_nearest_rest<'a>(word: &[u8]) -> Option<Said<'a>>
     ensures short { IfSome result (λ s. length s.text.now ≤ 80) }
     ensures call { IfSome result (λ s. length s.call.now ≤ 80) }
 {
-    if word.strip_prefix(b"w").is_none() {
+    if !begins_with(word, b"w") {
         return None;
     }
     see_nearest(after_first(word))
@@ -192,7 +193,7 @@ fn no_variables() -> &'static [u8]
     ensures text { result.now ≡ no_variables }
     ensures short { length result.now ≤ 80 }
 {
-    b"a script has no variables: windows and panels are numbered from 1"
+    b"there are no variables: windows and panels count from 1, answers are in the log"
 }
 
 /// What is before a call.
@@ -220,6 +221,8 @@ fn said_of_value(name: &[u8]) -> &'static [u8]
         SCREEN_SIZE
     } else if is_among(name, b"stdscr scr screen") {
         b"the screen is window 0, which is there from the first line on"
+    } else if is_among(name, b"key ch c k input") {
+        b"a script has no variables, and no call reads keys"
     } else {
         no_variables()
     }
@@ -250,7 +253,7 @@ fn is_of_log(word: &[u8], text: Option<&[u8]>) -> bool
     is_among(word, b"line offset")
         && begins_with_digit(first)
         && (ends_with(first, b':') || ends_with(first, b','))
-        || word.strip_prefix(b"E").is_some() && begins_with_digit(after_first(word))
+        || begins_with(word, b"E") && begins_with_digit(after_first(word))
         || begins_with_digit(word) && first == b"faulty".as_slice()
 }
 
@@ -289,7 +292,7 @@ fn is_between(word: &[u8], text: Option<&[u8]>) -> bool
     ensures { result ≡ is_between word.now (pieces_of text.entry) }
 {
     let last = last_word(after_first(word), text);
-    word.strip_prefix(b"|").is_some() && ends_with(last, b'|')
+    begins_with(word, b"|") && ends_with(last, b'|')
         || word == b"/".as_slice() && ends_with(last, b'/')
         || word == b"\\".as_slice() && ends_with(last, b'\\')
 }
@@ -300,11 +303,9 @@ fn is_of_picture(word: &[u8], text: Option<&[u8]>) -> bool
 {
     is_drawn(word)
         || is_between(word, text)
-        || word.strip_prefix(b"+-").is_some()
-        || after_name(word).strip_prefix(b"---").is_some()
-        || word.strip_prefix(b"%-").is_some()
-        || (word.strip_prefix(b":").is_some() || word.strip_prefix(b"%").is_some())
-            && begins_with_digit(after_first(word))
+        || begins_with_one(word, b"+- %-")
+        || begins_with(after_name(word), b"---")
+        || begins_with_one(word, b": %") && begins_with_digit(after_first(word))
 }
 
 /// Whether a word and those after it write a call by a shell.
@@ -319,13 +320,14 @@ fn is_echo(word: &[u8], text: Option<&[u8]>) -> bool
         && Word::of(name_of(after_first(first)).as_slice()).is_some()
 }
 
-/// Whether a word and those after it are a statement of other languages.
+/// Whether a word and those after it are a statement of other languages, or begin a block.
 fn is_statement(word: &[u8], text: Option<&[u8]>) -> bool
     ensures { result ≡ is_statement word.now (pieces_of text.entry) }
 {
     let Some(text) = text else { return false };
     let (first, _) = split_at_space(text);
     is_among(word, b"raise goto GOTO DIM Dim END End end") && begins_with_letter(first)
+        || first == b"{".as_slice()
 }
 
 /// Whether the first word of a text is a call.
@@ -400,9 +402,9 @@ fn is_label(word: &[u8]) -> bool
 }
 
 /// What the tables have of a word and the next one with an underscore between them.
-fn said_of_two(word: &[u8], text: Option<&[u8]>) -> Option<&'static [u8]>
+fn advice_on_next(word: &[u8], text: Option<&[u8]>) -> Option<&'static [u8]>
     requires { length word.now + room_of text ≤ LONGEST_LINE }
-    ensures said { option_map (λ text. text.now) result ≡ said_of_two word.now (pieces_of text.entry) }
+    ensures said { option_map (λ text. text.now) result ≡ advice_on_next word.now (pieces_of text.entry) }
     ensures short { IfSome result (λ text. length text.now ≤ 80) }
 {
     let (other, _) = split_at_space(text?);
@@ -411,6 +413,19 @@ fn said_of_two(word: &[u8], text: Option<&[u8]>) -> Option<&'static [u8]>
     append(&mut name, b"_");
     append(&mut name, other);
     advice_on(name.as_slice())
+}
+
+/// The same, or with the one after a number.
+fn said_of_two(word: &[u8], text: Option<&[u8]>) -> Option<&'static [u8]>
+    requires { length word.now + room_of text ≤ LONGEST_LINE }
+    ensures said { option_map (λ text. text.now) result ≡ said_of_two word.now (pieces_of text.entry) }
+    ensures short { IfSome result (λ text. length text.now ≤ 80) }
+{
+    let (first, rest) = split_at_space(text?);
+    if are_digits(first) {
+        return advice_on_next(word, rest);
+    }
+    advice_on_next(word, text)
 }
 
 /// What is said of a word that is no call and of the words after it.
@@ -475,15 +490,14 @@ fn is_step(word: &[u8]) -> bool
     if let Some(name) = word.strip_prefix(b"--") {
         return begins_with_name(name) && !begins_with_name(&name[1..]);
     }
-    word.strip_prefix(b"++").is_some()
-        || begins_with_name(word) && after_name(word).strip_prefix(b"--").is_some()
+    begins_with(word, b"++") || begins_with_name(word) && begins_with(after_name(word), b"--")
 }
 
 /// Whether a word is one of shells: a variable, a redirection, a pipe, or a prompt. With `<` a tag begins.
 fn is_of_shell(word: &[u8]) -> bool
     ensures { result ≡ is_of_shell word.now }
 {
-    word.strip_prefix(b"$").is_some() || is_redirection(word) && word.strip_prefix(b"<").is_none()
+    begins_with(word, b"$") || is_redirection(word) && !begins_with(word, b"<")
 }
 
 /// What is said of a word that begins with no letter.
@@ -491,7 +505,7 @@ fn said_of_marks(word: &[u8]) -> Option<&'static [u8]>
     ensures said { option_map (λ text. text.now) result ≡ said_of_marks word.now }
     ensures short { IfSome result (λ text. length text.now ≤ 80) }
 {
-    if word.strip_prefix(b"\\").is_some() {
+    if begins_with(word, b"\\") {
         return Some(said_of_backslash(word));
     }
     if is_step(word) {
@@ -513,16 +527,13 @@ fn said_of_marks(word: &[u8]) -> Option<&'static [u8]>
     if is_quoted(word) {
         return Some(b"a text is an argument of addstr, without quotes; a comment begins with #");
     }
-    if word.strip_prefix(b"```").is_some() {
-        return Some(b"marks of Markdown are no part of a script");
+    if begins_with(word, b"```") || begins_with(word, b"<") && has_byte(word, b'>') {
+        return Some(b"marks of Markdown and HTML are no part of a script: see addstr, attron");
     }
     if has_part(word, b"/curspan") {
         return Some(COMMAND_LINE);
     }
-    if word.strip_prefix(b"/").is_some()
-        || word.strip_prefix(b"./").is_some()
-        || word.strip_prefix(b"~/").is_some()
-    {
+    if begins_with_one(word, b"/ ./ ~/") {
         return Some(PROGRAMS);
     }
     if begins_with_digit(word) {
@@ -569,7 +580,10 @@ fn gives_place(word: &[u8]) -> bool
 {
     (has_part(word, b"addstr(") || has_part(word, b"addch("))
         && (begins_with_digit(after_comma(word))
-            || ends_with(word, b',') && !has_byte(word, b'"') && !has_byte(word, b'\''))
+            || ends_with(word, b',')
+                && !begins_with(word, b"add")
+                && !has_byte(word, b'"')
+                && !has_byte(word, b'\''))
 }
 
 /// How a call is written whose name has marks after it.
@@ -578,7 +592,7 @@ fn written_advice(word: &[u8]) -> &'static [u8]
     ensures short { length result.now ≤ 80 }
 {
     let rest = after_name(word);
-    if rest.strip_prefix(b";").is_some() {
+    if begins_with(rest, b";") {
         b"a line has one call, and no semicolon: see "
     } else if is_comment(rest) {
         b"a comment has a line of its own: see "
@@ -586,7 +600,7 @@ fn written_advice(word: &[u8]) -> &'static [u8]
         b"a script has no redirections or pipes: see "
     } else if rest == b"\\".as_slice() {
         b"no line goes on in the next, and no backslash comes after a call: see "
-    } else if rest.strip_prefix(b"\\").is_some() {
+    } else if begins_with(rest, b"\\") {
         b"only texts and characters have escapes: see "
     } else if gives_place(word) {
         b"arguments come after single spaces, and move sets the place: see move, "
@@ -630,18 +644,13 @@ fn said_of_beginning(word: &[u8]) -> Option<&'static [u8]>
     if begins_comment(word) {
         return Some(b"a comment begins with #");
     }
-    if word.strip_prefix(b"panel.move").is_some() {
+    if begins_with(word, b"panel.move") {
         return Some(b"see move_panel");
     }
-    if word.strip_prefix(b"pad.refresh").is_some()
-        || word.strip_prefix(b"pad.noutrefresh").is_some()
-    {
+    if begins_with_one(word, b"pad.refresh pad.noutrefresh") {
         return Some(b"see pnoutrefresh, doupdate");
     }
-    if word.strip_prefix(b"subprocess.").is_some()
-        || word.strip_prefix(b"os.").is_some()
-        || is_of_tmux(word)
-    {
+    if begins_with_one(word, b"subprocess. os.") || is_of_tmux(word) {
         return Some(PROGRAMS);
     }
     None
