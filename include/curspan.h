@@ -251,8 +251,9 @@ curspan_answer curspan_wclrtoeol(curspan *screen, uint32_t win);
    NO_SUCH_WINDOW. */
 curspan_answer curspan_wclrtobot(curspan *screen, uint32_t win);
 
-/* Moves the lines of the scroll region up by `n`, or down by `-n` for a negative one. The cursor stays. Refused:
-   NO_SUCH_WINDOW; SCROLLING_OFF for a window that doesn't scroll. */
+/* Moves the lines of the scroll region up by `n`, or down by `-n` for a negative one. Those that leave it are lost, and
+   those that come in are set to the background. The cursor stays. Refused: NO_SUCH_WINDOW; SCROLLING_OFF for a window
+   that doesn't scroll. */
 curspan_answer curspan_wscrl(curspan *screen, uint32_t win, int32_t n);
 
 /* Sets the scroll region to the lines from `top` to `bottom`, both inclusive. Refused: NO_SUCH_WINDOW; BAD_REGION if
@@ -297,9 +298,9 @@ curspan_answer curspan_overlay(curspan *screen, uint32_t src, uint32_t dst);
 curspan_answer curspan_overwrite(curspan *screen, uint32_t src, uint32_t dst);
 
 /* Copies the cells of `src` from line `sminrow` and column `smincol` on to the lines from `dminrow` to `dmaxrow` and
-   the columns from `dmincol` to `dmaxcol` of `dst`, all inclusive; with `overlay`, all but the spaces. Windows and pads
-   may be mixed. Refused: NO_SUCH_WINDOW for either window; BAD_RECTANGLE if a last line or column comes before its
-   first; OUTSIDE_WINDOW if the rectangle isn't in `dst`, or that of the same size not in `src`. */
+   the columns from `dmincol` to `dmaxcol` of `dst`, all inclusive; if `overlay` is set, spaces are left out. Windows
+   and pads may be mixed. Refused: NO_SUCH_WINDOW for either window; BAD_RECTANGLE if a last line or column comes before
+   its first; OUTSIDE_WINDOW if the rectangle isn't in `dst`, or that of the same size not in `src`. */
 curspan_answer curspan_copywin(curspan *screen, uint32_t src, uint32_t dst, uint32_t sminrow, uint32_t smincol, uint32_t
                                dminrow, uint32_t dmincol, uint32_t dmaxrow, uint32_t dmaxcol, bool overlay);
 
@@ -313,7 +314,7 @@ curspan_answer curspan_untouchwin(curspan *screen, uint32_t win);
    not `n` lines from it on. */
 curspan_answer curspan_touchline(curspan *screen, uint32_t win, uint32_t y, uint32_t n);
 
-/* Touches all of `n` lines from line `y` on, or without the flag untouches them. Refused: NO_SUCH_WINDOW;
+/* Touches all of `n` lines from line `y` on, or untouches them if `flag` is not set. Refused: NO_SUCH_WINDOW;
    OUTSIDE_WINDOW if the window hasn't line `y`, or not `n` lines from it on. */
 curspan_answer curspan_wtouchln(curspan *screen, uint32_t win, uint32_t y, uint32_t n, bool flag);
 
@@ -376,12 +377,12 @@ curspan_answer curspan_move_panel(curspan *screen, uint32_t panel, uint32_t y, u
    STANDARD_SCREEN, IS_PAD, IN_PANEL. */
 curspan_answer curspan_replace_panel(curspan *screen, uint32_t panel, uint32_t win);
 
-/* The panel right above a visible one, or the bottom one where no panel is given. 0 is none, also in the answer.
-   Refused: NO_SUCH_PANEL, HIDDEN. */
+/* The panel right above a visible one; of none, the bottom one. 0 is none, also in the answer. Refused: NO_SUCH_PANEL,
+   HIDDEN. */
 curspan_answer curspan_panel_above(const curspan *screen, uint32_t panel);
 
-/* The panel right below a visible one, or the top one where no panel is given. 0 is none, also in the answer. Refused:
-   NO_SUCH_PANEL, HIDDEN. */
+/* The panel right below a visible one; of none, the top one. 0 is none, also in the answer. Refused: NO_SUCH_PANEL,
+   HIDDEN. */
 curspan_answer curspan_panel_below(const curspan *screen, uint32_t panel);
 
 /* The window of a panel. Answers its number. Refused: NO_SUCH_PANEL. */

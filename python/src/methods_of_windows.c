@@ -403,8 +403,9 @@ PyMethodDef curspan_window_methods[] = {
      "scroll($self, n=1)\n"
      "--\n"
      "\n"
-     "Moves the lines of the scroll region up by n, or down by -n for a negative one. The cursor stays.\n"
-     "Refused: NoSuchWindow; ScrollingOff for a window that doesn't scroll."},
+     "Moves the lines of the scroll region up by n, or down by -n for a negative one. Those that leave it\n"
+     "are lost, and those that come in are set to the background. The cursor stays. Refused: NoSuchWindow;\n"
+     "ScrollingOff for a window that doesn't scroll."},
     {"setscrreg", AS_FUNCTION(window_setscrreg), METH_FASTCALL | METH_KEYWORDS,
      "setscrreg($self, top, bottom)\n"
      "--\n"
@@ -473,10 +474,10 @@ PyMethodDef curspan_window_methods[] = {
      "--\n"
      "\n"
      "Copies the cells of src from line sminrow and column smincol on to the lines from dminrow to dmaxrow\n"
-     "and the columns from dmincol to dmaxcol of dst, all inclusive; with overlay, all but the spaces.\n"
-     "Windows and pads may be mixed. Refused: NoSuchWindow for either window; BadRectangle if a last line\n"
-     "or column comes before its first; OutsideWindow if the rectangle isn't in `dst`, or that of the same\n"
-     "size not in `src`."},
+     "and the columns from dmincol to dmaxcol of dst, all inclusive; if overlay is set, spaces are left\n"
+     "out. Windows and pads may be mixed. Refused: NoSuchWindow for either window; BadRectangle if a last\n"
+     "line or column comes before its first; OutsideWindow if the rectangle isn't in `dst`, or that of the\n"
+     "same size not in `src`."},
     {"touchwin", AS_FUNCTION(window_touchwin), METH_NOARGS,
      "touchwin($self)\n"
      "--\n"
@@ -497,7 +498,7 @@ PyMethodDef curspan_window_methods[] = {
      "touchln($self, y, n, flag=True)\n"
      "--\n"
      "\n"
-     "Touches all of n lines from line y on, or without the flag untouches them. Refused: NoSuchWindow;\n"
+     "Touches all of n lines from line y on, or untouches them if flag is not set. Refused: NoSuchWindow;\n"
      "OutsideWindow if the window hasn't line `y`, or not `n` lines from it on."},
     {"syncup", AS_FUNCTION(window_syncup), METH_NOARGS,
      "syncup($self)\n"

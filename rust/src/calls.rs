@@ -257,8 +257,8 @@ impl<W> Screen<W> {
         Ok(())
     }
 
-    /// Moves the lines of the scroll region up by `n`, or down by `-n` for a negative one. The
-    /// cursor stays.
+    /// Moves the lines of the scroll region up by `n`, or down by `-n` for a negative one. Those
+    /// that leave it are lost, and those that come in are set to the background. The cursor stays.
     ///
     /// # Errors
     ///
@@ -412,7 +412,7 @@ impl<W> Screen<W> {
 
     /// Copies the cells of `src` from line `sminrow` and column `smincol` on to the lines from
     /// `dminrow` to `dmaxrow` and the columns from `dmincol` to `dmaxcol` of `dst`, all inclusive;
-    /// with `overlay`, all but the spaces. Windows and pads may be mixed.
+    /// if `overlay` is set, spaces are left out. Windows and pads may be mixed.
     ///
     /// # Errors
     ///
@@ -487,7 +487,7 @@ impl<W> Screen<W> {
         Ok(())
     }
 
-    /// Touches all of `n` lines from line `y` on, or without the flag untouches them.
+    /// Touches all of `n` lines from line `y` on, or untouches them if `flag` is not set.
     ///
     /// # Errors
     ///
@@ -698,7 +698,7 @@ impl<W> Screen<W> {
         Ok(())
     }
 
-    /// The panel right above a visible one, or the bottom one where no panel is given.
+    /// The panel right above a visible one; of none, the bottom one.
     ///
     /// # Errors
     ///
@@ -710,7 +710,7 @@ impl<W> Screen<W> {
         Ok(self.panel(answer.first))
     }
 
-    /// The panel right below a visible one, or the top one where no panel is given.
+    /// The panel right below a visible one; of none, the top one.
     ///
     /// # Errors
     ///

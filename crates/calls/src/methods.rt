@@ -303,7 +303,8 @@ pub trait Calls {
         self.make(&Call::wclrtobot(win))
     }
 
-    /// Moves the lines of the scroll region up by `n`, or down by `-n` for a negative one. The cursor stays.
+    /// Moves the lines of the scroll region up by `n`, or down by `-n` for a negative one. Those that leave it are
+    /// lost, and those that come in are set to the background. The cursor stays.
     ///
     /// # Errors
     /// `NoSuchWindow`; `ScrollingOff` for a window that doesn't scroll.
@@ -424,8 +425,8 @@ pub trait Calls {
     }
 
     /// Copies the cells of `src` from line `sminrow` and column `smincol` on to the lines from `dminrow` to `dmaxrow`
-    /// and the columns from `dmincol` to `dmaxcol` of `dst`, all inclusive; with `overlay`, all but the spaces. Windows
-    /// and pads may be mixed.
+    /// and the columns from `dmincol` to `dmaxcol` of `dst`, all inclusive; if `overlay` is set, spaces are left out.
+    /// Windows and pads may be mixed.
     ///
     /// # Errors
     /// `NoSuchWindow` for either window; `BadRectangle` if a last line or column comes before its first;
@@ -480,7 +481,7 @@ pub trait Calls {
         self.make(&Call::touchline(win, y, n))
     }
 
-    /// Touches all of `n` lines from line `y` on, or without the flag untouches them.
+    /// Touches all of `n` lines from line `y` on, or untouches them if `flag` is not set.
     ///
     /// # Errors
     /// `NoSuchWindow`; `OutsideWindow` if the window hasn't line `y`, or not `n` lines from it on.
@@ -660,7 +661,7 @@ pub trait Calls {
         self.make(&Call::replace_panel(panel, win))
     }
 
-    /// The panel right above a visible one, or the bottom one where no panel is given.
+    /// The panel right above a visible one; of none, the bottom one.
     ///
     /// # Errors
     /// `NoSuchPanel`, `Hidden`.
@@ -670,7 +671,7 @@ pub trait Calls {
         self.find(&Call::panel_above(panel))
     }
 
-    /// The panel right below a visible one, or the top one where no panel is given.
+    /// The panel right below a visible one; of none, the top one.
     ///
     /// # Errors
     /// `NoSuchPanel`, `Hidden`.

@@ -35,8 +35,8 @@ pub extern "C" fn curspan_overwrite(
 }
 
 /// Copies the cells of `src` from line `sminrow` and column `smincol` on to the lines from `dminrow` to `dmaxrow` and
-/// the columns from `dmincol` to `dmaxcol` of `dst`, all inclusive; with `overlay`, all but the spaces. Windows and
-/// pads may be mixed.
+/// the columns from `dmincol` to `dmaxcol` of `dst`, all inclusive; if `overlay` is set, spaces are left out. Windows
+/// and pads may be mixed.
 #[unsafe(no_mangle)]
 pub extern "C" fn curspan_copywin(
     alloc: Global,
@@ -104,7 +104,7 @@ pub extern "C" fn curspan_touchline(
     )
 }
 
-/// Touches all of `n` lines from line `y` on, or without the flag untouches them.
+/// Touches all of `n` lines from line `y` on, or untouches them if `flag` is not set.
 #[unsafe(no_mangle)]
 pub extern "C" fn curspan_wtouchln(
     alloc: Global,

@@ -92,7 +92,7 @@ pub extern "C" fn curspan_replace_panel(
     screen.call(alloc, &Call::replace_panel(panel_of(panel), window_of(win)))
 }
 
-/// The panel right above a visible one, or the bottom one where no panel is given.
+/// The panel right above a visible one; of none, the bottom one.
 #[unsafe(no_mangle)]
 pub extern "C" fn curspan_panel_above(alloc: Global, screen: &mut Handle, panel: u32) -> Answer
     ensures { Asked ⟦<Outlet as Sink>⟧ screen.old.value (Call.Stacking (Stacking.PanelAbove (panel_or_none_of panel))) result screen.new.value }
@@ -100,7 +100,7 @@ pub extern "C" fn curspan_panel_above(alloc: Global, screen: &mut Handle, panel:
     screen.ask(alloc, &Call::panel_above(panel_or_none_of(panel)))
 }
 
-/// The panel right below a visible one, or the top one where no panel is given.
+/// The panel right below a visible one; of none, the top one.
 #[unsafe(no_mangle)]
 pub extern "C" fn curspan_panel_below(alloc: Global, screen: &mut Handle, panel: u32) -> Answer
     ensures { Asked ⟦<Outlet as Sink>⟧ screen.old.value (Call.Stacking (Stacking.PanelBelow (panel_or_none_of panel))) result screen.new.value }

@@ -125,7 +125,8 @@ pub extern "C" fn curspan_wclrtobot(alloc: Global, screen: &mut Handle, win: u32
     screen.call(alloc, &Call::wclrtobot(window_of(win)))
 }
 
-/// Moves the lines of the scroll region up by `n`, or down by `-n` for a negative one. The cursor stays.
+/// Moves the lines of the scroll region up by `n`, or down by `-n` for a negative one. Those that leave it are lost,
+/// and those that come in are set to the background. The cursor stays.
 #[unsafe(no_mangle)]
 pub extern "C" fn curspan_wscrl(alloc: Global, screen: &mut Handle, win: u32, n: i32) -> Answer
     ensures { Called ⟦<Outlet as Sink>⟧ screen.old.value (Call.Writing (Writing.Scrl (window_of win) (saturated_signed n))) result screen.new.value }
