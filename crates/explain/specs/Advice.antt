@@ -23,10 +23,10 @@ abbrev pub renditions : List ℕ
 renditions = codes "see attrset, attron, attroff"
 
 abbrev pub no_menus : List ℕ
-no_menus = codes "there are no menus or forms"
+no_menus = codes "there are no menus, forms or dialogs"
 
 abbrev pub no_formats : List ℕ
-no_formats = codes "no call formats: see addstr"
+no_formats = codes "no call fills in %d: see addstr"
 
 abbrev pub updates : List ℕ
 updates = codes "see update_panels, doupdate"
@@ -65,7 +65,7 @@ unfoldable pub advised : List (List ℕ × List ℕ)
 advised =
     (refreshed, codes "refresh")
     ∷ (codes "see pnoutrefresh, doupdate", codes "prefresh")
-    ∷ (codes "see addch, noutrefresh, doupdate", codes "echochar pechochar")
+    ∷ (codes "see addch, noutrefresh, doupdate", codes "echochar")
     ∷ (
       codes "no call reads keys",
       codes "getch ungetch getstr getnstr scanw vwscanw vw_scanw keypad nodelay notimeout timeout halfdelay cbreak"
@@ -74,7 +74,7 @@ advised =
           ++ codes " getkey get_key input gets getc getchar getche scanf kbhit key_up key_down key_left key_right"
           ++ codes " key_enter get_wch get_wstr getn_wstr unget_wch cin key keys raw_input",
     )
-    ∷ (codes "a text has \\n for a newline, \\r and \\b, and spaces as they are", codes "nl newline cr tab space backspace")
+    ∷ (codes "a text has \\n for a newline, \\r and \\b, and spaces as they are", codes "nl newline cr space backspace")
     ∷ (codes "no call reads the mouse", codes "getmouse ungetmouse mousemask mouseinterval has_mouse mouse_trafo enclose mouse click")
     ∷ (
       screen_is_there,
@@ -82,14 +82,14 @@ advised =
           ++ codes " quit bye stop init initscreen init_screen start wrapper setup",
     )
     ∷ (
-      codes "lines are drawn by the characters of addstr",
+      codes "lines are drawn by + - and |: see addstr",
       codes "box border hline vline line rect rectangle frame draw_box drawbox acs_hline acs_vline border_set"
           ++ codes " box_set hline_set vline_set",
     )
     ∷ (no_formats, codes "printw vwprintw vw_printw vsscanf printf sprintf fprintf format")
     ∷ (
       codes "see addstr",
-      codes "addnstr addchstr addchnstr print println puts putstr put write writestr text say string addstring"
+      codes "addchstr print println puts putstr put write writestr text say string addstring"
           ++ codes " addtext type add_string add_text title label cout writeln fputs output out stradd str_add straddr strdd",
     )
     ∷ (codes "see insch", codes "insstr insnstr insert inschar inserch insertch")
@@ -156,7 +156,7 @@ advised =
       codes "no call asks the terminal anything, or sets its modes",
       codes "baudrate def_prog_mode def_shell_mode reset_prog_mode reset_shell_mode resetty"
           ++ codes " savetty has_ic has_il longname termname mcprint putp tigetflag tigetnum tigetstr tiparm tparm"
-          ++ codes " vidattr vidputs vid_attr vid_puts ripoffline set_tabsize use_env use_tioctl filter nofilter"
+          ++ codes " vidattr vidputs vid_attr vid_puts set_tabsize use_env use_tioctl"
           ++ codes " use_extended_names use_legacy_coding stty setupterm restartterm cur_term set_curterm del_curterm"
           ++ codes " tputs tgetent tgetflag tgetnum tgetstr tgoto smcup rmcup termattrs term_attrs",
     )
@@ -245,7 +245,13 @@ like_calls_advised =
     ∷ (codes "see newwin, derwin", codes "nerwin")
     ∷ (codes "see newwin, delwin", codes "nelwin")
     ∷ (codes "see delwin, derwin", codes "dewin")
-    ∷ (codes "see mvderwin", codes "vderwin mderwin")
+    ∷ (codes "see mvderwin", codes "vderwin mderwin mvsubwin mvsubpad")
+    ∷ (codes "no call takes a count: see addstr, with a shorter text", codes "addnstr addchnstr")
+    ∷ (codes "there are no tabs: see move, or write spaces", codes "tab tabs tabsize tabstop")
+    ∷ (codes "see addch, pnoutrefresh, doupdate", codes "pechochar")
+    ∷ (codes "the screen keeps its size, which the command line gives", codes "filter nofilter ripoffline")
+    ∷ (codes "a pad has no place on the screen: see pnoutrefresh", codes "mvpad move_pad movepad")
+    ∷ (codes "see move, addstr, with a shorter text", codes "mvaddnstr mvwaddnstr")
     ∷ (codes "see untouchwin", codes "utouchwin ntouchwin")
     ∷ (codes "see inch, insch", codes "innch incch")
     ∷ (codes "see derwin, subwin", codes "derive derived derive_window inner_window")
@@ -265,12 +271,12 @@ like_calls_advised =
     ∷ (codes "see color_set, init_pair", codes "op oc setfg setbg set_fg set_bg set_colour set_colors set_colours")
     ∷ (
       codes "see move, addstr",
-      codes "draw_text write_text print_text put_text show_text display_text print_at mvaddnstr mvwaddnstr"
+      codes "draw_text write_text print_text put_text show_text display_text print_at"
           ++ codes " mv_add_str drawtext printat outtext outtextxy cputs add addline str msg message win_write window_write window_print"
           ++ codes " put_str put_string print_str print_string write_string write_char print_char addln setcontent moveprint text_write win_print set_text"
           ++ codes " set_title insert_text",
     )
-    ∷ (codes "no call formats: see move, addstr", codes "mvprintw mvwprintw")
+    ∷ (codes "no call fills in %d: see move, addstr", codes "mvprintw mvwprintw")
     ∷ (codes "see getyx, getbegyx, getmaxyx", codes "wherexy wherex wherey getbeg getwinsize getxmaxy maxx maxy begx begy curx cury get_pos max_yx get_position getcur winsize window_size")
     ∷ (codes "see getyx, move", codes "save_cursor restore_cursor")
     ∷ (
@@ -298,8 +304,8 @@ like_calls_advised =
           ++ codes " udpate_panel uptade_panels",
     )
     ∷ (codes "see replace_panel", codes "panel_replace swap_panel replace_window")
-    ∷ (codes "see panel_hidden", codes "hidden_panel is_panel_hidden panel_visible")
-    ∷ (codes "see panel_window", codes "window_panel get_panel_window")
+    ∷ (codes "see panel_hidden", codes "hidden_panel is_panel_hidden panel_visible panel_is_hidden panel_is_visible")
+    ∷ (codes "see panel_window", codes "window_panel get_panel_window panel_get_window")
     ∷ (codes "see delch", codes "delete_char delete_ch")
     ∷ (codes "see newpad", codes "create_pad pad_new")
     ∷ (

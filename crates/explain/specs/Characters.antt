@@ -13,12 +13,12 @@ use Rattle.explain.specs.Names.{after_name, are_digits, are_two_digits, begins_w
 -- a carriage return, a tab, a backspace, an escape, a 0, or another
 abbrev pub byte_advice : ℕ → List ℕ
 byte_advice b = if b == carriage_return then codes "a line ends with a newline alone, and a text has it as \\r"
-    else (if b == tab then codes "no line has tabs: a call begins it, one space separates words, a text has spaces"
+    else (if b == tab then codes "no line has tabs: one space separates words, and a text has spaces"
     else (if b == backspace then codes "a text has it as a backslash and b"
     else (if b == escape then codes "a text has no control sequences: see attrset, color_set, move"
     else (if b == 0 then codes "no line has it, and a character is one byte, not two as in UTF-16"
     else (if is_ascii_control b then codes "it is a control character, and a text has none but by \\n, \\r and \\b"
-    else codes "characters are those of ASCII, from space to tilde; others may look alike")))))
+    else codes "characters are those of ASCII, from space to tilde; some others look like them")))))
 
 -- In UTF-8: the last byte of the last block that is drawn with; those of the last of many spaces, of the first mark that
 -- separates lines, and of the last space.
@@ -99,10 +99,10 @@ abbrev pub escape_reason : List ℕ → List ℕ
 escape_reason rest = if begins_with (codes "t") rest then codes ": a tab is written as spaces, a backslash itself as two"
     else (if begins_sequence rest then codes ": a text has no control sequences: see attrset, color_set, move"
     else (if begins_character rest then codes ": characters are those of ASCII, each as it is, or by its code as \\x41 for A"
-    else (if begins_with_digit rest then codes ": a code is \\x and two hexadecimal digits, as \\x41 for A"
+    else (if begins_with_digit rest then codes ": a code is \\x and two hexadecimal digits, as \\x41 for A; there is no NUL"
     else (if begins_with_one (codes "x X") rest then codes ": two digits in lower case come after \\x, as \\x41 for A; a backslash is two"
     else (if list_any (λ byte. has_byte byte (codes "NRB")) (take 1 rest) then codes ": escapes are in lower case, and a backslash itself is written as two"
-    else (if list_any is_ascii_alphabetic (take 1 rest) then codes ": a backslash is written as two, and other control characters have no escape"
+    else (if list_any is_ascii_alphabetic (take 1 rest) then codes ": a backslash is written as two; there are no other escapes"
     else (if length rest == 0 then codes ": a backslash itself is written as two, and no line goes on in the next"
     else codes ": no other mark needs a backslash, and a backslash itself is written as two")))))))
 

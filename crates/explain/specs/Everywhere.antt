@@ -101,7 +101,7 @@ refusal_everywhere call = None
 
 -- what a refusal by the arguments alone means
 abbrev pub meaning : Refusal → List ℕ
-meaning NoSuchPanel = codes ": panels are numbered from 1 to 1000, or \"none\" for panel_above and panel_below"
+meaning NoSuchPanel = codes ": panels are numbered from 1 to 1000, or none for panel_above and panel_below"
 meaning OffScreen = codes ": lines and columns count from 0, and a screen has at most 999 of each"
 meaning OutsideParent = codes ": lines and columns count from 0, and a screen has at most 999 of each"
 meaning OutsideWindow = codes ": lines and columns count from 0, and a screen has at most 999 of each"

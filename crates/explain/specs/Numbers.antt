@@ -59,9 +59,10 @@ marks_reason line pieces many = if many && has_call pieces then Some (codes ": a
 -- too many
 abbrev pub between_reason : List ℕ → List ℕ → IllFormed → List ℕ
 between_reason word line ill = if has_byte comma line then no_commas
+    else (if bytes_eq ill.argument (codes "->") then codes ": an arrow is no argument: numbers alone are, in their order"
     else (if is_one_of (codes "+ - * / %") ill.argument && not (bytes_eq word (codes "scrl"))
     then codes ": a script computes nothing: an argument is one number, and no expression"
-    else reason_after word (place_of word ill) ill.form ill.argument)
+    else reason_after word (place_of word ill) ill.form ill.argument))
 
 -- of a call with too many
 abbrev pub too_many_reason : List ℕ → Option (List ℕ)
@@ -71,7 +72,7 @@ too_many_reason word = if bytes_eq word (codes "move") then Some (codes ": windo
     else (if sets_pair word then Some (codes ": one pair, which has its colours by init_pair, and nothing after it")
     else (if is_one_of (codes "getyx getbegyx getmaxyx getparyx") word then Some (codes ": the answer is in the log, and no variables take it")
     else (if takes_place_of_cursor word then Some one_window
-    else (if is_one_of (codes "overlay overwrite") word then Some (codes ": copywin copies a part")
+    else (if is_one_of (codes "overlay overwrite") word then Some (codes ": window, window to write in; copywin copies a part")
     else None))))))
 
 -- of arguments that are too many: of the first without its form, if it is a word between numbers, or else of such a call

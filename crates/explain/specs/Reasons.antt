@@ -60,7 +60,7 @@ abbrev pub no_commas : List ℕ
 no_commas = codes ": spaces separate arguments, and no commas"
 
 abbrev pub no_redirections : List ℕ
-no_redirections = codes ": a script has no redirections or pipes"
+no_redirections = codes ": a script has no redirections or pipes, and no &"
 
 -- of arguments that others give names, or write as options
 abbrev pub no_names : List ℕ
@@ -187,7 +187,7 @@ has_base argument = begins_with_one (codes "0x 0X 0o 0b") argument
 abbrev pub name_reason : List ℕ → ℕ → List ℕ → List ℕ
 name_reason word place argument = if has_base argument then codes ": a number is decimal"
     else (if are_like_digits argument then no_letters
-    else (if bytes_eq argument (codes "none") then codes ": only panel_above and panel_below take \"none\""
+    else (if bytes_eq argument (codes "none") then codes ": only panel_above and panel_below take none"
     else (if is_near_number word argument then more_than_digits argument
     else no_digits_reason word place)))
 
@@ -213,7 +213,7 @@ abbrev pub signed_reason : List ℕ → ℕ → List ℕ → List ℕ
 signed_reason word place argument = if begins_with (codes "-") argument
     then (if bytes_eq argument (codes "-0") then codes ": 0 has no minus"
     else (if are_digits (drop 1 argument) then digits_reason (codes ": it is too small") (drop 1 argument)
-    else codes ": digits alone come right after a minus"))
+    else codes ": a minus comes right before its digits"))
     else unsigned_reason word place argument
 
 -- attributes in one argument: with a comma between them, or another mark after a digit

@@ -44,7 +44,7 @@ names_of_arguments (word.Writing writing.Bkgdpair) = codes "window (0 is the sta
 -- copies and marks
 names_of_arguments (word.Copying copying.Overlay) = codes "window, window to write in"
 names_of_arguments (word.Copying copying.Overwrite) = codes "window, window to write in"
-names_of_arguments (word.Copying copying.Copywin) = codes "window, window to write in, line, column, in the second top, left, bottom, right, on or off"
+names_of_arguments (word.Copying copying.Copywin) = codes "window, window to write in, line, column, then top, left, bottom, right in the second, on or off"
 names_of_arguments (word.Copying copying.Touchwin) = codes "window"
 names_of_arguments (word.Copying copying.Untouchwin) = codes "window"
 names_of_arguments (word.Copying copying.Touchline) = codes "window, first line, how many lines"
@@ -75,6 +75,6 @@ names_of_arguments (word.Stacking stacking.PanelHidden) = codes "panel"
 -- refreshing
 names_of_arguments (word.Refresh refresh.Noutrefresh) = codes "window (0 is the standard screen)"
 names_of_arguments (word.Refresh refresh.Pnoutrefresh) = codes "pad, its line, its column, then top, left, bottom and right of the screen"
-names_of_arguments (word.Refresh refresh.UpdatePanels) = codes "its name is all of its line"
-names_of_arguments (word.Refresh refresh.Doupdate) = codes "its name is all of its line"
+names_of_arguments (word.Refresh refresh.UpdatePanels) = codes "it takes no arguments"
+names_of_arguments (word.Refresh refresh.Doupdate) = codes "it takes no arguments"
 names_of_arguments (word.Refresh refresh.InitPair) = codes "pair, foreground, background: 0 black 1 red 2 green 3 yellow 4 blue 5 magenta 6 cyan 7 white"

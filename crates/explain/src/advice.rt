@@ -39,13 +39,13 @@ const RENDITION: &[u8] = b"see inch, which answers those of a cell";
 
 const FLAGS: &[u8] = b"no window has this flag";
 
-const LINES: &[u8] = b"lines are drawn by the characters of addstr";
+const LINES: &[u8] = b"lines are drawn by + - and |: see addstr";
 
 const SIZE: &[u8] = b"the screen keeps its size, which the command line gives";
 
 const ECHOED: &[u8] = b"see addch, noutrefresh, doupdate";
 
-pub const FORMATS: &[u8] = b"no call formats: see addstr";
+pub const FORMATS: &[u8] = b"no call fills in %d: see addstr";
 
 const POINTERS: &[u8] = b"a panel has no pointer";
 
@@ -63,7 +63,7 @@ const TEXTS: &[u8] = b"see addstr";
 
 pub const CALLS_ALONE: &[u8] = b"a script has calls alone: no variables, loops or functions";
 
-pub const MENUS: &[u8] = b"there are no menus or forms";
+pub const MENUS: &[u8] = b"there are no menus, forms or dialogs";
 
 const BEGINNINGS: &[u8] = b"a line begins with a call";
 
@@ -136,7 +136,7 @@ const ADVICE: [(u8, &[Row]); 28] = [
     ]),
     (b'a', &[
         (LINES, b"acs_hline acs_vline"),
-        (TEXTS, b"addnstr addchstr addchnstr addstring addtext add_string add_text"),
+        (TEXTS, b"addchstr addstring addtext add_string add_text"),
         (b"see attroff", b"attrof attof attr_off"),
         (b"see attron", b"attr_on"),
         (ATTRIBUTES,
@@ -234,7 +234,6 @@ const ADVICE: [(u8, &[Row]); 28] = [
         (TEXTS, b"fputs"),
         (BACKGROUND, b"fill"),
         (PAIRS, b"find_pair free_pair"),
-        (TERMINAL, b"filter"),
         (UPDATES, b"flush fflush"),
         (RAISED, b"front focus"),
         (COLOURED, b"fg foreground"),
@@ -336,7 +335,6 @@ const ADVICE: [(u8, &[Row]); 28] = [
         (ESCAPES, b"nl newline"),
         (SCREEN, b"newterm new_prescr"),
         (ATTRIBUTES, b"normal"),
-        (TERMINAL, b"nofilter"),
         (TRACES, b"ncurses_version"),
         (WINDOWS, b"newwindow new_window"),
         (WAITS, b"napms"),
@@ -352,7 +350,6 @@ const ADVICE: [(u8, &[Row]); 28] = [
     ]),
     (b'p', &[
         (b"see pnoutrefresh, doupdate", b"prefresh"),
-        (ECHOED, b"pechochar"),
         (FORMATS, b"printw printf"),
         (TEXTS, b"print println puts putstr put"),
         (CONTENTS, b"pair_content"),
@@ -391,7 +388,7 @@ const ADVICE: [(u8, &[Row]); 28] = [
         (CURSOR, b"right"),
         (SCREEN_SIZE, b"rows"),
         (b"see replace_panel", b"replace"),
-        (TERMINAL, b"reset_prog_mode reset_shell_mode resetty ripoffline restartterm rmcup"),
+        (TERMINAL, b"reset_prog_mode reset_shell_mode resetty restartterm rmcup"),
         (ERASED, b"reset"),
         (UPDATES, b"redraw render refresh_screen repaint"),
         (DELETED, b"rmwin"),
@@ -440,7 +437,6 @@ const ADVICE: [(u8, &[Row]); 28] = [
     ]),
     (b't', &[
         (KEYS, b"timeout typeahead"),
-        (ESCAPES, b"tab"),
         (TEXTS, b"text type title"),
         (TERMINAL,
             b"termname tigetflag tigetnum tigetstr tiparm tparm tputs tgetent tgetflag tgetnum tgetstr \

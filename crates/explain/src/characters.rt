@@ -22,16 +22,14 @@ fn byte_advice(byte: u8) -> &'static [u8]
 {
     match byte {
         b'\r' => b"a line ends with a newline alone, and a text has it as \\r",
-        b'\t' => {
-            b"no line has tabs: a call begins it, one space separates words, a text has spaces"
-        },
+        b'\t' => { b"no line has tabs: one space separates words, and a text has spaces" },
         8 => b"a text has it as a backslash and b",
         27 => b"a text has no control sequences: see attrset, color_set, move",
         0 => b"no line has it, and a character is one byte, not two as in UTF-16",
         _ if byte.is_ascii_control() => {
             b"it is a control character, and a text has none but by \\n, \\r and \\b"
         }
-        _ => b"characters are those of ASCII, from space to tilde; others may look alike",
+        _ => b"characters are those of ASCII, from space to tilde; some others look like them",
     }
 }
 
@@ -204,13 +202,13 @@ fn escape_reason(rest: &[u8]) -> &'static [u8]
     } else if begins_character(rest) {
         b": characters are those of ASCII, each as it is, or by its code as \\x41 for A"
     } else if begins_with_digit(rest) {
-        b": a code is \\x and two hexadecimal digits, as \\x41 for A"
+        b": a code is \\x and two hexadecimal digits, as \\x41 for A; there is no NUL"
     } else if begins_with_one(rest, b"x X") {
         b": two digits in lower case come after \\x, as \\x41 for A; a backslash is two"
     } else if begins_upper_case(rest) {
         b": escapes are in lower case, and a backslash itself is written as two"
     } else if begins_with_letter(rest) {
-        b": a backslash is written as two, and other control characters have no escape"
+        b": a backslash is written as two; there are no other escapes"
     } else if rest.is_empty() {
         b": a backslash itself is written as two, and no line goes on in the next"
     } else {

@@ -216,7 +216,7 @@ fn meaning(why: Refusal) -> &'static [u8]
 {
     match why {
         Refusal::NoSuchPanel => {
-            b": panels are numbered from 1 to 1000, or \"none\" for panel_above and panel_below"
+            b": panels are numbered from 1 to 1000, or none for panel_above and panel_below"
         }
         Refusal::OffScreen | Refusal::OutsideParent | Refusal::OutsideWindow =>
             b": lines and columns count from 0, and a screen has at most 999 of each",

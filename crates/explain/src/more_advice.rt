@@ -28,7 +28,7 @@ pub const SHELL: &[u8] = b"this belongs in the shell: a script has calls alone";
 
 /// Names like those of calls that the table of `advice` has no room for.
 #[rattlefmt::skip]
-const LIKE_CALLS: [Row; 51] = [
+const LIKE_CALLS: [Row; 57] = [
     (b"see delwin, del_panel", b"del remove free"),
     (b"pairs have the terminal's colours until they are set: see init_pair",
         b"use_default_colors assume_default_colors"),
@@ -43,7 +43,13 @@ const LIKE_CALLS: [Row; 51] = [
     (b"see newwin, derwin", b"nerwin"),
     (b"see newwin, delwin", b"nelwin"),
     (b"see delwin, derwin", b"dewin"),
-    (b"see mvderwin", b"vderwin mderwin"),
+    (b"see mvderwin", b"vderwin mderwin mvsubwin mvsubpad"),
+    (b"no call takes a count: see addstr, with a shorter text", b"addnstr addchnstr"),
+    (b"there are no tabs: see move, or write spaces", b"tab tabs tabsize tabstop"),
+    (b"see addch, pnoutrefresh, doupdate", b"pechochar"),
+    (b"the screen keeps its size, which the command line gives", b"filter nofilter ripoffline"),
+    (b"a pad has no place on the screen: see pnoutrefresh", b"mvpad move_pad movepad"),
+    (b"see move, addstr, with a shorter text", b"mvaddnstr mvwaddnstr"),
     (b"see untouchwin", b"utouchwin ntouchwin"),
     (b"see inch, insch", b"innch incch"),
     (b"see derwin, subwin", b"derive derived derive_window inner_window"),
@@ -63,11 +69,11 @@ const LIKE_CALLS: [Row; 51] = [
     (BACKGROUNDS, b"bgset bgpair bkpair bkg"),
     (b"see color_set, init_pair", b"op oc setfg setbg set_fg set_bg set_colour set_colors set_colours"),
     (b"see move, addstr",
-        b"draw_text write_text print_text put_text show_text display_text print_at mvaddnstr mvwaddnstr \
+        b"draw_text write_text print_text put_text show_text display_text print_at \
         mv_add_str drawtext printat outtext outtextxy cputs add addline str msg message win_write window_write \
         window_print put_str put_string print_str print_string write_string write_char print_char addln \
         setcontent moveprint text_write win_print set_text set_title insert_text"),
-    (b"no call formats: see move, addstr", b"mvprintw mvwprintw"),
+    (b"no call fills in %d: see move, addstr", b"mvprintw mvwprintw"),
     (b"see getyx, getbegyx, getmaxyx",
         b"wherexy wherex wherey getbeg getwinsize getxmaxy maxx maxy begx begy curx cury get_pos max_yx get_position \
         getcur winsize window_size"),
@@ -89,8 +95,8 @@ const LIKE_CALLS: [Row; 51] = [
     (UPDATES, b"redraw_panels draw_panels refresh_panels refresh_panel draw_panel redraw_all force_redraw \
         upd_panels upd_panel udpate_panel uptade_panels"),
     (b"see replace_panel", b"panel_replace swap_panel replace_window"),
-    (b"see panel_hidden", b"hidden_panel is_panel_hidden panel_visible"),
-    (b"see panel_window", b"window_panel get_panel_window"),
+    (b"see panel_hidden", b"hidden_panel is_panel_hidden panel_visible panel_is_hidden panel_is_visible"),
+    (b"see panel_window", b"window_panel get_panel_window panel_get_window"),
     (b"see delch", b"delete_char delete_ch"),
     (b"see newpad", b"create_pad pad_new"),
     (b"see delwin", b"delpad del_pad pad_del win_del delete_win remove_win close_win free_win delete_pad free_pad \

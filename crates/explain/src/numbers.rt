@@ -125,6 +125,8 @@ fn between_reason(word: &[u8], line: &[u8], ill: IllFormed<'_>) -> &'static [u8]
 {
     if has_byte(line, b',') {
         no_commas()
+    } else if ill.argument == b"->".as_slice() {
+        b": an arrow is no argument: numbers alone are, in their order"
     } else if is_among(ill.argument, b"+ - * / %") && word != b"scrl".as_slice() {
         b": a script computes nothing: an argument is one number, and no expression"
     } else {
@@ -175,7 +177,7 @@ fn too_many_reason(word: &[u8]) -> Option<&'static [u8]>
         return Some(one_window());
     }
     if is_among(word, b"overlay overwrite") {
-        return Some(b": copywin copies a part");
+        return Some(b": window, window to write in; copywin copies a part");
     }
     None
 }

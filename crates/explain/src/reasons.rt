@@ -102,7 +102,7 @@ pub fn no_redirections() -> &'static [u8]
     ensures text { result.now ≡ no_redirections }
     ensures short { length result.now ≤ 80 }
 {
-    b": a script has no redirections or pipes"
+    b": a script has no redirections or pipes, and no &"
 }
 
 /// What is said of arguments that others give names.
@@ -379,7 +379,7 @@ fn name_reason(word: &[u8], place: usize, argument: &[u8]) -> &'static [u8]
         return no_letters();
     }
     if argument == b"none".as_slice() {
-        return b": only panel_above and panel_below take \"none\"";
+        return b": only panel_above and panel_below take none";
     }
     if is_near_number(word, argument) {
         return more_than_digits(argument);
@@ -448,7 +448,7 @@ fn signed_reason(word: &[u8], place: usize, argument: &[u8]) -> &'static [u8]
     }
     match argument.strip_prefix(b"-") {
         Some(digits) if are_digits(digits) => digits_reason(b": it is too small", digits),
-        Some(_) => b": digits alone come right after a minus",
+        Some(_) => b": a minus comes right before its digits",
         None => unsigned_reason(word, place, argument),
     }
 }

@@ -60,7 +60,7 @@ fn copying_arguments(word: CopyingWord) -> &'static [u8]
     match word {
         CopyingWord::Overlay | CopyingWord::Overwrite => b"window, window to write in",
         CopyingWord::Copywin => {
-            b"window, window to write in, line, column, in the second top, left, bottom, right, on or off"
+            b"window, window to write in, line, column, then top, left, bottom, right in the second, on or off"
         }
         CopyingWord::Touchwin
         | CopyingWord::Untouchwin
@@ -102,7 +102,7 @@ fn refresh_arguments(word: RefreshWord) -> &'static [u8]
         RefreshWord::Noutrefresh => b"window (0 is the standard screen)",
         RefreshWord::Pnoutrefresh =>
             b"pad, its line, its column, then top, left, bottom and right of the screen",
-        RefreshWord::UpdatePanels | RefreshWord::Doupdate => b"its name is all of its line",
+        RefreshWord::UpdatePanels | RefreshWord::Doupdate => b"it takes no arguments",
         RefreshWord::InitPair =>
             b"pair, foreground, background: 0 black 1 red 2 green 3 yellow 4 blue 5 magenta 6 cyan 7 white",
     }
