@@ -39,7 +39,7 @@ found-with name text (first ∷ names) rows = elim (list_any (bytes_eq name) (fi
     (λ v. option_map (λ row. row.0) (cond v (Some (text, first ∷ names)) (find (λ row. list_any (bytes_eq name) row.1) rows)) ≡ cond v (Some text) (found rows name))
     [ true ↦ refl | false ↦ refl ]
 
-advice-with : (name : List ℕ) (row : Row) (rows : List Row) → advice_in (row ∷ rows) name ≡ cond (list_any (bytes_eq name) (names_in row.1)) (Some row.0) (advice_in rows name)
+pub advice-with : (name : List ℕ) (row : Row) (rows : List Row) → advice_in (row ∷ rows) name ≡ cond (list_any (bytes_eq name) (names_in row.1)) (Some row.0) (advice_in rows name)
 advice-with name row rows = elim (list_any (bytes_eq name) (names_in row.1)) as
     (λ v. option_map (λ row. row.0) (cond v (Some row) (find (λ row. list_any (bytes_eq name) (names_in row.1)) rows)) ≡ cond v (Some row.0) (advice_in rows name))
     [ true ↦ refl | false ↦ refl ]

@@ -4,6 +4,8 @@ pub mod TableLemmas
 pub mod Letters
 -- that the table has for each letter the rows of the definition, for advice_on
 pub mod LetterTable
+-- rows that are passed over by their first letters, for more_advice
+pub mod Lettered
 -- that the words of calls are short, for nearest
 pub mod NearestLemmas
 -- why every screen refuses a call, for refusal_everywhere

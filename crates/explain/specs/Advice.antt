@@ -225,8 +225,8 @@ abbrev pub table_advice : List ℕ → Option (List ℕ)
 table_advice name = advice_in advised name
 
 -- names like those of calls, of which something is said where nothing is by the first table
-unfoldable pub like_calls_advised : List (List ℕ × List ℕ)
-like_calls_advised =
+unfoldable pub like_making_advised : List (List ℕ × List ℕ)
+like_making_advised =
     (codes "see delwin, del_panel", codes "del remove free")
     ∷ (
       codes "pairs have the terminal's colours until they are set: see init_pair",
@@ -267,7 +267,12 @@ like_calls_advised =
     ∷ (codes "a window keeps its size: see newwin, replace_panel", codes "panel_resize resize_panel")
     ∷ (codes "a panel shows its window: see panel_window, addstr", codes "panel_write write_panel panel_print panel_addstr")
     ∷ (codes "a panel shows its window: see panel_window, erase", codes "panel_clear clear_panel panel_erase erase_panel")
-    ∷ (backgrounds, codes "bgset bgpair bkpair bkg")
+    ∷ []
+
+-- names like those of other calls
+unfoldable pub like_others_advised : List (List ℕ × List ℕ)
+like_others_advised =
+    (backgrounds, codes "bgset bgpair bkpair bkg")
     ∷ (codes "see color_set, init_pair", codes "op oc setfg setbg set_fg set_bg set_colour set_colors set_colours")
     ∷ (
       codes "see move, addstr",
@@ -365,7 +370,7 @@ foreign_advised =
     ∷ []
 
 abbrev pub advice_like_calls : List ℕ → Option (List ℕ)
-advice_like_calls name = advice_in like_calls_advised name
+advice_like_calls name = or_else (advice_in like_making_advised name) (advice_in like_others_advised name)
 
 abbrev pub foreign_advice : List ℕ → Option (List ℕ)
 foreign_advice name = advice_in foreign_advised name

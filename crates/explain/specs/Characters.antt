@@ -6,7 +6,7 @@ use Rattle.std.specs.Str.{bytes_eq}
 use Rattle.script.specs.Characters.{backslash, backspace, carriage_return, is_space, number_sign, space}
 use Rattle.script.specs.declared.words.Form.TheVariants.{Text}
 use Rattle.explain.specs.Faults.{has_form}
-use Rattle.explain.specs.Names.{after_name, are_digits, are_two_digits, begins_with, begins_with_digit, begins_with_one, comma, digit_8, ends_with, escape, has_byte, has_call, has_part, is_one_of, is_quoted, name_of_argument, semicolon, tab, vertical_bar}
+use Rattle.explain.specs.Names.{after_name, are_digits, are_two_digits, begins_among, begins_with, begins_with_digit, begins_with_one, comma, digit_8, ends_with, escape, has_byte, has_call, has_part, is_one_of, is_quoted, name_of_argument, semicolon, tab, vertical_bar}
 
 -- ---- bytes that no line has
 
@@ -101,7 +101,7 @@ escape_reason rest = if begins_with (codes "t") rest then codes ": a tab is writ
     else (if begins_character rest then codes ": characters are those of ASCII, each as it is, or by its code as \\x41 for A"
     else (if begins_with_digit rest then codes ": a code is \\x and two hexadecimal digits, as \\x41 for A; there is no NUL"
     else (if begins_with_one (codes "x X") rest then codes ": two digits in lower case come after \\x, as \\x41 for A; a backslash is two"
-    else (if list_any (λ byte. has_byte byte (codes "NRB")) (take 1 rest) then codes ": escapes are in lower case, and a backslash itself is written as two"
+    else (if begins_among (codes "NRB") rest then codes ": escapes are in lower case, and a backslash itself is written as two"
     else (if list_any is_ascii_alphabetic (take 1 rest) then codes ": a backslash is written as two; there are no other escapes"
     else (if length rest == 0 then codes ": a backslash itself is written as two, and no line goes on in the next"
     else codes ": no other mark needs a backslash, and a backslash itself is written as two")))))))

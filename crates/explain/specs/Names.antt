@@ -126,6 +126,10 @@ abbrev pub has_part : List ℕ → List ℕ → Bool
 has_part part [] = false
 has_part part (b ∷ bs) = begins_with part (b ∷ bs) || has_part part bs
 
+-- the text begins with one of some bytes
+abbrev pub begins_among : List ℕ → List ℕ → Bool
+begins_among bytes text = list_any (λ byte. has_byte byte bytes) (take 1 text)
+
 -- the text begins with one of some, with a space between any two
 abbrev pub begins_with_one : List ℕ → List ℕ → Bool
 begins_with_one prefixes text = list_any (λ prefix. begins_with prefix text) (names_in prefixes)

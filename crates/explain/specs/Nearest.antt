@@ -75,9 +75,9 @@ same_call word = call_like Same word
 abbrev pub begun_call : List ℕ → Option (List ℕ)
 begun_call word = if nat_lt (length (letters_of word)) 4 then None else call_like Beginning word
 
--- the call with the word's letters, or else the first that it begins, or else the first that it is near
+-- the first call that begins with the word's letters, as one with just these does, or else the first that it is near
 abbrev pub nearest : List ℕ → Option (List ℕ)
-nearest word = or_else (same_call word) (or_else (begun_call word) (call_like Near word))
+nearest word = or_else (begun_call word) (call_like Near word)
 
 abbrev pub nearest_other : List ℕ → Option (List ℕ)
 nearest_other word = first_like Near other_names word

@@ -8,7 +8,7 @@ use Rattle.std.specs.Str.{bytes_eq}
 use Rattle.script.specs.Characters.{backslash}
 use Rattle.script.specs.Words.{word_of}
 use Rattle.explain.specs.Advice.{advice_by_part, advice_on, calls_alone, of_log, of_picture, of_shell, on_command_line, pairs_are_numbers, runs_no_programs, screen_size}
-use Rattle.explain.specs.Names.{after_comma, after_library, after_name, apostrophe, are_digits, begins_comment, begins_with, begins_with_digit, begins_with_one, called_name, colon, comma, ends_with, gives_value, greater_sign, has_byte, has_pair, has_part, has_value, is_comment, is_name_byte, is_one_of, is_quoted, is_redirection, name_in, names_pair, quotation_mark, round_bracket, slash, square_bracket, underscored, vertical_bar}
+use Rattle.explain.specs.Names.{after_comma, after_library, after_name, apostrophe, are_digits, begins_among, begins_comment, begins_with, begins_with_digit, begins_with_one, called_name, colon, comma, ends_with, gives_value, greater_sign, has_byte, has_pair, has_part, has_value, is_comment, is_name_byte, is_one_of, is_quoted, is_redirection, name_in, names_pair, quotation_mark, round_bracket, slash, square_bracket, underscored, vertical_bar}
 use Rattle.explain.specs.Nearest.{near_call_of_words, nearest, nearest_other, or_else, same_call}
 
 -- ---- what is said of a name
@@ -121,7 +121,7 @@ begins_with_call (piece ∷ pieces) = is_some (word_of piece)
 
 -- a mark and then a call, as in `-addstr` and `"addstr`
 abbrev pub begins_marked : List ℕ → Bool
-begins_marked word = list_any (λ byte. has_byte byte (codes "-+*$`'\"@!([{<:")) (take 1 word) && is_some (same_call word)
+begins_marked word = begins_among (codes "-+*$`'\"@!([{<:") word && is_some (same_call word)
 
 -- several bytes that end as a prompt does, as `bash$`; or an arrow or the like
 abbrev pub is_prompt : List ℕ → Bool

@@ -517,7 +517,7 @@ pub fn is_among(name: &[u8], names: &[u8]) -> bool
 }
 
 /// What a table says of a name: the first of its rows that has the name.
-pub fn look_up(mut rows: &[Row], name: &[u8]) -> Option<&'static [u8]>
+fn look_up(mut rows: &[Row], name: &[u8]) -> Option<&'static [u8]>
     ensures { option_map (λ text. text.now) result ≡ advice_in (rows_now rows.entry.now) name.now }
 {
     while let [(text, names), rest @ ..] = rows {

@@ -1,17 +1,16 @@
 //! What is said of bytes that no line has, of faulty texts, and of what is no character.
 
-ghost use Rattle.std.specs.Prelude.{◌≡◌, ◌≤◌, ◌==◌, ◌&&◌, codes, length, slice_index, take};
+ghost use Rattle.std.specs.Prelude.{◌≡◌, ◌≤◌, ◌==◌, ◌&&◌, length, slice_index, take};
 ghost use Rattle.std.specs.Char.{is_ascii_hexdigit};
-ghost use Rattle.std.specs.List.{list_all, list_any};
+ghost use Rattle.std.specs.List.{list_all};
 ghost use Rattle.explain.specs.Characters.{after_bad_escape, bad_text_advice, begins_character, begins_escape, begins_escaped, begins_greater_byte, begins_sequence, byte_advice, character_reason, draws_line, end_reason, ends_space, escape_reason, is_code, is_space_elsewhere, is_unseen, longer_reason, several_characters_reason, text_reason};
-ghost use Rattle.explain.specs.Names.{has_byte};
 
 use crate::advice::is_among;
 use crate::arguments::has_form;
 use crate::names::{
-    after_first, after_name, are_digits, are_hexadecimal, are_two_digits, begins_with,
-    begins_with_digit, begins_with_letter, begins_with_one, ends_with, has_byte, has_call,
-    has_part, is_quoted, name_of_argument,
+    after_first, after_name, are_digits, are_hexadecimal, are_two_digits, begins_among,
+    begins_with, begins_with_digit, begins_with_letter, begins_with_one, ends_with, has_byte,
+    has_call, has_part, is_quoted, name_of_argument,
 };
 use script::{Form, LONGEST_LINE, split_at_space};
 
@@ -172,16 +171,6 @@ fn begins_character(rest: &[u8]) -> bool
     begins_with_one(rest, b"u U") && (begins_with(number, b"{") || begins_with_number(number))
 }
 
-/// Whether what is after a backslash begins with the letter of an escape, in upper case.
-fn begins_upper_case(rest: &[u8]) -> bool
-    ensures { result ≡ list_any (λ byte. has_byte byte (codes "NRB")) (take 1 rest.now) }
-{
-    match rest.first() {
-        Some(first) => has_byte(b"NRB", *first),
-        None => false,
-    }
-}
-
 /// What is said of a text with a backslash that begins no escape.
 pub fn text_reason(text: &[u8]) -> &'static [u8]
     ensures text { result.now ≡ text_reason text.now }
@@ -205,7 +194,7 @@ fn escape_reason(rest: &[u8]) -> &'static [u8]
         b": a code is \\x and two hexadecimal digits, as \\x41 for A; there is no NUL"
     } else if begins_with_one(rest, b"x X") {
         b": two digits in lower case come after \\x, as \\x41 for A; a backslash is two"
-    } else if begins_upper_case(rest) {
+    } else if begins_among(rest, b"NRB") {
         b": escapes are in lower case, and a backslash itself is written as two"
     } else if begins_with_letter(rest) {
         b": a backslash is written as two; there are no other escapes"

@@ -4,7 +4,7 @@ ghost use Rattle.std.specs.Prelude.{◌≡◌, ◌≤◌, ◌+◌, ◌||◌, IfS
 ghost use Rattle.std.specs.Char.{is_ascii_alphabetic, is_ascii_hexdigit};
 ghost use Rattle.std.specs.List.{list_all, list_any};
 ghost use Rattle.script.specs.Pieces.{pieces_of, room_of};
-ghost use Rattle.explain.specs.Names.{after_comma, after_dot, after_library, after_name, after_sigil, are_digits, are_like_digits, are_like_two_digits, are_two_digits, begins_call, begins_comment, begins_with, begins_with_digit, begins_with_one, ends_with, gives_value, has_byte, has_call, has_comment, has_pair, has_part, has_value, is_comment, is_like_digit, is_marked, is_name_byte, is_quoted, is_redirection, name_in, name_of_argument, names_pair, underscore_for, underscored};
+ghost use Rattle.explain.specs.Names.{after_comma, after_dot, after_library, after_name, after_sigil, are_digits, are_like_digits, are_like_two_digits, are_two_digits, begins_among, begins_call, begins_comment, begins_with, begins_with_digit, begins_with_one, ends_with, gives_value, has_byte, has_call, has_comment, has_pair, has_part, has_value, is_comment, is_like_digit, is_marked, is_name_byte, is_quoted, is_redirection, name_in, name_of_argument, names_pair, underscore_for, underscored};
 
 use crate::advice::is_among;
 use arrayvec::ArrayVec;
@@ -382,6 +382,16 @@ pub fn begins_with_letter(text: &[u8]) -> bool
 {
     match text.first() {
         Some(first) => first.is_ascii_alphabetic(),
+        None => false,
+    }
+}
+
+/// Whether a text begins with one of some bytes.
+pub fn begins_among(text: &[u8], bytes: &[u8]) -> bool
+    ensures { result ≡ begins_among bytes.now text.now }
+{
+    match text.first() {
+        Some(first) => has_byte(bytes, *first),
         None => false,
     }
 }

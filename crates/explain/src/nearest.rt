@@ -183,15 +183,11 @@ fn begun_call(word: &[u8]) -> Option<&'static [u8]>
     call_like(Likeness::Beginning, word)
 }
 
-/// The call that is nearest to a word: the one with its letters, or else the first that it begins, or else the first
-/// that it is near.
+/// The call that is nearest to a word: the first that begins with its letters, or else the first that it is near.
 pub fn nearest(word: &[u8]) -> Option<&'static [u8]>
     ensures name { option_map (λ name. name.now) result ≡ nearest word.now }
     ensures short { IfSome result (λ name. length name.now ≤ 80) }
 {
-    if let Some(call) = same_call(word) {
-        return Some(call);
-    }
     match begun_call(word) {
         Some(call) => Some(call),
         None => call_like(Likeness::Near, word),

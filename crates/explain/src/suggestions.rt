@@ -12,10 +12,10 @@ ghost use Rattle.explain.specs.steps.Suggestions.{said_now};
 use crate::advice::{CALLS_ALONE, COMMAND_LINE, PAIRS, PROGRAMS, SCREEN_SIZE, advice_on, is_among};
 use crate::more_advice::{LOG_LINE, PICTURE, SHELL, advice_by_part};
 use crate::names::{
-    Name, after_comma, after_first, after_library, after_name, are_digits, begins_comment,
-    begins_with, begins_with_digit, begins_with_letter, begins_with_one, ends_with, gives_value,
-    has_byte, has_pair, has_part, has_value, is_comment, is_name_byte, is_quoted, is_redirection,
-    name_of, names_pair, underscored,
+    Name, after_comma, after_first, after_library, after_name, are_digits, begins_among,
+    begins_comment, begins_with, begins_with_digit, begins_with_letter, begins_with_one, ends_with,
+    gives_value, has_byte, has_pair, has_part, has_value, is_comment, is_name_byte, is_quoted,
+    is_redirection, name_of, names_pair, underscored,
 };
 use crate::nearest::{nearest, nearest_other, same_call};
 use script::{LONGEST_LINE, Word, split_at_space};
@@ -343,10 +343,7 @@ pub fn begins_with_call(text: Option<&[u8]>) -> bool
 fn begins_marked(word: &[u8]) -> bool
     ensures { result ≡ begins_marked word.now }
 {
-    match word.first() {
-        Some(first) => has_byte(b"-+*$`'\"@!([{<:", *first) && same_call(word).is_some(),
-        None => false,
-    }
+    begins_among(word, b"-+*$`'\"@!([{<:") && same_call(word).is_some()
 }
 
 /// Whether a word of several bytes ends as a prompt does, or is an arrow or the like.

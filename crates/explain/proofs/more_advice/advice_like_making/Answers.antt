@@ -1,0 +1,10 @@
+-- `advice_like_making`: the rows are those of the definition, and each has the first letters of its names (`TableLemmas`).
+use Rattle.std.proofs.Common.{◌∙◌}
+use Rattle.explain.proofs.TableLemmas.{making-found, making-short}
+use Rattle.explain.proofs.more_advice.advice_like_making.Goals as goal
+
+pub returns-clause-text : goal.returns-clause-text
+returns-clause-text c = c.look_up_lettered.ensures ∙ making-found c.args.name.now
+
+pub returns-clause-short : goal.returns-clause-short
+returns-clause-short c = making-short c.args.name.now c.look_up_lettered.result (returns-clause-text c)
