@@ -407,8 +407,8 @@ curspan_answer curspan_wnoutrefresh(curspan *screen, uint32_t win);
 curspan_answer curspan_pnoutrefresh(curspan *screen, uint32_t pad, uint32_t pminrow, uint32_t pmincol, uint32_t sminrow,
                                     uint32_t smincol, uint32_t smaxrow, uint32_t smaxcol);
 
-/* Takes the picture of windows and panels, and the topmost's cursor, into the virtual screen. It answers how many cells
-   it read. */
+/* Takes the picture of windows and panels into the virtual screen, with the cursor of the top visible panel's window,
+   or else of the standard screen. It answers how many cells it read. */
 curspan_answer curspan_update_panels(curspan *screen);
 
 /* Sends the bytes that show the virtual screen on the terminal: only what changed, or all of it after a clear. It

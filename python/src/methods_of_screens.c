@@ -105,8 +105,8 @@ PyMethodDef curspan_screen_methods[] = {
      "update_panels($self)\n"
      "--\n"
      "\n"
-     "Takes the picture of windows and panels, and the topmost's cursor, into the virtual screen. It\n"
-     "answers how many cells it read."},
+     "Takes the picture of windows and panels into the virtual screen, with the cursor of the top visible\n"
+     "panel's window, or else of the standard screen. It answers how many cells it read."},
     {"doupdate", AS_FUNCTION(curspan_screen_doupdate), METH_NOARGS,
      "doupdate($self)\n"
      "--\n"

@@ -175,8 +175,8 @@ impl<W> Screen<W> {
         self.waddstr(win, text)
     }
 
-    /// Takes the picture of windows and panels, and the topmost's cursor, into the virtual screen.
-    /// Answers how many cells it read.
+    /// Takes the picture of windows and panels into the virtual screen, with the cursor of the top
+    /// visible panel's window, or else of the standard screen. Answers how many cells it read.
     #[inline]
     pub fn update_panels(&mut self) -> u32 {
         sys::curspan_update_panels(&mut self.sys).map_or(0, |answer| answer.first)

@@ -64,8 +64,8 @@ pub trait Calls {
         typed(self.ask(query))
     }
 
-    /// Takes the picture of windows and panels, and the topmost's cursor, into the virtual screen. It answers how many
-    /// cells it read.
+    /// Takes the picture of windows and panels into the virtual screen, with the cursor of the top visible panel's
+    /// window, or else of the standard screen. It answers how many cells it read.
     final fn update_panels(&mut self) -> Composed
         ensures { made self.old (Call.Refresh Refresh.UpdatePanels) (Ok (Reply.Composed result)) self.new }
     {

@@ -55,8 +55,8 @@ pub extern "C" fn curspan_pnoutrefresh(
     )
 }
 
-/// Takes the picture of windows and panels, and the topmost's cursor, into the virtual screen. It answers how many
-/// cells it read.
+/// Takes the picture of windows and panels into the virtual screen, with the cursor of the top visible panel's window,
+/// or else of the standard screen. It answers how many cells it read.
 #[unsafe(no_mangle)]
 pub extern "C" fn curspan_update_panels(alloc: Global, screen: &mut Handle) -> Answer
     ensures { Called ⟦<Outlet as Sink>⟧ screen.old.value (Call.Refresh Refresh.UpdatePanels) result screen.new.value }
