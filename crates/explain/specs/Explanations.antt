@@ -4,6 +4,7 @@ use Rattle.std.specs.List.{slice_split}
 use Rattle.std.specs.Option.{option_map_or, unwrap_or}
 use Rattle.cell.specs.Attributes.{hex_digits}
 use Rattle.script.specs.Characters.{is_space, newline}
+use Rattle.script.specs.declared.words.Form.{Form}
 use Rattle.script.specs.declared.fault.TextFault.{TextFault}
 use Rattle.script.specs.declared.fault.TextFault.TheVariants.{LineTooLong, BadByte, UnknownCall, WrongNumberOfArguments, BadArgument}
 use Rattle.explain.specs.Characters.{bad_text_advice}
@@ -39,9 +40,12 @@ one_word call = codes ": a call's name is one word: see " ++ call
 unfoldable pub one_word_or : List ℕ → List ℕ → List (List ℕ) → List ℕ
 one_word_or said word pieces = option_map_or one_word (call_of_words word pieces) said
 
--- what a word wants in place of an argument
+-- what a word wants in place of an argument, and why that is none
+abbrev pub wanted_text : List ℕ → Form → List ℕ → List ℕ
+wanted_text word form argument = word ++ codes " wants " ++ requirement_of word form ++ codes ", not " ++ quotation argument
+
 abbrev pub ill_formed_text : List ℕ → List (List ℕ) → IllFormed → List ℕ
-ill_formed_text word pieces ill = word ++ codes " wants " ++ requirement_of word ill.form ++ codes ", not " ++ quotation ill.argument
+ill_formed_text word pieces ill = wanted_text word ill.form ill.argument
     ++ one_word_or (reason_after word (place_of word ill) ill.form ill.argument) word pieces
 
 -- what is said of a bad byte, of a word that is no call (of no word, since the line begins with a space), and of a
@@ -85,12 +89,16 @@ abbrev pub bad_byte_advice : List ℕ → List ℕ
 bad_byte_advice line = if bad_place line == 0 && begins_with_call (drop 1 (slice_split is_space line)) then nothing_before
     else bad_text_advice (slice_index line (bad_place line)) (drop (bad_place line) line)
 
+-- what is said of the marks that a line begins with where an editor wrote them
+abbrev pub marks_advice : List ℕ → Option (List ℕ)
+marks_advice line = if begins_with byte_order_mark line then Some (codes "bad byte ef: a script has no byte order mark")
+    else (if begins_with little_endian_mark line then Some (codes "bad byte ff: the script is in UTF-16, and has to be in ASCII")
+    else (if begins_with big_endian_mark line then Some (codes "bad byte fe: the script is in UTF-16, and has to be in ASCII")
+    else None))
+
 -- what is said of a line with a bad byte
 abbrev pub bad_line_text : List ℕ → List ℕ
-bad_line_text line = if begins_with byte_order_mark line then codes "bad byte ef: a script has no byte order mark"
-    else (if begins_with little_endian_mark line then codes "bad byte ff: the script is in UTF-16, and has to be in ASCII"
-    else (if begins_with big_endian_mark line then codes "bad byte fe: the script is in UTF-16, and has to be in ASCII"
-    else bad_byte_text (slice_index line (bad_place line)) (bad_byte_advice line)))
+bad_line_text line = unwrap_or (marks_advice line) (bad_byte_text (slice_index line (bad_place line)) (bad_byte_advice line))
 
 -- what is said of a fault
 abbrev pub explanation : TextFault → List ℕ → List ℕ

@@ -153,18 +153,26 @@ abbrev pub said_of_two : List ℕ → List (List ℕ) → Option (List ℕ)
 said_of_two word [] = None
 said_of_two word (piece ∷ pieces) = if are_digits piece then advice_on_next word pieces else advice_on (word ++ codes "_" ++ piece)
 
--- of a word that is no call and the words after it; where a bracket is in the word, an equals sign is part of an argument
-abbrev pub said_of_line : List ℕ → List (List ℕ) → Option (List ℕ)
-said_of_line word pieces = or_else (or_else (said_of_two word pieces) (said_of_pair word pieces))
-    (if is_of_log word pieces then Some of_log
+-- of a line that belongs elsewhere: in a log, at a prompt, in a picture, or in a shell
+abbrev pub said_of_other_line : List ℕ → List (List ℕ) → Option (List ℕ)
+said_of_other_line word pieces = if is_of_log word pieces then Some of_log
     else (if is_prompt word && begins_with_call pieces then Some nothing_before
     else (if is_of_picture word pieces then Some of_picture
     else (if is_echo word pieces then Some of_shell
-    else (if is_statement word pieces then Some calls_alone
+    else None)))
+
+-- of a line that other languages would have; where a bracket is in the word, an equals sign is part of an argument
+abbrev pub said_of_statement : List ℕ → List (List ℕ) → Option (List ℕ)
+said_of_statement word pieces = if is_statement word pieces then Some calls_alone
     else (if is_label word then Some (codes "a script has calls alone, and no labels or settings; a comment begins with #")
     else (if has_value word pieces && not (has_byte round_bracket word) then Some (said_of_value (name_in word))
     else (if is_before_call word pieces then Some nothing_before
-    else None))))))))
+    else None)))
+
+-- of a word that is no call and the words after it
+abbrev pub said_of_line : List ℕ → List (List ℕ) → Option (List ℕ)
+said_of_line word pieces = or_else (said_of_two word pieces) (or_else (said_of_pair word pieces)
+    (or_else (said_of_other_line word pieces) (said_of_statement word pieces)))
 
 -- ---- what is said of the marks of a word
 

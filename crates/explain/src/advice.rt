@@ -493,8 +493,8 @@ const ADVICE: [(u8, &[Row]); 28] = [
     ]),
 ];
 
-/// Whether a name is one of those in a text.
-fn is_in(name: &[u8], text: Option<&[u8]>) -> bool
+/// Whether a name is one of those in a text, if there is one.
+pub fn is_in(name: &[u8], text: Option<&[u8]>) -> bool
     ensures { result ≡ list_any (bytes_eq name.now) (pieces_of text.entry) }
 {
     let Some(text) = text else { return false };

@@ -1,6 +1,6 @@
 //! The arguments of a faulty line: how many there are, the first that lacks its form, and the first that is none.
 
-ghost use Rattle.std.specs.Prelude.{◌≡◌, ◌≤◌, ◌+◌, IfSome, length, option_map};
+ghost use Rattle.std.specs.Prelude.{◌≡◌, ◌≤◌, ◌+◌, ◌-◌, IfSome, length, option_map};
 ghost use Rattle.script.specs.Pieces.{pieces_of, room_of};
 ghost use Rattle.script.specs.Readings.{arguments};
 ghost use Rattle.std.specs.Char.{is_ascii_digit};
@@ -28,6 +28,13 @@ pub fn forms_of(word: &[u8]) -> &'static [Form]
         Some(word) => word.forms(),
         None => &[],
     }
+}
+
+/// How many arguments of a word are before one that has so many from it on.
+pub fn place_of(word: &[u8], left: usize) -> usize
+    ensures { result ≡ length (forms_of word.now) - left }
+{
+    forms_of(word).len().saturating_sub(left)
 }
 
 /// How many arguments are in a text.

@@ -1,14 +1,14 @@
 //! What a person reads about a faulty line: where its fault is, what is there, and what is wanted.
 
-ghost use Rattle.std.specs.Prelude.{◌≡◌, ◌≤◌, ◌+◌, ◌-◌, ◌++◌, ◌<◌, codes, decimal, length, option_map, unwrap_or};
+ghost use Rattle.std.specs.Prelude.{◌≡◌, ◌≤◌, ◌+◌, ◌-◌, ◌++◌, ◌<◌, IfSome, codes, decimal, length, option_map, unwrap_or};
 ghost use Rattle.script.specs.Pieces.{pieces_of, room_of};
 ghost use Rattle.explain.specs.Faults.{IllFormed as Ill, forms_of};
 ghost use Rattle.explain.specs.Numbers.{signature_text};
-ghost use Rattle.explain.specs.Explanations.{bad_byte_advice, bad_byte_text, bad_line_text, count_text, explanation, finding, ill_formed_text, no_call_text, number_advice, number_text, one_word, one_word_or, quotation, spaces_text, stray_text, unknown_text};
+ghost use Rattle.explain.specs.Explanations.{bad_byte_advice, bad_byte_text, bad_line_text, count_text, explanation, finding, ill_formed_text, marks_advice, no_call_text, number_advice, number_text, one_word, one_word_or, quotation, spaces_text, stray_text, unknown_text, wanted_text};
 ghost use Rattle.explain.specs.Reasons.{reason_after};
 ghost use Rattle.explain.specs.Suggestions.{call_advice, line_advice, said_of};
 
-use crate::arguments::{IllFormed, Stray, count, find_ill_formed, find_stray, forms_of};
+use crate::arguments::{IllFormed, Stray, count, find_ill_formed, find_stray, forms_of, place_of};
 use crate::characters::bad_text_advice;
 use crate::column::{bad_byte, bad_place, column_of, from_bad_byte};
 use crate::groups::writes;
@@ -20,7 +20,7 @@ use crate::signatures::names_of_arguments;
 use crate::suggestions::{begins_with_call, nothing_before, said_of, said_of_line};
 use arrayvec::ArrayVec;
 use cell::hex_digits;
-use script::{LONGEST_LINE, TextFault, Word, split_at_space};
+use script::{Form, LONGEST_LINE, TextFault, Word, split_at_space};
 use streams::{append, append_decimal};
 
 /// Room for a line about a fault: two words of a line, and 512 bytes more.
@@ -79,11 +79,25 @@ fn append_reason(text: &mut Finding, word: &[u8], arguments: Option<&[u8]>, ill:
 {
     match call_of_words(word, arguments) {
         Some(call) => append_one_word(text, call),
-        None => {
-            let place = forms_of(word).len().saturating_sub(ill.left);
-            append(text, reason_after(word, place, ill.form, ill.argument));
-        }
+        None => append(
+            text,
+            reason_after(word, place_of(word, ill.left), ill.form, ill.argument),
+        ),
     }
+}
+
+/// Appends what a word wants in place of an argument.
+fn append_wanted(text: &mut Finding, word: &[u8], form: Form, argument: &[u8])
+    requires room { length text.old.items + length word.now ≤ 600 }
+    requires argument { length argument.now ≤ LONGEST_LINE }
+    ensures text { text.new.items ≡ text.old.items ++ wanted_text word.now form argument.now }
+    ensures short { length text.new.items ≤ 1280 }
+{
+    append(text, word);
+    append(text, b" wants ");
+    append(text, requirement_of(word, form));
+    append(text, b", not ");
+    append_quoted(text, argument);
 }
 
 /// Appends what a word wants in place of an argument of those after it.
@@ -95,11 +109,7 @@ fn append_ill_formed(text: &mut Finding, word: &[u8], arguments: Option<&[u8]>, 
         { column = ill.entry.column; form = ill.entry.form; argument = ill.entry.argument.now; left = ill.entry.left }) }
     ensures short { length text.new.items < FINDING_ROOM }
 {
-    append(text, word);
-    append(text, b" wants ");
-    append(text, requirement_of(word, ill.form));
-    append(text, b", not ");
-    append_quoted(text, ill.argument);
+    append_wanted(text, word, ill.form, ill.argument);
     append_reason(text, word, arguments, ill);
 }
 
@@ -291,28 +301,33 @@ fn bad_byte_advice(line: &[u8]) -> &'static [u8]
     bad_text_advice(bad_byte(line), from_bad_byte(line))
 }
 
+/// What is said of the marks that a line begins with where an editor wrote them before all others.
+fn marks_advice(line: &[u8]) -> Option<&'static [u8]>
+    ensures text { option_map (λ text. text.now) result ≡ marks_advice line.now }
+    ensures short { IfSome result (λ text. length text.now ≤ 80) }
+{
+    if begins_with(line, b"\xef\xbb\xbf") {
+        return Some(b"bad byte ef: a script has no byte order mark");
+    }
+    if begins_with(line, b"\xff\xfe") {
+        return Some(b"bad byte ff: the script is in UTF-16, and has to be in ASCII");
+    }
+    if begins_with(line, b"\xfe\xff") {
+        return Some(b"bad byte fe: the script is in UTF-16, and has to be in ASCII");
+    }
+    None
+}
+
 /// Appends what is said of a line with a bad byte.
 fn append_bad_line(text: &mut Finding, line: &[u8])
     requires { length text.old.items ≤ 64 }
     ensures text { text.new.items ≡ text.old.items ++ bad_line_text line.now }
     ensures short { length text.new.items < FINDING_ROOM }
 {
-    if begins_with(line, b"\xef\xbb\xbf") {
-        return append(text, b"bad byte ef: a script has no byte order mark");
+    match marks_advice(line) {
+        Some(said) => append(text, said),
+        None => append_bad_byte(text, bad_byte(line), bad_byte_advice(line)),
     }
-    if begins_with(line, b"\xff\xfe") {
-        return append(
-            text,
-            b"bad byte ff: the script is in UTF-16, and has to be in ASCII",
-        );
-    }
-    if begins_with(line, b"\xfe\xff") {
-        return append(
-            text,
-            b"bad byte fe: the script is in UTF-16, and has to be in ASCII",
-        );
-    }
-    append_bad_byte(text, bad_byte(line), bad_byte_advice(line));
 }
 
 /// Appends what is said of a fault.

@@ -6,7 +6,7 @@ ghost use Rattle.explain.specs.Faults.{IllFormed as Ill};
 ghost use Rattle.explain.specs.Numbers.{begins_bracketed, begins_number, between_reason, comma_reason, has_joined, has_redirection, is_joined, joined_reason, joins_attributes, marks_reason, number_reason, separation_reason, surplus_reason, takes_text, too_many_reason};
 
 use crate::advice::is_among;
-use crate::arguments::{IllFormed, find_ill_formed, forms_of, is_word};
+use crate::arguments::{IllFormed, find_ill_formed, forms_of, is_word, place_of};
 use crate::groups::{sets_attributes, sets_pair, takes_place_of_cursor, writes};
 use crate::names::{
     are_digits, are_two_digits, begins_with_digit, ends_with, has_byte, has_call, has_pair,
@@ -130,7 +130,7 @@ fn between_reason(word: &[u8], line: &[u8], ill: IllFormed<'_>) -> &'static [u8]
     } else if is_among(ill.argument, b"+ - * / %") && word != b"scrl".as_slice() {
         b": a script computes nothing: an argument is one number, and no expression"
     } else {
-        let place = forms_of(word).len().saturating_sub(ill.left);
+        let place = place_of(word, ill.left);
         reason_after(word, place, ill.form, ill.argument)
     }
 }

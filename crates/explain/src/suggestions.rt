@@ -6,7 +6,7 @@ ghost use Rattle.script.specs.Pieces.{pieces_of, room_of};
 ghost use Rattle.explain.specs.Advice.{advice_on};
 ghost use Rattle.explain.specs.Names.{called_name, is_name_byte, underscored};
 ghost use Rattle.explain.specs.Nearest.{nearest_other};
-ghost use Rattle.explain.specs.Suggestions.{advice_on_next, advice_on_rest, after_prefix, begins_marked, begins_with_call, gives_place, is_before_call, is_between, is_drawn, is_echo, is_label, is_of_log, is_of_picture, is_of_shell, is_of_tmux, is_prompt, is_statement, is_step, is_stroke, last_word, no_variables, nothing_before, number_first, said_near_name, said_of, said_of_backslash, said_of_beginning, said_of_curses, said_of_given, said_of_line, said_of_marks, said_of_name, said_of_near, said_of_pair, said_of_two, said_of_value, said_of_written, say_call, see_longer, see_nearest, see_nearest_rest, written_advice};
+ghost use Rattle.explain.specs.Suggestions.{advice_on_next, advice_on_rest, after_prefix, begins_marked, begins_with_call, gives_place, is_before_call, is_between, is_drawn, is_echo, is_label, is_of_log, is_of_picture, is_of_shell, is_of_tmux, is_prompt, is_statement, is_step, is_stroke, last_word, no_variables, nothing_before, number_first, said_near_name, said_of, said_of_backslash, said_of_beginning, said_of_curses, said_of_given, said_of_line, said_of_marks, said_of_name, said_of_near, said_of_other_line, said_of_pair, said_of_statement, said_of_two, said_of_value, said_of_written, say_call, see_longer, see_nearest, see_nearest_rest, written_advice};
 ghost use Rattle.explain.specs.steps.Suggestions.{said_now};
 
 use crate::advice::{CALLS_ALONE, COMMAND_LINE, PAIRS, PROGRAMS, SCREEN_SIZE, advice_on, is_among};
@@ -425,18 +425,12 @@ fn said_of_two(word: &[u8], text: Option<&[u8]>) -> Option<&'static [u8]>
     advice_on_next(word, text)
 }
 
-/// What is said of a word that is no call and of the words after it.
-pub fn said_of_line(word: &[u8], text: Option<&[u8]>) -> Option<&'static [u8]>
+/// What is said of a line that belongs elsewhere: in a log, at a prompt, in a picture, or in a shell.
+fn said_of_other_line(word: &[u8], text: Option<&[u8]>) -> Option<&'static [u8]>
     requires { length word.now + room_of text ≤ LONGEST_LINE }
-    ensures said { option_map (λ text. text.now) result ≡ said_of_line word.now (pieces_of text.entry) }
+    ensures said { option_map (λ text. text.now) result ≡ said_of_other_line word.now (pieces_of text.entry) }
     ensures short { IfSome result (λ text. length text.now ≤ 80) }
 {
-    if let Some(said) = said_of_two(word, text) {
-        return Some(said);
-    }
-    if let Some(said) = said_of_pair(word, text) {
-        return Some(said);
-    }
     if is_of_log(word, text) {
         return Some(LOG_LINE);
     }
@@ -449,6 +443,16 @@ pub fn said_of_line(word: &[u8], text: Option<&[u8]>) -> Option<&'static [u8]>
     if is_echo(word, text) {
         return Some(SHELL);
     }
+    None
+}
+
+/// What is said of a line that other languages would have: a statement, a label, a value for a name, or what is before a
+/// call.
+fn said_of_statement(word: &[u8], text: Option<&[u8]>) -> Option<&'static [u8]>
+    requires { length word.now + room_of text ≤ LONGEST_LINE }
+    ensures said { option_map (λ text. text.now) result ≡ said_of_statement word.now (pieces_of text.entry) }
+    ensures short { IfSome result (λ text. length text.now ≤ 80) }
+{
     if is_statement(word, text) {
         return Some(CALLS_ALONE);
     }
@@ -464,6 +468,24 @@ pub fn said_of_line(word: &[u8], text: Option<&[u8]>) -> Option<&'static [u8]>
         return Some(nothing_before());
     }
     None
+}
+
+/// What is said of a word that is no call and of the words after it.
+pub fn said_of_line(word: &[u8], text: Option<&[u8]>) -> Option<&'static [u8]>
+    requires { length word.now + room_of text ≤ LONGEST_LINE }
+    ensures said { option_map (λ text. text.now) result ≡ said_of_line word.now (pieces_of text.entry) }
+    ensures short { IfSome result (λ text. length text.now ≤ 80) }
+{
+    if let Some(said) = said_of_two(word, text) {
+        return Some(said);
+    }
+    if let Some(said) = said_of_pair(word, text) {
+        return Some(said);
+    }
+    if let Some(said) = said_of_other_line(word, text) {
+        return Some(said);
+    }
+    said_of_statement(word, text)
 }
 
 /// What is said of a word that begins with a backslash.
