@@ -10,3 +10,5 @@ pub mod Lettered
 pub mod NearestLemmas
 -- why every screen refuses a call, for refusal_everywhere
 pub mod EverywhereLemmas
+-- what is said where two words are the name of a call, for findings
+pub mod OneWordLemmas
