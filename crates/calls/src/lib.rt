@@ -1,18 +1,18 @@
-//! The trait `Calls`: a method for each call that sends nothing, and the types of their answers. It is a library of its
-//! own, since it needs no windows: it is proved beside them.
+//! The trait `Calls` of what makes calls, and the types of their answers. It is a library of its own, since it needs no
+//! windows: it is proved beside them.
 //!
 //! - `answer`: what a call answers, as a type
 //! - `laws`: what holds of the definitions alone
-//! - `methods`: a method for each call
+//! - `making`: what makes calls
 //! - `queries`: which calls only ask
 #![tactic(auto)]
 
 mod answer;
 mod laws;
-mod methods;
+mod making;
 mod queries;
 
 pub use answer::Answer;
 pub use laws::{queries_only_ask, refusals_are_named};
-pub use methods::Calls;
+pub use making::Calls;
 pub use queries::is_query;

@@ -6,6 +6,7 @@ use desk::{
     Call, Calls, Counted, Fault, PanelId, Refusal, RunEnd, Screen, VirtualScreen, WinId, WriteFault,
 };
 use faulty::Halting;
+use methods::Methods;
 use std::alloc::Global;
 use std::test::Fail;
 

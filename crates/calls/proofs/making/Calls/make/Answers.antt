@@ -1,5 +1,5 @@
 use Rattle.calls.proofs.AnswerKinds.{of-kind}
-use Rattle.calls.proofs.methods.Calls.make.Goals as goal
+use Rattle.calls.proofs.making.Calls.make.Goals as goal
 
 pub typed-requires : goal.typed-requires
 typed-requires g c =

@@ -1,8 +1,8 @@
-//! A method for each call that sends nothing, under its name in X/Open Curses or in panel(3).
+//! `Methods`: a method for each call, under its name in X/Open Curses or in panel(3), of all that makes calls. Nothing that
+//! is below a screen needs them, nor does a script.
+#![tactic(auto)]
 
-ghost use Rattle.std.specs.Prelude.{◌≡◌, Err, IfOk, Ok, Result, false, true};
-ghost use Rattle.world.specs.World.{World};
-ghost use Rattle.world.specs.calls.Dispatch.{is_doupdate};
+ghost use Rattle.std.specs.Prelude.{◌≡◌};
 ghost use Rattle.world.specs.declared.call.Call.{Call};
 ghost use Rattle.world.specs.declared.call.Reply.{Reply};
 ghost use Rattle.world.specs.declared.call.Making.{Making};
@@ -11,70 +11,16 @@ ghost use Rattle.world.specs.declared.call.Copying.{Copying};
 ghost use Rattle.world.specs.declared.call.Query.{Query};
 ghost use Rattle.world.specs.declared.call.Stacking.{Stacking};
 ghost use Rattle.world.specs.declared.call.Refresh.{Refresh};
-ghost use Rattle.calls.specs.Kinds.{IsAnswerTo, IsOfKind, kind_of};
-ghost use Rattle.calls.specs.Queries.{is_query};
 ghost use Rattle.world.specs.Replies.{its_panel, no_answer, two_numbers};
 ghost use Rattle.calls.specs.Methods.{as_reply};
 
-use crate::answer::Answer;
+use calls::Calls;
 use cell::{Attr, Cell, WinId};
-use world::{Call, Composed, PanelId, Reply};
+use world::{Call, PanelId};
 
-/// What makes calls: a method for each that sends nothing, which is any but `doupdate`. Each method lists why it may be
-/// refused.
-pub trait Calls {
-    /// Why a call did nothing.
-    type Error;
-
-    // The call was made, and ended so: all that is known of it.
-    ghost made: { Self → Call → Result Reply Self.Error → Self → Type 0 };
-
-    /// Makes a call.
-    fn call(&mut self, call: &Call<'_>) -> Result<Reply, Self::Error>
-        requires { is_doupdate call.now ≡ false }
-        ensures { made self.old call.now result self.new };
-
-    /// Makes a call that only asks.
-    fn ask(&self, query: &Call<'_>) -> Result<Reply, Self::Error>
-        requires { is_query query.now ≡ true }
-        ensures { made self.now query.now result self.now };
-
-    // Each answer is of the kind that the call has.
-    ghost answers: { (old : Self) (call : Call) (reply : Reply) (new : Self) → is_doupdate call ≡ false → made old call (Ok reply) new
-        → IsAnswerTo call reply };
-
-    // No update_panels is refused.
-    ghost composes: { (old : Self) (e : Self.Error) (new : Self) → made old (Call.Refresh Refresh.UpdatePanels) (Err e) new → ⊥ };
-
-    /// Makes a call whose answers are of one kind.
-    final fn make<A: Answer>(&mut self, call: &Call<'_>) -> Result<A, Self::Error>
-        requires other { is_doupdate call.now ≡ false }
-        requires kind { (world : World) → kind_of world call.now ≡ A.kind }
-        ensures { made self.old call.now (as_reply A.reply_of result) self.new }
-    {
-        typed(self.call(call))
-    }
-
-    /// Makes a call that only asks, and whose answers are of one kind.
-    final fn find<A: Answer>(&self, query: &Call<'_>) -> Result<A, Self::Error>
-        requires query { is_query query.now ≡ true }
-        requires kind { (world : World) → kind_of world query.now ≡ A.kind }
-        ensures { made self.now query.now (as_reply A.reply_of result) self.now }
-    {
-        typed(self.ask(query))
-    }
-
-    /// Takes the picture of windows and panels into the virtual screen, with the cursor of the top visible panel's
-    /// window, or else of the standard screen. It answers how many cells it read.
-    final fn update_panels(&mut self) -> Composed
-        ensures { made self.old (Call.Refresh Refresh.UpdatePanels) (Ok (Reply.Composed result)) self.new }
-    {
-        match self.make(&Call::update_panels()) {
-            Ok(composed) => composed,
-            Err(_) => unreachable!(),
-        }
-    }
-
+/// A method for each call, of all that makes calls. `Calls` itself has `update_panels`, and a screen `doupdate`. Each
+/// method lists why it may be refused.
+pub trait Methods: Calls {
     // Written by tools/calls from calls.table: methods
 
     /// Makes a window at a place of the screen, with a blank grid of its own. A size of 0 reaches to the edge of the
@@ -89,7 +35,7 @@ pub trait Calls {
         y: u16,
         x: u16,
     ) -> Result<WinId, Self::Error>
-        ensures { made self.old (Call.Making (Making.Newwin lines columns y x)) (as_reply Reply.Number result) self.new }
+        ensures { Self.made self.old (Call.Making (Making.Newwin lines columns y x)) (as_reply Reply.Number result) self.new }
     {
         self.make(&Call::newwin(lines, columns, y, x))
     }
@@ -107,7 +53,7 @@ pub trait Calls {
         y: u16,
         x: u16,
     ) -> Result<WinId, Self::Error>
-        ensures { made self.old (Call.Making (Making.Subwin win lines columns y x)) (as_reply Reply.Number result) self.new }
+        ensures { Self.made self.old (Call.Making (Making.Subwin win lines columns y x)) (as_reply Reply.Number result) self.new }
     {
         self.make(&Call::subwin(win, lines, columns, y, x))
     }
@@ -125,7 +71,7 @@ pub trait Calls {
         y: u16,
         x: u16,
     ) -> Result<WinId, Self::Error>
-        ensures { made self.old (Call.Making (Making.Derwin win lines columns y x)) (as_reply Reply.Number result) self.new }
+        ensures { Self.made self.old (Call.Making (Making.Derwin win lines columns y x)) (as_reply Reply.Number result) self.new }
     {
         self.make(&Call::derwin(win, lines, columns, y, x))
     }
@@ -135,7 +81,7 @@ pub trait Calls {
     /// # Errors
     /// `BadSize`, `TooMany`, `NoMemory`.
     final fn newpad(&mut self, lines: u16, columns: u16) -> Result<WinId, Self::Error>
-        ensures { made self.old (Call.Making (Making.Newpad lines columns)) (as_reply Reply.Number result) self.new }
+        ensures { Self.made self.old (Call.Making (Making.Newpad lines columns)) (as_reply Reply.Number result) self.new }
     {
         self.make(&Call::newpad(lines, columns))
     }
@@ -152,7 +98,7 @@ pub trait Calls {
         y: u16,
         x: u16,
     ) -> Result<WinId, Self::Error>
-        ensures { made self.old (Call.Making (Making.Subpad pad lines columns y x)) (as_reply Reply.Number result) self.new }
+        ensures { Self.made self.old (Call.Making (Making.Subpad pad lines columns y x)) (as_reply Reply.Number result) self.new }
     {
         self.make(&Call::subpad(pad, lines, columns, y, x))
     }
@@ -162,7 +108,7 @@ pub trait Calls {
     /// # Errors
     /// `NoSuchWindow`, `StandardScreen`, `InPanel`, `HasDerived`.
     final fn delwin(&mut self, win: WinId) -> Result<(), Self::Error>
-        ensures { made self.old (Call.Making (Making.Delwin win)) (as_reply no_answer result) self.new }
+        ensures { Self.made self.old (Call.Making (Making.Delwin win)) (as_reply no_answer result) self.new }
     {
         self.make(&Call::delwin(win))
     }
@@ -172,7 +118,7 @@ pub trait Calls {
     /// # Errors
     /// `NoSuchWindow`, `StandardScreen`, `IsPad`, `InPanel`, `OffScreen`.
     final fn mvwin(&mut self, win: WinId, y: u16, x: u16) -> Result<(), Self::Error>
-        ensures { made self.old (Call.Making (Making.Mvwin win y x)) (as_reply no_answer result) self.new }
+        ensures { Self.made self.old (Call.Making (Making.Mvwin win y x)) (as_reply no_answer result) self.new }
     {
         self.make(&Call::mvwin(win, y, x))
     }
@@ -183,7 +129,7 @@ pub trait Calls {
     /// # Errors
     /// `NoSuchWindow`, `NotDerived`, `OutsideParent`.
     final fn mvderwin(&mut self, win: WinId, y: u16, x: u16) -> Result<(), Self::Error>
-        ensures { made self.old (Call.Making (Making.Mvderwin win y x)) (as_reply no_answer result) self.new }
+        ensures { Self.made self.old (Call.Making (Making.Mvderwin win y x)) (as_reply no_answer result) self.new }
     {
         self.make(&Call::mvderwin(win, y, x))
     }
@@ -193,7 +139,7 @@ pub trait Calls {
     /// # Errors
     /// `NoSuchWindow`; `OutsideWindow` for a place that the window hasn't.
     final fn wmove(&mut self, win: WinId, y: u16, x: u16) -> Result<(), Self::Error>
-        ensures { made self.old (Call.Writing (Writing.Move win y x)) (as_reply no_answer result) self.new }
+        ensures { Self.made self.old (Call.Writing (Writing.Move win y x)) (as_reply no_answer result) self.new }
     {
         self.make(&Call::wmove(win, y, x))
     }
@@ -205,7 +151,7 @@ pub trait Calls {
     /// # Errors
     /// `NoSuchWindow`; `BadCharacter` for another character outside 32 to 126.
     final fn waddch(&mut self, win: WinId, ch: u8) -> Result<(), Self::Error>
-        ensures { made self.old (Call.Writing (Writing.Addch win ch)) (as_reply no_answer result) self.new }
+        ensures { Self.made self.old (Call.Writing (Writing.Addch win ch)) (as_reply no_answer result) self.new }
     {
         self.make(&Call::waddch(win, ch))
     }
@@ -215,7 +161,7 @@ pub trait Calls {
     /// # Errors
     /// `NoSuchWindow`; `BadCharacter` for a character other than 8, 10, 13 and 32 to 126.
     final fn waddstr(&mut self, win: WinId, text: &[u8]) -> Result<(), Self::Error>
-        ensures { made self.old (Call.Writing (Writing.Addstr win text.entry)) (as_reply no_answer result) self.new }
+        ensures { Self.made self.old (Call.Writing (Writing.Addstr win text.entry)) (as_reply no_answer result) self.new }
     {
         self.make(&Call::waddstr(win, text))
     }
@@ -226,7 +172,7 @@ pub trait Calls {
     /// # Errors
     /// `NoSuchWindow`; `BadCharacter` for a character outside 32 to 126.
     final fn winsch(&mut self, win: WinId, ch: u8) -> Result<(), Self::Error>
-        ensures { made self.old (Call.Writing (Writing.Insch win ch)) (as_reply no_answer result) self.new }
+        ensures { Self.made self.old (Call.Writing (Writing.Insch win ch)) (as_reply no_answer result) self.new }
     {
         self.make(&Call::winsch(win, ch))
     }
@@ -237,7 +183,7 @@ pub trait Calls {
     /// # Errors
     /// `NoSuchWindow`.
     final fn wdelch(&mut self, win: WinId) -> Result<(), Self::Error>
-        ensures { made self.old (Call.Writing (Writing.Delch win)) (as_reply no_answer result) self.new }
+        ensures { Self.made self.old (Call.Writing (Writing.Delch win)) (as_reply no_answer result) self.new }
     {
         self.make(&Call::wdelch(win))
     }
@@ -248,7 +194,7 @@ pub trait Calls {
     /// # Errors
     /// `NoSuchWindow`.
     final fn winsertln(&mut self, win: WinId) -> Result<(), Self::Error>
-        ensures { made self.old (Call.Writing (Writing.Insertln win)) (as_reply no_answer result) self.new }
+        ensures { Self.made self.old (Call.Writing (Writing.Insertln win)) (as_reply no_answer result) self.new }
     {
         self.make(&Call::winsertln(win))
     }
@@ -258,7 +204,7 @@ pub trait Calls {
     /// # Errors
     /// `NoSuchWindow`.
     final fn wdeleteln(&mut self, win: WinId) -> Result<(), Self::Error>
-        ensures { made self.old (Call.Writing (Writing.Deleteln win)) (as_reply no_answer result) self.new }
+        ensures { Self.made self.old (Call.Writing (Writing.Deleteln win)) (as_reply no_answer result) self.new }
     {
         self.make(&Call::wdeleteln(win))
     }
@@ -268,7 +214,7 @@ pub trait Calls {
     /// # Errors
     /// `NoSuchWindow`.
     final fn werase(&mut self, win: WinId) -> Result<(), Self::Error>
-        ensures { made self.old (Call.Writing (Writing.Erase win)) (as_reply no_answer result) self.new }
+        ensures { Self.made self.old (Call.Writing (Writing.Erase win)) (as_reply no_answer result) self.new }
     {
         self.make(&Call::werase(win))
     }
@@ -278,7 +224,7 @@ pub trait Calls {
     /// # Errors
     /// `NoSuchWindow`.
     final fn wclear(&mut self, win: WinId) -> Result<(), Self::Error>
-        ensures { made self.old (Call.Writing (Writing.Clear win)) (as_reply no_answer result) self.new }
+        ensures { Self.made self.old (Call.Writing (Writing.Clear win)) (as_reply no_answer result) self.new }
     {
         self.make(&Call::wclear(win))
     }
@@ -288,7 +234,7 @@ pub trait Calls {
     /// # Errors
     /// `NoSuchWindow`.
     final fn wclrtoeol(&mut self, win: WinId) -> Result<(), Self::Error>
-        ensures { made self.old (Call.Writing (Writing.Clrtoeol win)) (as_reply no_answer result) self.new }
+        ensures { Self.made self.old (Call.Writing (Writing.Clrtoeol win)) (as_reply no_answer result) self.new }
     {
         self.make(&Call::wclrtoeol(win))
     }
@@ -298,7 +244,7 @@ pub trait Calls {
     /// # Errors
     /// `NoSuchWindow`.
     final fn wclrtobot(&mut self, win: WinId) -> Result<(), Self::Error>
-        ensures { made self.old (Call.Writing (Writing.Clrtobot win)) (as_reply no_answer result) self.new }
+        ensures { Self.made self.old (Call.Writing (Writing.Clrtobot win)) (as_reply no_answer result) self.new }
     {
         self.make(&Call::wclrtobot(win))
     }
@@ -309,7 +255,7 @@ pub trait Calls {
     /// # Errors
     /// `NoSuchWindow`; `ScrollingOff` for a window that doesn't scroll.
     final fn wscrl(&mut self, win: WinId, n: i16) -> Result<(), Self::Error>
-        ensures { made self.old (Call.Writing (Writing.Scrl win n)) (as_reply no_answer result) self.new }
+        ensures { Self.made self.old (Call.Writing (Writing.Scrl win n)) (as_reply no_answer result) self.new }
     {
         self.make(&Call::wscrl(win, n))
     }
@@ -319,7 +265,7 @@ pub trait Calls {
     /// # Errors
     /// `NoSuchWindow`; `BadRegion` if `top` is after `bottom` or `bottom` outside the window.
     final fn wsetscrreg(&mut self, win: WinId, top: u16, bottom: u16) -> Result<(), Self::Error>
-        ensures { made self.old (Call.Writing (Writing.Setscrreg win top bottom)) (as_reply no_answer result) self.new }
+        ensures { Self.made self.old (Call.Writing (Writing.Setscrreg win top bottom)) (as_reply no_answer result) self.new }
     {
         self.make(&Call::wsetscrreg(win, top, bottom))
     }
@@ -329,7 +275,7 @@ pub trait Calls {
     /// # Errors
     /// `NoSuchWindow`.
     final fn scrollok(&mut self, win: WinId, flag: bool) -> Result<(), Self::Error>
-        ensures { made self.old (Call.Writing (Writing.Scrollok win flag)) (as_reply no_answer result) self.new }
+        ensures { Self.made self.old (Call.Writing (Writing.Scrollok win flag)) (as_reply no_answer result) self.new }
     {
         self.make(&Call::scrollok(win, flag))
     }
@@ -339,7 +285,7 @@ pub trait Calls {
     /// # Errors
     /// `NoSuchWindow`.
     final fn clearok(&mut self, win: WinId, flag: bool) -> Result<(), Self::Error>
-        ensures { made self.old (Call.Writing (Writing.Clearok win flag)) (as_reply no_answer result) self.new }
+        ensures { Self.made self.old (Call.Writing (Writing.Clearok win flag)) (as_reply no_answer result) self.new }
     {
         self.make(&Call::clearok(win, flag))
     }
@@ -349,7 +295,7 @@ pub trait Calls {
     /// # Errors
     /// `NoSuchWindow`.
     final fn wattrset(&mut self, win: WinId, attrs: Attr) -> Result<(), Self::Error>
-        ensures { made self.old (Call.Writing (Writing.Attrset win attrs)) (as_reply no_answer result) self.new }
+        ensures { Self.made self.old (Call.Writing (Writing.Attrset win attrs)) (as_reply no_answer result) self.new }
     {
         self.make(&Call::wattrset(win, attrs))
     }
@@ -359,7 +305,7 @@ pub trait Calls {
     /// # Errors
     /// `NoSuchWindow`.
     final fn wattron(&mut self, win: WinId, attrs: Attr) -> Result<(), Self::Error>
-        ensures { made self.old (Call.Writing (Writing.Attron win attrs)) (as_reply no_answer result) self.new }
+        ensures { Self.made self.old (Call.Writing (Writing.Attron win attrs)) (as_reply no_answer result) self.new }
     {
         self.make(&Call::wattron(win, attrs))
     }
@@ -369,7 +315,7 @@ pub trait Calls {
     /// # Errors
     /// `NoSuchWindow`.
     final fn wattroff(&mut self, win: WinId, attrs: Attr) -> Result<(), Self::Error>
-        ensures { made self.old (Call.Writing (Writing.Attroff win attrs)) (as_reply no_answer result) self.new }
+        ensures { Self.made self.old (Call.Writing (Writing.Attroff win attrs)) (as_reply no_answer result) self.new }
     {
         self.make(&Call::wattroff(win, attrs))
     }
@@ -379,7 +325,7 @@ pub trait Calls {
     /// # Errors
     /// `NoSuchWindow`; `BadCharacter` for a character outside 32 to 126.
     final fn wbkgdset(&mut self, win: WinId, attrs: Attr, ch: u8) -> Result<(), Self::Error>
-        ensures { made self.old (Call.Writing (Writing.Bkgdset win attrs ch)) (as_reply no_answer result) self.new }
+        ensures { Self.made self.old (Call.Writing (Writing.Bkgdset win attrs ch)) (as_reply no_answer result) self.new }
     {
         self.make(&Call::wbkgdset(win, attrs, ch))
     }
@@ -389,7 +335,7 @@ pub trait Calls {
     /// # Errors
     /// `NoSuchWindow`; `BadPair` for a number past 63.
     final fn wcolor_set(&mut self, win: WinId, pair: u16) -> Result<(), Self::Error>
-        ensures { made self.old (Call.Writing (Writing.ColorSet win pair)) (as_reply no_answer result) self.new }
+        ensures { Self.made self.old (Call.Writing (Writing.ColorSet win pair)) (as_reply no_answer result) self.new }
     {
         self.make(&Call::wcolor_set(win, pair))
     }
@@ -399,7 +345,7 @@ pub trait Calls {
     /// # Errors
     /// `NoSuchWindow`; `BadPair` for a number past 63.
     final fn wbkgdpair(&mut self, win: WinId, pair: u16) -> Result<(), Self::Error>
-        ensures { made self.old (Call.Writing (Writing.Bkgdpair win pair)) (as_reply no_answer result) self.new }
+        ensures { Self.made self.old (Call.Writing (Writing.Bkgdpair win pair)) (as_reply no_answer result) self.new }
     {
         self.make(&Call::wbkgdpair(win, pair))
     }
@@ -409,7 +355,7 @@ pub trait Calls {
     /// # Errors
     /// `NoSuchWindow`, `IsPad`, each for either window.
     final fn overlay(&mut self, src: WinId, dst: WinId) -> Result<(), Self::Error>
-        ensures { made self.old (Call.Copying (Copying.Overlay src dst)) (as_reply no_answer result) self.new }
+        ensures { Self.made self.old (Call.Copying (Copying.Overlay src dst)) (as_reply no_answer result) self.new }
     {
         self.make(&Call::overlay(src, dst))
     }
@@ -419,7 +365,7 @@ pub trait Calls {
     /// # Errors
     /// `NoSuchWindow`, `IsPad`, each for either window.
     final fn overwrite(&mut self, src: WinId, dst: WinId) -> Result<(), Self::Error>
-        ensures { made self.old (Call.Copying (Copying.Overwrite src dst)) (as_reply no_answer result) self.new }
+        ensures { Self.made self.old (Call.Copying (Copying.Overwrite src dst)) (as_reply no_answer result) self.new }
     {
         self.make(&Call::overwrite(src, dst))
     }
@@ -443,8 +389,8 @@ pub trait Calls {
         dmaxcol: u16,
         overlay: bool,
     ) -> Result<(), Self::Error>
-        ensures { made self.old (Call.Copying (Copying.Copywin src dst sminrow smincol dminrow dmincol dmaxrow dmaxcol overlay)) (as_reply no_answer result)
-            self.new }
+        ensures { Self.made self.old (Call.Copying (Copying.Copywin src dst sminrow smincol dminrow dmincol dmaxrow dmaxcol overlay)) (as_reply no_answer
+            result) self.new }
     {
         self.make(&Call::copywin(
             src, dst, sminrow, smincol, dminrow, dmincol, dmaxrow, dmaxcol, overlay,
@@ -456,7 +402,7 @@ pub trait Calls {
     /// # Errors
     /// `NoSuchWindow`.
     final fn touchwin(&mut self, win: WinId) -> Result<(), Self::Error>
-        ensures { made self.old (Call.Copying (Copying.Touchwin win)) (as_reply no_answer result) self.new }
+        ensures { Self.made self.old (Call.Copying (Copying.Touchwin win)) (as_reply no_answer result) self.new }
     {
         self.make(&Call::touchwin(win))
     }
@@ -466,7 +412,7 @@ pub trait Calls {
     /// # Errors
     /// `NoSuchWindow`.
     final fn untouchwin(&mut self, win: WinId) -> Result<(), Self::Error>
-        ensures { made self.old (Call.Copying (Copying.Untouchwin win)) (as_reply no_answer result) self.new }
+        ensures { Self.made self.old (Call.Copying (Copying.Untouchwin win)) (as_reply no_answer result) self.new }
     {
         self.make(&Call::untouchwin(win))
     }
@@ -476,7 +422,7 @@ pub trait Calls {
     /// # Errors
     /// `NoSuchWindow`; `OutsideWindow` if the window hasn't line `y`, or not `n` lines from it on.
     final fn touchline(&mut self, win: WinId, y: u16, n: u16) -> Result<(), Self::Error>
-        ensures { made self.old (Call.Copying (Copying.Touchline win y n)) (as_reply no_answer result) self.new }
+        ensures { Self.made self.old (Call.Copying (Copying.Touchline win y n)) (as_reply no_answer result) self.new }
     {
         self.make(&Call::touchline(win, y, n))
     }
@@ -486,7 +432,7 @@ pub trait Calls {
     /// # Errors
     /// `NoSuchWindow`; `OutsideWindow` if the window hasn't line `y`, or not `n` lines from it on.
     final fn wtouchln(&mut self, win: WinId, y: u16, n: u16, flag: bool) -> Result<(), Self::Error>
-        ensures { made self.old (Call.Copying (Copying.Touchln win y n flag)) (as_reply no_answer result) self.new }
+        ensures { Self.made self.old (Call.Copying (Copying.Touchln win y n flag)) (as_reply no_answer result) self.new }
     {
         self.make(&Call::wtouchln(win, y, n, flag))
     }
@@ -496,7 +442,7 @@ pub trait Calls {
     /// # Errors
     /// `NoSuchWindow`.
     final fn wsyncup(&mut self, win: WinId) -> Result<(), Self::Error>
-        ensures { made self.old (Call.Copying (Copying.Syncup win)) (as_reply no_answer result) self.new }
+        ensures { Self.made self.old (Call.Copying (Copying.Syncup win)) (as_reply no_answer result) self.new }
     {
         self.make(&Call::wsyncup(win))
     }
@@ -506,7 +452,7 @@ pub trait Calls {
     /// # Errors
     /// `NoSuchWindow`.
     final fn wsyncdown(&mut self, win: WinId) -> Result<(), Self::Error>
-        ensures { made self.old (Call.Copying (Copying.Syncdown win)) (as_reply no_answer result) self.new }
+        ensures { Self.made self.old (Call.Copying (Copying.Syncdown win)) (as_reply no_answer result) self.new }
     {
         self.make(&Call::wsyncdown(win))
     }
@@ -516,7 +462,7 @@ pub trait Calls {
     /// # Errors
     /// `NoSuchWindow`; `OutsideWindow` if the window hasn't line `y`.
     final fn is_linetouched(&self, win: WinId, y: u16) -> Result<bool, Self::Error>
-        ensures { made self.now (Call.Copying (Copying.IsLinetouched win y)) (as_reply Reply.Flag result) self.now }
+        ensures { Self.made self.now (Call.Copying (Copying.IsLinetouched win y)) (as_reply Reply.Flag result) self.now }
     {
         self.find(&Call::is_linetouched(win, y))
     }
@@ -526,7 +472,7 @@ pub trait Calls {
     /// # Errors
     /// `NoSuchWindow`.
     final fn is_wintouched(&self, win: WinId) -> Result<bool, Self::Error>
-        ensures { made self.now (Call.Copying (Copying.IsWintouched win)) (as_reply Reply.Flag result) self.now }
+        ensures { Self.made self.now (Call.Copying (Copying.IsWintouched win)) (as_reply Reply.Flag result) self.now }
     {
         self.find(&Call::is_wintouched(win))
     }
@@ -536,7 +482,7 @@ pub trait Calls {
     /// # Errors
     /// `NoSuchWindow`.
     final fn getyx(&self, win: WinId) -> Result<(u16, u16), Self::Error>
-        ensures { made self.now (Call.Query (Query.Getyx win)) (as_reply two_numbers result) self.now }
+        ensures { Self.made self.now (Call.Query (Query.Getyx win)) (as_reply two_numbers result) self.now }
     {
         self.find(&Call::getyx(win))
     }
@@ -546,7 +492,7 @@ pub trait Calls {
     /// # Errors
     /// `NoSuchWindow`, `IsPad`.
     final fn getbegyx(&self, win: WinId) -> Result<(u16, u16), Self::Error>
-        ensures { made self.now (Call.Query (Query.Getbegyx win)) (as_reply two_numbers result) self.now }
+        ensures { Self.made self.now (Call.Query (Query.Getbegyx win)) (as_reply two_numbers result) self.now }
     {
         self.find(&Call::getbegyx(win))
     }
@@ -556,7 +502,7 @@ pub trait Calls {
     /// # Errors
     /// `NoSuchWindow`.
     final fn getmaxyx(&self, win: WinId) -> Result<(u16, u16), Self::Error>
-        ensures { made self.now (Call.Query (Query.Getmaxyx win)) (as_reply two_numbers result) self.now }
+        ensures { Self.made self.now (Call.Query (Query.Getmaxyx win)) (as_reply two_numbers result) self.now }
     {
         self.find(&Call::getmaxyx(win))
     }
@@ -566,7 +512,7 @@ pub trait Calls {
     /// # Errors
     /// `NoSuchWindow`, `NotDerived`.
     final fn getparyx(&self, win: WinId) -> Result<(u16, u16), Self::Error>
-        ensures { made self.now (Call.Query (Query.Getparyx win)) (as_reply two_numbers result) self.now }
+        ensures { Self.made self.now (Call.Query (Query.Getparyx win)) (as_reply two_numbers result) self.now }
     {
         self.find(&Call::getparyx(win))
     }
@@ -576,7 +522,7 @@ pub trait Calls {
     /// # Errors
     /// `NoSuchWindow`.
     final fn winch(&self, win: WinId) -> Result<Cell, Self::Error>
-        ensures { made self.now (Call.Query (Query.Inch win)) (as_reply Reply.Cell result) self.now }
+        ensures { Self.made self.now (Call.Query (Query.Inch win)) (as_reply Reply.Cell result) self.now }
     {
         self.find(&Call::winch(win))
     }
@@ -586,7 +532,7 @@ pub trait Calls {
     /// # Errors
     /// `NoSuchWindow`, `StandardScreen`, `IsPad`, `InPanel`, `TooMany`, `NoMemory`.
     final fn new_panel(&mut self, win: WinId) -> Result<PanelId, Self::Error>
-        ensures { made self.old (Call.Stacking (Stacking.NewPanel win)) (as_reply its_panel result) self.new }
+        ensures { Self.made self.old (Call.Stacking (Stacking.NewPanel win)) (as_reply its_panel result) self.new }
     {
         self.make(&Call::new_panel(win))
     }
@@ -596,7 +542,7 @@ pub trait Calls {
     /// # Errors
     /// `NoSuchPanel`.
     final fn del_panel(&mut self, panel: PanelId) -> Result<(), Self::Error>
-        ensures { made self.old (Call.Stacking (Stacking.DelPanel panel)) (as_reply no_answer result) self.new }
+        ensures { Self.made self.old (Call.Stacking (Stacking.DelPanel panel)) (as_reply no_answer result) self.new }
     {
         self.make(&Call::del_panel(panel))
     }
@@ -606,7 +552,7 @@ pub trait Calls {
     /// # Errors
     /// `NoSuchPanel`.
     final fn show_panel(&mut self, panel: PanelId) -> Result<(), Self::Error>
-        ensures { made self.old (Call.Stacking (Stacking.ShowPanel panel)) (as_reply no_answer result) self.new }
+        ensures { Self.made self.old (Call.Stacking (Stacking.ShowPanel panel)) (as_reply no_answer result) self.new }
     {
         self.make(&Call::show_panel(panel))
     }
@@ -616,7 +562,7 @@ pub trait Calls {
     /// # Errors
     /// `NoSuchPanel`, `Hidden`.
     final fn hide_panel(&mut self, panel: PanelId) -> Result<(), Self::Error>
-        ensures { made self.old (Call.Stacking (Stacking.HidePanel panel)) (as_reply no_answer result) self.new }
+        ensures { Self.made self.old (Call.Stacking (Stacking.HidePanel panel)) (as_reply no_answer result) self.new }
     {
         self.make(&Call::hide_panel(panel))
     }
@@ -626,7 +572,7 @@ pub trait Calls {
     /// # Errors
     /// `NoSuchPanel`, `Hidden`.
     final fn top_panel(&mut self, panel: PanelId) -> Result<(), Self::Error>
-        ensures { made self.old (Call.Stacking (Stacking.TopPanel panel)) (as_reply no_answer result) self.new }
+        ensures { Self.made self.old (Call.Stacking (Stacking.TopPanel panel)) (as_reply no_answer result) self.new }
     {
         self.make(&Call::top_panel(panel))
     }
@@ -636,7 +582,7 @@ pub trait Calls {
     /// # Errors
     /// `NoSuchPanel`, `Hidden`.
     final fn bottom_panel(&mut self, panel: PanelId) -> Result<(), Self::Error>
-        ensures { made self.old (Call.Stacking (Stacking.BottomPanel panel)) (as_reply no_answer result) self.new }
+        ensures { Self.made self.old (Call.Stacking (Stacking.BottomPanel panel)) (as_reply no_answer result) self.new }
     {
         self.make(&Call::bottom_panel(panel))
     }
@@ -646,7 +592,7 @@ pub trait Calls {
     /// # Errors
     /// `NoSuchPanel`, `OffScreen`.
     final fn move_panel(&mut self, panel: PanelId, y: u16, x: u16) -> Result<(), Self::Error>
-        ensures { made self.old (Call.Stacking (Stacking.MovePanel panel y x)) (as_reply no_answer result) self.new }
+        ensures { Self.made self.old (Call.Stacking (Stacking.MovePanel panel y x)) (as_reply no_answer result) self.new }
     {
         self.make(&Call::move_panel(panel, y, x))
     }
@@ -656,7 +602,7 @@ pub trait Calls {
     /// # Errors
     /// `NoSuchPanel`, `NoSuchWindow`, `StandardScreen`, `IsPad`, `InPanel`.
     final fn replace_panel(&mut self, panel: PanelId, win: WinId) -> Result<(), Self::Error>
-        ensures { made self.old (Call.Stacking (Stacking.ReplacePanel panel win)) (as_reply no_answer result) self.new }
+        ensures { Self.made self.old (Call.Stacking (Stacking.ReplacePanel panel win)) (as_reply no_answer result) self.new }
     {
         self.make(&Call::replace_panel(panel, win))
     }
@@ -666,7 +612,7 @@ pub trait Calls {
     /// # Errors
     /// `NoSuchPanel`, `Hidden`.
     final fn panel_above(&self, panel: Option<PanelId>) -> Result<Option<PanelId>, Self::Error>
-        ensures { made self.now (Call.Stacking (Stacking.PanelAbove panel)) (as_reply Reply.Panel result) self.now }
+        ensures { Self.made self.now (Call.Stacking (Stacking.PanelAbove panel)) (as_reply Reply.Panel result) self.now }
     {
         self.find(&Call::panel_above(panel))
     }
@@ -676,7 +622,7 @@ pub trait Calls {
     /// # Errors
     /// `NoSuchPanel`, `Hidden`.
     final fn panel_below(&self, panel: Option<PanelId>) -> Result<Option<PanelId>, Self::Error>
-        ensures { made self.now (Call.Stacking (Stacking.PanelBelow panel)) (as_reply Reply.Panel result) self.now }
+        ensures { Self.made self.now (Call.Stacking (Stacking.PanelBelow panel)) (as_reply Reply.Panel result) self.now }
     {
         self.find(&Call::panel_below(panel))
     }
@@ -686,7 +632,7 @@ pub trait Calls {
     /// # Errors
     /// `NoSuchPanel`.
     final fn panel_window(&self, panel: PanelId) -> Result<WinId, Self::Error>
-        ensures { made self.now (Call.Stacking (Stacking.PanelWindow panel)) (as_reply Reply.Number result) self.now }
+        ensures { Self.made self.now (Call.Stacking (Stacking.PanelWindow panel)) (as_reply Reply.Number result) self.now }
     {
         self.find(&Call::panel_window(panel))
     }
@@ -696,7 +642,7 @@ pub trait Calls {
     /// # Errors
     /// `NoSuchPanel`.
     final fn panel_hidden(&self, panel: PanelId) -> Result<bool, Self::Error>
-        ensures { made self.now (Call.Stacking (Stacking.PanelHidden panel)) (as_reply Reply.Flag result) self.now }
+        ensures { Self.made self.now (Call.Stacking (Stacking.PanelHidden panel)) (as_reply Reply.Flag result) self.now }
     {
         self.find(&Call::panel_hidden(panel))
     }
@@ -707,7 +653,7 @@ pub trait Calls {
     /// # Errors
     /// `NoSuchWindow`, `IsPad`.
     final fn wnoutrefresh(&mut self, win: WinId) -> Result<(), Self::Error>
-        ensures { made self.old (Call.Refresh (Refresh.Noutrefresh win)) (as_reply no_answer result) self.new }
+        ensures { Self.made self.old (Call.Refresh (Refresh.Noutrefresh win)) (as_reply no_answer result) self.new }
     {
         self.make(&Call::wnoutrefresh(win))
     }
@@ -730,7 +676,7 @@ pub trait Calls {
         smaxrow: u16,
         smaxcol: u16,
     ) -> Result<(), Self::Error>
-        ensures { made self.old (Call.Refresh (Refresh.Pnoutrefresh pad pminrow pmincol sminrow smincol smaxrow smaxcol)) (as_reply no_answer result)
+        ensures { Self.made self.old (Call.Refresh (Refresh.Pnoutrefresh pad pminrow pmincol sminrow smincol smaxrow smaxcol)) (as_reply no_answer result)
             self.new }
     {
         self.make(&Call::pnoutrefresh(pad, pminrow, pmincol, sminrow, smincol, smaxrow, smaxcol))
@@ -747,7 +693,7 @@ pub trait Calls {
         foreground: u16,
         background: u16,
     ) -> Result<(), Self::Error>
-        ensures { made self.old (Call.Refresh (Refresh.InitPair pair foreground background)) (as_reply no_answer result) self.new }
+        ensures { Self.made self.old (Call.Refresh (Refresh.InitPair pair foreground background)) (as_reply no_answer result) self.new }
     {
         self.make(&Call::init_pair(pair, foreground, background))
     }
@@ -755,11 +701,4 @@ pub trait Calls {
     // End of what tools/calls wrote
 }
 
-/// An answer, as the type that all of its kind have.
-fn typed<A: Answer, E>(made: Result<Reply, E>) -> Result<A, E>
-    requires { IfOk made (IsOfKind A.kind) }
-    ensures { made ≡ as_reply A.reply_of result }
-{
-    let reply = made?;
-    Ok(A::of(reply).unwrap())
-}
+impl<C: Calls> Methods for C {}

@@ -1,5 +1,5 @@
 use Rattle.calls.proofs.AnswerKinds.{of-kind, query-other}
-use Rattle.calls.proofs.methods.Calls.find.Goals as goal
+use Rattle.calls.proofs.making.Calls.find.Goals as goal
 
 pub typed-requires : goal.typed-requires
 typed-requires g c =
