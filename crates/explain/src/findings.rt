@@ -15,9 +15,9 @@ use crate::groups::writes;
 use crate::names::{after_dot, after_sigil, begins_comment, begins_with, has_comment, name_of};
 use crate::nearest::{call_of_words, near_call_of_words};
 use crate::numbers::number_reason;
-use crate::reasons::{no_window, reason_after, requirement_of};
+use crate::reasons::{NO_WINDOW, reason_after, requirement_of};
 use crate::signatures::names_of_arguments;
-use crate::suggestions::{begins_with_call, nothing_before, said_of, said_of_line};
+use crate::suggestions::{NOTHING_BEFORE, begins_with_call, said_of, said_of_line};
 use arrayvec::ArrayVec;
 use cell::hex_digits;
 use script::{Form, LONGEST_LINE, TextFault, Word, split_at_space};
@@ -135,7 +135,7 @@ fn append_line_advice(text: &mut Finding, word: &[u8], arguments: Option<&[u8]>)
     ensures short { length text.new.items < FINDING_ROOM }
 {
     if begins_with_call(arguments) {
-        return append(text, nothing_before());
+        return append(text, NOTHING_BEFORE);
     }
     match near_call_of_words(word, arguments) {
         Some(call) => {
@@ -248,7 +248,7 @@ fn stray_text(word: &[u8], arguments: Option<&[u8]>, argument: &[u8]) -> &'stati
     if argument.is_empty() {
         spaces_text(word, arguments)
     } else if writes(word) {
-        no_window()
+        NO_WINDOW
     } else if begins_comment(argument) {
         b": a comment has a line of its own, and begins with #"
     } else {
@@ -296,7 +296,7 @@ fn bad_byte_advice(line: &[u8]) -> &'static [u8]
 {
     let (_, arguments) = split_at_space(line);
     if bad_place(line) == 0 && begins_with_call(arguments) {
-        return nothing_before();
+        return NOTHING_BEFORE;
     }
     bad_text_advice(bad_byte(line), from_bad_byte(line))
 }

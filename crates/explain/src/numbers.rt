@@ -13,7 +13,7 @@ use crate::names::{
     has_part, is_redirection,
 };
 use crate::reasons::{
-    is_bracketed, no_brackets, no_commas, no_names, no_redirections, one_window, reason_after,
+    NO_BRACKETS, NO_COMMAS, NO_NAMES, NO_REDIRECTIONS, ONE_WINDOW, is_bracketed, reason_after,
 };
 use script::{LONGEST_LINE, split_at_space};
 
@@ -111,7 +111,7 @@ fn marks_reason(line: &[u8], text: Option<&[u8]>, many: bool) -> Option<&'static
         return Some(b": only texts and characters have escapes, and a call ends with its line");
     }
     if has_redirection(text) {
-        return Some(no_redirections());
+        return Some(NO_REDIRECTIONS);
     }
     None
 }
@@ -124,7 +124,7 @@ fn between_reason(word: &[u8], line: &[u8], ill: IllFormed<'_>) -> &'static [u8]
     ensures short { length result.now ≤ 80 }
 {
     if has_byte(line, b',') {
-        no_commas()
+        NO_COMMAS
     } else if ill.argument == b"->".as_slice() {
         b": an arrow is no argument: numbers alone are, in their order"
     } else if is_among(ill.argument, b"+ - * / %") && word != b"scrl".as_slice() {
@@ -143,7 +143,7 @@ fn surplus_reason(word: &[u8], line: &[u8], text: Option<&[u8]>) -> Option<&'sta
     ensures short { IfSome result (λ text. length text.now ≤ 80) }
 {
     if has_byte(line, b'=') {
-        return Some(no_names());
+        return Some(NO_NAMES);
     }
     match find_ill_formed(0, forms_of(word), text) {
         Some(ill) if is_word(line, ill) => Some(between_reason(word, line, ill)),
@@ -174,7 +174,7 @@ fn too_many_reason(word: &[u8]) -> Option<&'static [u8]>
         return Some(b": the answer is in the log, and no variables take it");
     }
     if takes_place_of_cursor(word) {
-        return Some(one_window());
+        return Some(ONE_WINDOW);
     }
     if is_among(word, b"overlay overwrite") {
         return Some(b": window, window to write in; copywin copies a part");
@@ -188,7 +188,7 @@ fn comma_reason(line: &[u8]) -> Option<&'static [u8]>
     ensures short { IfSome result (λ text. length text.now ≤ 80) }
 {
     if has_byte(line, b',') {
-        return Some(no_commas());
+        return Some(NO_COMMAS);
     }
     None
 }
@@ -226,7 +226,7 @@ pub fn number_reason(
         };
     }
     if begins_bracketed(text) {
-        return Some(no_brackets());
+        return Some(NO_BRACKETS);
     }
     if joins_attributes(word, line, text) {
         return Some(joined_reason(text));

@@ -82,44 +82,21 @@ pub fn is_bracketed(text: &[u8]) -> bool
 }
 
 /// How arguments are written that others put in brackets.
-pub fn no_brackets() -> &'static [u8]
-    ensures text { result.now ≡ no_brackets }
-    ensures short { length result.now ≤ 80 }
-{
-    b": no brackets are around arguments, and single spaces separate them"
-}
+pub const NO_BRACKETS: &[u8] =
+    b": no brackets are around arguments, and single spaces separate them";
 
 /// How arguments are written that others separate by commas.
-pub fn no_commas() -> &'static [u8]
-    ensures text { result.now ≡ no_commas }
-    ensures short { length result.now ≤ 80 }
-{
-    b": spaces separate arguments, and no commas"
-}
+pub const NO_COMMAS: &[u8] = b": spaces separate arguments, and no commas";
 
 /// What is said of what shells have after arguments.
-pub fn no_redirections() -> &'static [u8]
-    ensures text { result.now ≡ no_redirections }
-    ensures short { length result.now ≤ 80 }
-{
-    b": a script has no redirections or pipes, and no &"
-}
+pub const NO_REDIRECTIONS: &[u8] = b": a script has no redirections or pipes, and no &";
 
 /// What is said of arguments that others give names.
-pub fn no_names() -> &'static [u8]
-    ensures text { result.now ≡ no_names }
-    ensures short { length result.now ≤ 80 }
-{
-    b": arguments have no names, and a script no variables: they come in their order"
-}
+pub const NO_NAMES: &[u8] =
+    b": arguments have no names, and a script no variables: they come in their order";
 
 /// What is said of arguments that others write as options.
-pub fn no_options() -> &'static [u8]
-    ensures text { result.now ≡ no_options }
-    ensures short { length result.now ≤ 80 }
-{
-    b": a call has no options: its arguments come in their order"
-}
+pub const NO_OPTIONS: &[u8] = b": a call has no options: its arguments come in their order";
 
 /// What is said of an argument that begins with a mark of other languages.
 fn first_mark_reason(argument: &[u8]) -> Option<&'static [u8]>
@@ -133,10 +110,10 @@ fn first_mark_reason(argument: &[u8]) -> Option<&'static [u8]>
         return Some(b": a comment has a line of its own");
     }
     if is_redirection(argument) {
-        return Some(no_redirections());
+        return Some(NO_REDIRECTIONS);
     }
     if is_bracketed(argument) {
-        return Some(no_brackets());
+        return Some(NO_BRACKETS);
     }
     if begins_with_one(argument, b"$ `") {
         return Some(b": a script has no variables, and runs no programs");
@@ -154,7 +131,7 @@ fn mark_reason(said: &'static [u8], argument: &[u8]) -> &'static [u8]
         return said;
     }
     if has_byte(argument, b',') {
-        return no_commas();
+        return NO_COMMAS;
     }
     if has_byte(argument, b';') {
         return b": no semicolon comes after an argument, and a line has one call";
@@ -166,7 +143,7 @@ fn mark_reason(said: &'static [u8], argument: &[u8]) -> &'static [u8]
         return b": only texts and characters have escapes, and a call ends with its line";
     }
     if has_byte(argument, b'=') || has_byte(argument, b':') && begins_with_letter(argument) {
-        return no_names();
+        return NO_NAMES;
     }
     said
 }
@@ -248,12 +225,7 @@ fn numbers_in_digits(word: &[u8]) -> &'static [u8]
 }
 
 /// What is said of calls on the place of the cursor.
-pub fn one_window() -> &'static [u8]
-    ensures text { result.now ≡ one_window }
-    ensures short { length result.now ≤ 80 }
-{
-    b": one window, in which move sets the place first; stdscr is 0"
-}
+pub const ONE_WINDOW: &[u8] = b": one window, in which move sets the place first; stdscr is 0";
 
 /// What is said of a word with no digits as the first argument: the number of a window, a pad or a panel comes first,
 /// but for calls that take none of them. Of some calls it is said what else is seen for what they don't take.
@@ -276,7 +248,7 @@ fn first_reason(word: &[u8]) -> &'static [u8]
     } else if word == b"noutrefresh".as_slice() {
         b": a window's number alone; stdscr is 0; for a pad see pnoutrefresh"
     } else if takes_place_of_cursor(word) {
-        one_window()
+        ONE_WINDOW
     } else if has_part(word, b"panel") {
         b": a panel's number comes first, from 1 as made; stdscr is in no panel"
     } else {
@@ -303,12 +275,7 @@ fn second_reason(word: &[u8]) -> &'static [u8]
 }
 
 /// What colours are.
-fn colours() -> &'static [u8]
-    ensures text { result.now ≡ colours }
-    ensures short { length result.now ≤ 80 }
-{
-    b": 0 black, 1 red, 2 green, 3 yellow, 4 blue, 5 magenta, 6 cyan, 7 white"
-}
+const COLOURS: &[u8] = b": 0 black, 1 red, 2 green, 3 yellow, 4 blue, 5 magenta, 6 cyan, 7 white";
 
 /// What is said of one after so many others: of `init_pair` what the pair is, and what its colours are.
 fn no_digits_reason(word: &[u8], place: usize) -> &'static [u8]
@@ -319,7 +286,7 @@ fn no_digits_reason(word: &[u8], place: usize) -> &'static [u8]
         if place == 0 {
             b": the pair comes first, as a number, and then its two colours"
         } else {
-            colours()
+            COLOURS
         }
     } else if place == 0 {
         first_reason(word)
@@ -331,12 +298,8 @@ fn no_digits_reason(word: &[u8], place: usize) -> &'static [u8]
 }
 
 /// What is said of letters that are taken for digits.
-fn no_letters() -> &'static [u8]
-    ensures text { result.now ≡ no_letters }
-    ensures short { length result.now ≤ 80 }
-{
-    b": it has a letter in it: write 0 in place of O, and 1 in place of l or I"
-}
+const NO_LETTERS: &[u8] =
+    b": it has a letter in it: write 0 in place of O, and 1 in place of l or I";
 
 /// Whether an argument after a word is a number but for what is in it; `#f00` is a colour after `init_pair`.
 fn is_near_number(word: &[u8], argument: &[u8]) -> bool
@@ -376,7 +339,7 @@ fn name_reason(word: &[u8], place: usize, argument: &[u8]) -> &'static [u8]
         return b": a number is decimal";
     }
     if are_like_digits(argument) {
-        return no_letters();
+        return NO_LETTERS;
     }
     if argument == b"none".as_slice() {
         return b": only panel_above and panel_below take none";
@@ -395,7 +358,7 @@ fn minus_reason(rest: &[u8]) -> &'static [u8]
     if are_digits(rest) {
         b": a number here has no minus"
     } else {
-        no_options()
+        NO_OPTIONS
     }
 }
 
@@ -469,12 +432,7 @@ fn are_joined(argument: &[u8]) -> bool
 }
 
 /// How several attributes are written.
-fn one_sum() -> &'static [u8]
-    ensures text { result.now ≡ one_sum }
-    ensures short { length result.now ≤ 80 }
-{
-    b": attributes are one sum, as 11 for 01 bold and 10 reverse"
-}
+const ONE_SUM: &[u8] = b": attributes are one sum, as 11 for 01 bold and 10 reverse";
 
 /// Whether a name stands for no attributes, or for all.
 fn is_none_or_all(name: &[u8]) -> bool
@@ -489,7 +447,7 @@ fn sum_reason(argument: &[u8]) -> &'static [u8]
     ensures short { length result.now ≤ 80 }
 {
     if are_joined(argument) {
-        one_sum()
+        ONE_SUM
     } else if are_two_digits(argument) {
         if has_upper_case(argument) && argument[0] <= b'3' {
             b": the digits are in lower case"
@@ -497,7 +455,7 @@ fn sum_reason(argument: &[u8]) -> &'static [u8]
             b": it is too great, as the sum of all is 3f"
         }
     } else if are_like_two_digits(argument) {
-        no_letters()
+        NO_LETTERS
     } else {
         mark_reason(
             b": a sum of 01 bold, 02 dim, 04 underline, 08 blink, 10 reverse, 20 invisible",
@@ -636,7 +594,7 @@ fn later_reason(word: &[u8], argument: &[u8]) -> Option<&'static [u8]>
         );
     }
     if word == b"init_pair".as_slice() && (is_mixed(argument) || is_list(argument)) {
-        return Some(colours());
+        return Some(COLOURS);
     }
     if word == b"bkgdset".as_slice() && is_colour(name.as_slice()) {
         return Some(b": a background's pair is set by bkgdpair");
@@ -674,12 +632,8 @@ fn is_like_window(argument: &[u8]) -> bool
 }
 
 /// What is said where a text or a character is in place of the window.
-pub fn no_window() -> &'static [u8]
-    ensures text { result.now ≡ no_window }
-    ensures short { length result.now ≤ 80 }
-{
-    b": the window's number comes first, then the text or character; stdscr is 0"
-}
+pub const NO_WINDOW: &[u8] =
+    b": the window's number comes first, then the text or character; stdscr is 0";
 
 /// What is said of the first argument of a call with a text or a character: anything else begins that, without the
 /// window.
@@ -689,9 +643,9 @@ fn window_reason(argument: &[u8]) -> Option<&'static [u8]>
 {
     if !is_like_window(argument) {
         return Some(if begins_with(argument, b"(") {
-            no_brackets()
+            NO_BRACKETS
         } else {
-            no_window()
+            NO_WINDOW
         });
     }
     if has_byte(argument, b',') {

@@ -189,28 +189,15 @@ fn begins_with_name(word: &[u8]) -> bool
 }
 
 /// What a script has in place of variables.
-fn no_variables() -> &'static [u8]
-    ensures text { result.now ≡ no_variables }
-    ensures short { length result.now ≤ 80 }
-{
-    b"there are no variables: windows and panels count from 1, answers are in the log"
-}
+const NO_VARIABLES: &[u8] =
+    b"there are no variables: windows and panels count from 1, answers are in the log";
 
 /// What is before a call.
-pub fn nothing_before() -> &'static [u8]
-    ensures text { result.now ≡ nothing_before }
-    ensures short { length result.now ≤ 80 }
-{
-    b"a line begins with the name of its call, and has nothing before it"
-}
+pub const NOTHING_BEFORE: &[u8] =
+    b"a line begins with the name of its call, and has nothing before it";
 
 /// Where a number stands.
-fn number_first() -> &'static [u8]
-    ensures text { result.now ≡ number_first }
-    ensures short { length result.now ≤ 80 }
-{
-    b"a line begins with the name of its call, and numbers come after it"
-}
+const NUMBER_FIRST: &[u8] = b"a line begins with the name of its call, and numbers come after it";
 
 /// What is said of a name that is given a value.
 fn said_of_value(name: &[u8]) -> &'static [u8]
@@ -224,7 +211,7 @@ fn said_of_value(name: &[u8]) -> &'static [u8]
     } else if is_among(name, b"key ch c k input") {
         b"a script has no variables, and no call reads keys"
     } else {
-        no_variables()
+        NO_VARIABLES
     }
 }
 
@@ -435,7 +422,7 @@ fn said_of_other_line(word: &[u8], text: Option<&[u8]>) -> Option<&'static [u8]>
         return Some(LOG_LINE);
     }
     if is_prompt(word) && begins_with_call(text) {
-        return Some(nothing_before());
+        return Some(NOTHING_BEFORE);
     }
     if is_of_picture(word, text) {
         return Some(PICTURE);
@@ -465,7 +452,7 @@ fn said_of_statement(word: &[u8], text: Option<&[u8]>) -> Option<&'static [u8]>
         return Some(said_of_value(name_of(word).as_slice()));
     }
     if is_before_call(word, text) {
-        return Some(nothing_before());
+        return Some(NOTHING_BEFORE);
     }
     None
 }
@@ -528,11 +515,11 @@ fn said_of_marks(word: &[u8]) -> Option<&'static [u8]>
         return Some(said_of_backslash(word));
     }
     if is_step(word) {
-        return Some(no_variables());
+        return Some(NO_VARIABLES);
     }
     if let Some(rest) = word.strip_prefix(b"-") {
         if begins_with_digit(rest) {
-            return Some(number_first());
+            return Some(NUMBER_FIRST);
         }
         if !rest.is_empty() {
             return Some(b"an option belongs on the command line, and a comment begins with #");
@@ -556,7 +543,7 @@ fn said_of_marks(word: &[u8]) -> Option<&'static [u8]>
         return Some(PROGRAMS);
     }
     if begins_with_digit(word) {
-        return Some(number_first());
+        return Some(NUMBER_FIRST);
     }
     if !begins_with_name(word) {
         return Some(b"a line begins with the name of a call, and a comment with #");

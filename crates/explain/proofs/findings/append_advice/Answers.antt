@@ -1,7 +1,7 @@
-use Rattle.std.proofs.Common.{◌++◌, ap, append_assoc, codes, sym, ◌∙◌}
+use Rattle.std.proofs.Common.{◌++◌, ap, codes, ◌∙◌}
 use Rattle.script.specs.Pieces.{pieces_of}
 use Rattle.explain.specs.Suggestions.{call_advice}
-use Rattle.explain.proofs.OneWordLemmas.{said-of-call, said-of-none}
+use Rattle.explain.proofs.OneWordLemmas.{said-of-call}
 use Rattle.explain.proofs.findings.append_advice.Goals as goal
 
 pub returns-in-Some-clause-text : goal.returns-in-Some-clause-text
