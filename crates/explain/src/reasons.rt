@@ -4,7 +4,7 @@ ghost use Rattle.std.specs.Prelude.{◌≡◌, ◌≤◌, IfSome, length, option
 ghost use Rattle.std.specs.List.{list_any};
 ghost use Rattle.std.specs.Char.{is_ascii_uppercase};
 ghost use Rattle.explain.specs.Names.{name_of_argument};
-ghost use Rattle.explain.specs.Reasons.{are_joined, attributes_reason, colours, copy_reason, digits_reason, ends_in_mark, first_mark_reason, first_reason, flag_reason, has_base, has_colour, is_attribute, is_bracketed, is_colour, is_default, is_like_window, is_list, is_mixed, is_near_number, is_none_or_all, later_reason, mark_reason, minus_reason, more_than_digits, name_reason, no_brackets, no_commas, no_digits_reason, no_letters, no_names, no_options, no_redirections, no_window, numbers_in_digits, one_sum, one_window, pair_reason, reason, reason_after, reason_of_call, requirement, requirement_after, requirement_of, second_reason, signed_reason, size_reason, sum_reason, unless_missing, unsigned_or_none_reason, unsigned_reason, window_reason};
+ghost use Rattle.explain.specs.Reasons.{are_joined, attributes_reason, colours, copy_reason, digits_reason, ends_in_mark, first_mark_reason, first_reason, flag_reason, has_base, has_colour, is_attribute, is_bracketed, is_colour, is_default, is_like_window, is_list, is_mixed, is_near_number, is_none_or_all, later_reason, mark_reason, minus_reason, more_than_digits, name_reason, no_digits_reason, numbers_in_digits, pair_reason, reason, reason_after, reason_of_call, requirement, requirement_after, requirement_of, second_reason, signed_reason, size_reason, sum_reason, unless_missing, unsigned_or_none_reason, unsigned_reason, window_reason};
 
 use crate::advice::is_among;
 use crate::arguments::has_digit;

@@ -6,7 +6,7 @@ ghost use Rattle.script.specs.Pieces.{pieces_of, room_of};
 ghost use Rattle.explain.specs.Advice.{advice_on};
 ghost use Rattle.explain.specs.Names.{called_name, is_name_byte, underscored};
 ghost use Rattle.explain.specs.Nearest.{nearest_other};
-ghost use Rattle.explain.specs.Suggestions.{advice_on_next, advice_on_rest, after_prefix, begins_marked, begins_with_call, gives_place, is_before_call, is_between, is_drawn, is_echo, is_label, is_of_log, is_of_picture, is_of_shell, is_of_tmux, is_prompt, is_statement, is_step, is_stroke, last_word, no_variables, nothing_before, number_first, said_near_name, said_of, said_of_backslash, said_of_beginning, said_of_curses, said_of_given, said_of_line, said_of_marks, said_of_name, said_of_near, said_of_other_line, said_of_pair, said_of_statement, said_of_two, said_of_value, said_of_written, say_call, see_longer, see_nearest, see_nearest_rest, written_advice};
+ghost use Rattle.explain.specs.Suggestions.{advice_on_next, advice_on_rest, after_prefix, begins_marked, begins_with_call, gives_place, is_before_call, is_between, is_drawn, is_echo, is_label, is_of_log, is_of_picture, is_of_shell, is_of_tmux, is_prompt, is_statement, is_step, is_stroke, last_word, said_near_name, said_of, said_of_backslash, said_of_beginning, said_of_curses, said_of_given, said_of_line, said_of_marks, said_of_name, said_of_near, said_of_other_line, said_of_pair, said_of_statement, said_of_two, said_of_value, said_of_written, say_call, see_longer, see_nearest, see_nearest_rest, written_advice};
 ghost use Rattle.explain.specs.steps.Suggestions.{said_now};
 
 use crate::advice::{CALLS_ALONE, COMMAND_LINE, PAIRS, PROGRAMS, SCREEN_SIZE, advice_on, is_among};
