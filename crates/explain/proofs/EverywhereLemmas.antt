@@ -14,6 +14,7 @@ use Rattle.world.specs.declared.call.Call.{Call}
 use Rattle.world.specs.declared.call.Call.TheVariants as calls
 use Rattle.world.specs.declared.call.Making.{Making}
 use Rattle.world.specs.declared.call.Writing.{Writing}
+use Rattle.world.specs.declared.call.Copying.{Copying}
 use Rattle.world.specs.declared.call.Query.{Query}
 use Rattle.world.specs.declared.call.Stacking.{Stacking}
 use Rattle.world.specs.declared.call.Refresh.{Refresh}
@@ -62,6 +63,10 @@ module _ (world : World) (sound : IsSound world) where
       → refusal world (calls.Writing writing) ≢ Some NoSuchWindow → refusal world (calls.Writing writing) ≡ Some why
   writing_refused writing why e there = grind (arith, nat_tests, only_if_so, standard_so, has_standard, sound.windows.few_lines, sound.windows.few_columns, writing)
 
+  copying_refused : (copying : Copying) (why : Refusal) → refusal_everywhere (calls.Copying copying) ≡ Some why
+      → refusal world (calls.Copying copying) ≢ Some NoSuchWindow → refusal world (calls.Copying copying) ≡ Some why
+  copying_refused copying why e there = grind (arith, nat_tests, only_if_so, standard_so, has_standard, sound.windows.few_lines, copying)
+
   no_panel_there : (p : ℕ) (why : Refusal) → no_panel p ≡ Some why → world.panels.window p ≡ None
   no_panel_there p why e = grind (arith, nat_tests, only_if_so, sound.panels.each p)
 
@@ -78,7 +83,7 @@ module _ (world : World) (sound : IsSound world) where
       → refusal world call ≢ Some NoSuchWindow → refusal world call ≡ Some why
   refused_everywhere (calls.Making making) why e there = making_refused making why e
   refused_everywhere (calls.Writing writing) why e there = writing_refused writing why e there
-  refused_everywhere (calls.Copying copying) why e there = cc
+  refused_everywhere (calls.Copying copying) why e there = copying_refused copying why e there
   refused_everywhere (calls.Query query) why e there = query_refused query why e
   refused_everywhere (calls.Stacking stacking) why e there = stacking_refused stacking why e
   refused_everywhere (calls.Refresh refresh) why e there = refresh_refused refresh why e

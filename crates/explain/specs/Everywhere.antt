@@ -1,12 +1,12 @@
 -- The calls that every screen refuses, whatever its size, and whatever was called on it before: for one reason, unless a window isn't there.
-use Rattle.std.specs.Prelude.{◌≡◌, ◌≢◌, ℕ, ◌==◌, ◌&&◌, ◌||◌, not, nat_le, nat_lt, Bool, true, List, [], ◌∷◌, ◌++◌, Option, None, Some, codes, decimal, if◌then◌else◌, option_and_then}
+use Rattle.std.specs.Prelude.{◌≡◌, ◌≢◌, ℕ, ◌+◌, ◌==◌, ◌&&◌, ◌||◌, not, nat_le, nat_lt, Bool, true, List, [], ◌∷◌, ◌++◌, Option, None, Some, codes, decimal, if◌then◌else◌, option_and_then}
 use Rattle.std.specs.List.{list_any}
 use Rattle.cell.specs.Glyphs.{is_printable}
 use Rattle.cell.specs.Limits.{is_no_size}
 use Rattle.cell.specs.Refusals.{first_of, refusal_text}
 use Rattle.cell.specs.declared.limits.TheConstants.{LARGEST_PAD, LARGEST_SCREEN, MOST_PANELS}
 use Rattle.cell.specs.declared.refusal.Refusal.{Refusal}
-use Rattle.cell.specs.declared.refusal.Refusal.TheVariants.{BadCharacter, BadPair, BadRegion, BadSize, NoSuchPanel, NoSuchWindow, NotDerived, NotPad, OffScreen, OutsideParent, OutsideWindow, StandardScreen}
+use Rattle.cell.specs.declared.refusal.Refusal.TheVariants.{BadCharacter, BadPair, BadRectangle, BadRegion, BadSize, NoSuchPanel, NoSuchWindow, NotDerived, NotPad, OffScreen, OutsideParent, OutsideWindow, StandardScreen}
 use Rattle.script.specs.Characters.{newline}
 use Rattle.world.specs.Panels.{standard_screen}
 use Rattle.world.specs.Sound.{IsSound}
@@ -21,6 +21,8 @@ use Rattle.world.specs.declared.call.Making.{Making}
 use Rattle.world.specs.declared.call.Making.TheVariants.{Newwin, Derwin, Newpad, Subpad, Delwin, Mvwin, Mvderwin}
 use Rattle.world.specs.declared.call.Writing.{Writing}
 use Rattle.world.specs.declared.call.Writing.TheVariants.{Move, Addch, Addstr, Insch, Setscrreg, Bkgdset, ColorSet, Bkgdpair}
+use Rattle.world.specs.declared.call.Copying.{Copying}
+use Rattle.world.specs.declared.call.Copying.TheVariants.{Copywin, Touchline, Touchln, IsLinetouched}
 use Rattle.world.specs.declared.call.Query.TheVariants.{Getparyx}
 use Rattle.world.specs.declared.call.Stacking.{Stacking}
 use Rattle.world.specs.declared.call.Stacking.TheVariants.{NewPanel, DelPanel, ShowPanel, HidePanel, TopPanel, BottomPanel, MovePanel, ReplacePanel, PanelAbove, PanelBelow, PanelWindow, PanelHidden}
@@ -70,6 +72,17 @@ writing_everywhere (ColorSet win pair) = only_if (is_no_pair pair) BadPair
 writing_everywhere (Bkgdpair win pair) = only_if (is_no_pair pair) BadPair
 writing_everywhere writing = None
 
+-- no screen has so many lines from a line on
+abbrev pub are_past : ℕ → ℕ → Bool
+are_past y n = not (nat_lt y LARGEST_SCREEN && nat_le (y + n) LARGEST_SCREEN)
+
+abbrev pub copying_everywhere : Copying → Option Refusal
+copying_everywhere (Copywin src dst sminrow smincol dminrow dmincol dmaxrow dmaxcol over) = only_if (nat_lt dmaxrow dminrow || nat_lt dmaxcol dmincol) BadRectangle
+copying_everywhere (Touchline win y n) = on_standard win.0 (are_past y n) OutsideWindow
+copying_everywhere (Touchln win y n flag) = on_standard win.0 (are_past y n) OutsideWindow
+copying_everywhere (IsLinetouched win y) = on_standard win.0 (is_past y) OutsideWindow
+copying_everywhere copying = None
+
 -- no screen has such a panel
 abbrev pub no_panel : ℕ → Option Refusal
 no_panel p = only_if (p == 0 || nat_lt MOST_PANELS p) NoSuchPanel
@@ -91,6 +104,7 @@ stacking_everywhere (PanelHidden panel) = no_panel panel.0
 abbrev pub refusal_everywhere : Call → Option Refusal
 refusal_everywhere (calls.Making making) = making_everywhere making
 refusal_everywhere (calls.Writing writing) = writing_everywhere writing
+refusal_everywhere (calls.Copying copying) = copying_everywhere copying
 refusal_everywhere (calls.Query (Getparyx win)) = on_standard win.0 true NotDerived
 refusal_everywhere (calls.Stacking stacking) = stacking_everywhere stacking
 refusal_everywhere (calls.Refresh (Pnoutrefresh pad pminrow pmincol sminrow smincol smaxrow smaxcol)) = on_standard pad.0 true NotPad
@@ -110,6 +124,7 @@ meaning NotDerived = codes ": window 0 is the standard screen, and derives from 
 meaning BadSize = codes ": a pad has 1 to 1000 lines and 1 to 1000 columns"
 meaning BadRegion = codes ": the first line is after the last, or on window 0 the last is past 998"
 meaning BadCharacter = codes ": characters are the space to the tilde; addch and addstr take \\n, \\r and \\b too, but no control sequences"
+meaning BadRectangle = codes ": the last line or column is before the first: first line, first column, last line, last column"
 meaning StandardScreen = codes ": window 0 is the standard screen, which stays, and is in no panel"
 meaning BadPair = codes ": pairs are 0 to 63, colours are 0 to 7, and init_pair sets pairs from 1 on"
 meaning why = []

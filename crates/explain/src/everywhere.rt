@@ -4,7 +4,7 @@ ghost use Rattle.std.specs.Prelude.{◌≡◌, ◌≤◌, ◌==◌, ◌&&◌, �
 ghost use Rattle.std.specs.List.{list_any};
 ghost use Rattle.cell.specs.Refusals.{first_of};
 ghost use Rattle.cell.specs.declared.limits.TheConstants.{MOST_PANELS};
-ghost use Rattle.explain.specs.Everywhere.{IsRefusedEverywhere, is_past, is_too_great, making_everywhere, no_panel, on_standard, only_if, refusal_everywhere, refused_line, stacking_everywhere, writing_everywhere, meaning};
+ghost use Rattle.explain.specs.Everywhere.{IsRefusedEverywhere, are_past, copying_everywhere, is_past, is_too_great, making_everywhere, no_panel, on_standard, only_if, refusal_everywhere, refused_line, stacking_everywhere, writing_everywhere, meaning};
 ghost use Rattle.world.specs.calls.Making.{is_inside};
 ghost use Rattle.world.specs.calls.Refresh.{colour_tests, is_no_colour};
 ghost use Rattle.world.specs.calls.Writing.{is_bad_character, is_no_pair};
@@ -15,7 +15,7 @@ use cell::{
     is_printable,
 };
 use streams::{append, append_decimal};
-use world::{Call, Making, PanelId, Query, Refresh, Refusal, Stacking, Writing};
+use world::{Call, Copying, Making, PanelId, Query, Refresh, Refusal, Stacking, Writing};
 
 /// The refusal, if a test holds.
 fn only_if(test: bool, why: Refusal) -> Option<Refusal>
@@ -54,6 +54,13 @@ fn is_past(n: u16) -> bool
     ensures { result ≡ is_past n }
 {
     n >= LARGEST_SCREEN
+}
+
+/// Whether no screen has so many lines from a line on.
+fn are_past(y: u16, n: u16) -> bool
+    ensures { result ≡ are_past y n }
+{
+    is_past(y) || u32::from(y) + u32::from(n) > u32::from(LARGEST_SCREEN)
 }
 
 /// Whether no text has the character.
@@ -140,6 +147,31 @@ fn of_writing(writing: &Writing<'_>) -> Option<Refusal>
     }
 }
 
+fn of_copying(copying: &Copying) -> Option<Refusal>
+    ensures { result ≡ copying_everywhere copying.now }
+{
+    match *copying {
+        Copying::Copywin {
+            dminrow,
+            dmincol,
+            dmaxrow,
+            dmaxcol,
+            ..
+        } => only_if(
+            dmaxrow < dminrow || dmaxcol < dmincol,
+            Refusal::BadRectangle,
+        ),
+        Copying::Touchline { win, y, n } => {
+            on_standard(win, are_past(y, n), Refusal::OutsideWindow)
+        }
+        Copying::Touchln { win, y, n, .. } => {
+            on_standard(win, are_past(y, n), Refusal::OutsideWindow)
+        }
+        Copying::IsLinetouched { win, y } => on_standard(win, is_past(y), Refusal::OutsideWindow),
+        _ => None,
+    }
+}
+
 /// The refusal of a panel that no screen has.
 fn no_panel(panel: PanelId) -> Option<Refusal>
     ensures { result ≡ no_panel panel.0 }
@@ -183,6 +215,7 @@ fn by_arguments(call: &Call<'_>) -> Option<Refusal>
     match call {
         Call::Making(making) => of_making(making),
         Call::Writing(writing) => of_writing(writing),
+        Call::Copying(copying) => of_copying(copying),
         Call::Query(Query::Getparyx { win }) => on_standard(*win, true, Refusal::NotDerived),
         Call::Stacking(stacking) => of_stacking(stacking),
         Call::Refresh(Refresh::Pnoutrefresh { pad, .. }) => on_standard(
@@ -227,6 +260,8 @@ fn meaning(why: Refusal) -> &'static [u8]
             b": the first line is after the last, or on window 0 the last is past 998",
         Refusal::BadCharacter =>
             b": characters are the space to the tilde; addch and addstr take \\n, \\r and \\b too, but no control sequences",
+        Refusal::BadRectangle =>
+            b": the last line or column is before the first: first line, first column, last line, last column",
         Refusal::StandardScreen =>
             b": window 0 is the standard screen, which stays, and is in no panel",
         Refusal::BadPair =>

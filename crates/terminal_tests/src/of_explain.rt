@@ -3,7 +3,7 @@
 use cell::{Refusal, WinId};
 use explain::{finding, refusal_everywhere, refused_line};
 use script::{LONGEST_LINE, TextFault};
-use world::{Call, Making, Writing};
+use world::{Call, Copying, Making, Writing};
 
 /// Faulty lines, and what is said of each.
 #[rattlefmt::skip]
@@ -46,13 +46,15 @@ fn faults_are_explained(rt: HostRuntime) {
 
 /// Calls, and why every screen refuses each, if each does.
 #[rattlefmt::skip]
-static REFUSED: [(Call<'static>, Option<Refusal>); 6] = [
+static REFUSED: [(Call<'static>, Option<Refusal>); 8] = [
     (Call::Making(Making::Newpad { lines: 0, columns: 0 }), Some(Refusal::BadSize)),
     (Call::Making(Making::Newwin { lines: 1000, columns: 1, y: 0, x: 0 }), Some(Refusal::OffScreen)),
     (Call::Making(Making::Delwin { win: WinId::STANDARD }), Some(Refusal::StandardScreen)),
     (Call::Making(Making::Newwin { lines: 999, columns: 999, y: 0, x: 0 }), None),
     (Call::Making(Making::Delwin { win: WinId(1) }), None),
     (Call::Writing(Writing::ColorSet { win: WinId(1), pair: 64 }), Some(Refusal::BadPair)),
+    (Call::Copying(Copying::Touchline { win: WinId::STANDARD, y: 998, n: 1 }), None),
+    (Call::Copying(Copying::Touchline { win: WinId::STANDARD, y: 998, n: 2 }), Some(Refusal::OutsideWindow)),
 ];
 
 /// Whether that is said of a call in line 7 that every screen refuses.
