@@ -8,7 +8,6 @@ use Rattle.explain.specs.Advice.{advice_in}
 use Rattle.explain.specs.Names.{begins_among, names_in}
 use Rattle.explain.specs.Nearest.{or_else}
 use Rattle.explain.specs.steps.Tables.{grouped_in, is_lettered_row, lettered_in}
-use Rattle.explain.proofs.Letters.{advice-with}
 
 abbrev Row : Type 0
 Row = List ℕ × List ℕ
@@ -67,6 +66,11 @@ same-row name (letters ∷ names) others are =
     let begin : list_all (begins_among letters) names ≡ true = grind arith in
     let same : are_same names others ≡ true = grind arith in
     both (begins_among letters name) (list_any (bytes_eq name) names) (none-of (begins_among letters) name names begin) ∙ same-any name names others same
+
+advice-with : (name : List ℕ) (row : Row) (rows : List Row) → advice_in (row ∷ rows) name ≡ cond (list_any (bytes_eq name) (names_in row.1)) (Some row.0) (advice_in rows name)
+advice-with name row rows = elim (list_any (bytes_eq name) (names_in row.1)) as
+    (λ v. option_map (λ row. row.0) (cond v (Some row) (find (λ row. list_any (bytes_eq name) (names_in row.1)) rows)) ≡ cond v (Some row.0) (advice_in rows name))
+    [ true ↦ refl | false ↦ refl ]
 
 lettered-with : (name : List ℕ) (row : Row) (rows : List Row) → lettered_in (row ∷ rows) name
     ≡ cond (is_lettered_row name (names_in row.1)) (Some row.0) (lettered_in rows name)

@@ -1,10 +1,6 @@
 -- that the texts of the table of advice are short, for advice_on
 pub mod TableLemmas
--- that the names of a letter are among its rows alone, for advice_on
-pub mod Letters
--- that the table has for each letter the rows of the definition, for advice_on
-pub mod LetterTable
--- rows that are passed over by their first letters, for more_advice
+-- rows that are passed over by their first letters, for advice_on
 pub mod Lettered
 -- that the words of calls are short, for nearest
 pub mod NearestLemmas

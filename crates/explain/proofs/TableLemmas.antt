@@ -4,6 +4,7 @@ use Rattle.std.specs.Prelude.{IfSome, nat_le, option_map}
 use Rattle.std.specs.List.{list_all}
 use Rattle.std.specs.Borrow.{Bor}
 use Rattle.std.proofs.lemmas.Bool.Decides.{nat_tests}
+use Rattle.explain.specs.declared.advice.TheConstants.{ADVICE}
 use Rattle.explain.specs.declared.more_advice.TheConstants.{FOREIGN, LIKE_MAKING, LIKE_OTHERS, PARTS}
 use Rattle.explain.proofs.Lettered.{has_rows}
 use Rattle.explain.specs.Advice.{advice_by_part, advice_in, advised, foreign_advised, like_making_advised, like_others_advised, part_in, parts_advised}
@@ -38,7 +39,14 @@ pub foreign-short : all_short foreign_advised ≡ true
 unfolding foreign_advised
 foreign-short = refl
 
--- ---- the rows of further names
+-- ---- the rows of names
+
+abbrev pub advised_groups : List (List (List ℕ × List ℕ))
+advised_groups = map (λ group. map (λ row. (row.0.now, row.1.now)) group.now) ADVICE
+
+pub advised-rows : has_rows advised_groups advised ≡ true
+unfolding advised
+advised-rows = refl
 
 abbrev pub making_groups : List (List (List ℕ × List ℕ))
 making_groups = map (λ group. map (λ row. (row.0.now, row.1.now)) group.now) LIKE_MAKING

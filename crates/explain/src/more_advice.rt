@@ -5,12 +5,13 @@ ghost use Rattle.std.specs.List.{list_any};
 ghost use Rattle.script.specs.Pieces.{pieces_of};
 ghost use Rattle.explain.specs.Advice.{advice_by_part, advice_in, advice_like_calls, foreign_advice, like_making_advised, like_others_advised, more_advice, part_in};
 ghost use Rattle.explain.specs.Names.{has_part};
-ghost use Rattle.explain.specs.steps.Tables.{grouped_in, groups_now, lettered_in, rows_now};
+ghost use Rattle.explain.specs.steps.Tables.{rows_now};
 
 use crate::advice::{
-    CALLS_ALONE, COLOURED, FORMATS, MENUS, PROGRAMS, REFRESHED, Row, SCREEN, UPDATES, is_in,
+    CALLS_ALONE, COLOURED, FORMATS, MENUS, PROGRAMS, REFRESHED, Row, SCREEN, UPDATES,
+    look_up_grouped,
 };
-use crate::names::{begins_among, has_part};
+use crate::names::has_part;
 use script::split_at_space;
 
 const BACKGROUNDS: &[u8] = b"see bkgdset, bkgdpair";
@@ -25,9 +26,6 @@ pub const PICTURE: &[u8] = b"a line of a picture is no line of a script; addstr 
 pub const LOG_LINE: &[u8] = b"a line of the log or of check is no line of a script";
 
 pub const SHELL: &[u8] = b"this belongs in the shell: a script has calls alone";
-
-// In the next three tables the names of a row come after their first letters. Their rows stand in groups, since a proof
-// over one long list of rows takes much longer.
 
 /// Names like those of calls that make, place or delete windows and panels, or insert or delete cells, that the table of
 /// `advice` has no room for.
@@ -208,34 +206,6 @@ const PARTS: [Row; 14] = [
     (b"see newwin, delwin, mvwin", b"window"),
     (b"see touchwin, untouchwin, touchline", b"touch"),
 ];
-
-/// What rows say of a name: the first of them that has the name. Rows without its first letter are passed over.
-#[tactic(auto, unfolding(crate::specs::steps::Tables::lettered_in))]
-fn look_up_lettered(mut rows: &[Row], name: &[u8]) -> Option<&'static [u8]>
-    ensures { option_map (λ text. text.now) result ≡ lettered_in (rows_now rows.entry.now) name.now }
-{
-    while let [(text, lettered), rest @ ..] = rows {
-        let (letters, names) = split_at_space(lettered);
-        if begins_among(name, letters) && is_in(name, names) {
-            return Some(text);
-        }
-        rows = rest;
-    }
-    None
-}
-
-/// What groups of such rows say of a name: the first of them that says something.
-fn look_up_grouped(mut groups: &[&[Row]], name: &[u8]) -> Option<&'static [u8]>
-    ensures { option_map (λ text. text.now) result ≡ grouped_in (groups_now groups.entry.now) name.now }
-{
-    while let [rows, rest @ ..] = groups {
-        if let Some(text) = look_up_lettered(rows, name) {
-            return Some(text);
-        }
-        groups = rest;
-    }
-    None
-}
 
 /// What is said of a name like those of the first table, if something is.
 fn advice_like_making(name: &[u8]) -> Option<&'static [u8]>
