@@ -1,9 +1,9 @@
 -- What clap says of this program's command line, and of the number of an option.
-use Rattle.std.proofs.Common.{◌≡◌, ◌⊎◌, ◌||◌, ℕ, Bool, List, [], Option, None, Some, Ok, Err, Result, true, false, refl, sym, ap, subst, inl, inr, option_map, ◌∙◌, arith}
+use Rattle.std.proofs.Common.{◌≡◌, ◌⊎◌, ◌||◌, ℕ, Bool, List, Option, None, Some, Ok, Err, Result, true, false, refl, sym, ap, subst, inl, inr, option_map, ◌∙◌, arith}
 use Rattle.std.specs.Borrow.{Bor}
 use Rattle.std.specs.Prelude.{IfErr, MatchOption}
 use Rattle.std.specs.Str.Parse.{ParsesUnsigned}
-use Rattle.clap.specs.Words.{App, FailsBy, HasKind, HasMatchesOf, Row, Text, fault_of}
+use Rattle.clap.specs.Words.{App, FailsBy, HasMatchesOf, Row, Text, fault_of}
 use Rattle.clap.specs.Words.{first_of, first_value, has_subcommand, is_simple, is_simple_and_free, kind_of, one_of, one_text, rows_of}
 use Rattle.clap.specs.Words.{subcommand_of, subcommand_rows_of}
 use Rattle.clap.specs.Matches.{ReadsOne, subcommand_name_of}
@@ -24,12 +24,9 @@ unfolding clap_on_literals
 curspan_is_free = refl
 
 -- what clap says of its errors, of this program's command line
-pub kinds_of_curspan : (a : App) (words : List Text) (e : Error) → a ≡ curspan → (is_simple_and_free a ≡ true → HasKind (fault_of a words) e)
-    → HasKind (fault_of curspan words) e
-kinds_of_curspan a words e is kinds = subst (λ b. HasKind (fault_of b words) e) is (kinds (ap is_simple_and_free is ∙ curspan_is_free))
-
-pub no_fault_of_curspan : (a : App) (words : List Text) → a ≡ curspan → (is_simple_and_free a ≡ true → fault_of a words ≡ []) → fault_of curspan words ≡ []
-no_fault_of_curspan a words is none = subst (λ b. fault_of b words ≡ []) is (none (ap is_simple_and_free is ∙ curspan_is_free))
+pub fails_by_curspan : {T : Type 0} (a : App) (words : List Text) (r : Result T Error) → a ≡ curspan → (is_simple_and_free a ≡ true → FailsBy (fault_of a words) r)
+    → FailsBy (fault_of curspan words) r
+fails_by_curspan a words r is fails = subst (λ b. FailsBy (fault_of b words) r) is (fails (ap is_simple_and_free is ∙ curspan_is_free))
 
 -- the subcommand of its matches
 pub subcommand_of_curspan : (a : App) (words : List Text) (m : ArgMatches) → a ≡ curspan → HasMatchesOf a words m → subcommand_rows_of m ≡ subcommand_of curspan words

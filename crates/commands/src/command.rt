@@ -1,11 +1,11 @@
 //! Reads the command line.
 
 ghost use Rattle.std.specs.Prelude.{◌≡◌, ◌⊎◌, ◌++◌, IfErr, IfOk, MatchOption, codes, map};
-ghost use Rattle.clap.specs.Words.{found_of, kind_of, rows_of};
+ghost use Rattle.clap.specs.Words.{FailsBy, fault_of, found_of, kind_of, rows_of, subcommand_of, subcommand_rows_of};
 ghost use Rattle.clap.specs.declared.error.kind.ErrorKind.TheVariants.{OutOfMemory};
 ghost use Rattle.commands.specs.declared.requests.Kind.{Kind};
 ghost use Rattle.commands.specs.declared.sizes.NoSize.TheVariants.{Bad, Missing};
-ghost use Rattle.commands.specs.CommandLine.{Asks, IsRefused, LacksSizes, SizesOf, is_quiet_by, kind_text, script_by, sizes_of, text_of};
+ghost use Rattle.commands.specs.CommandLine.{Asks, IsRefused, LacksSizes, SizesOf, curspan, is_quiet_by, kind_text, script_by, sizes_of, text_of};
 ghost use Rattle.commands.specs.steps.Sizing.{AsksBy, IsRefusedBy, RequestBy, error_kind};
 
 use crate::requests::{Invocation, Job, Kind, Request, Variables};
@@ -170,6 +170,14 @@ fn invocation<'a>(
     })
 }
 
+/// What clap finds in the words.
+fn matches_of<'a, S: AsStr>(alloc: Global, words: &'a [S]) -> Result<ArgMatches<'a>, Error>
+    ensures subcommand { IfOk result (λ m. subcommand_rows_of m ≡ subcommand_of curspan (map S.text words.entry.now)) }
+    ensures faults { FailsBy (fault_of curspan (map S.text words.entry.now)) result }
+{
+    command(alloc)?.try_get_matches_from(words)
+}
+
 /// What the words ask for; variables give the sizes that no option does. The first word is the program's name.
 /// An error is lack of memory, or has one of the kinds that clap's definition gives for the words, a usage fault or a
 /// request for help; where it gives none, it is lack of memory, or says that a size is given neither by an option nor
@@ -182,11 +190,10 @@ pub fn job<'a, S: AsStr>(
     ensures asked { IfOk result (λ invocation. Asks (sizes_of variables.now) (map S.text words.entry.now) invocation) }
     ensures faults { IfErr result (λ e. (kind_of e ≡ OutOfMemory) ⊎ IsRefused (sizes_of variables.now) (map S.text words.entry.now) (kind_of e)) }
 {
-    let mut command = command(alloc)?;
-    let matches = command.try_get_matches_from_mut(words)?;
+    let matches = matches_of(alloc, words)?;
     match matches.subcommand() {
         Some((name, found)) => invocation(alloc, name, found, variables),
-        // What clap accepts always names a subcommand, so this is never reached.
-        None => Err(command.error(ErrorKind::MissingSubcommand, "no subcommand")?),
+        // What clap accepts always names a subcommand.
+        None => unreachable!(),
     }
 }
