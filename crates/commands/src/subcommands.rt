@@ -3,8 +3,7 @@
 ghost use Rattle.std.specs.Prelude.{◌≡◌, IfOk, false};
 ghost use Rattle.clap.specs.Words.{app_of, new_app, rule_of, with_rule, with_subcommand};
 ghost use Rattle.clap.specs.declared.builder.command.Command.TheViews.{out-Command};
-ghost use Rattle.commands.specs.declared.requests.Kind.TheVariants.{Show};
-ghost use Rattle.commands.specs.CommandLine.{bare, check_mode, curspan, file_rule, log_rule, mode, on_screen, quiet_rule, size_rule, with_files, with_size};
+ghost use Rattle.commands.specs.CommandLine.{bare, check_mode, curspan, file_rule, log_rule, mode, on_screen, quiet_rule, size_rule, with_files};
 
 use crate::requests::Kind;
 use cell::LARGEST_SCREEN;
@@ -84,15 +83,6 @@ fn with_argument<'a>(command: Command<'a>, argument: Arg<'a>) -> Result<Command<
     command.arg(argument)
 }
 
-/// A subcommand with the size of a screen.
-fn with_size<'a>(alloc: Global, command: Command<'a>) -> Result<Command<'a>, AllocError>
-    ensures app { IfOk result (λ c. app_of c ≡ with_size (app_of command.entry)) }
-    ensures local { IfOk result (λ c. (out-Command c).has_globals ≡ (out-Command command.entry).has_globals) }
-{
-    let with_lines = with_argument(command, size(alloc, "lines", LINES_HELP))?;
-    with_argument(with_lines, size(alloc, "cols", COLS_HELP))
-}
-
 /// A subcommand with the names of files.
 fn with_files<'a>(alloc: Global, command: Command<'a>) -> Result<Command<'a>, AllocError>
     ensures app { IfOk result (λ c. app_of c ≡ with_files (app_of command.entry)) }
@@ -110,6 +100,25 @@ fn plain<'a>(alloc: Global, name: &'a str, about: &'a str) -> Command<'a>
     Command::new(alloc, name).about(about)
 }
 
+/// A subcommand with the size of a screen and the names of files.
+fn on_screen<'a>(alloc: Global, name: &'a str, about: &'a str) -> Result<Command<'a>, AllocError>
+    ensures app { IfOk result (λ c. app_of c ≡ on_screen name.entry.now) }
+    ensures local { IfOk result (λ c. (out-Command c).has_globals ≡ false) }
+{
+    let plain = plain(alloc, name, about);
+    let with_lines = with_argument(plain, size(alloc, "lines", LINES_HELP))?;
+    let with_size = with_argument(with_lines, size(alloc, "cols", COLS_HELP))?;
+    with_files(alloc, with_size)
+}
+
+/// A subcommand that runs scripts.
+fn running<'a>(alloc: Global, name: &'a str, about: &'a str) -> Result<Command<'a>, AllocError>
+    ensures mode { IfOk result (λ c. app_of c ≡ with_rule (on_screen name.entry.now) quiet_rule) }
+    ensures local { IfOk result (λ c. (out-Command c).has_globals ≡ false) }
+{
+    with_argument(on_screen(alloc, name, about)?, quiet(alloc))
+}
+
 /// The subcommand of a kind.
 pub fn subcommand<'a>(alloc: Global, kind: Kind) -> Result<Command<'a>, AllocError>
     ensures mode { IfOk result (λ c. app_of c ≡ mode kind) }
@@ -122,26 +131,8 @@ pub fn subcommand<'a>(alloc: Global, kind: Kind) -> Result<Command<'a>, AllocErr
             "paint",
             "Run a script, and print its panels over the standard screen",
         ),
-        Kind::Show => showing(alloc),
+        Kind::Show => on_screen(alloc, "show", "Print the picture that terminal bytes leave"),
     }
-}
-
-/// A subcommand that runs scripts.
-fn running<'a>(alloc: Global, name: &'a str, about: &'a str) -> Result<Command<'a>, AllocError>
-    ensures mode { IfOk result (λ c. app_of c ≡ with_rule (on_screen name.entry.now) quiet_rule) }
-    ensures local { IfOk result (λ c. (out-Command c).has_globals ≡ false) }
-{
-    let sized = with_size(alloc, plain(alloc, name, about))?;
-    with_argument(with_files(alloc, sized)?, quiet(alloc))
-}
-
-/// The subcommand that shows streams.
-fn showing<'a>(alloc: Global) -> Result<Command<'a>, AllocError>
-    ensures mode { IfOk result (λ c. app_of c ≡ mode Show) }
-    ensures local { IfOk result (λ c. (out-Command c).has_globals ≡ false) }
-{
-    let show = plain(alloc, "show", "Print the picture that terminal bytes leave");
-    with_files(alloc, with_size(alloc, show)?)
 }
 
 /// The subcommand that needs no size.
