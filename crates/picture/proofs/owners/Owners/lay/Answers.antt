@@ -1,6 +1,7 @@
 -- On a line that the rectangle has, it holds the columns between its sides.
 use Rattle.std.proofs.Common.{◌≡◌, ◌≤◌, ◌&&◌, ℕ, Some, if◌then◌else◌, nat_le, ap, arith}
 use Rattle.std.proofs.lemmas.Bool.Decides.{nat_tests}
+use Rattle.std.proofs.lemmas.Grind.{common_steps}
 use Rattle.cell.specs.declared.window.Rect.{Rect}
 use Rattle.picture.specs.Parts.{frame_holds}
 use Rattle.picture.proofs.OwnerLaws.{spans-as}
@@ -16,3 +17,10 @@ returns-then-y-rect-2-clause-laid c = λ o h fresh.
     let p = c.args.panel.0 in
     spans-as (λ x. if nat_le r.left x && nat_le x r.right then Some p else o x) (λ x. if frame_holds r y x then Some p else o x) c.lay.new.self (c.lay.ensures.laid o h fresh)
     (λ x. ap (λ b. if b then Some p else o x) (on-line r y x (omega arith) (omega arith)))
+
+-- search takes a second to fail at each of these two
+pub returns-then-y-rect-clause-laid : goal.returns-then-y-rect-clause-laid
+returns-then-y-rect-clause-laid c = grind (arith, common_steps)
+
+pub returns-else-y-rect-2-clause-laid : goal.returns-else-y-rect-2-clause-laid
+returns-else-y-rect-2-clause-laid c = grind (arith, common_steps)
