@@ -20,7 +20,6 @@ use world::Columns;
 impl Grids {
     /// The rectangle of window `to` at whose places it shows a cell that `from` shows in a rectangle of it, ends
     /// inclusive; none if there is no such place. Both windows must exist, and `from` must hold the rectangle.
-    #[tactic(auto, using(crate::proofs::Sounds::each_sound))]
     pub fn seen_in(&self, from: WinId, rect: Rect, to: WinId) -> Option<Rect>
         requires ordered_lines { rect.top ≤ rect.bottom }
         requires ordered_columns { rect.left ≤ rect.right }

@@ -2,6 +2,7 @@
 use Rattle.std.proofs.Common.{◌≡◌, ◌+◌, ◌<◌, ◌∙◌, false, List, [], length, Some, inr, arith, refl, subst, sym, ap}
 use Rattle.std.specs.Prelude.{◌⊎◌}
 use Rattle.std.proofs.lemmas.Bool.Decides.{nat_tests}
+use Rattle.std.proofs.lemmas.Grind.{common_steps}
 use Rattle.cell.specs.Pictures.{Picture, Place}
 use Rattle.cell.specs.Shown.{Rendition}
 use Rattle.paint.specs.declared.changes.Frame.{Frame}
@@ -15,6 +16,13 @@ use Rattle.paint.proofs.Gathering.{exactly-anew, gathered-anew, told-exactly}
 use Rattle.paint.proofs.Linking.{passes-few}
 use Rattle.paint.proofs.Listing.{runs-in_order, runs-inside}
 use Rattle.paint.proofs.frame.draw_frame.Goals as goal
+
+-- search takes seconds to fail at these two
+pub returns-then-is_empty-clause-compared : goal.returns-then-is_empty-clause-compared
+returns-then-is_empty-clause-compared g c = grind (arith, common_steps)
+
+pub are_written_at_ends-requires : goal.are_written_at_ends-requires
+are_written_at_ends-requires g c = grind (arith, common_steps)
 
 pub linked-requires : goal.linked-requires
 linked-requires g c =

@@ -1,8 +1,10 @@
 -- A window shows a part of itself where that is; windows of two grids share no cell; of one grid the shared lines and columns are the rectangle.
-use Rattle.std.proofs.Common.{rules, ◌≡◌, ◌<◌, Some, ℕ, subst}
+-- Search and grind take seconds to fail at what says that the windows are sound, so those are answered by `each_sound`.
+use Rattle.std.proofs.Common.{rules, ◌≡◌, ◌<◌, Some, ℕ, arith, subst}
 use Rattle.world.specs.Frames.{AreRectangle}
 use Rattle.world.specs.Sharing.{SharesPart}
 use Rattle.grids.specs.Tables.{windows}
+use Rattle.grids.proofs.Sounds.{each_sound}
 use Rattle.grids.proofs.Showing.{leads_shown}
 use Rattle.grids.proofs.Seen.{seen-above, seen-apart, seen-beside, seen-itself, seen-there}
 use Rattle.slots.proofs.Chain.{some_and, some_of}
@@ -54,3 +56,18 @@ returns-clause-seen c =
     let b = some_and (map a.to.0) (λ b. (c.size-lines.result.0 ≡ b.lines) × (c.size-lines.result.1 ≡ b.columns)) c.size-lines.ensures in
     seen-there map a.from.0 a.to.0 a.rect b.0 _ _ b.1 leads_p leads_q c.if-source-target.false c.in_ok-down.down c.in_ok-along.along
     (rw b.2.0 at c.in_ok-down.ensures.shown) (rw b.2.1 at c.in_ok-along.ensures.shown) (rw b.2.0 at c.in_ok-down.ensures.within) (rw b.2.1 at c.in_ok-along.ensures.within)
+
+pub returns-then-eq-clause-sound : goal.returns-then-eq-clause-sound
+returns-then-eq-clause-sound c = grind (arith, each_sound)
+
+pub returns-then-source-target-clause-sound : goal.returns-then-source-target-clause-sound
+returns-then-source-target-clause-sound c = grind (arith, each_sound)
+
+pub returns-in_err-down-clause-sound : goal.returns-in_err-down-clause-sound
+returns-in_err-down-clause-sound c = grind (arith, each_sound)
+
+pub returns-in_err-along-clause-sound : goal.returns-in_err-along-clause-sound
+returns-in_err-along-clause-sound c = grind (arith, each_sound)
+
+pub returns-clause-sound : goal.returns-clause-sound
+returns-clause-sound c = grind (arith, each_sound)
