@@ -1,5 +1,5 @@
 -- `draw_frame`: the text of the last one that was drawn; it may go to any sink where nothing of it went out (`Gathering`).
-use Rattle.std.proofs.Common.{◌≡◌, ◌+◌, ◌<◌, ◌∙◌, false, List, [], length, Some, inr, arith, refl, subst, sym, ap}
+use Rattle.std.proofs.Common.{◌≡◌, ℕ, ◌+◌, ◌<◌, ◌==◌, ◌∙◌, false, List, [], length, Some, inr, arith, refl, subst, sym, ap}
 use Rattle.std.specs.Prelude.{◌⊎◌}
 use Rattle.std.proofs.lemmas.Bool.Decides.{nat_tests}
 use Rattle.std.proofs.lemmas.Grind.{common_steps}
@@ -24,9 +24,12 @@ returns-then-is_empty-clause-compared g c = grind (arith, common_steps)
 pub are_written_at_ends-requires : goal.are_written_at_ends-requires
 are_written_at_ends-requires g c = grind (arith, common_steps)
 
+some-order : (n : ℕ) → false ≡ (n == 0) → 0 < n
+some-order n h = grind (arith, nat_tests)
+
 pub linked-requires : goal.linked-requires
 linked-requires g c =
-    let some : 0 < length c.order.result.now = grind (arith, nat_tests, c.if-is_empty.ensures) in
+    let some : 0 < length c.order.result.now = some-order _ c.if-is_empty.ensures in
     passes-few (runs-in_order c.order.ensures.order some (c.list_runs.ensures.runs c.if-not-list_runs.false)) c.order.ensures.few
 
 pub are_passes_shorter-requires-clause-runs : goal.are_passes_shorter-requires-clause-runs
@@ -51,13 +54,13 @@ linked-all {linked = linked} frame one other some h same are gaps = record {
 pub draw_passes-requires-clause-runs : goal.draw_passes-requires-clause-runs
 draw_passes-requires-clause-runs g c =
     let noted = c.list_runs.ensures.noted c.if-not-list_runs.false in
-    linked-runs (c.order.ensures.value _ noted) (c.linked.ensures.value _ noted) (grind (arith, nat_tests, c.if-is_empty.ensures)) c.linked.ensures.order c.linked.ensures.runs
+    linked-runs (c.order.ensures.value _ noted) (c.linked.ensures.value _ noted) (some-order _ c.if-is_empty.ensures) c.linked.ensures.order c.linked.ensures.runs
     (c.list_runs.ensures.runs c.if-not-list_runs.false)
 
 pub draw_shorter-requires-clause-runs : goal.draw_shorter-requires-clause-runs
 draw_shorter-requires-clause-runs g c =
     let noted = c.list_runs.ensures.noted c.if-not-list_runs.false in
-    linked-runs (c.order.ensures.value _ noted) (c.linked.ensures.value _ noted) (grind (arith, nat_tests, c.if-is_empty.ensures)) c.linked.ensures.order c.linked.ensures.runs
+    linked-runs (c.order.ensures.value _ noted) (c.linked.ensures.value _ noted) (some-order _ c.if-is_empty.ensures) c.linked.ensures.order c.linked.ensures.runs
     (c.list_runs.ensures.runs c.if-not-list_runs.false)
 
 pub returns-then-not-holds_all-clause-holds : goal.returns-then-not-holds_all-clause-holds
@@ -73,7 +76,7 @@ returns-then-are_passes_shorter-clause-compared g c =
     let frame = c.args.frame.now in
     let known = c.list_runs.ensures.noted c.if-not-list_runs.false in
     let order = c.linked.ensures.value _ known in
-    let are = linked-all frame (c.order.ensures.value _ known) order (grind (arith, nat_tests, c.if-is_empty.ensures)) c.linked.ensures.order c.linked.ensures.runs
+    let are = linked-all frame (c.order.ensures.value _ known) order (some-order _ c.if-is_empty.ensures) c.linked.ensures.order c.linked.ensures.runs
     (c.list_runs.ensures.runs c.if-not-list_runs.false) (c.list_runs.ensures.gaps c.if-not-list_runs.false) in
     let runs = c.linked.result.1.runs.now in
     let drawn = c.draw_walk-2.ensures.holds (record { lines = frame.lines; columns = frame.columns; last = last_shown frame.shown.now (Some c.args.from) }) false refl refl refl in
@@ -86,7 +89,7 @@ returns-then-not-holds_all-clause-compared g c =
     let frame = c.args.frame.now in
     let known = c.list_runs.ensures.noted c.if-not-list_runs.false in
     let order = c.linked.ensures.value _ known in
-    let are = linked-all frame (c.order.ensures.value _ known) order (grind (arith, nat_tests, c.if-is_empty.ensures)) c.linked.ensures.order c.linked.ensures.runs
+    let are = linked-all frame (c.order.ensures.value _ known) order (some-order _ c.if-is_empty.ensures) c.linked.ensures.order c.linked.ensures.runs
     (c.list_runs.ensures.runs c.if-not-list_runs.false) (c.list_runs.ensures.gaps c.if-not-list_runs.false) in
     let runs = c.linked.result.1.runs.now in
     let drawn = c.draw_walk-2.ensures.holds (record { lines = frame.lines; columns = frame.columns; last = last_shown frame.shown.now (Some c.args.from) }) false refl refl refl in
@@ -99,7 +102,7 @@ returns-else-not-holds_all-clause-compared g c =
     let frame = c.args.frame.now in
     let known = c.list_runs.ensures.noted c.if-not-list_runs.false in
     let order = c.linked.ensures.value _ known in
-    let are = linked-all frame (c.order.ensures.value _ known) order (grind (arith, nat_tests, c.if-is_empty.ensures)) c.linked.ensures.order c.linked.ensures.runs
+    let are = linked-all frame (c.order.ensures.value _ known) order (some-order _ c.if-is_empty.ensures) c.linked.ensures.order c.linked.ensures.runs
     (c.list_runs.ensures.runs c.if-not-list_runs.false) (c.list_runs.ensures.gaps c.if-not-list_runs.false) in
     let runs = c.linked.result.1.runs.now in
     let drawn = c.draw_walk-2.ensures.holds (record { lines = frame.lines; columns = frame.columns; last = last_shown frame.shown.now (Some c.args.from) }) false refl refl refl in
@@ -114,7 +117,7 @@ returns-then-are_written_at_ends-clause-compared g c =
     let f = frame.sound in
     let known = c.list_runs.ensures.noted c.if-not-list_runs.false in
     let order = c.linked.ensures.value _ known in
-    let are = linked-all frame (c.order.ensures.value _ known) order (grind (arith, nat_tests, c.if-is_empty.ensures)) c.linked.ensures.order c.linked.ensures.runs
+    let are = linked-all frame (c.order.ensures.value _ known) order (some-order _ c.if-is_empty.ensures) c.linked.ensures.order c.linked.ensures.runs
     (c.list_runs.ensures.runs c.if-not-list_runs.false) (c.list_runs.ensures.gaps c.if-not-list_runs.false) in
     let runs = c.linked.result.1.runs.now in
     let counted = ap (λ (o : List Rendition). passes_bytes frame.columns frame.wanted.now (length o + 1) runs c.args.from c.args.to) order in
