@@ -218,7 +218,6 @@ fn take_more(forms: &[Form], text: &[u8], taken: &mut Arguments) -> bool
 
 /// Takes what the arguments say, and answers the same. A number is read and split off in one pass.
 #[inline(always)]
-#[tactic(auto, using(crate::proofs::ArgumentLemmas::too_few, crate::proofs::ArgumentLemmas::too_many, crate::proofs::ArgumentLemmas::as_many))]
 fn take_all(forms: &[Form], text: Option<&[u8]>, taken: &mut Arguments) -> bool
     requires forms { length forms.now ≤ MOST_ARGUMENTS }
     requires short { IfSome text (λ t. length t.now ≤ LONGEST_LINE) }
