@@ -34,9 +34,9 @@ returns-clause-laid c = λ o h fresh.
     let ordered = c.requires.ordered in
     let begun = c.end_before.ensures in
     let ended : (e : ℕ) → contains c.put.new.self.ends e ≡ (e == a.right || (if nat_le a.left e && nat_lt e a.right then false else contains c.end_before.new.self.ends e)) =
-        λ e. c.put.ensures.ends e ∙ ap (λ (b : Bool). e == a.right || b) (c.remove_ends.ensures.ends e) in
+    λ e. c.put.ensures.ends e ∙ ap (λ (b : Bool). e == a.right || b) (c.remove_ends.ensures.ends e) in
     let owned : (e : ℕ) → e ≢ a.right → slice_index c.put.new.self.panels e ≡ slice_index c.end_before.new.self.panels e =
-        λ e far. c.put.ensures.others e far ∙ ap (λ (ps : List ℕ). slice_index ps e) c.remove_ends.ensures.panels in
+    λ e far. c.put.ensures.others e far ∙ ap (λ (ps : List ℕ). slice_index ps e) c.remove_ends.ensures.panels in
     let is_laid : IsLaid o a.left a.right a.panel.0 a.self.now c.put.new.self = record {
       ordered = ordered;
       at_right = c.put.ensures.ends a.right ∙ end-last a.right (contains c.remove_ends.new.self.ends a.right);
