@@ -1,0 +1,7 @@
+-- Search takes seconds to fail at the invariant.
+use Rattle.std.proofs.Common.{arith}
+use Rattle.std.proofs.lemmas.Grind.{common_steps}
+use Rattle.ecma.proofs.cells.Cells.new.Goals as goal
+
+pub invariant_of-result : goal.invariant_of-result
+invariant_of-result c = grind (arith, common_steps)
