@@ -1,16 +1,17 @@
 -- The new slot names its parent, is inside it, and leads to its grid; so the table with it is sound.
 use Rattle.std.specs.Prelude.{unwrap_or}
-use Rattle.std.proofs.Common.{◌≡◌, ◌+◌, List, Option, Some, arith, ◌∙◌, ap, refl, subst, sym, rules}
+use Rattle.std.proofs.Common.{◌≡◌, ◌+◌, Some, arith, ◌∙◌, ap, refl, sym, rules}
 use Rattle.std.specs.Option.{option_map}
+use Rattle.std.proofs.lemmas.Grind.{common_steps}
 use Rattle.world.specs.Windows.{part_of}
 use Rattle.world.specs.calls.Making.{next_window, place_from}
 use Rattle.world.specs.Effects.{under_number}
 use Rattle.world.specs.World.{new_window}
 use Rattle.world.specs.Panels.{standard_screen}
 use Rattle.grids.specs.contracts.table.Grids.{the_view}
-use Rattle.slots.specs.Kept.{Kept, window_of}
+use Rattle.slots.specs.Kept.{window_of}
 use Rattle.slots.specs.Slots.{slot_at, window_map}
-use Rattle.grids.specs.Tables.{IsWindowTable, WindowTable, windows}
+use Rattle.grids.specs.Tables.{windows}
 use Rattle.slots.proofs.Chain.{depth_below}
 use Rattle.grids.proofs.NewWindows.{IsWindowTable-added, windows-added, extent-is, derived_in, placed_derived, made_derived}
 use Rattle.slots.proofs.Origins.{origin-derived}
@@ -18,15 +19,7 @@ use Rattle.grids.proofs.Sounds.{sound}
 use Rattle.grids.proofs.table.Grids.derive.Goals as goal
 
 pub overflow_add-depth : goal.overflow_add-depth
-overflow_add-depth c =
-    let e = ap (λ (t : WindowTable). slot_at t.slots c.args.win.0) c.self.view_is ∙ c.in_ok-parent.ensures.found in
-    let below = depth_below (the_view c.self.inside).slots c.self.invariant.chained c.args.win.0 c.in_ok-parent.parent.now e in
-    omega (arith, below)
-
-pub invariant_of-self : goal.invariant_of-self
-invariant_of-self c =
-    let t = the_view c.self.inside in
-    subst (λ (slots : List (Option Kept)). IsWindowTable (record t { slots = slots })) (sym c.in_err-fill_slot_at.ensures.unchanged) c.self.invariant
+overflow_add-depth c = grind (arith, common_steps, depth_below)
 
 pub invariant_of-self-2 : goal.invariant_of-self-2
 invariant_of-self-2 c =
@@ -35,7 +28,7 @@ invariant_of-self-2 c =
     let k = c.in_ok-slot.slot in
     let p = c.in_ok-parent.parent.now in
     let kept = c.in_ok-slot.ensures.kept in
-    let e : slot_at t.slots a.win.0 ≡ Some p = ap (λ (t : WindowTable). slot_at t.slots a.win.0) c.self.view_is ∙ c.in_ok-parent.ensures.found in
+    let e : slot_at t.slots a.win.0 ≡ Some p = grind (arith, common_steps) in
     let free = rw (c.deref-2.ensures.value, c.in_ok-number.ensures.ok_part) at c.free_number.ensures.free in
     let lines = extent-is a.nlines p.lines a.y c.in_ok-lines.lines (rw (← c.lines.ensures) (sym c.extent_inside.ensures ∙ c.in_ok-lines.ensures.ok_part)) in
     let columns = extent-is a.ncols p.columns a.x c.in_ok-columns.columns (rw (← c.columns.ensures) (sym c.extent_inside-2.ensures ∙ c.in_ok-columns.ensures.ok_part)) in
@@ -59,7 +52,7 @@ returns c = record {
       let t = the_view c.self.inside in
       let n = c.in_ok-number.number in
       let p = c.in_ok-parent.parent.now in
-      let e : slot_at t.slots a.win.0 ≡ Some p = ap (λ (t : WindowTable). slot_at t.slots a.win.0) c.self.view_is ∙ c.in_ok-parent.ensures.found in
+      let e : slot_at t.slots a.win.0 ≡ Some p = grind (arith, common_steps) in
       let lines = extent-is a.nlines p.lines a.y c.in_ok-lines.lines (rw (← c.lines.ensures) (sym c.extent_inside.ensures ∙ c.in_ok-lines.ensures.ok_part)) in
       let columns = extent-is a.ncols p.columns a.x c.in_ok-columns.columns (rw (← c.columns.ensures) (sym c.extent_inside-2.ensures ∙ c.in_ok-columns.ensures.ok_part)) in
       let made = rw (c.place_from-place.ensures, c.place.ensures) at c.in_ok-slot.ensures.window in
