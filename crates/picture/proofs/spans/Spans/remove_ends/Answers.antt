@@ -1,5 +1,6 @@
 -- The first end from a column on is removed, and so none is left up to it.
 use Rattle.std.proofs.Common.{arith}
+use Rattle.std.proofs.lemmas.Grind.{common_steps}
 use Rattle.picture.proofs.SpanLaws.{removed-next}
 use Rattle.picture.proofs.spans.Spans.remove_ends.Goals as goal
 
@@ -18,3 +19,6 @@ loop-end-preserved c =
       ends = removed-next c.args.self.now.ends c.loop-end.self.ends c.remove.new.self c.args.left c.loop-end.from e h.ends c.remove.ensures found.2 begun from;
       panels = h.panels;
     }
+
+pub returns-then-right-end-clause-ends : goal.returns-then-right-end-clause-ends
+returns-then-right-end-clause-ends c = grind (arith, common_steps)
