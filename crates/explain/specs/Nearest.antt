@@ -44,13 +44,13 @@ other_names = slice_split is_space (
     ++ codes " wborder hline vline insstr resize standout standend timeout nodelay wattron wattroff print write window colour"
     ++ codes " wnoutrefresh")
 
--- the first letters are those of the text
+-- the letters of the first begin those of the other
 abbrev pub is_beginning : List ℕ → List ℕ → Bool
 is_beginning [] others = true
 is_beginning (a ∷ letters) [] = false
 is_beginning (a ∷ letters) (b ∷ others) = a == b && is_beginning letters others
 
--- how a word is like a name: it has its letters, or the first of them, or all but one
+-- how a word is like a name: it has its letters, or the first of them, or is near it
 abbrev pub is_like : Likeness → List ℕ → List ℕ → Bool
 is_like Same word name = bytes_eq (letters_of word) (letters_of name)
 is_like Beginning word name = is_beginning (letters_of word) (letters_of name)

@@ -98,7 +98,7 @@ fn is_near(text: &[u8], other: &[u8]) -> bool
     }
 }
 
-/// Whether the letters of a text begin those of another.
+/// Whether the letters of the first text begin those of the other.
 fn is_beginning(text: &[u8], other: &[u8]) -> bool
     ensures { result ≡ is_beginning (letters_of text.now) (letters_of other.now) }
 {
@@ -111,7 +111,7 @@ fn is_beginning(text: &[u8], other: &[u8]) -> bool
     }
 }
 
-/// How a word is like a name: it has its letters, or the first of them, or all but one.
+/// How a word is like a name: it has its letters, or the first of them, or is near it.
 #[derive(Clone, Copy)]
 pub enum Likeness {
     Same,
