@@ -59,7 +59,7 @@ pub trait Calls {
     /// Takes the picture of windows and panels into the virtual screen, with the cursor of the top visible panel's
     /// window, or else of the standard screen. It answers how many cells it read.
     final fn update_panels(&mut self) -> Composed
-        ensures { Self.made self.old (Call.Refresh Refresh.UpdatePanels) (Ok (Reply.Composed result)) self.new }
+        ensures { made self.old (Call.Refresh Refresh.UpdatePanels) (Ok (Reply.Composed result)) self.new }
     {
         match self.make(&Call::update_panels()) {
             Ok(composed) => composed,

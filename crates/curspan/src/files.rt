@@ -7,10 +7,10 @@ ghost use Rattle.curspan.specs.steps.Opening.{fault_of_kind};
 use crate::opening::{FileSink, FileSource};
 use commands::OpenFault;
 use desk::{Counted, CountedReader, Sink, Source};
-use pipes::Patient;
 use std::fs::File;
 use std::io;
 use std::io::{BufReader, ErrorKind, Read, Write};
+use streams::Patient;
 
 /// How many bytes are read at once.
 const READ_AT_ONCE: usize = 4096;

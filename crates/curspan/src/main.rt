@@ -14,12 +14,12 @@ use desk::Counted;
 use environment::variable;
 use files::{Log, Script};
 use opening::FileSink;
-use pipes::{Output, OutputLog, Patient};
 use serve::serve;
 use std::cell::Cell;
 use std::io::{BufWriter, ErrorKind};
 use std::process::ExitCode;
 use std::{env, io};
+use streams::{Output, OutputLog, Patient};
 
 /// How many bytes wait before they are written to standard output. A painter's piece of more goes out as it is.
 const WRITTEN_AT_ONCE: usize = 1024;

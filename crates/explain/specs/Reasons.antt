@@ -129,20 +129,23 @@ numbers_in_digits word = if is_one_of (codes "copywin touchln") word then codes 
 abbrev pub one_window : List ℕ
 one_window = codes ": one window, in which move sets the place first; stdscr is 0"
 
--- of a word with no digits: the number of a window, a pad or a panel comes first, but for calls that take none of them; and
--- of some calls what is seen for what they don't take
+-- of a call that takes a window; of some it is said what is seen for what they don't take
+abbrev pub window_comes_first : List ℕ → List ℕ
+window_comes_first word = if bytes_eq word (codes "move") then codes ": the window of the cursor comes first; stdscr is 0; see also mvwin, move_panel"
+    else (if is_one_of (codes "clear erase") word then codes ": a window's number alone; stdscr is 0; for parts see clrtoeol, clrtobot, delch"
+    else (if bytes_eq word (codes "touchwin") then codes ": a window's number alone; stdscr is 0; for lines see touchline"
+    else (if bytes_eq word (codes "noutrefresh") then codes ": a window's number alone; stdscr is 0; for a pad see pnoutrefresh"
+    else (if takes_place_of_cursor word then one_window
+    else codes ": a window's number comes first, from 1 as made; stdscr is 0"))))
+
+-- of a word with no digits: the number of a window, a pad or a panel comes first, but for calls that take none of them
 abbrev pub first_reason : List ℕ → List ℕ
 first_reason word = if is_one_of (codes "newwin newpad") word then codes ": lines and columns come first, in digits: no window or variable; see getmaxyx"
     else (if is_one_of (codes "subpad pnoutrefresh") word then codes ": a pad's number comes first, from 1 as made; stdscr is no pad"
     else (if is_one_of (codes "delwin mvwin mvderwin getparyx new_panel") word
     then codes ": a window's number comes first, from 1 as made, and not 0, which is stdscr"
-    else (if bytes_eq word (codes "move") then codes ": the window of the cursor comes first; stdscr is 0; see also mvwin, move_panel"
-    else (if is_one_of (codes "clear erase") word then codes ": a window's number alone; stdscr is 0; for parts see clrtoeol, clrtobot, delch"
-    else (if bytes_eq word (codes "touchwin") then codes ": a window's number alone; stdscr is 0; for lines see touchline"
-    else (if bytes_eq word (codes "noutrefresh") then codes ": a window's number alone; stdscr is 0; for a pad see pnoutrefresh"
-    else (if takes_place_of_cursor word then one_window
     else (if has_part (codes "panel") word then codes ": a panel's number comes first, from 1 as made; stdscr is in no panel"
-    else codes ": a window's number comes first, from 1 as made; stdscr is 0"))))))))
+    else window_comes_first word)))
 
 -- of another argument, the second of which is a window after some words
 abbrev pub second_reason : List ℕ → List ℕ
@@ -279,15 +282,20 @@ pair_reason argument = if begins_with (codes "color_pair") (name_of_argument arg
     else (if is_list argument then Some (codes ": a pair is one number, which has its colours by init_pair")
     else None)))))
 
+-- after `init_pair`: of what is no colour
+abbrev pub colour_reason : List ℕ → Option (List ℕ)
+colour_reason argument = if is_one_of (codes "- -1") argument || is_default (name_of_argument argument)
+    then Some (codes ": no number is the terminal's own colour, which pairs have until they are set")
+    else (if is_mixed argument || is_list argument then Some colours
+    else None)
+
 -- of an argument after the first
 abbrev pub later_reason : List ℕ → List ℕ → Option (List ℕ)
 later_reason word argument = if sets_pair word then pair_reason argument
-    else (if bytes_eq word (codes "init_pair") && (is_one_of (codes "- -1") argument || is_default (name_of_argument argument))
-    then Some (codes ": no number is the terminal's own colour, which pairs have until they are set")
-    else (if bytes_eq word (codes "init_pair") && (is_mixed argument || is_list argument) then Some colours
+    else (if bytes_eq word (codes "init_pair") then colour_reason argument
     else (if bytes_eq word (codes "bkgdset") && is_colour (name_of_argument argument)
     then Some (codes ": a background's pair is set by bkgdpair")
-    else None)))
+    else None))
 
 -- the last byte is a mark, and none of a name
 abbrev pub ends_in_mark : List ℕ → Bool

@@ -176,11 +176,14 @@ said_of_line word pieces = or_else (said_of_two word pieces) (or_else (said_of_p
 
 -- ---- what is said of the marks of a word
 
+abbrev pub name_first : List ℕ
+name_first = codes "a line begins with the name of a call, and a comment with #"
+
 -- of a word that begins with a backslash, which may begin a control sequence
 abbrev pub said_of_backslash : List ℕ → List ℕ
 said_of_backslash word = if length word == 1 then codes "no line goes on in the next: a call has one line"
     else (if has_byte square_bracket word then codes "a script has no control sequences: see attrset, color_set, move, clear"
-    else codes "a line begins with the name of a call, and a comment with #")
+    else name_first)
 
 -- a step of a variable, as `++count`, `count--`, or `--n` with a name of one letter; a longer one is that of an option
 abbrev pub is_step : List ℕ → Bool
@@ -191,22 +194,35 @@ is_step word = begins_with (codes "++") word || (list_any is_name_byte (take 1 w
 abbrev pub is_of_shell : List ℕ → Bool
 is_of_shell word = begins_with (codes "$") word || (is_redirection word && not (begins_with (codes "<") word))
 
--- of a word that begins with no letter
-abbrev pub said_of_marks : List ℕ → Option (List ℕ)
-said_of_marks word = if begins_with (codes "\\") word then Some (said_of_backslash word)
-    else (if is_step word then Some no_variables
-    else (if begins_with (codes "-") word && begins_with_digit (drop 1 word) then Some number_first
-    else (if begins_with (codes "-") word && nat_lt 1 (length word) then Some (codes "an option belongs on the command line, and a comment begins with #")
-    else (if is_of_shell word
+-- of what is after the hyphen that a word begins with
+abbrev pub said_of_hyphen : List ℕ → List ℕ
+said_of_hyphen rest = if begins_with_digit rest then number_first
+    else (if nat_lt 0 (length rest) then codes "an option belongs on the command line, and a comment begins with #"
+    else name_first)
+
+-- of a word with marks of shells or of texts
+abbrev pub said_of_markup : List ℕ → Option (List ℕ)
+said_of_markup word = if is_of_shell word
     then Some (codes "a script has no variables, prompts or redirections: a line begins with a call")
     else (if is_quoted word then Some (codes "a text is an argument of addstr, without quotes; a comment begins with #")
     else (if begins_with (codes "```") word || (begins_with (codes "<") word && has_byte greater_sign word)
     then Some (codes "marks of Markdown and HTML are no part of a script: see addstr, attron")
-    else (if has_part (codes "/curspan") word then Some on_command_line
+    else None))
+
+-- of a word that is a path, or else of its first byte
+abbrev pub said_of_path : List ℕ → Option (List ℕ)
+said_of_path word = if has_part (codes "/curspan") word then Some on_command_line
     else (if begins_with_one (codes "/ ./ ~/") word then Some runs_no_programs
     else (if begins_with_digit word then Some number_first
-    else (if not (list_any is_name_byte (take 1 word)) then Some (codes "a line begins with the name of a call, and a comment with #")
-    else None))))))))))
+    else (if not (list_any is_name_byte (take 1 word)) then Some name_first
+    else None)))
+
+-- of a word that begins with no letter
+abbrev pub said_of_marks : List ℕ → Option (List ℕ)
+said_of_marks word = if begins_with (codes "\\") word then Some (said_of_backslash word)
+    else (if is_step word then Some no_variables
+    else (if begins_with (codes "-") word then Some (said_of_hyphen (drop 1 word))
+    else or_else (said_of_markup word) (said_of_path word)))
 
 -- the call that is near the word, if its name is longer than what the word calls
 abbrev pub see_longer : List ℕ → Option (List ℕ)

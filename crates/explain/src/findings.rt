@@ -268,6 +268,19 @@ fn append_signature(text: &mut Finding, word: &[u8])
     }
 }
 
+/// Appends what is said of the number of a word's arguments, or else what they are.
+fn append_or_signature(text: &mut Finding, said: Option<&[u8]>, word: &[u8])
+    requires room { length text.old.items ≤ 1024 }
+    requires short { IfSome said (λ s. length s.now ≤ 80) }
+    ensures text { text.new.items ≡ text.old.items ++ unwrap_or (option_map (λ s. s.now) said.entry) (signature_text word.now) }
+    ensures short { length text.new.items < FINDING_ROOM }
+{
+    match said {
+        Some(said) => append(text, said),
+        None => append_signature(text, word),
+    }
+}
+
 /// Appends what is said after the number of a word's arguments, which may be too many.
 #[tactic(auto, unfolding(crate::specs::Explanations::one_word_or))]
 fn append_number_advice(text: &mut Finding, line: &[u8], many: bool, stray: Option<Stray<'_>>)
@@ -283,10 +296,7 @@ fn append_number_advice(text: &mut Finding, line: &[u8], many: bool, stray: Opti
     if let Some(call) = call_of_words(word, arguments) {
         return append_one_word(text, call);
     }
-    match number_reason(word, line, arguments, many) {
-        Some(said) => append(text, said),
-        None => append_signature(text, word),
-    }
+    append_or_signature(text, number_reason(word, line, arguments, many), word)
 }
 
 /// What is said of a line's bad byte, which may begin the line, as a prompt or a bullet does, before a call.

@@ -4,7 +4,7 @@ ghost use Rattle.std.specs.Prelude.{◌≡◌, ◌≤◌, IfSome, length, option
 ghost use Rattle.std.specs.List.{list_any};
 ghost use Rattle.std.specs.Char.{is_ascii_uppercase};
 ghost use Rattle.explain.specs.Names.{name_of_argument};
-ghost use Rattle.explain.specs.Reasons.{are_joined, attributes_reason, colours, copy_reason, digits_reason, ends_in_mark, first_mark_reason, first_reason, flag_reason, has_base, has_colour, is_attribute, is_bracketed, is_colour, is_default, is_like_window, is_list, is_mixed, is_near_number, is_none_or_all, later_reason, mark_reason, minus_reason, more_than_digits, name_reason, no_digits_reason, numbers_in_digits, pair_reason, reason, reason_after, reason_of_call, requirement, requirement_after, requirement_of, second_reason, signed_reason, size_reason, sum_reason, unless_missing, unsigned_or_none_reason, unsigned_reason, window_reason};
+ghost use Rattle.explain.specs.Reasons.{are_joined, attributes_reason, colour_reason, colours, copy_reason, digits_reason, ends_in_mark, first_mark_reason, first_reason, flag_reason, has_base, has_colour, is_attribute, is_bracketed, is_colour, is_default, is_like_window, is_list, is_mixed, is_near_number, is_none_or_all, later_reason, mark_reason, minus_reason, more_than_digits, name_reason, no_digits_reason, numbers_in_digits, pair_reason, reason, reason_after, reason_of_call, requirement, requirement_after, requirement_of, second_reason, signed_reason, size_reason, sum_reason, unless_missing, unsigned_or_none_reason, unsigned_reason, window_comes_first, window_reason};
 
 use crate::advice::is_among;
 use crate::arguments::has_digit;
@@ -227,8 +227,29 @@ fn numbers_in_digits(word: &[u8]) -> &'static [u8]
 /// What is said of calls on the place of the cursor.
 pub const ONE_WINDOW: &[u8] = b": one window, in which move sets the place first; stdscr is 0";
 
+/// What is said of a word with no digits as the first argument of a call that takes a window. Of some it is said what is
+/// seen for what they don't take.
+fn window_comes_first(word: &[u8]) -> &'static [u8]
+    ensures text { result.now ≡ window_comes_first word.now }
+    ensures short { length result.now ≤ 80 }
+{
+    if word == b"move".as_slice() {
+        b": the window of the cursor comes first; stdscr is 0; see also mvwin, move_panel"
+    } else if is_among(word, b"clear erase") {
+        b": a window's number alone; stdscr is 0; for parts see clrtoeol, clrtobot, delch"
+    } else if word == b"touchwin".as_slice() {
+        b": a window's number alone; stdscr is 0; for lines see touchline"
+    } else if word == b"noutrefresh".as_slice() {
+        b": a window's number alone; stdscr is 0; for a pad see pnoutrefresh"
+    } else if takes_place_of_cursor(word) {
+        ONE_WINDOW
+    } else {
+        b": a window's number comes first, from 1 as made; stdscr is 0"
+    }
+}
+
 /// What is said of a word with no digits as the first argument: the number of a window, a pad or a panel comes first,
-/// but for calls that take none of them. Of some calls it is said what else is seen for what they don't take.
+/// but for calls that take none of them.
 fn first_reason(word: &[u8]) -> &'static [u8]
     ensures text { result.now ≡ first_reason word.now }
     ensures short { length result.now ≤ 80 }
@@ -239,20 +260,10 @@ fn first_reason(word: &[u8]) -> &'static [u8]
         b": a pad's number comes first, from 1 as made; stdscr is no pad"
     } else if is_among(word, b"delwin mvwin mvderwin getparyx new_panel") {
         b": a window's number comes first, from 1 as made, and not 0, which is stdscr"
-    } else if word == b"move".as_slice() {
-        b": the window of the cursor comes first; stdscr is 0; see also mvwin, move_panel"
-    } else if is_among(word, b"clear erase") {
-        b": a window's number alone; stdscr is 0; for parts see clrtoeol, clrtobot, delch"
-    } else if word == b"touchwin".as_slice() {
-        b": a window's number alone; stdscr is 0; for lines see touchline"
-    } else if word == b"noutrefresh".as_slice() {
-        b": a window's number alone; stdscr is 0; for a pad see pnoutrefresh"
-    } else if takes_place_of_cursor(word) {
-        ONE_WINDOW
     } else if has_part(word, b"panel") {
         b": a panel's number comes first, from 1 as made; stdscr is in no panel"
     } else {
-        b": a window's number comes first, from 1 as made; stdscr is 0"
+        window_comes_first(word)
     }
 }
 
@@ -576,6 +587,23 @@ fn pair_reason(name: &[u8], argument: &[u8]) -> Option<&'static [u8]>
     None
 }
 
+/// What more is said after `init_pair` of an argument after the first, by its name.
+fn colour_reason(name: &[u8], argument: &[u8]) -> Option<&'static [u8]>
+    requires { name.now ≡ name_of_argument argument.now }
+    ensures text { option_map (λ text. text.now) result ≡ colour_reason argument.now }
+    ensures short { IfSome result (λ text. length text.now ≤ 80) }
+{
+    if is_among(argument, b"- -1") || is_default(name) {
+        return Some(
+            b": no number is the terminal's own colour, which pairs have until they are set",
+        );
+    }
+    if is_mixed(argument) || is_list(argument) {
+        return Some(COLOURS);
+    }
+    None
+}
+
 /// What more is said after some words of an argument after the first.
 fn later_reason(word: &[u8], argument: &[u8]) -> Option<&'static [u8]>
     requires { length argument.now ≤ LONGEST_LINE }
@@ -586,15 +614,8 @@ fn later_reason(word: &[u8], argument: &[u8]) -> Option<&'static [u8]>
         return pair_reason(name_of_argument(argument).as_slice(), argument);
     }
     let name = name_of_argument(argument);
-    if word == b"init_pair".as_slice()
-        && (is_among(argument, b"- -1") || is_default(name.as_slice()))
-    {
-        return Some(
-            b": no number is the terminal's own colour, which pairs have until they are set",
-        );
-    }
-    if word == b"init_pair".as_slice() && (is_mixed(argument) || is_list(argument)) {
-        return Some(COLOURS);
+    if word == b"init_pair".as_slice() {
+        return colour_reason(name.as_slice(), argument);
     }
     if word == b"bkgdset".as_slice() && is_colour(name.as_slice()) {
         return Some(b": a background's pair is set by bkgdpair");

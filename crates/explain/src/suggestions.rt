@@ -6,7 +6,7 @@ ghost use Rattle.script.specs.Pieces.{pieces_of, room_of};
 ghost use Rattle.explain.specs.Advice.{advice_on};
 ghost use Rattle.explain.specs.Names.{called_name, is_name_byte, underscored};
 ghost use Rattle.explain.specs.Nearest.{nearest_other};
-ghost use Rattle.explain.specs.Suggestions.{advice_on_next, advice_on_rest, after_prefix, begins_marked, begins_with_call, gives_place, is_before_call, is_between, is_drawn, is_echo, is_label, is_of_log, is_of_picture, is_of_shell, is_of_tmux, is_prompt, is_statement, is_step, is_stroke, last_word, said_near_name, said_of, said_of_backslash, said_of_beginning, said_of_curses, said_of_given, said_of_line, said_of_marks, said_of_name, said_of_near, said_of_other_line, said_of_pair, said_of_statement, said_of_two, said_of_value, said_of_written, say_call, see_longer, see_nearest, see_nearest_rest, written_advice};
+ghost use Rattle.explain.specs.Suggestions.{advice_on_next, advice_on_rest, after_prefix, begins_marked, begins_with_call, gives_place, is_before_call, is_between, is_drawn, is_echo, is_label, is_of_log, is_of_picture, is_of_shell, is_of_tmux, is_prompt, is_statement, is_step, is_stroke, last_word, said_near_name, said_of, said_of_backslash, said_of_beginning, said_of_curses, said_of_given, said_of_hyphen, said_of_line, said_of_markup, said_of_marks, said_of_name, said_of_near, said_of_other_line, said_of_pair, said_of_path, said_of_statement, said_of_two, said_of_value, said_of_written, say_call, see_longer, see_nearest, see_nearest_rest, written_advice};
 ghost use Rattle.explain.specs.steps.Suggestions.{said_now};
 
 use crate::advice::{CALLS_ALONE, COMMAND_LINE, PAIRS, PROGRAMS, SCREEN_SIZE, advice_on, is_among};
@@ -198,6 +198,8 @@ pub const NOTHING_BEFORE: &[u8] =
 
 /// Where a number stands.
 const NUMBER_FIRST: &[u8] = b"a line begins with the name of its call, and numbers come after it";
+
+const NAME_FIRST: &[u8] = b"a line begins with the name of a call, and a comment with #";
 
 /// What is said of a name that is given a value.
 fn said_of_value(name: &[u8]) -> &'static [u8]
@@ -485,7 +487,7 @@ fn said_of_backslash(word: &[u8]) -> &'static [u8]
     } else if has_byte(word, b'[') {
         b"a script has no control sequences: see attrset, color_set, move, clear"
     } else {
-        b"a line begins with the name of a call, and a comment with #"
+        NAME_FIRST
     }
 }
 
@@ -506,6 +508,59 @@ fn is_of_shell(word: &[u8]) -> bool
     begins_with(word, b"$") || is_redirection(word) && !begins_with(word, b"<")
 }
 
+/// What is said of what is after the hyphen that a word begins with.
+fn said_of_hyphen(rest: &[u8]) -> &'static [u8]
+    ensures text { result.now ≡ said_of_hyphen rest.now }
+    ensures short { length result.now ≤ 80 }
+{
+    if begins_with_digit(rest) {
+        NUMBER_FIRST
+    } else if !rest.is_empty() {
+        b"an option belongs on the command line, and a comment begins with #"
+    } else {
+        NAME_FIRST
+    }
+}
+
+/// What is said of a word with marks of shells or of texts.
+fn said_of_markup(word: &[u8]) -> Option<&'static [u8]>
+    ensures said { option_map (λ text. text.now) result ≡ said_of_markup word.now }
+    ensures short { IfSome result (λ text. length text.now ≤ 80) }
+{
+    if is_of_shell(word) {
+        return Some(
+            b"a script has no variables, prompts or redirections: a line begins with a call",
+        );
+    }
+    if is_quoted(word) {
+        return Some(b"a text is an argument of addstr, without quotes; a comment begins with #");
+    }
+    if begins_with(word, b"```") || begins_with(word, b"<") && has_byte(word, b'>') {
+        return Some(b"marks of Markdown and HTML are no part of a script: see addstr, attron");
+    }
+    None
+}
+
+/// What is said of a word that is a path, or else of its first byte.
+fn said_of_path(word: &[u8]) -> Option<&'static [u8]>
+    ensures said { option_map (λ text. text.now) result ≡ said_of_path word.now }
+    ensures short { IfSome result (λ text. length text.now ≤ 80) }
+{
+    if has_part(word, b"/curspan") {
+        return Some(COMMAND_LINE);
+    }
+    if begins_with_one(word, b"/ ./ ~/") {
+        return Some(PROGRAMS);
+    }
+    if begins_with_digit(word) {
+        return Some(NUMBER_FIRST);
+    }
+    if !begins_with_name(word) {
+        return Some(NAME_FIRST);
+    }
+    None
+}
+
 /// What is said of a word that begins with no letter.
 fn said_of_marks(word: &[u8]) -> Option<&'static [u8]>
     ensures said { option_map (λ text. text.now) result ≡ said_of_marks word.now }
@@ -518,37 +573,12 @@ fn said_of_marks(word: &[u8]) -> Option<&'static [u8]>
         return Some(NO_VARIABLES);
     }
     if let Some(rest) = word.strip_prefix(b"-") {
-        if begins_with_digit(rest) {
-            return Some(NUMBER_FIRST);
-        }
-        if !rest.is_empty() {
-            return Some(b"an option belongs on the command line, and a comment begins with #");
-        }
+        return Some(said_of_hyphen(rest));
     }
-    if is_of_shell(word) {
-        return Some(
-            b"a script has no variables, prompts or redirections: a line begins with a call",
-        );
+    match said_of_markup(word) {
+        Some(said) => Some(said),
+        None => said_of_path(word),
     }
-    if is_quoted(word) {
-        return Some(b"a text is an argument of addstr, without quotes; a comment begins with #");
-    }
-    if begins_with(word, b"```") || begins_with(word, b"<") && has_byte(word, b'>') {
-        return Some(b"marks of Markdown and HTML are no part of a script: see addstr, attron");
-    }
-    if has_part(word, b"/curspan") {
-        return Some(COMMAND_LINE);
-    }
-    if begins_with_one(word, b"/ ./ ~/") {
-        return Some(PROGRAMS);
-    }
-    if begins_with_digit(word) {
-        return Some(NUMBER_FIRST);
-    }
-    if !begins_with_name(word) {
-        return Some(b"a line begins with the name of a call, and a comment with #");
-    }
-    None
 }
 
 /// The call that is near a word, if its name is longer than that of what the word calls.

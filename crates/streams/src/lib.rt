@@ -1,20 +1,29 @@
-//! Streams of bytes: what takes them and what gives them, with a count of their failures.
+//! Streams of bytes: what takes them and what gives them, with a count of their failures; streams that a signal
+//! interrupts, and output that nobody reads to its end.
 //!
+//! - `closing`: an output that notes that nobody reads it, and the log beside it, which is silent then
 //! - `discard`: a sink that keeps nothing
 //! - `gather`: a text in a buffer of fixed size
+//! - `outcome`: by which kind of error a call failed
+//! - `patient`: a stream whose reads and writes are made again where a signal interrupted them
 //! - `sending`: a piece, through short writes
 //! - `sink`: where bytes go
 //! - `source`: where bytes come from
 #![tactic(auto)]
 
+mod closing;
 mod discard;
 mod gather;
+mod outcome;
+mod patient;
 mod sending;
 mod sink;
 mod source;
 
+pub use closing::{Output, OutputLog};
 pub use discard::Discard;
 pub use gather::{MOST_DECIMAL_DIGITS, append, append_decimal};
+pub use patient::Patient;
 pub use sending::{Sent, WriteFault, send};
 pub use sink::{Counted, Sink};
 pub use source::{CountedReader, Source};

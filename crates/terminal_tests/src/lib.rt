@@ -1,4 +1,4 @@
-//! The tests of what knows no windows, by public calls alone: `cell`, `small_set`, `streams`, `pipes`, `script`, `explain`, `ecma`
+//! The tests of what knows no windows, by public calls alone: `cell`, `small_set`, `streams`, `script`, `explain`, `ecma`
 //! and `paint`.
 //! `docs/DECISIONS.md` says why tests have crates of their own.
 #![tactic(auto)]
@@ -10,9 +10,9 @@ mod of_ecma;
 #[cfg(test)]
 mod of_explain;
 #[cfg(test)]
-mod of_paint;
+mod of_faulty_streams;
 #[cfg(test)]
-mod of_pipes;
+mod of_paint;
 #[cfg(test)]
 mod of_script;
 #[cfg(test)]

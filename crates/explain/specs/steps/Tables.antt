@@ -9,11 +9,12 @@ use Rattle.explain.specs.Nearest.{or_else}
 abbrev pub rows_now : List (Bor (List ℕ) × Bor (List ℕ)) → List (List ℕ × List ℕ)
 rows_now rows = map (λ row. (row.0.now, row.1.now)) rows
 
--- the first row with a name, where the names of a row come after their first letters, and are looked at where the name begins with one of these
+-- whether a row has a name: its names come after their first letters, and are looked at where the name begins with one of these
 abbrev pub is_lettered_row : List ℕ → List (List ℕ) → Bool
 is_lettered_row name [] = false
 is_lettered_row name (letters ∷ names) = begins_among letters name && list_any (bytes_eq name) names
 
+-- the first row with a name
 unfoldable pub lettered_in : List (List ℕ × List ℕ) → List ℕ → Option (List ℕ)
 lettered_in rows name = option_map (λ row. row.0) (find (λ row. is_lettered_row name (names_in row.1)) rows)
 

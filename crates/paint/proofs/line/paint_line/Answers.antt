@@ -1,6 +1,6 @@
 -- `paint_line`: the strokes of a pen, one after another, and what each shows (`PenStrokes`); the blank end of a line (`Tails`); the walk over the cells
 -- of a line, and over the lines of a picture (`Walks`).
-use Rattle.std.proofs.Common.{◌≡◌, ℕ, ◌+◌, ◌<◌, ◌∙◌, List, length, get_or, take, drop, refl, sym, ap, subst, arith}
+use Rattle.std.proofs.Common.{◌≡◌, ℕ, ◌+◌, ◌<◌, ◌∙◌, List, length, get_or, take, drop, refl, sym, ap, subst, arith, rules}
 use Rattle.cell.specs.Differences.{DiffersAt}
 use Rattle.cell.specs.Shown.{Shown, shown_blank}
 use Rattle.paint.specs.declared.counting.Count.{Count}
@@ -139,3 +139,19 @@ returns-clause-counted g c = λ count before begun h.
     let choice = tail-choice c.is_erased.result printed at is c.erased_from-from.ensures.changed c.paint_cells-gap.ensures.within (omega (arith, ordered)) inside
     (changed-at shown wanted column tail.3) (changed-at shown wanted last c.in-Some-last_changed.ensures.0) (omega (arith, exact.0, tail.1)) kept c.is_erased.ensures in
     line-ended (c.paint_cells-2.ensures.counted count before begun printed) kept inside (line-is-printed line shown wanted count (sym choice ∙ c.if-is_erased.false))
+
+-- `grind` takes seconds at these, which `search` finds at once
+pub returns-in_default-clause-same : goal.returns-in_default-clause-same
+returns-in_default-clause-same c = search rules
+
+pub returns-in_default-last_changed-clause-same : goal.returns-in_default-last_changed-clause-same
+returns-in_default-last_changed-clause-same c = search rules
+
+pub returns-in_default-changed_tail-clause-same : goal.returns-in_default-changed_tail-clause-same
+returns-in_default-changed_tail-clause-same c = search rules
+
+pub returns-then-is_erased-clause-same : goal.returns-then-is_erased-clause-same
+returns-then-is_erased-clause-same c = search rules
+
+pub returns-clause-same : goal.returns-clause-same
+returns-clause-same c = search rules

@@ -1,6 +1,6 @@
 -- `paint_picture`: pictures that differ in some columns only (`Alike`); a list whose first items are those of another one (`Prefixes`); the blank end
 -- of a page is erased (`Pages`); the walk over the cells of a line, and over the lines of a picture (`Walks`).
-use Rattle.std.proofs.Common.{◌≡◌, ℕ, ◌+◌, ◌-◌, ◌<◌, ◌≤◌, ◌∙◌, length, drop, inl, inr, refl, sym, ap, arith}
+use Rattle.std.proofs.Common.{◌≡◌, ℕ, ◌+◌, ◌-◌, ◌<◌, ◌≤◌, ◌∙◌, length, drop, inl, inr, refl, sym, ap, arith, rules}
 use Rattle.std.specs.Prelude.{is_some}
 use Rattle.ecma.specs.declared.token.Token.TheVariants.{Ed}
 use Rattle.ecma.specs.declared.token.Erase.TheVariants.{ToEnd}
@@ -162,3 +162,16 @@ returns-clause-counted g c = λ count before begun h.
     let changed = c.changed_lines-changed in
     let is = frame-changed f.shown f.wanted changed.result (omega (arith, changed.ensures.within, f.height)) changed.ensures.kept changed.ensures.changed in
     drawn-end (omega (arith, is, c.loop-line-test.false)) (c.loop-line.invariant.counted count before begun h)
+
+-- `grind` takes seconds at these, which `search` finds at once
+pub returns-then-changed-eq0-clause-strokes : goal.returns-then-changed-eq0-clause-strokes
+returns-then-changed-eq0-clause-strokes c = search rules
+
+pub returns-then-changed-eq0-clause-same : goal.returns-then-changed-eq0-clause-same
+returns-then-changed-eq0-clause-same c = search rules
+
+pub returns-in-Some-clause-same : goal.returns-in-Some-clause-same
+returns-in-Some-clause-same c = search rules
+
+pub returns-clause-same : goal.returns-clause-same
+returns-clause-same c = search rules

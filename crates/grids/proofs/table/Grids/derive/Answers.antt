@@ -66,3 +66,22 @@ returns c = record {
   unchanged = tt;
   sound = sound _ (invariant_of-self-2 c);
 }
+
+-- `grind` takes seconds at these, which `search` finds at once
+pub returns-in_err-parent : goal.returns-in_err-parent
+returns-in_err-parent c = search rules
+
+pub returns-in_err-lines : goal.returns-in_err-lines
+returns-in_err-lines c = search rules
+
+pub returns-in_err-columns : goal.returns-in_err-columns
+returns-in_err-columns c = search rules
+
+pub returns-in_err-number : goal.returns-in_err-number
+returns-in_err-number c = search rules
+
+pub returns-in_err-slot : goal.returns-in_err-slot
+returns-in_err-slot c = search rules
+
+pub returns-in_err-fill_slot_at : goal.returns-in_err-fill_slot_at
+returns-in_err-fill_slot_at c = search rules

@@ -35,3 +35,16 @@ returns c = record {
   unchanged = tt;
   sound = sound _ (invariant_of-self-2 c);
 }
+
+-- `grind` takes seconds at these, which `search` finds at once
+pub returns-then-is_no_size : goal.returns-then-is_no_size
+returns-then-is_no_size c = search rules
+
+pub returns-in_err-number : goal.returns-in_err-number
+returns-in_err-number c = search rules
+
+pub returns-in_err-slot : goal.returns-in_err-slot
+returns-in_err-slot c = search rules
+
+pub returns-in_err-fill_slot_at : goal.returns-in_err-fill_slot_at
+returns-in_err-fill_slot_at c = search rules

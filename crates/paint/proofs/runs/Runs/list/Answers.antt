@@ -1,5 +1,5 @@
 -- `list`: only in the columns that may differ there are runs (`Listing`).
-use Rattle.std.proofs.Common.{◌≡◌, ◌+◌, ◌<◌, ◌≤◌, ◌∙◌, List, length, take, inl, inr, sym, ap, subst, arith}
+use Rattle.std.proofs.Common.{◌≡◌, ◌+◌, ◌<◌, ◌≤◌, ◌∙◌, List, length, take, inl, inr, sym, ap, subst, arith, rules}
 use Rattle.paint.specs.steps.Listing.{AreAbove, AreRuns}
 use Rattle.paint.specs.declared.runs.Run.{Run}
 use Rattle.paint.proofs.Gaps.{above-more, above-none}
@@ -103,3 +103,16 @@ returns-then-not-add_line-clause-gaps c = (c.add_line.ensures.gaps c.loop-line.i
 
 pub returns-clause-gaps : goal.returns-clause-gaps
 returns-clause-gaps c = c.loop-line.invariant.gaps.gaps
+
+-- `grind` takes seconds at these, which `search` finds at once
+pub returns-then-not-add_line-clause-runs : goal.returns-then-not-add_line-clause-runs
+returns-then-not-add_line-clause-runs c = search rules
+
+pub returns-then-not-add_line-clause-noted : goal.returns-then-not-add_line-clause-noted
+returns-then-not-add_line-clause-noted c = search rules
+
+pub returns-clause-full : goal.returns-clause-full
+returns-clause-full c = search rules
+
+pub returns-clause-room : goal.returns-clause-room
+returns-clause-room c = search rules

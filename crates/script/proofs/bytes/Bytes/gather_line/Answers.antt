@@ -1,5 +1,5 @@
 -- The bytes before the newline are the line, up to the greatest length.
-use Rattle.std.proofs.Common.{arith}
+use Rattle.std.proofs.Common.{arith, rules}
 use Rattle.std.proofs.lemmas.Bool.Decides.{nat_tests}
 use Rattle.script.proofs.ByteLemmas.{gathered_failed, gathered_last, gathered_line, gathered_more, gathered_moved, gathered_none, gathered_too_long, more_read, none_read, reads_moved}
 use Rattle.script.proofs.bytes.Bytes.gather_line.Goals as goal
@@ -27,3 +27,10 @@ returns-in-End-clause-line g c = gathered_last _ _ _ _ _ _ _ (gathered_moved _ _
 
 pub returns-in-Failed-clause-line : goal.returns-in-Failed-clause-line
 returns-in-Failed-clause-line g c = gathered_failed _ _ _ _ _ _ _ (gathered_moved _ _ _ _ _ _ _ c.loop-byte.invariant.gathered c.move_into.ensures) c.in-Failed.ensures.byte c.move_into.ensures.short
+
+-- `grind` takes seconds at these, which `search` finds at once
+pub returns-in-End-clause-ends : goal.returns-in-End-clause-ends
+returns-in-End-clause-ends c = search rules
+
+pub returns-in-Failed-clause-ends : goal.returns-in-Failed-clause-ends
+returns-in-Failed-clause-ends c = search rules

@@ -1,6 +1,6 @@
 -- `Patient::write`: an interrupted write appends nothing.
 use Rattle.std.specs.Io.KnownBytes.{Keeps}
-use Rattle.pipes.proofs.patient.PatientWrite.write.Given as goal
+use Rattle.streams.proofs.patient.PatientWrite.write.Given as goal
 
 abbrev pub invariant-loop : goal.invariant-loop
 invariant-loop g l = Keeps (g.W.Write.contents l.initial.self.stream) (g.W.Write.contents l.self.stream)
