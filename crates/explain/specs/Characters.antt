@@ -3,9 +3,9 @@ use Rattle.std.specs.Prelude.{◌==◌, ◌&&◌, ◌||◌, ℕ, Bool, not, List
 use Rattle.std.specs.Char.{is_ascii_alphabetic, is_ascii_control, is_ascii_hexdigit}
 use Rattle.std.specs.List.{list_all, list_any, slice_split}
 use Rattle.std.specs.Str.{bytes_eq}
-use Rattle.script.specs.Characters.{backslash, backspace, carriage_return, is_space, number_sign, space}
+use Rattle.script.specs.Characters.{backspace, carriage_return, is_space, number_sign, space}
 use Rattle.script.specs.declared.words.Form.TheVariants.{Text}
-use Rattle.explain.specs.Faults.{has_form}
+use Rattle.explain.specs.Faults.{after_bad_escape, has_form}
 use Rattle.explain.specs.Names.{after_name, are_digits, are_two_digits, begins_among, begins_with, begins_with_digit, begins_with_one, comma, digit_8, ends_with, escape, has_byte, has_call, has_part, is_one_of, is_quoted, name_of_argument, semicolon, tab, vertical_bar}
 
 -- ---- bytes that no line has
@@ -64,16 +64,6 @@ bad_text_advice b rest = if draws_line rest then codes "characters are those of 
     else byte_advice b)))
 
 -- ---- escapes
-
--- a text begins with an escape: with two bytes that are a text, or with four
-abbrev pub begins_escape : List ℕ → Bool
-begins_escape text = has_form Text (take 2 text) || has_form Text (take 4 text)
-
--- what is after the first backslash of a text that begins no escape
-abbrev pub after_bad_escape : List ℕ → List ℕ
-after_bad_escape [] = []
-after_bad_escape (b ∷ []) = []
-after_bad_escape (b ∷ c ∷ bs) = if b == backslash then (if begins_escape (b ∷ c ∷ bs) then after_bad_escape bs else c ∷ bs) else after_bad_escape (c ∷ bs)
 
 -- what is after a backslash is an `e` that begins a control sequence: no letter follows
 abbrev pub begins_escaped : List ℕ → Bool

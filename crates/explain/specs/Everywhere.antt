@@ -28,9 +28,17 @@ use Rattle.world.specs.declared.call.Stacking.{Stacking}
 use Rattle.world.specs.declared.call.Stacking.TheVariants.{NewPanel, DelPanel, ShowPanel, HidePanel, TopPanel, BottomPanel, MovePanel, ReplacePanel, PanelAbove, PanelBelow, PanelWindow, PanelHidden}
 use Rattle.world.specs.declared.call.Refresh.TheVariants.{Pnoutrefresh, InitPair}
 
--- Every screen refuses the call: for this reason, unless it has no such window. Each has window 0.
+-- what else may be sooner than this reason: of a rectangle for a pad that it is no pad, of a panel's new window that there
+-- is no such panel
+abbrev pub sooner : Call → Refusal → Refusal
+sooner (calls.Refresh (Pnoutrefresh pad pminrow pmincol sminrow smincol smaxrow smaxcol)) BadRectangle = NotPad
+sooner (calls.Stacking (ReplacePanel panel win)) StandardScreen = NoSuchPanel
+sooner call why = NoSuchWindow
+
+-- Every screen refuses the call: for this reason, unless it has no such window, or for what else may be sooner. Each has window 0.
 abbrev pub IsRefusedEverywhere : Call → Refusal → Type 0
-IsRefusedEverywhere call why = (world : World) → IsSound world → refusal world call ≢ Some NoSuchWindow → refusal world call ≡ Some why
+IsRefusedEverywhere call why = (world : World) → IsSound world → refusal world call ≢ Some NoSuchWindow
+    → refusal world call ≢ Some (sooner call why) → refusal world call ≡ Some why
 
 -- ---- the refusal of a call by its arguments alone
 
@@ -84,8 +92,11 @@ copying_everywhere (IsLinetouched win y) = on_standard win.0 (is_past y) Outside
 copying_everywhere copying = None
 
 -- no screen has such a panel
+abbrev pub is_no_panel : ℕ → Bool
+is_no_panel p = p == 0 || nat_lt MOST_PANELS p
+
 abbrev pub no_panel : ℕ → Option Refusal
-no_panel p = only_if (p == 0 || nat_lt MOST_PANELS p) NoSuchPanel
+no_panel p = only_if (is_no_panel p) NoSuchPanel
 
 abbrev pub stacking_everywhere : Stacking → Option Refusal
 stacking_everywhere (NewPanel win) = on_standard win.0 true StandardScreen
@@ -95,7 +106,7 @@ stacking_everywhere (HidePanel panel) = no_panel panel.0
 stacking_everywhere (TopPanel panel) = no_panel panel.0
 stacking_everywhere (BottomPanel panel) = no_panel panel.0
 stacking_everywhere (MovePanel panel y x) = no_panel panel.0
-stacking_everywhere (ReplacePanel panel win) = no_panel panel.0
+stacking_everywhere (ReplacePanel panel win) = first_of ((is_no_panel panel.0, NoSuchPanel) ∷ (win.0 == standard_screen, StandardScreen) ∷ [])
 stacking_everywhere (PanelAbove panel) = option_and_then (λ p. no_panel p.0) panel
 stacking_everywhere (PanelBelow panel) = option_and_then (λ p. no_panel p.0) panel
 stacking_everywhere (PanelWindow panel) = no_panel panel.0
@@ -107,7 +118,8 @@ refusal_everywhere (calls.Writing writing) = writing_everywhere writing
 refusal_everywhere (calls.Copying copying) = copying_everywhere copying
 refusal_everywhere (calls.Query (Getparyx win)) = on_standard win.0 true NotDerived
 refusal_everywhere (calls.Stacking stacking) = stacking_everywhere stacking
-refusal_everywhere (calls.Refresh (Pnoutrefresh pad pminrow pmincol sminrow smincol smaxrow smaxcol)) = on_standard pad.0 true NotPad
+refusal_everywhere (calls.Refresh (Pnoutrefresh pad pminrow pmincol sminrow smincol smaxrow smaxcol)) =
+    first_of ((pad.0 == standard_screen, NotPad) ∷ (nat_lt smaxrow sminrow || nat_lt smaxcol smincol, BadRectangle) ∷ [])
 refusal_everywhere (calls.Refresh (InitPair pair foreground background)) = first_of (colour_tests pair foreground background)
 refusal_everywhere call = None
 

@@ -1,6 +1,6 @@
 -- What an argument of a form has to be, and why an argument is faulty. The texts are Curspan's own.
 use Rattle.std.specs.Prelude.{◌-◌, ◌==◌, ◌&&◌, ◌||◌, ℕ, Bool, not, List, [], codes, drop, length, nat_le, nat_lt, slice_index, take, Option, Some, None, unwrap_or, if◌then◌else◌}
-use Rattle.std.specs.Char.{is_ascii_alphabetic, is_ascii_digit, is_ascii_uppercase}
+use Rattle.std.specs.Char.{is_ascii_hexdigit, is_ascii_alphabetic, is_ascii_digit, is_ascii_uppercase}
 use Rattle.std.specs.List.{list_any, take_while}
 use Rattle.std.specs.Str.{bytes_eq}
 use Rattle.std.specs.Str.Parse.{digits_value}
@@ -289,12 +289,21 @@ colour_reason argument = if is_one_of (codes "- -1") argument || is_default (nam
     else (if is_mixed argument || is_list argument then Some colours
     else None)
 
+-- a character, and neither a digit of attributes nor a backslash, which is no character
+abbrev pub is_mark : List ℕ → Bool
+is_mark argument = length argument == 1 && not (list_any is_ascii_hexdigit argument || has_byte backslash argument)
+
+-- after `bkgdset`: of a colour, and of the character where attributes come first
+abbrev pub background_reason : List ℕ → Option (List ℕ)
+background_reason argument = if is_colour (name_of_argument argument) then Some (codes ": a background's pair is set by bkgdpair")
+    else (if is_mark argument then Some (codes ": attributes come first, and then the character, as in bkgdset 0 10 .")
+    else None)
+
 -- of an argument after the first
 abbrev pub later_reason : List ℕ → List ℕ → Option (List ℕ)
 later_reason word argument = if sets_pair word then pair_reason argument
     else (if bytes_eq word (codes "init_pair") then colour_reason argument
-    else (if bytes_eq word (codes "bkgdset") && is_colour (name_of_argument argument)
-    then Some (codes ": a background's pair is set by bkgdpair")
+    else (if bytes_eq word (codes "bkgdset") then background_reason argument
     else None))
 
 -- the last byte is a mark, and none of a name

@@ -104,6 +104,10 @@ abbrev pub is_of_picture : List ℕ → List (List ℕ) → Bool
 is_of_picture word pieces = is_drawn word || is_between word pieces || begins_with_one (codes "+- %-") word || begins_with (codes "---") (after_name word)
     || (begins_with_one (codes ": %") word && begins_with_digit (drop 1 word))
 
+-- a message begins so: of a shell, or of this program
+abbrev pub begins_message : List ℕ → Bool
+begins_message word = is_one_of (codes "bash: sh: zsh: dash: fish: ksh: curspan:") word
+
 -- a call written by a shell, as `echo 'addstr 0 hi'`
 abbrev pub is_echo : List ℕ → List (List ℕ) → Bool
 is_echo word [] = false
@@ -153,13 +157,14 @@ abbrev pub said_of_two : List ℕ → List (List ℕ) → Option (List ℕ)
 said_of_two word [] = None
 said_of_two word (piece ∷ pieces) = if are_digits piece then advice_on_next word pieces else advice_on (word ++ codes "_" ++ piece)
 
--- of a line that belongs elsewhere: in a log, at a prompt, in a picture, or in a shell
+-- of a line that belongs elsewhere: in a log, among messages, at a prompt, in a picture, or in a shell
 abbrev pub said_of_other_line : List ℕ → List (List ℕ) → Option (List ℕ)
 said_of_other_line word pieces = if is_of_log word pieces then Some of_log
+    else (if begins_message word then Some (codes "a message of a program is no line of a script")
     else (if is_prompt word && begins_with_call pieces then Some nothing_before
     else (if is_of_picture word pieces then Some of_picture
     else (if is_echo word pieces then Some of_shell
-    else None)))
+    else None))))
 
 -- of a line that other languages would have; where a bracket is in the word, an equals sign is part of an argument
 abbrev pub said_of_statement : List ℕ → List (List ℕ) → Option (List ℕ)
@@ -257,13 +262,14 @@ abbrev pub is_of_tmux : List ℕ → Bool
 is_of_tmux word = is_one_of (codes "-pane -panes -session -sessions -key -keys -client -clients -server -buffer -layout") (after_name word)
 
 -- of what begins a comment elsewhere, that # does here; of `panel.move`, which is near no call, the call; of a pad that is
--- refreshed, the call for pads; of what runs a program in Python, or is a command of tmux
+-- refreshed, the call for pads; of what prints in other languages, or runs a program in Python, or is a command of tmux
 abbrev pub said_of_beginning : List ℕ → Option (List ℕ)
 said_of_beginning word = if begins_comment word then Some (codes "a comment begins with #")
     else (if begins_with (codes "panel.move") word then Some (codes "see move_panel")
     else (if begins_with_one (codes "pad.refresh pad.noutrefresh") word then Some (codes "see pnoutrefresh, doupdate")
+    else (if begins_with_one (codes "console. sys.stdout System.out") word then Some (codes "see addstr")
     else (if begins_with_one (codes "subprocess. os.") word || is_of_tmux word then Some runs_no_programs
-    else None)))
+    else None))))
 
 -- The first that is said: of how the word begins, of the word as the tables have it, of the value that it gives, of how the
 -- call in it is written, of what it calls, of what it is near, of a part of what it calls, of its marks, of what that is near.

@@ -69,6 +69,7 @@ pub fn find_ill_formed<'a>(
     ensures ill { option_map (λ ill. record { column = ill.column; form = ill.form; argument = ill.argument.now; left = ill.left }) result
         ≡ find_ill_formed column forms.now (arguments forms.now (pieces_of text.entry)) }
     ensures short { IfSome result (λ ill. length ill.argument.now ≤ LONGEST_LINE) }
+    ensures inside { IfSome result (λ ill. ill.column + length ill.argument.now ≤ LONGEST_LINE + 2) }
 {
     match (forms.split_first(), text) {
         (Some((form, others)), Some(text)) => {

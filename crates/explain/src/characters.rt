@@ -3,7 +3,8 @@
 ghost use Rattle.std.specs.Prelude.{◌≡◌, ◌≤◌, ◌==◌, ◌&&◌, length, slice_index, take};
 ghost use Rattle.std.specs.Char.{is_ascii_hexdigit};
 ghost use Rattle.std.specs.List.{list_all};
-ghost use Rattle.explain.specs.Characters.{after_bad_escape, bad_text_advice, begins_character, begins_escape, begins_escaped, begins_greater_byte, begins_sequence, byte_advice, character_reason, draws_line, end_reason, ends_space, escape_reason, is_code, is_space_elsewhere, is_unseen, longer_reason, several_characters_reason, text_reason};
+ghost use Rattle.explain.specs.Faults.{after_bad_escape, begins_escape};
+ghost use Rattle.explain.specs.Characters.{bad_text_advice, begins_character, begins_escaped, begins_greater_byte, begins_sequence, byte_advice, character_reason, draws_line, end_reason, ends_space, escape_reason, is_code, is_space_elsewhere, is_unseen, longer_reason, several_characters_reason, text_reason};
 
 use crate::advice::is_among;
 use crate::arguments::has_form;
@@ -110,7 +111,7 @@ fn begins_escape(text: &[u8]) -> bool
 }
 
 /// What is after the first backslash of a text that begins no escape.
-fn after_bad_escape(text: &[u8]) -> &[u8]
+pub fn after_bad_escape(text: &[u8]) -> &[u8]
     ensures { result.now ≡ after_bad_escape text.now }
 {
     let mut left = text;

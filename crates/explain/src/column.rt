@@ -4,9 +4,10 @@ ghost use Rattle.std.specs.Prelude.{◌≡◌, ◌≤◌, ◌+◌, ◌<◌, ◌�
 ghost use Rattle.script.specs.Characters.{is_bad_byte};
 ghost use Rattle.script.specs.Pieces.{pieces_of, room_of};
 ghost use Rattle.script.specs.Readings.{arguments};
-ghost use Rattle.explain.specs.Faults.{bad_place, column_after, column_of, column_of_word, find_ill_formed_in};
+ghost use Rattle.explain.specs.Faults.{bad_place, bytes_before, column_after, column_of, column_of_word, find_ill_formed_in};
 
-use crate::arguments::{count, find_ill_formed, find_stray, forms_of, is_word};
+use crate::arguments::{IllFormed, count, find_ill_formed, find_stray, forms_of, is_word};
+use crate::characters::after_bad_escape;
 use cell::is_printable;
 use script::{Form, LONGEST_LINE, TextFault, next_argument, split_at_space};
 
@@ -72,6 +73,23 @@ fn column_of_word(line: &[u8], word: &[u8], text: Option<&[u8]>) -> usize
     }
 }
 
+/// How many bytes of an argument without its form are before its fault: those of a text before its backslash.
+fn bytes_before(ill: IllFormed<'_>) -> usize
+    ensures bytes { result ≡ bytes_before ill.entry.form ill.entry.argument.now }
+    ensures within { result ≤ length ill.entry.argument.now }
+{
+    match ill.form {
+        Form::Text => {
+            let rest = after_bad_escape(ill.argument);
+            ill.argument
+                .len()
+                .saturating_sub(rest.len())
+                .saturating_sub(1)
+        }
+        _ => 0,
+    }
+}
+
 /// The column of a fault.
 pub fn column_of(fault: TextFault, line: &[u8]) -> usize
     requires { length line.now ≤ LONGEST_LINE }
@@ -91,7 +109,7 @@ pub fn column_of(fault: TextFault, line: &[u8]) -> usize
             None => column_of_word(line, word, text),
         },
         TextFault::BadArgument => match find_ill_formed(word.len() + 2, forms_of(word), text) {
-            Some(ill) => ill.column,
+            Some(ill) => ill.column + bytes_before(ill),
             None => 1,
         },
     }

@@ -1,10 +1,12 @@
 //! The calls that every screen refuses, whatever its size, and whatever was called on it before.
 
-ghost use Rattle.std.specs.Prelude.{◌≡◌, ◌≤◌, ◌==◌, ◌&&◌, ◌||◌, IfSome, length};
+ghost use Rattle.std.specs.Prelude.{◌≡◌, ◌≤◌, ◌==◌, ◌&&◌, ◌||◌, ◌∷◌, [], IfSome, length};
 ghost use Rattle.std.specs.List.{list_any};
 ghost use Rattle.cell.specs.Refusals.{first_of};
 ghost use Rattle.cell.specs.declared.limits.TheConstants.{MOST_PANELS};
-ghost use Rattle.explain.specs.Everywhere.{IsRefusedEverywhere, are_past, copying_everywhere, is_past, is_too_great, making_everywhere, no_panel, on_standard, only_if, refusal_everywhere, refused_line, stacking_everywhere, writing_everywhere, meaning};
+ghost use Rattle.cell.specs.declared.refusal.Refusal.TheVariants.{BadRectangle, NoSuchPanel, NotPad, StandardScreen};
+ghost use Rattle.explain.specs.Everywhere.{IsRefusedEverywhere, are_past, copying_everywhere, is_no_panel, is_past, is_too_great, making_everywhere, no_panel, on_standard, only_if, refusal_everywhere, refused_line, stacking_everywhere, writing_everywhere, meaning};
+ghost use Rattle.world.specs.Panels.{standard_screen};
 ghost use Rattle.world.specs.calls.Making.{is_inside};
 ghost use Rattle.world.specs.calls.Refresh.{colour_tests, is_no_colour};
 ghost use Rattle.world.specs.calls.Writing.{is_bad_character, is_no_pair};
@@ -172,11 +174,28 @@ fn of_copying(copying: &Copying) -> Option<Refusal>
     }
 }
 
+/// Whether no screen has such a panel.
+fn is_no_panel(panel: PanelId) -> bool
+    ensures { result ≡ is_no_panel panel.0 }
+{
+    panel.0 == 0 || MOST_PANELS < panel.0
+}
+
 /// The refusal of a panel that no screen has.
 fn no_panel(panel: PanelId) -> Option<Refusal>
     ensures { result ≡ no_panel panel.0 }
 {
-    only_if(panel.0 == 0 || MOST_PANELS < panel.0, Refusal::NoSuchPanel)
+    only_if(is_no_panel(panel), Refusal::NoSuchPanel)
+}
+
+/// The refusal of a `replace_panel`.
+fn of_replace_panel(panel: PanelId, win: WinId) -> Option<Refusal>
+    ensures { result ≡ first_of ((is_no_panel panel.0, NoSuchPanel) ∷ (win.0 == standard_screen, StandardScreen) ∷ []) }
+{
+    if is_no_panel(panel) {
+        return Some(Refusal::NoSuchPanel);
+    }
+    only_if(win.0 == 0, Refusal::StandardScreen)
 }
 
 fn of_stacking(stacking: &Stacking) -> Option<Refusal>
@@ -190,7 +209,7 @@ fn of_stacking(stacking: &Stacking) -> Option<Refusal>
         Stacking::TopPanel { panel } => no_panel(panel),
         Stacking::BottomPanel { panel } => no_panel(panel),
         Stacking::MovePanel { panel, .. } => no_panel(panel),
-        Stacking::ReplacePanel { panel, .. } => no_panel(panel),
+        Stacking::ReplacePanel { panel, win } => of_replace_panel(panel, win),
         Stacking::PanelAbove { panel } => no_panel(panel?),
         Stacking::PanelBelow { panel } => no_panel(panel?),
         Stacking::PanelWindow { panel } => no_panel(panel),
@@ -208,6 +227,16 @@ fn of_init_pair(pair: u16, foreground: u16, background: u16) -> Option<Refusal>
     )
 }
 
+/// The refusal of a `pnoutrefresh`, of which a last line or column may be before its first.
+fn of_pnoutrefresh(pad: WinId, ends_first: bool) -> Option<Refusal>
+    ensures { result ≡ first_of ((pad.0 == standard_screen, NotPad) ∷ (ends_first, BadRectangle) ∷ []) }
+{
+    if pad.0 == 0 {
+        return Some(Refusal::NotPad);
+    }
+    only_if(ends_first, Refusal::BadRectangle)
+}
+
 /// The refusal of a call by its arguments alone.
 fn by_arguments(call: &Call<'_>) -> Option<Refusal>
     ensures { result ≡ refusal_everywhere call.now }
@@ -218,11 +247,16 @@ fn by_arguments(call: &Call<'_>) -> Option<Refusal>
         Call::Copying(copying) => of_copying(copying),
         Call::Query(Query::Getparyx { win }) => on_standard(*win, true, Refusal::NotDerived),
         Call::Stacking(stacking) => of_stacking(stacking),
-        Call::Refresh(Refresh::Pnoutrefresh { pad, .. }) => on_standard(
-            *pad,
-            true,
-            Refusal::NotPad,
-        ),
+        Call::Refresh(
+            Refresh::Pnoutrefresh {
+                pad,
+                sminrow,
+                smincol,
+                smaxrow,
+                smaxcol,
+                ..
+            },
+        ) => of_pnoutrefresh(*pad, smaxrow < sminrow || smaxcol < smincol),
         Call::Refresh(
             Refresh::InitPair {
                 pair,

@@ -138,8 +138,9 @@ const LIKE_OTHERS: [&[Row]; 3] = [
 const FOREIGN: [&[Row]; 3] = [
     &[
         (b"see move; a script has no jumps", b"g goto gosub"),
+        (b"see move, with a window first; paint and show end with such a line", b"c cursor"),
         (CURSOR_SHOWN,
-            b"chns cursor curs_set civis cnorm hide_cursor show_cursor hidecursor showcursor cursor_hide cursor_show \
+            b"chns curs_set civis cnorm hide_cursor show_cursor hidecursor showcursor cursor_hide cursor_show \
             nocursor"),
         (b"see move; a script runs no programs", b"m mv more"),
         (b"a script runs no programs: see move, clear, attrset", b"t tput"),

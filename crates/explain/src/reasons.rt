@@ -4,7 +4,7 @@ ghost use Rattle.std.specs.Prelude.{◌≡◌, ◌≤◌, IfSome, length, option
 ghost use Rattle.std.specs.List.{list_any};
 ghost use Rattle.std.specs.Char.{is_ascii_uppercase};
 ghost use Rattle.explain.specs.Names.{name_of_argument};
-ghost use Rattle.explain.specs.Reasons.{are_joined, attributes_reason, colour_reason, colours, copy_reason, digits_reason, ends_in_mark, first_mark_reason, first_reason, flag_reason, has_base, has_colour, is_attribute, is_bracketed, is_colour, is_default, is_like_window, is_list, is_mixed, is_near_number, is_none_or_all, later_reason, mark_reason, minus_reason, more_than_digits, name_reason, no_digits_reason, numbers_in_digits, pair_reason, reason, reason_after, reason_of_call, requirement, requirement_after, requirement_of, second_reason, signed_reason, size_reason, sum_reason, unless_missing, unsigned_or_none_reason, unsigned_reason, window_comes_first, window_reason};
+ghost use Rattle.explain.specs.Reasons.{are_joined, attributes_reason, background_reason, colour_reason, colours, copy_reason, digits_reason, ends_in_mark, first_mark_reason, first_reason, flag_reason, has_base, has_colour, is_attribute, is_bracketed, is_colour, is_default, is_like_window, is_list, is_mark, is_mixed, is_near_number, is_none_or_all, later_reason, mark_reason, minus_reason, more_than_digits, name_reason, no_digits_reason, numbers_in_digits, pair_reason, reason, reason_after, reason_of_call, requirement, requirement_after, requirement_of, second_reason, signed_reason, size_reason, sum_reason, unless_missing, unsigned_or_none_reason, unsigned_reason, window_comes_first, window_reason};
 
 use crate::advice::is_among;
 use crate::arguments::has_digit;
@@ -604,6 +604,31 @@ fn colour_reason(name: &[u8], argument: &[u8]) -> Option<&'static [u8]>
     None
 }
 
+/// Whether an argument is a character, and neither a digit of attributes nor a backslash, which is no character.
+fn is_mark(argument: &[u8]) -> bool
+    ensures { result ≡ is_mark argument.now }
+{
+    match argument {
+        [byte] => !(byte.is_ascii_hexdigit() || *byte == b'\\'),
+        _ => false,
+    }
+}
+
+/// What more is said after `bkgdset` of an argument after the first, by its name.
+fn background_reason(name: &[u8], argument: &[u8]) -> Option<&'static [u8]>
+    requires { name.now ≡ name_of_argument argument.now }
+    ensures text { option_map (λ text. text.now) result ≡ background_reason argument.now }
+    ensures short { IfSome result (λ text. length text.now ≤ 80) }
+{
+    if is_colour(name) {
+        return Some(b": a background's pair is set by bkgdpair");
+    }
+    if is_mark(argument) {
+        return Some(b": attributes come first, and then the character, as in bkgdset 0 10 .");
+    }
+    None
+}
+
 /// What more is said after some words of an argument after the first.
 fn later_reason(word: &[u8], argument: &[u8]) -> Option<&'static [u8]>
     requires { length argument.now ≤ LONGEST_LINE }
@@ -617,8 +642,8 @@ fn later_reason(word: &[u8], argument: &[u8]) -> Option<&'static [u8]>
     if word == b"init_pair".as_slice() {
         return colour_reason(name.as_slice(), argument);
     }
-    if word == b"bkgdset".as_slice() && is_colour(name.as_slice()) {
-        return Some(b": a background's pair is set by bkgdpair");
+    if word == b"bkgdset".as_slice() {
+        return background_reason(name.as_slice(), argument);
     }
     None
 }

@@ -6,7 +6,7 @@ ghost use Rattle.script.specs.Pieces.{pieces_of, room_of};
 ghost use Rattle.explain.specs.Advice.{advice_on};
 ghost use Rattle.explain.specs.Names.{called_name, is_name_byte, underscored};
 ghost use Rattle.explain.specs.Nearest.{nearest_other};
-ghost use Rattle.explain.specs.Suggestions.{advice_on_next, advice_on_rest, after_prefix, begins_marked, begins_with_call, gives_place, is_before_call, is_between, is_drawn, is_echo, is_label, is_of_log, is_of_picture, is_of_shell, is_of_tmux, is_prompt, is_statement, is_step, is_stroke, last_word, said_near_name, said_of, said_of_backslash, said_of_beginning, said_of_curses, said_of_given, said_of_hyphen, said_of_line, said_of_markup, said_of_marks, said_of_name, said_of_near, said_of_other_line, said_of_pair, said_of_path, said_of_statement, said_of_two, said_of_value, said_of_written, say_call, see_longer, see_nearest, see_nearest_rest, written_advice};
+ghost use Rattle.explain.specs.Suggestions.{advice_on_next, advice_on_rest, after_prefix, begins_marked, begins_message, begins_with_call, gives_place, is_before_call, is_between, is_drawn, is_echo, is_label, is_of_log, is_of_picture, is_of_shell, is_of_tmux, is_prompt, is_statement, is_step, is_stroke, last_word, said_near_name, said_of, said_of_backslash, said_of_beginning, said_of_curses, said_of_given, said_of_hyphen, said_of_line, said_of_markup, said_of_marks, said_of_name, said_of_near, said_of_other_line, said_of_pair, said_of_path, said_of_statement, said_of_two, said_of_value, said_of_written, say_call, see_longer, see_nearest, see_nearest_rest, written_advice};
 ghost use Rattle.explain.specs.steps.Suggestions.{said_now};
 
 use crate::advice::{CALLS_ALONE, COMMAND_LINE, PAIRS, PROGRAMS, SCREEN_SIZE, advice_on, is_among};
@@ -297,6 +297,13 @@ fn is_of_picture(word: &[u8], text: Option<&[u8]>) -> bool
         || begins_with_one(word, b": %") && begins_with_digit(after_first(word))
 }
 
+/// Whether a message of a shell or of this program begins with a word.
+fn begins_message(word: &[u8]) -> bool
+    ensures { result ≡ begins_message word.now }
+{
+    is_among(word, b"bash: sh: zsh: dash: fish: ksh: curspan:")
+}
+
 /// Whether a word and those after it write a call by a shell.
 fn is_echo(word: &[u8], text: Option<&[u8]>) -> bool
     requires { room_of text ≤ LONGEST_LINE }
@@ -414,7 +421,7 @@ fn said_of_two(word: &[u8], text: Option<&[u8]>) -> Option<&'static [u8]>
     advice_on_next(word, text)
 }
 
-/// What is said of a line that belongs elsewhere: in a log, at a prompt, in a picture, or in a shell.
+/// What is said of a line that belongs elsewhere: in a log, among messages, at a prompt, in a picture, or in a shell.
 fn said_of_other_line(word: &[u8], text: Option<&[u8]>) -> Option<&'static [u8]>
     requires { length word.now + room_of text ≤ LONGEST_LINE }
     ensures said { option_map (λ text. text.now) result ≡ said_of_other_line word.now (pieces_of text.entry) }
@@ -422,6 +429,9 @@ fn said_of_other_line(word: &[u8], text: Option<&[u8]>) -> Option<&'static [u8]>
 {
     if is_of_log(word, text) {
         return Some(LOG_LINE);
+    }
+    if begins_message(word) {
+        return Some(b"a message of a program is no line of a script");
     }
     if is_prompt(word) && begins_with_call(text) {
         return Some(NOTHING_BEFORE);
@@ -685,6 +695,9 @@ fn said_of_beginning(word: &[u8]) -> Option<&'static [u8]>
     }
     if begins_with_one(word, b"pad.refresh pad.noutrefresh") {
         return Some(b"see pnoutrefresh, doupdate");
+    }
+    if begins_with_one(word, b"console. sys.stdout System.out") {
+        return Some(b"see addstr");
     }
     if begins_with_one(word, b"subprocess. os.") || is_of_tmux(word) {
         return Some(PROGRAMS);

@@ -3,11 +3,11 @@
 use cell::{Refusal, WinId};
 use explain::{finding, refusal_everywhere, refused_line};
 use script::{LONGEST_LINE, TextFault};
-use world::{Call, Copying, Making, Writing};
+use world::{Call, Copying, Making, PanelId, Refresh, Stacking, Writing};
 
 /// Faulty lines, and what is said of each.
 #[rattlefmt::skip]
-static FINDINGS: [(TextFault, &[u8], &str); 14] = [
+static FINDINGS: [(TextFault, &[u8], &str); 15] = [
     (TextFault::LineTooLong, b"", "line 12, column 513: the line is longer than 512 bytes\n"),
     (TextFault::BadByte, b"addstr 0 hi\r", "line 12, column 12: bad byte 0d: a line ends with a newline alone, and a text has it as \\r\n"),
     (TextFault::UnknownCall, b"fly 0", "line 12, column 1: unknown call \"fly\": a line is the name of a call and its arguments: addstr 0 hi writes hi; man curspan lists the calls\n"),
@@ -30,6 +30,11 @@ static FINDINGS: [(TextFault, &[u8], &str); 14] = [
         b"move 0 65536 0",
         "line 12, column 8: move wants a number from 0 to 65535, not \"65536\": it is too great\n",
     ),
+    (
+        TextFault::BadArgument,
+        b"addstr 0 hi\\q",
+        "line 12, column 12: addstr wants a text with no escapes but \\n, \\r, \\b, \\\\ and \\xhh in lower case, not \"hi\\q\": a backslash is written as two; there are no other escapes\n",
+    ),
 ];
 
 /// Whether that is said of a faulty line, the 12th.
@@ -46,7 +51,7 @@ fn faults_are_explained(rt: HostRuntime) {
 
 /// Calls, and why every screen refuses each, if each does.
 #[rattlefmt::skip]
-static REFUSED: [(Call<'static>, Option<Refusal>); 8] = [
+static REFUSED: [(Call<'static>, Option<Refusal>); 10] = [
     (Call::Making(Making::Newpad { lines: 0, columns: 0 }), Some(Refusal::BadSize)),
     (Call::Making(Making::Newwin { lines: 1000, columns: 1, y: 0, x: 0 }), Some(Refusal::OffScreen)),
     (Call::Making(Making::Delwin { win: WinId::STANDARD }), Some(Refusal::StandardScreen)),
@@ -55,6 +60,13 @@ static REFUSED: [(Call<'static>, Option<Refusal>); 8] = [
     (Call::Writing(Writing::ColorSet { win: WinId(1), pair: 64 }), Some(Refusal::BadPair)),
     (Call::Copying(Copying::Touchline { win: WinId::STANDARD, y: 998, n: 1 }), None),
     (Call::Copying(Copying::Touchline { win: WinId::STANDARD, y: 998, n: 2 }), Some(Refusal::OutsideWindow)),
+    (Call::Stacking(Stacking::ReplacePanel { panel: PanelId(1), win: WinId::STANDARD }), Some(Refusal::StandardScreen)),
+    (
+        Call::Refresh(Refresh::Pnoutrefresh {
+            pad: WinId(1), pminrow: 0, pmincol: 0, sminrow: 5, smincol: 5, smaxrow: 5, smaxcol: 2,
+        }),
+        Some(Refusal::BadRectangle),
+    ),
 ];
 
 /// Whether that is said of a call in line 7 that every screen refuses.

@@ -1,5 +1,5 @@
 use Rattle.std.proofs.Common.{◌≡◌, length}
-use Rattle.explain.specs.Characters.{after_bad_escape}
+use Rattle.explain.specs.Faults.{after_bad_escape}
 use Rattle.explain.proofs.characters.after_bad_escape.Given as goal
 
 abbrev pub invariant-loop-first : goal.invariant-loop-first
