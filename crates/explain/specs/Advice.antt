@@ -326,7 +326,7 @@ like_others_advised =
 unfoldable pub foreign_advised : List (List ℕ × List ℕ)
 foreign_advised =
     (codes "see move; a script has no jumps", codes "goto gosub")
-    ∷ (codes "see move, with a window first; paint and show end with such a line", codes "cursor")
+    ∷ (codes "see move, with a window first; a line of a picture is no line of a script", codes "cursor")
     ∷ (cursor_shown, codes "curs_set civis cnorm hide_cursor show_cursor hidecursor showcursor cursor_hide cursor_show nocursor")
     ∷ (codes "see move; a script runs no programs", codes "mv more")
     ∷ (codes "a script runs no programs: see move, clear, attrset", codes "tput")

@@ -1,5 +1,5 @@
 -- What is said where a call has too many or too few arguments. The texts are Curspan's own.
-use Rattle.std.specs.Prelude.{◌==◌, ◌&&◌, ◌||◌, ℕ, Bool, false, not, List, [], ◌∷◌, ◌++◌, codes, length, Option, Some, None, if◌then◌else◌}
+use Rattle.std.specs.Prelude.{◌==◌, ◌&&◌, ◌||◌, ℕ, Bool, false, not, List, [], ◌∷◌, ◌++◌, codes, length, Option, option_map, Some, None, if◌then◌else◌}
 use Rattle.std.specs.List.{list_any}
 use Rattle.std.specs.Option.{option_map_or}
 use Rattle.std.specs.Str.{bytes_eq}
@@ -94,12 +94,21 @@ abbrev pub separation_reason : List ℕ → List (List ℕ) → Bool → Option 
 separation_reason line pieces many = or_else (comma_reason line)
     (if not many && has_joined pieces then Some (codes ": single spaces separate arguments, and numbers have digits alone") else None)
 
-abbrev pub number_reason : List ℕ → List ℕ → List (List ℕ) → Bool → Option (List ℕ)
-number_reason word line pieces many = if takes_text word then (if begins_number pieces then separation_reason line pieces many else None)
+-- of arguments that are too few: why the first without its form lacks it
+abbrev pub few_reason : List ℕ → List (List ℕ) → Option (List ℕ)
+few_reason word pieces =
+    option_map (λ ill. reason_after word (place_of word ill) ill.form ill.argument) (find_ill_formed 0 (forms_of word) (arguments (forms_of word) pieces))
+
+-- a mistake that is common
+abbrev pub common_reason : List ℕ → List ℕ → List (List ℕ) → Bool → Option (List ℕ)
+common_reason word line pieces many = if takes_text word then (if begins_number pieces then separation_reason line pieces many else None)
     else (if begins_bracketed pieces then Some no_brackets
     else (if joins_attributes word line pieces then Some (joined_reason pieces)
     else or_else (marks_reason line pieces many)
     (or_else (if many then surplus_reason word line pieces else None) (separation_reason line pieces many))))
+
+abbrev pub number_reason : List ℕ → List ℕ → List (List ℕ) → Bool → Option (List ℕ)
+number_reason word line pieces many = or_else (common_reason word line pieces many) (if many then None else few_reason word pieces)
 
 -- what a call's arguments are
 abbrev pub signature_text : List ℕ → List ℕ

@@ -9,7 +9,7 @@ use Rattle.script.specs.declared.words.Form.{Form}
 use Rattle.script.specs.declared.words.Form.TheVariants.{Number, NumberOrNone, Signed, Attributes, Flag, Character, Text}
 use Rattle.explain.specs.Characters.{character_reason, text_reason}
 use Rattle.explain.specs.Groups.{sets_attributes, sets_pair, takes_place_of_cursor, writes}
-use Rattle.explain.specs.Names.{are_digits, are_like_digits, are_like_two_digits, are_two_digits, begins_with, begins_with_digit, begins_with_one, colon, comma, digit_3, ends_with, equals_sign, has_byte, has_part, is_comment, is_marked, is_name_byte, is_one_of, is_quoted, is_redirection, name_of_argument, names_pair, plus_sign, semicolon, vertical_bar}
+use Rattle.explain.specs.Names.{are_digits, are_like_digits, are_like_two_digits, are_two_digits, begins_among, begins_with, begins_with_digit, begins_with_one, colon, comma, digit_3, ends_with, equals_sign, has_byte, has_part, is_comment, is_marked, is_name_byte, is_one_of, is_quoted, is_redirection, name_of_argument, names_pair, plus_sign, semicolon, vertical_bar}
 
 -- what an argument of a form has to be
 abbrev pub requirement : Form → List ℕ
@@ -296,7 +296,7 @@ is_mark argument = length argument == 1 && not (list_any is_ascii_hexdigit argum
 -- after `bkgdset`: of a colour, and of the character where attributes come first
 abbrev pub background_reason : List ℕ → Option (List ℕ)
 background_reason argument = if is_colour (name_of_argument argument) then Some (codes ": a background's pair is set by bkgdpair")
-    else (if is_mark argument then Some (codes ": attributes come first, and then the character, as in bkgdset 0 10 .")
+    else (if is_mark argument then Some (codes ": attributes come first, and then the character, as in bkgdset 0 10 x")
     else None)
 
 -- of an argument after the first
@@ -310,11 +310,11 @@ later_reason word argument = if sets_pair word then pair_reason argument
 abbrev pub ends_in_mark : List ℕ → Bool
 ends_in_mark argument = list_any (λ byte. not (is_name_byte byte)) (drop (length argument - 1) argument)
 
--- meant as the number of a window: one but for its size, its base, a 0 or a letter, or what ends it; or the letter that is taken for 0; or one between marks, as `"0"` and
--- `(5,`; or a variable; or nothing
+-- meant as the number of a window: one but for its size, its base, a 0 or a letter, or what ends it; or the letter that is
+-- taken for 0; or one after a sign, or between marks, as `"0"` and `(5,`; or a variable; or nothing
 abbrev pub is_like_window : List ℕ → Bool
 is_like_window argument = if begins_with_digit argument then are_like_digits argument || has_base argument || has_byte comma argument || has_byte semicolon argument
-    else is_one_of (codes "O o") argument || (begins_with_digit (drop 1 argument) && ends_in_mark argument) || begins_with (codes "$") argument || length argument == 0
+    else is_one_of (codes "O o") argument || (begins_with_digit (drop 1 argument) && (begins_among (codes "+-") argument || ends_in_mark argument)) || begins_with (codes "$") argument || length argument == 0
 
 -- of a text or a character in place of the window
 abbrev pub no_window : List ℕ
@@ -326,13 +326,19 @@ window_reason argument = if not (is_like_window argument) then Some (if begins_w
     else (if has_byte comma argument then Some (codes ": spaces separate arguments, and no commas; move sets the place of a text")
     else None)
 
+-- of attributes in place of the window
+abbrev pub attributes_first : List ℕ → Option (List ℕ)
+attributes_first argument = if are_two_digits argument then Some (codes ": the window comes first, then the attributes; a number has no leading 0")
+    else (if names_pair argument then Some (codes ": the window comes first, and a pair is no attribute: see color_set, bkgdpair")
+    else (if is_attribute (name_of_argument argument) then Some (codes ": the window comes first, then digits for attributes, as 01 for bold")
+    else None))
+
 abbrev pub reason_of_call : List ℕ → ℕ → List ℕ → Option (List ℕ)
 reason_of_call word place argument = if not (place == 0) then later_reason word argument
     else (if writes word then window_reason argument
     else (if bytes_eq word (codes "scrl") && begins_with (codes "-") argument
     then Some (codes ": the window comes first, then how many lines, down with a minus")
-    else (if (sets_attributes word || bytes_eq word (codes "bkgdset")) && are_two_digits argument
-    then Some (codes ": the window comes first, then the attributes; a number has no leading 0")
+    else (if sets_attributes word || bytes_eq word (codes "bkgdset") then attributes_first argument
     else None)))
 
 -- of an argument after a word and so many others: what is said after that word, or else of its form

@@ -61,14 +61,15 @@ fn column_after(column: usize, forms: &[Form], text: Option<&[u8]>) -> usize
     }
 }
 
-/// The column of a word between numbers, where there are too many arguments; or else of the first too many or missing.
+/// The column of the first argument without its form, if there are too few, or of a word between numbers, if there are too
+/// many; or else of the first that is missing or too many.
 fn column_of_word(line: &[u8], word: &[u8], text: Option<&[u8]>) -> usize
     requires short { length word.now + room_of text ≤ LONGEST_LINE }
     ensures { result ≡ column_of_word line.now (word.now ∷ pieces_of text.entry) (find_ill_formed_in (word.now ∷ pieces_of text.entry)) }
 {
     let forms = forms_of(word);
     match find_ill_formed(word.len() + 2, forms, text) {
-        Some(ill) if forms.len() < count(forms, text) && is_word(line, ill) => ill.column,
+        Some(ill) if count(forms, text) <= forms.len() || is_word(line, ill) => ill.column,
         _ => column_after(word.len() + 2, forms, text),
     }
 }

@@ -295,7 +295,7 @@ fn meaning(why: Refusal) -> &'static [u8]
         Refusal::BadCharacter =>
             b": characters are the space to the tilde; addch and addstr take \\n, \\r and \\b too, but no control sequences",
         Refusal::BadRectangle =>
-            b": the last line or column is before the first: first line, first column, last line, last column",
+            b": the rectangle's last line is before its first line, or its last column before its first column",
         Refusal::StandardScreen =>
             b": window 0 is the standard screen, which stays, and is in no panel",
         Refusal::BadPair =>

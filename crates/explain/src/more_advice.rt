@@ -138,7 +138,7 @@ const LIKE_OTHERS: [&[Row]; 3] = [
 const FOREIGN: [&[Row]; 3] = [
     &[
         (b"see move; a script has no jumps", b"g goto gosub"),
-        (b"see move, with a window first; paint and show end with such a line", b"c cursor"),
+        (b"see move, with a window first; a line of a picture is no line of a script", b"c cursor"),
         (CURSOR_SHOWN,
             b"chns curs_set civis cnorm hide_cursor show_cursor hidecursor showcursor cursor_hide cursor_show \
             nocursor"),

@@ -3,7 +3,7 @@
 ghost use Rattle.std.specs.Prelude.{◌≡◌, ◌≤◌, ◌+◌, IfSome, length, option_map};
 ghost use Rattle.script.specs.Pieces.{pieces_of, room_of};
 ghost use Rattle.explain.specs.Faults.{IllFormed as Ill};
-ghost use Rattle.explain.specs.Numbers.{begins_bracketed, begins_number, between_reason, comma_reason, has_joined, has_redirection, is_joined, joined_reason, joins_attributes, marks_reason, number_reason, separation_reason, surplus_reason, takes_text, too_many_reason};
+ghost use Rattle.explain.specs.Numbers.{begins_bracketed, begins_number, between_reason, comma_reason, common_reason, few_reason, has_joined, has_redirection, is_joined, joined_reason, joins_attributes, marks_reason, number_reason, separation_reason, surplus_reason, takes_text, too_many_reason};
 
 use crate::advice::is_among;
 use crate::arguments::{IllFormed, find_ill_formed, forms_of, is_word, place_of};
@@ -207,6 +207,17 @@ fn separation_reason(line: &[u8], text: Option<&[u8]>, many: bool) -> Option<&'s
     None
 }
 
+/// What is said of too few arguments: why the first without its form lacks it.
+fn few_reason(word: &[u8], text: Option<&[u8]>) -> Option<&'static [u8]>
+    requires { room_of text ≤ LONGEST_LINE + 1 }
+    ensures text { option_map (λ text. text.now) result ≡ few_reason word.now (pieces_of text.entry) }
+    ensures short { IfSome result (λ text. length text.now ≤ 80) }
+{
+    let ill = find_ill_formed(0, forms_of(word), text)?;
+    let place = place_of(word, ill.left);
+    Some(reason_after(word, place, ill.form, ill.argument))
+}
+
 /// What more is said of a wrong number of arguments, which may be too many.
 pub fn number_reason(
     word: &[u8],
@@ -216,6 +227,19 @@ pub fn number_reason(
 ) -> Option<&'static [u8]>
     requires { room_of text ≤ LONGEST_LINE + 1 }
     ensures text { option_map (λ text. text.now) result ≡ number_reason word.now line.now (pieces_of text.entry) many }
+    ensures short { IfSome result (λ text. length text.now ≤ 80) }
+{
+    match common_reason(word, line, text, many) {
+        Some(said) => Some(said),
+        None if many => None,
+        None => few_reason(word, text),
+    }
+}
+
+/// What is said of a wrong number of arguments by a mistake that is common.
+fn common_reason(word: &[u8], line: &[u8], text: Option<&[u8]>, many: bool) -> Option<&'static [u8]>
+    requires { room_of text ≤ LONGEST_LINE + 1 }
+    ensures text { option_map (λ text. text.now) result ≡ common_reason word.now line.now (pieces_of text.entry) many }
     ensures short { IfSome result (λ text. length text.now ≤ 80) }
 {
     if takes_text(word) {

@@ -4,16 +4,17 @@ ghost use Rattle.std.specs.Prelude.{◌≡◌, ◌≤◌, IfSome, length, option
 ghost use Rattle.std.specs.List.{list_any};
 ghost use Rattle.std.specs.Char.{is_ascii_uppercase};
 ghost use Rattle.explain.specs.Names.{name_of_argument};
-ghost use Rattle.explain.specs.Reasons.{are_joined, attributes_reason, background_reason, colour_reason, colours, copy_reason, digits_reason, ends_in_mark, first_mark_reason, first_reason, flag_reason, has_base, has_colour, is_attribute, is_bracketed, is_colour, is_default, is_like_window, is_list, is_mark, is_mixed, is_near_number, is_none_or_all, later_reason, mark_reason, minus_reason, more_than_digits, name_reason, no_digits_reason, numbers_in_digits, pair_reason, reason, reason_after, reason_of_call, requirement, requirement_after, requirement_of, second_reason, signed_reason, size_reason, sum_reason, unless_missing, unsigned_or_none_reason, unsigned_reason, window_comes_first, window_reason};
+ghost use Rattle.explain.specs.Reasons.{are_joined, attributes_first, attributes_reason, background_reason, colour_reason, colours, copy_reason, digits_reason, ends_in_mark, first_mark_reason, first_reason, flag_reason, has_base, has_colour, is_attribute, is_bracketed, is_colour, is_default, is_like_window, is_list, is_mark, is_mixed, is_near_number, is_none_or_all, later_reason, mark_reason, minus_reason, more_than_digits, name_reason, no_digits_reason, numbers_in_digits, pair_reason, reason, reason_after, reason_of_call, requirement, requirement_after, requirement_of, second_reason, signed_reason, size_reason, sum_reason, unless_missing, unsigned_or_none_reason, unsigned_reason, window_comes_first, window_reason};
 
 use crate::advice::is_among;
 use crate::arguments::has_digit;
 use crate::characters::{character_reason, text_reason};
 use crate::groups::{sets_attributes, sets_pair, takes_place_of_cursor, writes};
 use crate::names::{
-    after_first, are_digits, are_like_digits, are_like_two_digits, are_two_digits, begins_with,
-    begins_with_digit, begins_with_letter, begins_with_one, ends_with, has_byte, has_part,
-    is_comment, is_marked, is_name_byte, is_quoted, is_redirection, name_of_argument, names_pair,
+    after_first, are_digits, are_like_digits, are_like_two_digits, are_two_digits, begins_among,
+    begins_with, begins_with_digit, begins_with_letter, begins_with_one, ends_with, has_byte,
+    has_part, is_comment, is_marked, is_name_byte, is_quoted, is_redirection, name_of_argument,
+    names_pair,
 };
 use script::{Form, LONGEST_LINE};
 
@@ -624,7 +625,7 @@ fn background_reason(name: &[u8], argument: &[u8]) -> Option<&'static [u8]>
         return Some(b": a background's pair is set by bkgdpair");
     }
     if is_mark(argument) {
-        return Some(b": attributes come first, and then the character, as in bkgdset 0 10 .");
+        return Some(b": attributes come first, and then the character, as in bkgdset 0 10 x");
     }
     None
 }
@@ -659,7 +660,7 @@ fn ends_in_mark(argument: &[u8]) -> bool
 }
 
 /// Whether an argument is meant as the number of a window: it is one but for its size, its base, a 0 or a letter, or
-/// what ends it; or the letter that is taken for 0; or one between marks; or a variable; or nothing.
+/// what ends it; or the letter that is taken for 0; or one after a sign or between marks; or a variable; or nothing.
 fn is_like_window(argument: &[u8]) -> bool
     ensures { result ≡ is_like_window argument.now }
 {
@@ -672,7 +673,8 @@ fn is_like_window(argument: &[u8]) -> bool
     if is_among(argument, b"O o") {
         return true;
     }
-    begins_with_digit(after_first(argument)) && ends_in_mark(argument)
+    let has_mark = begins_among(argument, b"+-") || ends_in_mark(argument);
+    begins_with_digit(after_first(argument)) && has_mark
         || begins_with(argument, b"$")
         || argument.is_empty()
 }
@@ -700,6 +702,26 @@ fn window_reason(argument: &[u8]) -> Option<&'static [u8]>
     None
 }
 
+/// What is said of attributes in place of the window.
+fn attributes_first(argument: &[u8]) -> Option<&'static [u8]>
+    requires { length argument.now ≤ LONGEST_LINE }
+    ensures text { option_map (λ text. text.now) result ≡ attributes_first argument.now }
+    ensures short { IfSome result (λ text. length text.now ≤ 80) }
+{
+    if are_two_digits(argument) {
+        return Some(b": the window comes first, then the attributes; a number has no leading 0");
+    }
+    if names_pair(argument) {
+        return Some(
+            b": the window comes first, and a pair is no attribute: see color_set, bkgdpair",
+        );
+    }
+    if is_attribute(name_of_argument(argument).as_slice()) {
+        return Some(b": the window comes first, then digits for attributes, as 01 for bold");
+    }
+    None
+}
+
 /// What more is said after some words, of an argument after so many others.
 fn reason_of_call(word: &[u8], place: usize, argument: &[u8]) -> Option<&'static [u8]>
     requires { length argument.now ≤ LONGEST_LINE }
@@ -715,8 +737,8 @@ fn reason_of_call(word: &[u8], place: usize, argument: &[u8]) -> Option<&'static
     if word == b"scrl".as_slice() && begins_with(argument, b"-") {
         return Some(b": the window comes first, then how many lines, down with a minus");
     }
-    if (sets_attributes(word) || word == b"bkgdset".as_slice()) && are_two_digits(argument) {
-        return Some(b": the window comes first, then the attributes; a number has no leading 0");
+    if sets_attributes(word) || word == b"bkgdset".as_slice() {
+        return attributes_first(argument);
     }
     None
 }

@@ -45,9 +45,9 @@ fn writing_arguments(word: WritingWord) -> &'static [u8]
         WritingWord::Scrollok | WritingWord::Clearok =>
             b"window (0 is the standard screen), on or off",
         WritingWord::Attrset | WritingWord::Attron | WritingWord::Attroff =>
-            b"window (0 is the standard screen), attributes as one sum",
+            b"window (0 is the standard screen), attributes in two digits, as 11 for bold and reverse",
         WritingWord::Bkgdset =>
-            b"window (0 is the standard screen), attributes as one sum, character; bkgdpair sets a pair",
+            b"window (0 is the standard screen), attributes in two digits, character; bkgdpair sets a pair",
         WritingWord::ColorSet | WritingWord::Bkgdpair => b"window (0 is the standard screen), pair",
     }
 }
