@@ -68,6 +68,11 @@ def is_painted(program, script):
 REFUSES = ', column 1: every screen refuses this call: '
 
 
+# What else may be why, before a reason that check tells: pnoutrefresh of what is no pad, and replace_panel of no panel. Before any that
+# a window isn't there.
+SOONER = {'E19 BadRectangle': ('E9 NotPad',), 'E14 StandardScreen': ('E2 NoSuchPanel',)}
+
+
 def is_checked(program, script):
     """Each faulty line is reported with its column and its kind of fault, and run ends with the first of them. A call of which it is said
     that every screen refuses it is refused so by run, if run comes to it."""
@@ -93,8 +98,7 @@ def is_checked(program, script):
         refusal, _, meaning = why.partition(': ')
         want_that('check says what the refusal means', meaning, line)
         if last is None or int(number.split()[1]) < last:
-            # where there is no such window, that is why
-            why = [f'{number}: {refusal}', f'{number}: E1 NoSuchWindow']
+            why = [f'{number}: {it}' for it in (refusal, 'E1 NoSuchWindow', *SOONER.get(refusal, ()))]
             want_that('run refuses what every screen refuses', any(it in log for it in why), ran.log)
 
 

@@ -3,12 +3,12 @@ use Rattle.std.specs.Prelude.{◌==◌, ◌&&◌, ◌||◌, ℕ, Bool, false, no
 use Rattle.std.specs.List.{list_any}
 use Rattle.std.specs.Option.{option_map_or}
 use Rattle.std.specs.Str.{bytes_eq}
-use Rattle.script.specs.Characters.{backslash}
+use Rattle.script.specs.Characters.{backslash, letter_x}
 use Rattle.script.specs.Readings.{arguments}
 use Rattle.script.specs.Words.{word_of}
 use Rattle.explain.specs.Faults.{IllFormed, find_ill_formed, forms_of, is_word, place_of}
 use Rattle.explain.specs.Groups.{sets_attributes, sets_pair, takes_place_of_cursor, writes}
-use Rattle.explain.specs.Names.{are_digits, are_two_digits, begins_with_digit, comma, ends_with, equals_sign, has_byte, has_call, has_pair, has_part, is_one_of, is_redirection, semicolon, vertical_bar}
+use Rattle.explain.specs.Names.{are_digits, are_two_digits, begins_with, begins_with_digit, comma, ends_with, equals_sign, has_byte, has_call, has_pair, has_part, is_one_of, is_redirection, semicolon, vertical_bar}
 use Rattle.explain.specs.Nearest.{or_else}
 use Rattle.explain.specs.Reasons.{is_bracketed, no_brackets, no_commas, no_names, no_redirections, one_window, reason_after}
 use Rattle.explain.specs.Signatures.{names_of_arguments}
@@ -42,6 +42,15 @@ is_joined piece = begins_with_digit piece && not (are_digits piece || are_two_di
 abbrev pub has_joined : List (List ℕ) → Bool
 has_joined pieces = list_any is_joined pieces
 
+-- a size as other programs write it, as `80x24`
+abbrev pub is_size : List ℕ → Bool
+is_size piece = begins_with_digit piece && has_byte letter_x piece && not (begins_with (codes "0x") piece)
+
+-- of a call that takes a size, with one
+abbrev pub size_advice : List ℕ → List (List ℕ) → Option (List ℕ)
+size_advice word pieces = if is_one_of (codes "newwin subwin derwin newpad subpad") word && list_any is_size pieces
+    then Some (codes ": a size is two numbers, lines first and then columns, as 24 80") else None
+
 -- a call with a text or a character, in which most marks may be, takes what is after its other arguments
 abbrev pub takes_text : List ℕ → Bool
 takes_text word = writes word || bytes_eq word (codes "bkgdset")
@@ -67,7 +76,7 @@ between_reason word line ill = if has_byte comma line then no_commas
 -- of a call with too many
 abbrev pub too_many_reason : List ℕ → Option (List ℕ)
 too_many_reason word = if bytes_eq word (codes "move") then Some (codes ": window, line, column; addstr writes a text after it")
-    else (if bytes_eq word (codes "new_panel") then Some (codes ": one window, which newwin made; the panel's number is its answer")
+    else (if bytes_eq word (codes "new_panel") then Some (codes ": one window, which newwin made; the log has the panel's number")
     else (if sets_attributes word then Some (codes ": attributes are one sum, as 11; see addstr for a text, color_set for a colour")
     else (if sets_pair word then Some (codes ": one pair, which has its colours by init_pair, and nothing after it")
     else (if is_one_of (codes "getyx getbegyx getmaxyx getparyx") word then Some (codes ": the answer is in the log, and no variables take it")
@@ -105,7 +114,7 @@ common_reason word line pieces many = if takes_text word then (if begins_number 
     else (if begins_bracketed pieces then Some no_brackets
     else (if joins_attributes word line pieces then Some (joined_reason pieces)
     else or_else (marks_reason line pieces many)
-    (or_else (if many then surplus_reason word line pieces else None) (separation_reason line pieces many))))
+    (or_else (if many then surplus_reason word line pieces else size_advice word pieces) (separation_reason line pieces many))))
 
 abbrev pub number_reason : List ℕ → List ℕ → List (List ℕ) → Bool → Option (List ℕ)
 number_reason word line pieces many = or_else (common_reason word line pieces many) (if many then None else few_reason word pieces)

@@ -136,22 +136,22 @@ window_comes_first word = if bytes_eq word (codes "move") then codes ": the wind
     else (if bytes_eq word (codes "touchwin") then codes ": a window's number alone; stdscr is 0; for lines see touchline"
     else (if bytes_eq word (codes "noutrefresh") then codes ": a window's number alone; stdscr is 0; for a pad see pnoutrefresh"
     else (if takes_place_of_cursor word then one_window
-    else codes ": a window's number comes first, from 1 as made; stdscr is 0"))))
+    else codes ": a window's number comes first, counted from 1; stdscr is 0"))))
 
 -- of a word with no digits: the number of a window, a pad or a panel comes first, but for calls that take none of them
 abbrev pub first_reason : List ℕ → List ℕ
 first_reason word = if is_one_of (codes "newwin newpad") word then codes ": lines and columns come first, in digits: no window or variable; see getmaxyx"
-    else (if is_one_of (codes "subpad pnoutrefresh") word then codes ": a pad's number comes first, from 1 as made; stdscr is no pad"
+    else (if is_one_of (codes "subpad pnoutrefresh") word then codes ": a pad's number comes first, counted from 1; stdscr is no pad"
     else (if is_one_of (codes "delwin mvwin mvderwin getparyx new_panel") word
-    then codes ": a window's number comes first, from 1 as made, and not 0, which is stdscr"
-    else (if has_part (codes "panel") word then codes ": a panel's number comes first, from 1 as made; stdscr is in no panel"
+    then codes ": a window's number comes first, counted from 1, and not 0, which is stdscr"
+    else (if has_part (codes "panel") word then codes ": a panel's number comes first, counted from 1; stdscr is in no panel"
     else window_comes_first word)))
 
 -- of another argument, the second of which is a window after some words
 abbrev pub second_reason : List ℕ → List ℕ
 second_reason word = if bytes_eq word (codes "replace_panel")
-    then codes ": the window is a number too, from 1 as made, and not 0, which is stdscr"
-    else (if is_one_of (codes "overlay overwrite copywin") word then codes ": the second window is a number too, from 1 as made; stdscr is 0"
+    then codes ": the window is a number too, counted from 1, and not 0, which is stdscr"
+    else (if is_one_of (codes "overlay overwrite copywin") word then codes ": the second window is a number too, counted from 1; stdscr is 0"
     else (if bytes_eq word (codes "scrl") then codes ": one number: lines go up, or down with a minus right before its digits"
     else (if sets_pair word then codes ": a pair is a number, which has its colours by init_pair"
     else numbers_in_digits word)))
@@ -246,7 +246,9 @@ attributes_reason argument = if is_none_or_all (name_of_argument argument) && no
     else (if is_one_of (codes "standout a_standout") (name_of_argument argument) then codes ": a standout is 10, as reverse"
     else (if has_colour argument || names_pair argument then codes ": a colour is set by color_set"
     else (if begins_with_one (codes "0x 0X") argument then codes ": the two digits have no 0x before them"
-    else sum_reason argument)))
+    else (if has_byte semicolon argument && not (ends_with semicolon argument)
+    then codes ": one sum of 01 bold, 02 dim, 04 underline, 10 reverse; color_set sets a colour"
+    else sum_reason argument))))
 
 -- of a flag after a word: the last of `copywin` says how it copies
 abbrev pub copy_reason : List ℕ → List ℕ
@@ -285,7 +287,7 @@ pair_reason argument = if begins_with (codes "color_pair") (name_of_argument arg
 -- after `init_pair`: of what is no colour
 abbrev pub colour_reason : List ℕ → Option (List ℕ)
 colour_reason argument = if is_one_of (codes "- -1") argument || is_default (name_of_argument argument)
-    then Some (codes ": no number is the terminal's own colour, which pairs have until they are set")
+    then Some (codes ": there is no number for the terminal's own colour, which unset pairs have")
     else (if is_mixed argument || is_list argument then Some colours
     else None)
 
@@ -313,7 +315,7 @@ ends_in_mark argument = list_any (λ byte. not (is_name_byte byte)) (drop (lengt
 -- meant as the number of a window: one but for its size, its base, a 0 or a letter, or what ends it; or the letter that is
 -- taken for 0; or one after a sign, or between marks, as `"0"` and `(5,`; or a variable; or nothing
 abbrev pub is_like_window : List ℕ → Bool
-is_like_window argument = if begins_with_digit argument then are_like_digits argument || has_base argument || has_byte comma argument || has_byte semicolon argument
+is_like_window argument = if begins_with_digit argument then are_like_digits argument || has_base argument || has_byte comma argument || has_byte semicolon argument || ends_with colon argument
     else is_one_of (codes "O o") argument || (begins_with_digit (drop 1 argument) && (begins_among (codes "+-") argument || ends_in_mark argument)) || begins_with (codes "$") argument || length argument == 0
 
 -- of a text or a character in place of the window

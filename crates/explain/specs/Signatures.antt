@@ -11,10 +11,10 @@ use Rattle.script.specs.declared.words.RefreshWord.TheVariants as refresh
 
 abbrev pub names_of_arguments : Word → List ℕ
 -- making and placing
-names_of_arguments (word.Making making.Newwin) = codes "lines, columns, top line, left column; the window's number is its answer"
+names_of_arguments (word.Making making.Newwin) = codes "lines, columns, top line, left column; the log has the window's number"
 names_of_arguments (word.Making making.Subwin) = codes "window, lines, columns, top line, left column of the screen"
 names_of_arguments (word.Making making.Derwin) = codes "window, lines, columns, top line, left column of that window"
-names_of_arguments (word.Making making.Newpad) = codes "lines, columns; the pad's number is its answer"
+names_of_arguments (word.Making making.Newpad) = codes "lines, columns; the log has the pad's number"
 names_of_arguments (word.Making making.Subpad) = codes "pad, lines, columns, top line, left column of that pad"
 names_of_arguments (word.Making making.Delwin) = codes "window"
 names_of_arguments (word.Making making.Mvwin) = codes "window, top line, left column"
@@ -44,7 +44,7 @@ names_of_arguments (word.Writing writing.Bkgdpair) = codes "window (0 is the sta
 -- copies and marks
 names_of_arguments (word.Copying copying.Overlay) = codes "window, window to write in"
 names_of_arguments (word.Copying copying.Overwrite) = codes "window, window to write in"
-names_of_arguments (word.Copying copying.Copywin) = codes "window, window to write in, line, column, then top, left, bottom, right in the second, on or off"
+names_of_arguments (word.Copying copying.Copywin) = codes "window, window to write in, line, column, then top, left, bottom, right in it, overlay on or off"
 names_of_arguments (word.Copying copying.Touchwin) = codes "window"
 names_of_arguments (word.Copying copying.Untouchwin) = codes "window"
 names_of_arguments (word.Copying copying.Touchline) = codes "window, first line, how many lines"

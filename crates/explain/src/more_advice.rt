@@ -191,12 +191,14 @@ const FOREIGN: [&[Row]; 3] = [
 
 /// What is said of names that have a part, and the parts, with a space between any two.
 #[rattlefmt::skip]
-const PARTS: [Row; 14] = [
+const PARTS: [Row; 16] = [
     (b"no call reads a key", b"key_"),
     (MENUS, b"menu item form field"),
     (FORMATS, b"printf printw"),
     (REFRESHED, b"refresh"),
-    (UPDATES, b"update"),
+    (UPDATES, b"update upd"),
+    (b"lines are drawn by + - and |: see addstr", b"acs_"),
+    (b"no call reads the mouse", b"mouse button"),
     (b"see new_panel, del_panel, show_panel, hide_panel, top_panel, move_panel", b"panel"),
     (CURSOR_SHOWN, b"cursor"),
     (b"see scrl, setscrreg, scrollok", b"scroll"),

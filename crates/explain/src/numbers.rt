@@ -1,16 +1,17 @@
 //! What is said where a call has too many or too few arguments.
 
 ghost use Rattle.std.specs.Prelude.{◌≡◌, ◌≤◌, ◌+◌, IfSome, length, option_map};
+ghost use Rattle.std.specs.List.{list_any};
 ghost use Rattle.script.specs.Pieces.{pieces_of, room_of};
 ghost use Rattle.explain.specs.Faults.{IllFormed as Ill};
-ghost use Rattle.explain.specs.Numbers.{begins_bracketed, begins_number, between_reason, comma_reason, common_reason, few_reason, has_joined, has_redirection, is_joined, joined_reason, joins_attributes, marks_reason, number_reason, separation_reason, surplus_reason, takes_text, too_many_reason};
+ghost use Rattle.explain.specs.Numbers.{begins_bracketed, begins_number, between_reason, comma_reason, common_reason, few_reason, has_joined, has_redirection, is_joined, is_size, joined_reason, joins_attributes, marks_reason, number_reason, separation_reason, size_advice, surplus_reason, takes_text, too_many_reason};
 
 use crate::advice::is_among;
 use crate::arguments::{IllFormed, find_ill_formed, forms_of, is_word, place_of};
 use crate::groups::{sets_attributes, sets_pair, takes_place_of_cursor, writes};
 use crate::names::{
-    are_digits, are_two_digits, begins_with_digit, ends_with, has_byte, has_call, has_pair,
-    has_part, is_redirection,
+    are_digits, are_two_digits, begins_with, begins_with_digit, ends_with, has_byte, has_call,
+    has_pair, has_part, is_redirection,
 };
 use crate::reasons::{
     NO_BRACKETS, NO_COMMAS, NO_NAMES, NO_REDIRECTIONS, ONE_WINDOW, is_bracketed, reason_after,
@@ -83,6 +84,36 @@ fn has_joined(text: Option<&[u8]>) -> bool
         return true;
     }
     has_joined(rest)
+}
+
+/// Whether a text is a size as other programs write it.
+fn is_size(piece: &[u8]) -> bool
+    ensures { result ≡ is_size piece.now }
+{
+    begins_with_digit(piece) && has_byte(piece, b'x') && !begins_with(piece, b"0x")
+}
+
+/// Whether some of the words in a text is.
+fn has_size(text: Option<&[u8]>) -> bool
+    ensures { result ≡ list_any is_size (pieces_of text.entry) }
+{
+    let Some(text) = text else { return false };
+    let (first, rest) = split_at_space(text);
+    if is_size(first) {
+        return true;
+    }
+    has_size(rest)
+}
+
+/// What is said of a call that takes a size, with one as other programs write it.
+fn size_advice(word: &[u8], text: Option<&[u8]>) -> Option<&'static [u8]>
+    ensures text { option_map (λ text. text.now) result ≡ size_advice word.now (pieces_of text.entry) }
+    ensures short { IfSome result (λ text. length text.now ≤ 80) }
+{
+    if is_among(word, b"newwin subwin derwin newpad subpad") && has_size(text) {
+        return Some(b": a size is two numbers, lines first and then columns, as 24 80");
+    }
+    None
 }
 
 /// Whether a call has a text or a character, in which most marks may be.
@@ -160,7 +191,7 @@ fn too_many_reason(word: &[u8]) -> Option<&'static [u8]>
         return Some(b": window, line, column; addstr writes a text after it");
     }
     if word == b"new_panel".as_slice() {
-        return Some(b": one window, which newwin made; the panel's number is its answer");
+        return Some(b": one window, which newwin made; the log has the panel's number");
     }
     if sets_attributes(word) {
         return Some(
@@ -258,10 +289,13 @@ fn common_reason(word: &[u8], line: &[u8], text: Option<&[u8]>, many: bool) -> O
     if let Some(said) = marks_reason(line, text, many) {
         return Some(said);
     }
-    if many {
-        if let Some(said) = surplus_reason(word, line, text) {
-            return Some(said);
-        }
+    let said = if many {
+        surplus_reason(word, line, text)
+    } else {
+        size_advice(word, text)
+    };
+    match said {
+        Some(said) => Some(said),
+        None => separation_reason(line, text, many),
     }
-    separation_reason(line, text, many)
 }

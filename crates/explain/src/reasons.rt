@@ -245,7 +245,7 @@ fn window_comes_first(word: &[u8]) -> &'static [u8]
     } else if takes_place_of_cursor(word) {
         ONE_WINDOW
     } else {
-        b": a window's number comes first, from 1 as made; stdscr is 0"
+        b": a window's number comes first, counted from 1; stdscr is 0"
     }
 }
 
@@ -258,11 +258,11 @@ fn first_reason(word: &[u8]) -> &'static [u8]
     if is_among(word, b"newwin newpad") {
         b": lines and columns come first, in digits: no window or variable; see getmaxyx"
     } else if is_among(word, b"subpad pnoutrefresh") {
-        b": a pad's number comes first, from 1 as made; stdscr is no pad"
+        b": a pad's number comes first, counted from 1; stdscr is no pad"
     } else if is_among(word, b"delwin mvwin mvderwin getparyx new_panel") {
-        b": a window's number comes first, from 1 as made, and not 0, which is stdscr"
+        b": a window's number comes first, counted from 1, and not 0, which is stdscr"
     } else if has_part(word, b"panel") {
-        b": a panel's number comes first, from 1 as made; stdscr is in no panel"
+        b": a panel's number comes first, counted from 1; stdscr is in no panel"
     } else {
         window_comes_first(word)
     }
@@ -274,9 +274,9 @@ fn second_reason(word: &[u8]) -> &'static [u8]
     ensures short { length result.now ≤ 80 }
 {
     if word == b"replace_panel".as_slice() {
-        b": the window is a number too, from 1 as made, and not 0, which is stdscr"
+        b": the window is a number too, counted from 1, and not 0, which is stdscr"
     } else if is_among(word, b"overlay overwrite copywin") {
-        b": the second window is a number too, from 1 as made; stdscr is 0"
+        b": the second window is a number too, counted from 1; stdscr is 0"
     } else if word == b"scrl".as_slice() {
         b": one number: lines go up, or down with a minus right before its digits"
     } else if sets_pair(word) {
@@ -491,6 +491,8 @@ fn attributes_reason(argument: &[u8]) -> &'static [u8]
         b": a colour is set by color_set"
     } else if begins_with_one(argument, b"0x 0X") {
         b": the two digits have no 0x before them"
+    } else if has_byte(argument, b';') && !ends_with(argument, b';') {
+        b": one sum of 01 bold, 02 dim, 04 underline, 10 reverse; color_set sets a colour"
     } else {
         sum_reason(argument)
     }
@@ -595,9 +597,7 @@ fn colour_reason(name: &[u8], argument: &[u8]) -> Option<&'static [u8]>
     ensures short { IfSome result (λ text. length text.now ≤ 80) }
 {
     if is_among(argument, b"- -1") || is_default(name) {
-        return Some(
-            b": no number is the terminal's own colour, which pairs have until they are set",
-        );
+        return Some(b": there is no number for the terminal's own colour, which unset pairs have");
     }
     if is_mixed(argument) || is_list(argument) {
         return Some(COLOURS);
@@ -668,7 +668,8 @@ fn is_like_window(argument: &[u8]) -> bool
         return are_like_digits(argument)
             || has_base(argument)
             || has_byte(argument, b',')
-            || has_byte(argument, b';');
+            || has_byte(argument, b';')
+            || ends_with(argument, b':');
     }
     if is_among(argument, b"O o") {
         return true;

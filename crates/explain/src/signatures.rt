@@ -13,10 +13,10 @@ fn making_arguments(word: MakingWord) -> &'static [u8]
 {
     match word {
         MakingWord::Newwin =>
-            b"lines, columns, top line, left column; the window's number is its answer",
+            b"lines, columns, top line, left column; the log has the window's number",
         MakingWord::Subwin => b"window, lines, columns, top line, left column of the screen",
         MakingWord::Derwin => b"window, lines, columns, top line, left column of that window",
-        MakingWord::Newpad => b"lines, columns; the pad's number is its answer",
+        MakingWord::Newpad => b"lines, columns; the log has the pad's number",
         MakingWord::Subpad => b"pad, lines, columns, top line, left column of that pad",
         MakingWord::Delwin => b"window",
         MakingWord::Mvwin => b"window, top line, left column",
@@ -60,7 +60,7 @@ fn copying_arguments(word: CopyingWord) -> &'static [u8]
     match word {
         CopyingWord::Overlay | CopyingWord::Overwrite => b"window, window to write in",
         CopyingWord::Copywin => {
-            b"window, window to write in, line, column, then top, left, bottom, right in the second, on or off"
+            b"window, window to write in, line, column, then top, left, bottom, right in it, overlay on or off"
         }
         CopyingWord::Touchwin
         | CopyingWord::Untouchwin
