@@ -51,10 +51,11 @@ digit_8 = 56
 abbrev pub colon : ℕ
 colon = 58
 
--- `;`
+-- `+`
 abbrev pub plus_sign : ℕ
 plus_sign = 43
 
+-- `;`
 abbrev pub semicolon : ℕ
 semicolon = 59
 

@@ -292,13 +292,13 @@ colour_reason argument = if is_one_of (codes "- -1") argument || is_default (nam
     else None)
 
 -- a character, and neither a digit of attributes nor a backslash, which is no character
-abbrev pub is_mark : List ℕ → Bool
-is_mark argument = length argument == 1 && not (list_any is_ascii_hexdigit argument || has_byte backslash argument)
+abbrev pub is_plain_character : List ℕ → Bool
+is_plain_character argument = length argument == 1 && not (list_any is_ascii_hexdigit argument || has_byte backslash argument)
 
 -- after `bkgdset`: of a colour, and of the character where attributes come first
 abbrev pub background_reason : List ℕ → Option (List ℕ)
 background_reason argument = if is_colour (name_of_argument argument) then Some (codes ": a background's pair is set by bkgdpair")
-    else (if is_mark argument then Some (codes ": attributes come first, and then the character, as in bkgdset 0 10 x")
+    else (if is_plain_character argument then Some (codes ": attributes come first, and then the character, as in bkgdset 0 10 x")
     else None)
 
 -- of an argument after the first
@@ -315,8 +315,11 @@ ends_in_mark argument = list_any (λ byte. not (is_name_byte byte)) (drop (lengt
 -- meant as the number of a window: one but for its size, its base, a 0 or a letter, or what ends it; or the letter that is
 -- taken for 0; or one after a sign, or between marks, as `"0"` and `(5,`; or a variable; or nothing
 abbrev pub is_like_window : List ℕ → Bool
-is_like_window argument = if begins_with_digit argument then are_like_digits argument || has_base argument || has_byte comma argument || has_byte semicolon argument || ends_with colon argument
-    else is_one_of (codes "O o") argument || (begins_with_digit (drop 1 argument) && (begins_among (codes "+-") argument || ends_in_mark argument)) || begins_with (codes "$") argument || length argument == 0
+is_like_window argument = if begins_with_digit argument
+    then are_like_digits argument || has_base argument || has_byte comma argument || has_byte semicolon argument || ends_with colon argument
+    else is_one_of (codes "O o") argument
+    || (begins_with_digit (drop 1 argument) && (begins_among (codes "+-") argument || ends_in_mark argument))
+    || begins_with (codes "$") argument || length argument == 0
 
 -- of a text or a character in place of the window
 abbrev pub no_window : List ℕ

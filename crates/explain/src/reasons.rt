@@ -4,7 +4,7 @@ ghost use Rattle.std.specs.Prelude.{◌≡◌, ◌≤◌, IfSome, length, option
 ghost use Rattle.std.specs.List.{list_any};
 ghost use Rattle.std.specs.Char.{is_ascii_uppercase};
 ghost use Rattle.explain.specs.Names.{name_of_argument};
-ghost use Rattle.explain.specs.Reasons.{are_joined, attributes_first, attributes_reason, background_reason, colour_reason, colours, copy_reason, digits_reason, ends_in_mark, first_mark_reason, first_reason, flag_reason, has_base, has_colour, is_attribute, is_bracketed, is_colour, is_default, is_like_window, is_list, is_mark, is_mixed, is_near_number, is_none_or_all, later_reason, mark_reason, minus_reason, more_than_digits, name_reason, no_digits_reason, numbers_in_digits, pair_reason, reason, reason_after, reason_of_call, requirement, requirement_after, requirement_of, second_reason, signed_reason, size_reason, sum_reason, unless_missing, unsigned_or_none_reason, unsigned_reason, window_comes_first, window_reason};
+ghost use Rattle.explain.specs.Reasons.{are_joined, attributes_first, attributes_reason, background_reason, colour_reason, colours, copy_reason, digits_reason, ends_in_mark, first_mark_reason, first_reason, flag_reason, has_base, has_colour, is_attribute, is_bracketed, is_colour, is_default, is_like_window, is_list, is_mixed, is_near_number, is_none_or_all, is_plain_character, later_reason, mark_reason, minus_reason, more_than_digits, name_reason, no_digits_reason, numbers_in_digits, pair_reason, reason, reason_after, reason_of_call, requirement, requirement_after, requirement_of, second_reason, signed_reason, size_reason, sum_reason, unless_missing, unsigned_or_none_reason, unsigned_reason, window_comes_first, window_reason};
 
 use crate::advice::is_among;
 use crate::arguments::has_digit;
@@ -606,8 +606,8 @@ fn colour_reason(name: &[u8], argument: &[u8]) -> Option<&'static [u8]>
 }
 
 /// Whether an argument is a character, and neither a digit of attributes nor a backslash, which is no character.
-fn is_mark(argument: &[u8]) -> bool
-    ensures { result ≡ is_mark argument.now }
+fn is_plain_character(argument: &[u8]) -> bool
+    ensures { result ≡ is_plain_character argument.now }
 {
     match argument {
         [byte] => !(byte.is_ascii_hexdigit() || *byte == b'\\'),
@@ -624,7 +624,7 @@ fn background_reason(name: &[u8], argument: &[u8]) -> Option<&'static [u8]>
     if is_colour(name) {
         return Some(b": a background's pair is set by bkgdpair");
     }
-    if is_mark(argument) {
+    if is_plain_character(argument) {
         return Some(b": attributes come first, and then the character, as in bkgdset 0 10 x");
     }
     None
