@@ -1,4 +1,4 @@
--- `ends_of`: what is tried first takes seconds at these, which `search` finds at once.
+-- `ends_of`: what the kit tries by itself takes seconds at these, which `search` finds at once.
 use Rattle.std.proofs.Common.{rules}
 use Rattle.paint.proofs.line.ends_of.Goals as goal
 

@@ -1,4 +1,4 @@
--- `goes_on`: what is tried first takes seconds at these, which `search` finds at once.
+-- `goes_on`: what the kit tries by itself takes seconds at these, which `search` finds at once.
 use Rattle.std.proofs.Common.{rules}
 use Rattle.paint.proofs.line.goes_on.Goals as goal
 

@@ -140,7 +140,7 @@ returns-clause-counted g c = λ count before begun h.
     (changed-at shown wanted column tail.3) (changed-at shown wanted last c.in-Some-last_changed.ensures.0) (omega (arith, exact.0, tail.1)) kept c.is_erased.ensures in
     line-ended (c.paint_cells-2.ensures.counted count before begun printed) kept inside (line-is-printed line shown wanted count (sym choice ∙ c.if-is_erased.false))
 
--- what is tried first takes seconds at these, which `search` finds at once
+-- what the kit tries by itself takes seconds at these, which `search` finds at once
 pub returns-in_default-clause-same : goal.returns-in_default-clause-same
 returns-in_default-clause-same c = search rules
 

@@ -163,7 +163,7 @@ returns-clause-counted g c = λ count before begun h.
     let is = frame-changed f.shown f.wanted changed.result (omega (arith, changed.ensures.within, f.height)) changed.ensures.kept changed.ensures.changed in
     drawn-end (omega (arith, is, c.loop-line-test.false)) (c.loop-line.invariant.counted count before begun h)
 
--- what is tried first takes seconds at these, which `search` finds at once
+-- what the kit tries by itself takes seconds at these, which `search` finds at once
 pub returns-then-changed-eq0-clause-strokes : goal.returns-then-changed-eq0-clause-strokes
 returns-then-changed-eq0-clause-strokes c = search rules
 

@@ -1,4 +1,4 @@
--- `place_in_parent`: what is tried first takes seconds at these, which `search` finds at once.
+-- `place_in_parent`: what the kit tries by itself takes seconds at these, which `search` finds at once.
 use Rattle.std.proofs.Common.{rules}
 use Rattle.slots.proofs.parents.place_in_parent.Goals as goal
 

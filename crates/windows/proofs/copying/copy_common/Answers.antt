@@ -19,7 +19,7 @@ returns c =
     ∙ sym (drawn-there (windows a.table.now) a.dst.0 t.window (common_cells (windows a.table.now).window a.src.0 a.dst.0 a.overlay) t.there))
     (copied.frame ∙ common-frame (windows a.table.now) a.src.0 a.dst.0 s.window t.window _ _ s.there t.there c.in_ok-from.ensures.answer c.in_ok-to.ensures.answer a.overlay) (search rules)
 
--- what is tried first takes seconds at these, which `search` finds at once
+-- what the kit tries by itself takes seconds at these, which `search` finds at once
 pub returns-in_err-source : goal.returns-in_err-source
 returns-in_err-source c = search rules
 

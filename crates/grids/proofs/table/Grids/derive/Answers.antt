@@ -67,7 +67,7 @@ returns c = record {
   sound = sound _ (invariant_of-self-2 c);
 }
 
--- what is tried first takes seconds at these, which `search` finds at once
+-- what the kit tries by itself takes seconds at these, which `search` finds at once
 pub returns-in_err-parent : goal.returns-in_err-parent
 returns-in_err-parent c = search rules
 

@@ -36,7 +36,7 @@ returns c = record {
   sound = sound _ (invariant_of-self-2 c);
 }
 
--- what is tried first takes seconds at these, which `search` finds at once
+-- what the kit tries by itself takes seconds at these, which `search` finds at once
 pub returns-then-is_no_size : goal.returns-then-is_no_size
 returns-then-is_no_size c = search rules
 

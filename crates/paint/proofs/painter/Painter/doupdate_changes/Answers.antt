@@ -1,4 +1,4 @@
--- `doupdate_changes`: what is tried first takes seconds at these, which `search` finds at once.
+-- `doupdate_changes`: what the kit tries by itself takes seconds at these, which `search` finds at once.
 use Rattle.std.proofs.Common.{rules}
 use Rattle.paint.proofs.painter.Painter.doupdate_changes.Goals as goal
 

@@ -104,7 +104,7 @@ returns-then-not-add_line-clause-gaps c = (c.add_line.ensures.gaps c.loop-line.i
 pub returns-clause-gaps : goal.returns-clause-gaps
 returns-clause-gaps c = c.loop-line.invariant.gaps.gaps
 
--- what is tried first takes seconds at these, which `search` finds at once
+-- what the kit tries by itself takes seconds at these, which `search` finds at once
 pub returns-then-not-add_line-clause-runs : goal.returns-then-not-add_line-clause-runs
 returns-then-not-add_line-clause-runs c = search rules
 

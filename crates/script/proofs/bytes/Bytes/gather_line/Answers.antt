@@ -28,7 +28,7 @@ returns-in-End-clause-line g c = gathered_last _ _ _ _ _ _ _ (gathered_moved _ _
 pub returns-in-Failed-clause-line : goal.returns-in-Failed-clause-line
 returns-in-Failed-clause-line g c = gathered_failed _ _ _ _ _ _ _ (gathered_moved _ _ _ _ _ _ _ c.loop-byte.invariant.gathered c.move_into.ensures) c.in-Failed.ensures.byte c.move_into.ensures.short
 
--- what is tried first takes seconds at these, which `search` finds at once
+-- what the kit tries by itself takes seconds at these, which `search` finds at once
 pub returns-in-End-clause-ends : goal.returns-in-End-clause-ends
 returns-in-End-clause-ends c = search rules
 
