@@ -40,16 +40,16 @@ def constructed(call):
 
 def asked_for(call):
     """How the body of a method begins."""
-    return f'self.{"find" if call.asks else "make"}(&Call::{call.name}('
+    return f'self.{"find" if call.asks else "make"}(&constructors::{call.name}('
 
 
 def edits(groups, has_method):
     """The text of each edit, by its file."""
     of_all = [calls for _, calls in groups.values()]
     of_methods = [[it for it in calls if has_method(it)] for calls in of_all]
-    for crate, file, of_groups, begun in (('world', 'constructors', of_all, constructed), ('methods', 'lib', of_methods, asked_for)):
+    for crate, of_groups, begun in (('constructors', of_all, constructed), ('methods', of_methods, asked_for)):
         for calls in of_groups:
             for call in calls:
                 name, first, made = wrong_body(call, calls)
-                text = f'file: src/{file}.rt\nold: {begun(call)}\nnew: {first}{begun(made)}\n'
+                text = f'file: src/lib.rt\nold: {begun(call)}\nnew: {first}{begun(made)}\n'
                 yield f'crates/{crate}/{FOLDER}/{call.name}_{name}.edit', text

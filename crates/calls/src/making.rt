@@ -11,7 +11,7 @@ ghost use Rattle.calls.specs.Queries.{is_query};
 ghost use Rattle.calls.specs.Methods.{as_reply};
 
 use crate::answer::Answer;
-use world::{Call, Composed, Reply};
+use world::{Call, Composed, Refresh, Reply};
 
 /// What makes calls, each but `doupdate`.
 pub trait Calls {
@@ -61,7 +61,7 @@ pub trait Calls {
     final fn update_panels(&mut self) -> Composed
         ensures { made self.old (Call.Refresh Refresh.UpdatePanels) (Ok (Reply.Composed result)) self.new }
     {
-        match self.make(&Call::update_panels()) {
+        match self.make(&Call::Refresh(Refresh::UpdatePanels)) {
             Ok(composed) => composed,
             Err(_) => unreachable!(),
         }

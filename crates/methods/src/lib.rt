@@ -16,7 +16,7 @@ ghost use Rattle.calls.specs.Methods.{as_reply};
 
 use calls::Calls;
 use cell::{Attr, Cell, WinId};
-use world::{Call, PanelId};
+use world::PanelId;
 
 /// A method for each call, of all that makes calls. `Calls` itself has `update_panels`, and a screen `doupdate`. Each
 /// method lists why it may be refused.
@@ -37,7 +37,7 @@ pub trait Methods: Calls {
     ) -> Result<WinId, Self::Error>
         ensures { Self.made self.old (Call.Making (Making.Newwin lines columns y x)) (as_reply Reply.Number result) self.new }
     {
-        self.make(&Call::newwin(lines, columns, y, x))
+        self.make(&constructors::newwin(lines, columns, y, x))
     }
 
     /// Makes a window that shows the part of a window from a place of the screen on. A size of 0 reaches to the
@@ -55,7 +55,7 @@ pub trait Methods: Calls {
     ) -> Result<WinId, Self::Error>
         ensures { Self.made self.old (Call.Making (Making.Subwin win lines columns y x)) (as_reply Reply.Number result) self.new }
     {
-        self.make(&Call::subwin(win, lines, columns, y, x))
+        self.make(&constructors::subwin(win, lines, columns, y, x))
     }
 
     /// Makes a window over the part of a window from a line and a column of it on. They share their cells. A size of 0
@@ -73,7 +73,7 @@ pub trait Methods: Calls {
     ) -> Result<WinId, Self::Error>
         ensures { Self.made self.old (Call.Making (Making.Derwin win lines columns y x)) (as_reply Reply.Number result) self.new }
     {
-        self.make(&Call::derwin(win, lines, columns, y, x))
+        self.make(&constructors::derwin(win, lines, columns, y, x))
     }
 
     /// Makes a pad of 1 to 1000 lines and columns, which has no place on the screen, with a blank grid of its own.
@@ -83,7 +83,7 @@ pub trait Methods: Calls {
     final fn newpad(&mut self, lines: u16, columns: u16) -> Result<WinId, Self::Error>
         ensures { Self.made self.old (Call.Making (Making.Newpad lines columns)) (as_reply Reply.Number result) self.new }
     {
-        self.make(&Call::newpad(lines, columns))
+        self.make(&constructors::newpad(lines, columns))
     }
 
     /// Makes a pad that shows the part of a pad from a line and a column of it on. A size of 0 reaches to its edge.
@@ -100,7 +100,7 @@ pub trait Methods: Calls {
     ) -> Result<WinId, Self::Error>
         ensures { Self.made self.old (Call.Making (Making.Subpad pad lines columns y x)) (as_reply Reply.Number result) self.new }
     {
-        self.make(&Call::subpad(pad, lines, columns, y, x))
+        self.make(&constructors::subpad(pad, lines, columns, y, x))
     }
 
     /// Deletes a window or pad that is in no panel, and from which none derives. Its number is free then.
@@ -110,7 +110,7 @@ pub trait Methods: Calls {
     final fn delwin(&mut self, win: WinId) -> Result<(), Self::Error>
         ensures { Self.made self.old (Call.Making (Making.Delwin win)) (as_reply no_answer result) self.new }
     {
-        self.make(&Call::delwin(win))
+        self.make(&constructors::delwin(win))
     }
 
     /// Moves a window that is in no panel to a place of the screen. No other window moves.
@@ -120,7 +120,7 @@ pub trait Methods: Calls {
     final fn mvwin(&mut self, win: WinId, y: u16, x: u16) -> Result<(), Self::Error>
         ensures { Self.made self.old (Call.Making (Making.Mvwin win y x)) (as_reply no_answer result) self.new }
     {
-        self.make(&Call::mvwin(win, y, x))
+        self.make(&constructors::mvwin(win, y, x))
     }
 
     /// Lets a derived window or pad show the part of its parent from another line and column on. It stays where it is
@@ -131,7 +131,7 @@ pub trait Methods: Calls {
     final fn mvderwin(&mut self, win: WinId, y: u16, x: u16) -> Result<(), Self::Error>
         ensures { Self.made self.old (Call.Making (Making.Mvderwin win y x)) (as_reply no_answer result) self.new }
     {
-        self.make(&Call::mvderwin(win, y, x))
+        self.make(&constructors::mvderwin(win, y, x))
     }
 
     /// Moves the cursor to line `y` and column `x`.
@@ -141,7 +141,7 @@ pub trait Methods: Calls {
     final fn wmove(&mut self, win: WinId, y: u16, x: u16) -> Result<(), Self::Error>
         ensures { Self.made self.old (Call.Writing (Writing.Move win y x)) (as_reply no_answer result) self.new }
     {
-        self.make(&Call::wmove(win, y, x))
+        self.make(&constructors::wmove(win, y, x))
     }
 
     /// Writes a character at the cursor, which advances, from the last column to the next line. Past the last column of
@@ -153,7 +153,7 @@ pub trait Methods: Calls {
     final fn waddch(&mut self, win: WinId, ch: u8) -> Result<(), Self::Error>
         ensures { Self.made self.old (Call.Writing (Writing.Addch win ch)) (as_reply no_answer result) self.new }
     {
-        self.make(&Call::waddch(win, ch))
+        self.make(&constructors::waddch(win, ch))
     }
 
     /// Writes the characters of a text in order, each as `waddch` does. No character of a refused text is written.
@@ -163,7 +163,7 @@ pub trait Methods: Calls {
     final fn waddstr(&mut self, win: WinId, text: &[u8]) -> Result<(), Self::Error>
         ensures { Self.made self.old (Call.Writing (Writing.Addstr win text.entry)) (as_reply no_answer result) self.new }
     {
-        self.make(&Call::waddstr(win, text))
+        self.make(&constructors::waddstr(win, text))
     }
 
     /// Inserts a character at the cursor, which stays: the cells from there on go one column right, and the last is
@@ -174,7 +174,7 @@ pub trait Methods: Calls {
     final fn winsch(&mut self, win: WinId, ch: u8) -> Result<(), Self::Error>
         ensures { Self.made self.old (Call.Writing (Writing.Insch win ch)) (as_reply no_answer result) self.new }
     {
-        self.make(&Call::winsch(win, ch))
+        self.make(&constructors::winsch(win, ch))
     }
 
     /// Deletes the character at the cursor, which stays: the cells after it go one column left, and the last is set to
@@ -185,7 +185,7 @@ pub trait Methods: Calls {
     final fn wdelch(&mut self, win: WinId) -> Result<(), Self::Error>
         ensures { Self.made self.old (Call.Writing (Writing.Delch win)) (as_reply no_answer result) self.new }
     {
-        self.make(&Call::wdelch(win))
+        self.make(&constructors::wdelch(win))
     }
 
     /// Moves the cursor's line and those below down by one, loses the last, and sets the cursor's line to the
@@ -196,7 +196,7 @@ pub trait Methods: Calls {
     final fn winsertln(&mut self, win: WinId) -> Result<(), Self::Error>
         ensures { Self.made self.old (Call.Writing (Writing.Insertln win)) (as_reply no_answer result) self.new }
     {
-        self.make(&Call::winsertln(win))
+        self.make(&constructors::winsertln(win))
     }
 
     /// Moves the lines below the cursor's up by one, and sets the last line to the background.
@@ -206,7 +206,7 @@ pub trait Methods: Calls {
     final fn wdeleteln(&mut self, win: WinId) -> Result<(), Self::Error>
         ensures { Self.made self.old (Call.Writing (Writing.Deleteln win)) (as_reply no_answer result) self.new }
     {
-        self.make(&Call::wdeleteln(win))
+        self.make(&constructors::wdeleteln(win))
     }
 
     /// Sets all cells to the background, and the cursor to line 0 and column 0.
@@ -216,7 +216,7 @@ pub trait Methods: Calls {
     final fn werase(&mut self, win: WinId) -> Result<(), Self::Error>
         ensures { Self.made self.old (Call.Writing (Writing.Erase win)) (as_reply no_answer result) self.new }
     {
-        self.make(&Call::werase(win))
+        self.make(&constructors::werase(win))
     }
 
     /// Does as `werase`, and asks for a clear screen where the window is next taken into the virtual screen.
@@ -226,7 +226,7 @@ pub trait Methods: Calls {
     final fn wclear(&mut self, win: WinId) -> Result<(), Self::Error>
         ensures { Self.made self.old (Call.Writing (Writing.Clear win)) (as_reply no_answer result) self.new }
     {
-        self.make(&Call::wclear(win))
+        self.make(&constructors::wclear(win))
     }
 
     /// Sets the cells from the cursor to the end of its line to the background.
@@ -236,7 +236,7 @@ pub trait Methods: Calls {
     final fn wclrtoeol(&mut self, win: WinId) -> Result<(), Self::Error>
         ensures { Self.made self.old (Call.Writing (Writing.Clrtoeol win)) (as_reply no_answer result) self.new }
     {
-        self.make(&Call::wclrtoeol(win))
+        self.make(&constructors::wclrtoeol(win))
     }
 
     /// Sets the cells from the cursor to the end of its line, and all lines below, to the background.
@@ -246,7 +246,7 @@ pub trait Methods: Calls {
     final fn wclrtobot(&mut self, win: WinId) -> Result<(), Self::Error>
         ensures { Self.made self.old (Call.Writing (Writing.Clrtobot win)) (as_reply no_answer result) self.new }
     {
-        self.make(&Call::wclrtobot(win))
+        self.make(&constructors::wclrtobot(win))
     }
 
     /// Moves the lines of the scroll region up by `n`, or down by `-n` for a negative one. Those that leave it are
@@ -257,7 +257,7 @@ pub trait Methods: Calls {
     final fn wscrl(&mut self, win: WinId, n: i16) -> Result<(), Self::Error>
         ensures { Self.made self.old (Call.Writing (Writing.Scrl win n)) (as_reply no_answer result) self.new }
     {
-        self.make(&Call::wscrl(win, n))
+        self.make(&constructors::wscrl(win, n))
     }
 
     /// Sets the scroll region to the lines from `top` to `bottom`, both inclusive.
@@ -267,7 +267,7 @@ pub trait Methods: Calls {
     final fn wsetscrreg(&mut self, win: WinId, top: u16, bottom: u16) -> Result<(), Self::Error>
         ensures { Self.made self.old (Call.Writing (Writing.Setscrreg win top bottom)) (as_reply no_answer result) self.new }
     {
-        self.make(&Call::wsetscrreg(win, top, bottom))
+        self.make(&constructors::wsetscrreg(win, top, bottom))
     }
 
     /// Sets whether the window scrolls where the cursor leaves the last line of its region. At first it doesn't.
@@ -277,7 +277,7 @@ pub trait Methods: Calls {
     final fn scrollok(&mut self, win: WinId, flag: bool) -> Result<(), Self::Error>
         ensures { Self.made self.old (Call.Writing (Writing.Scrollok win flag)) (as_reply no_answer result) self.new }
     {
-        self.make(&Call::scrollok(win, flag))
+        self.make(&constructors::scrollok(win, flag))
     }
 
     /// Sets whether the window asks for a clear screen where it is next taken into the virtual screen.
@@ -287,7 +287,7 @@ pub trait Methods: Calls {
     final fn clearok(&mut self, win: WinId, flag: bool) -> Result<(), Self::Error>
         ensures { Self.made self.old (Call.Writing (Writing.Clearok win flag)) (as_reply no_answer result) self.new }
     {
-        self.make(&Call::clearok(win, flag))
+        self.make(&constructors::clearok(win, flag))
     }
 
     /// Sets the attributes that written characters get.
@@ -297,7 +297,7 @@ pub trait Methods: Calls {
     final fn wattrset(&mut self, win: WinId, attrs: Attr) -> Result<(), Self::Error>
         ensures { Self.made self.old (Call.Writing (Writing.Attrset win attrs)) (as_reply no_answer result) self.new }
     {
-        self.make(&Call::wattrset(win, attrs))
+        self.make(&constructors::wattrset(win, attrs))
     }
 
     /// Adds attributes to those that written characters get.
@@ -307,7 +307,7 @@ pub trait Methods: Calls {
     final fn wattron(&mut self, win: WinId, attrs: Attr) -> Result<(), Self::Error>
         ensures { Self.made self.old (Call.Writing (Writing.Attron win attrs)) (as_reply no_answer result) self.new }
     {
-        self.make(&Call::wattron(win, attrs))
+        self.make(&constructors::wattron(win, attrs))
     }
 
     /// Takes attributes from those that written characters get.
@@ -317,7 +317,7 @@ pub trait Methods: Calls {
     final fn wattroff(&mut self, win: WinId, attrs: Attr) -> Result<(), Self::Error>
         ensures { Self.made self.old (Call.Writing (Writing.Attroff win attrs)) (as_reply no_answer result) self.new }
     {
-        self.make(&Call::wattroff(win, attrs))
+        self.make(&constructors::wattroff(win, attrs))
     }
 
     /// Sets the background to a character with attributes, of pair 0. No cell is written.
@@ -327,7 +327,7 @@ pub trait Methods: Calls {
     final fn wbkgdset(&mut self, win: WinId, attrs: Attr, ch: u8) -> Result<(), Self::Error>
         ensures { Self.made self.old (Call.Writing (Writing.Bkgdset win attrs ch)) (as_reply no_answer result) self.new }
     {
-        self.make(&Call::wbkgdset(win, attrs, ch))
+        self.make(&constructors::wbkgdset(win, attrs, ch))
     }
 
     /// Sets the colour pair that written characters get.
@@ -337,7 +337,7 @@ pub trait Methods: Calls {
     final fn wcolor_set(&mut self, win: WinId, pair: u16) -> Result<(), Self::Error>
         ensures { Self.made self.old (Call.Writing (Writing.ColorSet win pair)) (as_reply no_answer result) self.new }
     {
-        self.make(&Call::wcolor_set(win, pair))
+        self.make(&constructors::wcolor_set(win, pair))
     }
 
     /// Sets the colour pair of the background. No cell is written.
@@ -347,7 +347,7 @@ pub trait Methods: Calls {
     final fn wbkgdpair(&mut self, win: WinId, pair: u16) -> Result<(), Self::Error>
         ensures { Self.made self.old (Call.Writing (Writing.Bkgdpair win pair)) (as_reply no_answer result) self.new }
     {
-        self.make(&Call::wbkgdpair(win, pair))
+        self.make(&constructors::wbkgdpair(win, pair))
     }
 
     /// Copies the cells of `src` that aren't spaces to `dst`, at the places of the screen that both cover.
@@ -357,7 +357,7 @@ pub trait Methods: Calls {
     final fn overlay(&mut self, src: WinId, dst: WinId) -> Result<(), Self::Error>
         ensures { Self.made self.old (Call.Copying (Copying.Overlay src dst)) (as_reply no_answer result) self.new }
     {
-        self.make(&Call::overlay(src, dst))
+        self.make(&constructors::overlay(src, dst))
     }
 
     /// Copies all cells of `src` to `dst`, at the places of the screen that both cover.
@@ -367,7 +367,7 @@ pub trait Methods: Calls {
     final fn overwrite(&mut self, src: WinId, dst: WinId) -> Result<(), Self::Error>
         ensures { Self.made self.old (Call.Copying (Copying.Overwrite src dst)) (as_reply no_answer result) self.new }
     {
-        self.make(&Call::overwrite(src, dst))
+        self.make(&constructors::overwrite(src, dst))
     }
 
     /// Copies the cells of `src` from line `sminrow` and column `smincol` on to the lines from `dminrow` to `dmaxrow`
@@ -392,7 +392,7 @@ pub trait Methods: Calls {
         ensures { Self.made self.old (Call.Copying (Copying.Copywin src dst sminrow smincol dminrow dmincol dmaxrow dmaxcol overlay)) (as_reply no_answer
             result) self.new }
     {
-        self.make(&Call::copywin(
+        self.make(&constructors::copywin(
             src, dst, sminrow, smincol, dminrow, dmincol, dmaxrow, dmaxcol, overlay,
         ))
     }
@@ -404,7 +404,7 @@ pub trait Methods: Calls {
     final fn touchwin(&mut self, win: WinId) -> Result<(), Self::Error>
         ensures { Self.made self.old (Call.Copying (Copying.Touchwin win)) (as_reply no_answer result) self.new }
     {
-        self.make(&Call::touchwin(win))
+        self.make(&constructors::touchwin(win))
     }
 
     /// Untouches all of a window.
@@ -414,7 +414,7 @@ pub trait Methods: Calls {
     final fn untouchwin(&mut self, win: WinId) -> Result<(), Self::Error>
         ensures { Self.made self.old (Call.Copying (Copying.Untouchwin win)) (as_reply no_answer result) self.new }
     {
-        self.make(&Call::untouchwin(win))
+        self.make(&constructors::untouchwin(win))
     }
 
     /// Touches all of `n` lines from line `y` on.
@@ -424,7 +424,7 @@ pub trait Methods: Calls {
     final fn touchline(&mut self, win: WinId, y: u16, n: u16) -> Result<(), Self::Error>
         ensures { Self.made self.old (Call.Copying (Copying.Touchline win y n)) (as_reply no_answer result) self.new }
     {
-        self.make(&Call::touchline(win, y, n))
+        self.make(&constructors::touchline(win, y, n))
     }
 
     /// Touches all of `n` lines from line `y` on, or untouches them if `flag` is not set.
@@ -434,7 +434,7 @@ pub trait Methods: Calls {
     final fn wtouchln(&mut self, win: WinId, y: u16, n: u16, flag: bool) -> Result<(), Self::Error>
         ensures { Self.made self.old (Call.Copying (Copying.Touchln win y n flag)) (as_reply no_answer result) self.new }
     {
-        self.make(&Call::wtouchln(win, y, n, flag))
+        self.make(&constructors::wtouchln(win, y, n, flag))
     }
 
     /// Touches, in each ancestor of a window, the places that show a touched cell of the window.
@@ -444,7 +444,7 @@ pub trait Methods: Calls {
     final fn wsyncup(&mut self, win: WinId) -> Result<(), Self::Error>
         ensures { Self.made self.old (Call.Copying (Copying.Syncup win)) (as_reply no_answer result) self.new }
     {
-        self.make(&Call::wsyncup(win))
+        self.make(&constructors::wsyncup(win))
     }
 
     /// Touches, in a window, the places that show a touched cell of an ancestor.
@@ -454,7 +454,7 @@ pub trait Methods: Calls {
     final fn wsyncdown(&mut self, win: WinId) -> Result<(), Self::Error>
         ensures { Self.made self.old (Call.Copying (Copying.Syncdown win)) (as_reply no_answer result) self.new }
     {
-        self.make(&Call::wsyncdown(win))
+        self.make(&constructors::wsyncdown(win))
     }
 
     /// Whether line `y` of a window is touched.
@@ -464,7 +464,7 @@ pub trait Methods: Calls {
     final fn is_linetouched(&self, win: WinId, y: u16) -> Result<bool, Self::Error>
         ensures { Self.made self.now (Call.Copying (Copying.IsLinetouched win y)) (as_reply Reply.Flag result) self.now }
     {
-        self.find(&Call::is_linetouched(win, y))
+        self.find(&constructors::is_linetouched(win, y))
     }
 
     /// Whether some line of a window is touched.
@@ -474,7 +474,7 @@ pub trait Methods: Calls {
     final fn is_wintouched(&self, win: WinId) -> Result<bool, Self::Error>
         ensures { Self.made self.now (Call.Copying (Copying.IsWintouched win)) (as_reply Reply.Flag result) self.now }
     {
-        self.find(&Call::is_wintouched(win))
+        self.find(&constructors::is_wintouched(win))
     }
 
     /// The line and the column of the cursor.
@@ -484,7 +484,7 @@ pub trait Methods: Calls {
     final fn getyx(&self, win: WinId) -> Result<(u16, u16), Self::Error>
         ensures { Self.made self.now (Call.Query (Query.Getyx win)) (as_reply two_numbers result) self.now }
     {
-        self.find(&Call::getyx(win))
+        self.find(&constructors::getyx(win))
     }
 
     /// The line and the column of the screen where the window begins.
@@ -494,7 +494,7 @@ pub trait Methods: Calls {
     final fn getbegyx(&self, win: WinId) -> Result<(u16, u16), Self::Error>
         ensures { Self.made self.now (Call.Query (Query.Getbegyx win)) (as_reply two_numbers result) self.now }
     {
-        self.find(&Call::getbegyx(win))
+        self.find(&constructors::getbegyx(win))
     }
 
     /// The number of lines, and the number of columns.
@@ -504,7 +504,7 @@ pub trait Methods: Calls {
     final fn getmaxyx(&self, win: WinId) -> Result<(u16, u16), Self::Error>
         ensures { Self.made self.now (Call.Query (Query.Getmaxyx win)) (as_reply two_numbers result) self.now }
     {
-        self.find(&Call::getmaxyx(win))
+        self.find(&constructors::getmaxyx(win))
     }
 
     /// The line and the column of the parent where a derived window begins.
@@ -514,7 +514,7 @@ pub trait Methods: Calls {
     final fn getparyx(&self, win: WinId) -> Result<(u16, u16), Self::Error>
         ensures { Self.made self.now (Call.Query (Query.Getparyx win)) (as_reply two_numbers result) self.now }
     {
-        self.find(&Call::getparyx(win))
+        self.find(&constructors::getparyx(win))
     }
 
     /// The cell at the cursor.
@@ -524,7 +524,7 @@ pub trait Methods: Calls {
     final fn winch(&self, win: WinId) -> Result<Cell, Self::Error>
         ensures { Self.made self.now (Call.Query (Query.Inch win)) (as_reply Reply.Cell result) self.now }
     {
-        self.find(&Call::winch(win))
+        self.find(&constructors::winch(win))
     }
 
     /// Puts a window into a new panel, visible on top. The number is the least free one from 1 on.
@@ -534,7 +534,7 @@ pub trait Methods: Calls {
     final fn new_panel(&mut self, win: WinId) -> Result<PanelId, Self::Error>
         ensures { Self.made self.old (Call.Stacking (Stacking.NewPanel win)) (as_reply its_panel result) self.new }
     {
-        self.make(&Call::new_panel(win))
+        self.make(&constructors::new_panel(win))
     }
 
     /// Deletes a panel. Its window stays, and is in no panel any more.
@@ -544,7 +544,7 @@ pub trait Methods: Calls {
     final fn del_panel(&mut self, panel: PanelId) -> Result<(), Self::Error>
         ensures { Self.made self.old (Call.Stacking (Stacking.DelPanel panel)) (as_reply no_answer result) self.new }
     {
-        self.make(&Call::del_panel(panel))
+        self.make(&constructors::del_panel(panel))
     }
 
     /// Puts a panel on top, whether it was hidden or visible.
@@ -554,7 +554,7 @@ pub trait Methods: Calls {
     final fn show_panel(&mut self, panel: PanelId) -> Result<(), Self::Error>
         ensures { Self.made self.old (Call.Stacking (Stacking.ShowPanel panel)) (as_reply no_answer result) self.new }
     {
-        self.make(&Call::show_panel(panel))
+        self.make(&constructors::show_panel(panel))
     }
 
     /// Takes a visible panel out of the order.
@@ -564,7 +564,7 @@ pub trait Methods: Calls {
     final fn hide_panel(&mut self, panel: PanelId) -> Result<(), Self::Error>
         ensures { Self.made self.old (Call.Stacking (Stacking.HidePanel panel)) (as_reply no_answer result) self.new }
     {
-        self.make(&Call::hide_panel(panel))
+        self.make(&constructors::hide_panel(panel))
     }
 
     /// Moves a visible panel to the top.
@@ -574,7 +574,7 @@ pub trait Methods: Calls {
     final fn top_panel(&mut self, panel: PanelId) -> Result<(), Self::Error>
         ensures { Self.made self.old (Call.Stacking (Stacking.TopPanel panel)) (as_reply no_answer result) self.new }
     {
-        self.make(&Call::top_panel(panel))
+        self.make(&constructors::top_panel(panel))
     }
 
     /// Moves a visible panel to the bottom.
@@ -584,7 +584,7 @@ pub trait Methods: Calls {
     final fn bottom_panel(&mut self, panel: PanelId) -> Result<(), Self::Error>
         ensures { Self.made self.old (Call.Stacking (Stacking.BottomPanel panel)) (as_reply no_answer result) self.new }
     {
-        self.make(&Call::bottom_panel(panel))
+        self.make(&constructors::bottom_panel(panel))
     }
 
     /// Moves the window of a panel, visible or hidden, to a place of the screen.
@@ -594,7 +594,7 @@ pub trait Methods: Calls {
     final fn move_panel(&mut self, panel: PanelId, y: u16, x: u16) -> Result<(), Self::Error>
         ensures { Self.made self.old (Call.Stacking (Stacking.MovePanel panel y x)) (as_reply no_answer result) self.new }
     {
-        self.make(&Call::move_panel(panel, y, x))
+        self.make(&constructors::move_panel(panel, y, x))
     }
 
     /// Gives a panel another window. The panel keeps its depth, or stays hidden.
@@ -604,7 +604,7 @@ pub trait Methods: Calls {
     final fn replace_panel(&mut self, panel: PanelId, win: WinId) -> Result<(), Self::Error>
         ensures { Self.made self.old (Call.Stacking (Stacking.ReplacePanel panel win)) (as_reply no_answer result) self.new }
     {
-        self.make(&Call::replace_panel(panel, win))
+        self.make(&constructors::replace_panel(panel, win))
     }
 
     /// The panel right above a visible one; of none, the bottom one.
@@ -614,7 +614,7 @@ pub trait Methods: Calls {
     final fn panel_above(&self, panel: Option<PanelId>) -> Result<Option<PanelId>, Self::Error>
         ensures { Self.made self.now (Call.Stacking (Stacking.PanelAbove panel)) (as_reply Reply.Panel result) self.now }
     {
-        self.find(&Call::panel_above(panel))
+        self.find(&constructors::panel_above(panel))
     }
 
     /// The panel right below a visible one; of none, the top one.
@@ -624,7 +624,7 @@ pub trait Methods: Calls {
     final fn panel_below(&self, panel: Option<PanelId>) -> Result<Option<PanelId>, Self::Error>
         ensures { Self.made self.now (Call.Stacking (Stacking.PanelBelow panel)) (as_reply Reply.Panel result) self.now }
     {
-        self.find(&Call::panel_below(panel))
+        self.find(&constructors::panel_below(panel))
     }
 
     /// The window of a panel.
@@ -634,7 +634,7 @@ pub trait Methods: Calls {
     final fn panel_window(&self, panel: PanelId) -> Result<WinId, Self::Error>
         ensures { Self.made self.now (Call.Stacking (Stacking.PanelWindow panel)) (as_reply Reply.Number result) self.now }
     {
-        self.find(&Call::panel_window(panel))
+        self.find(&constructors::panel_window(panel))
     }
 
     /// Whether a panel is hidden.
@@ -644,7 +644,7 @@ pub trait Methods: Calls {
     final fn panel_hidden(&self, panel: PanelId) -> Result<bool, Self::Error>
         ensures { Self.made self.now (Call.Stacking (Stacking.PanelHidden panel)) (as_reply Reply.Flag result) self.now }
     {
-        self.find(&Call::panel_hidden(panel))
+        self.find(&constructors::panel_hidden(panel))
     }
 
     /// Takes what is touched of a window into the virtual screen, at the window's place, with its cursor. Then no place
@@ -655,7 +655,7 @@ pub trait Methods: Calls {
     final fn wnoutrefresh(&mut self, win: WinId) -> Result<(), Self::Error>
         ensures { Self.made self.old (Call.Refresh (Refresh.Noutrefresh win)) (as_reply no_answer result) self.new }
     {
-        self.make(&Call::wnoutrefresh(win))
+        self.make(&constructors::wnoutrefresh(win))
     }
 
     /// Takes the cells of a pad from line `pminrow` and column `pmincol` on into the lines from `sminrow` to `smaxrow`
@@ -679,7 +679,9 @@ pub trait Methods: Calls {
         ensures { Self.made self.old (Call.Refresh (Refresh.Pnoutrefresh pad pminrow pmincol sminrow smincol smaxrow smaxcol)) (as_reply no_answer result)
             self.new }
     {
-        self.make(&Call::pnoutrefresh(pad, pminrow, pmincol, sminrow, smincol, smaxrow, smaxcol))
+        self.make(&constructors::pnoutrefresh(
+            pad, pminrow, pmincol, sminrow, smincol, smaxrow, smaxcol,
+        ))
     }
 
     /// Gives a colour pair a foreground and a background: 0 black, 1 red, 2 green, 3 yellow, 4 blue, 5 magenta, 6 cyan,
@@ -695,7 +697,7 @@ pub trait Methods: Calls {
     ) -> Result<(), Self::Error>
         ensures { Self.made self.old (Call.Refresh (Refresh.InitPair pair foreground background)) (as_reply no_answer result) self.new }
     {
-        self.make(&Call::init_pair(pair, foreground, background))
+        self.make(&constructors::init_pair(pair, foreground, background))
     }
 
     // End of what tools/calls wrote

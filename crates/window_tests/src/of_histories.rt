@@ -36,7 +36,7 @@ fn a_writer_that_fails_at_any_byte_is_shown_all(rt: HostRuntime) -> Result<(), F
         addstr(b"hi"),
         UPDATE,
         SHOW,
-        Call::werase(win),
+        constructors::werase(win),
         addstr(b"!"),
         UPDATE,
         SHOW,

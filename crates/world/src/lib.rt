@@ -2,14 +2,12 @@
 //! definitions are in `specs/`: when a call is refused, what it changes and what it answers.
 //!
 //! - `call`: calls and answers
-//! - `constructors`: each call as data
 //! - `laws`: the laws, each the contract of a function
 //! - `panel`: numbers of panels
 //! - `settings`: the settings of a window, and columns of a line
 #![tactic(auto)]
 
 mod call;
-mod constructors;
 pub mod laws;
 mod panel;
 mod settings;

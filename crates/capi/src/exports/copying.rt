@@ -1,5 +1,6 @@
 //! The calls that copy cells from window to window, and those on what is touched of a window.
 
+ghost use Rattle.world.specs.declared.call.Call.{Call};
 ghost use Rattle.world.specs.declared.call.Copying.{Copying};
 ghost use Rattle.capi.specs.Called.{Asked, Called};
 ghost use Rattle.capi.specs.Numbers.{saturated, window_of};
@@ -8,7 +9,7 @@ use crate::answer::Answer;
 use crate::handle::Handle;
 use crate::number::{saturated, window_of};
 use crate::surface::Outlet;
-use desk::{Call, Sink};
+use desk::Sink;
 use std::alloc::Global;
 
 // Written by tools/calls from calls.table: exports
@@ -18,7 +19,10 @@ use std::alloc::Global;
 pub extern "C" fn curspan_overlay(alloc: Global, screen: &mut Handle, src: u32, dst: u32) -> Answer
     ensures { Called ⟦<Outlet as Sink>⟧ screen.old.value (Call.Copying (Copying.Overlay (window_of src) (window_of dst))) result screen.new.value }
 {
-    screen.call(alloc, &Call::overlay(window_of(src), window_of(dst)))
+    screen.call(
+        alloc,
+        &constructors::overlay(window_of(src), window_of(dst)),
+    )
 }
 
 /// Copies all cells of `src` to `dst`, at the places of the screen that both cover.
@@ -31,7 +35,10 @@ pub extern "C" fn curspan_overwrite(
 ) -> Answer
     ensures { Called ⟦<Outlet as Sink>⟧ screen.old.value (Call.Copying (Copying.Overwrite (window_of src) (window_of dst))) result screen.new.value }
 {
-    screen.call(alloc, &Call::overwrite(window_of(src), window_of(dst)))
+    screen.call(
+        alloc,
+        &constructors::overwrite(window_of(src), window_of(dst)),
+    )
 }
 
 /// Copies the cells of `src` from line `sminrow` and column `smincol` on to the lines from `dminrow` to `dmaxrow` and
@@ -56,7 +63,7 @@ pub extern "C" fn curspan_copywin(
 {
     screen.call(
         alloc,
-        &Call::copywin(
+        &constructors::copywin(
             window_of(src),
             window_of(dst),
             saturated(sminrow),
@@ -75,7 +82,7 @@ pub extern "C" fn curspan_copywin(
 pub extern "C" fn curspan_touchwin(alloc: Global, screen: &mut Handle, win: u32) -> Answer
     ensures { Called ⟦<Outlet as Sink>⟧ screen.old.value (Call.Copying (Copying.Touchwin (window_of win))) result screen.new.value }
 {
-    screen.call(alloc, &Call::touchwin(window_of(win)))
+    screen.call(alloc, &constructors::touchwin(window_of(win)))
 }
 
 /// Untouches all of a window.
@@ -83,7 +90,7 @@ pub extern "C" fn curspan_touchwin(alloc: Global, screen: &mut Handle, win: u32)
 pub extern "C" fn curspan_untouchwin(alloc: Global, screen: &mut Handle, win: u32) -> Answer
     ensures { Called ⟦<Outlet as Sink>⟧ screen.old.value (Call.Copying (Copying.Untouchwin (window_of win))) result screen.new.value }
 {
-    screen.call(alloc, &Call::untouchwin(window_of(win)))
+    screen.call(alloc, &constructors::untouchwin(window_of(win)))
 }
 
 /// Touches all of `n` lines from line `y` on.
@@ -100,7 +107,7 @@ pub extern "C" fn curspan_touchline(
 {
     screen.call(
         alloc,
-        &Call::touchline(window_of(win), saturated(y), saturated(n)),
+        &constructors::touchline(window_of(win), saturated(y), saturated(n)),
     )
 }
 
@@ -119,7 +126,7 @@ pub extern "C" fn curspan_wtouchln(
 {
     screen.call(
         alloc,
-        &Call::wtouchln(window_of(win), saturated(y), saturated(n), flag),
+        &constructors::wtouchln(window_of(win), saturated(y), saturated(n), flag),
     )
 }
 
@@ -128,7 +135,7 @@ pub extern "C" fn curspan_wtouchln(
 pub extern "C" fn curspan_wsyncup(alloc: Global, screen: &mut Handle, win: u32) -> Answer
     ensures { Called ⟦<Outlet as Sink>⟧ screen.old.value (Call.Copying (Copying.Syncup (window_of win))) result screen.new.value }
 {
-    screen.call(alloc, &Call::wsyncup(window_of(win)))
+    screen.call(alloc, &constructors::wsyncup(window_of(win)))
 }
 
 /// Touches, in a window, the places that show a touched cell of an ancestor.
@@ -136,7 +143,7 @@ pub extern "C" fn curspan_wsyncup(alloc: Global, screen: &mut Handle, win: u32) 
 pub extern "C" fn curspan_wsyncdown(alloc: Global, screen: &mut Handle, win: u32) -> Answer
     ensures { Called ⟦<Outlet as Sink>⟧ screen.old.value (Call.Copying (Copying.Syncdown (window_of win))) result screen.new.value }
 {
-    screen.call(alloc, &Call::wsyncdown(window_of(win)))
+    screen.call(alloc, &constructors::wsyncdown(window_of(win)))
 }
 
 /// Whether line `y` of a window is touched.
@@ -149,7 +156,10 @@ pub extern "C" fn curspan_is_linetouched(
 ) -> Answer
     ensures { Asked ⟦<Outlet as Sink>⟧ screen.old.value (Call.Copying (Copying.IsLinetouched (window_of win) (saturated y))) result screen.new.value }
 {
-    screen.ask(alloc, &Call::is_linetouched(window_of(win), saturated(y)))
+    screen.ask(
+        alloc,
+        &constructors::is_linetouched(window_of(win), saturated(y)),
+    )
 }
 
 /// Whether some line of a window is touched.
@@ -157,7 +167,7 @@ pub extern "C" fn curspan_is_linetouched(
 pub extern "C" fn curspan_is_wintouched(alloc: Global, screen: &mut Handle, win: u32) -> Answer
     ensures { Asked ⟦<Outlet as Sink>⟧ screen.old.value (Call.Copying (Copying.IsWintouched (window_of win))) result screen.new.value }
 {
-    screen.ask(alloc, &Call::is_wintouched(window_of(win)))
+    screen.ask(alloc, &constructors::is_wintouched(window_of(win)))
 }
 
 // End of what tools/calls wrote

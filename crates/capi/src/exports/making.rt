@@ -1,5 +1,6 @@
 //! The calls that make windows and pads, delete them, and place them.
 
+ghost use Rattle.world.specs.declared.call.Call.{Call};
 ghost use Rattle.world.specs.declared.call.Making.{Making};
 ghost use Rattle.capi.specs.Called.{Called};
 ghost use Rattle.capi.specs.Numbers.{saturated, window_of};
@@ -8,7 +9,7 @@ use crate::answer::Answer;
 use crate::handle::Handle;
 use crate::number::{saturated, window_of};
 use crate::surface::Outlet;
-use desk::{Call, Sink};
+use desk::Sink;
 use std::alloc::Global;
 
 // Written by tools/calls from calls.table: exports
@@ -29,7 +30,7 @@ pub extern "C" fn curspan_newwin(
 {
     screen.call(
         alloc,
-        &Call::newwin(
+        &constructors::newwin(
             saturated(lines),
             saturated(columns),
             saturated(y),
@@ -55,7 +56,7 @@ pub extern "C" fn curspan_subwin(
 {
     screen.call(
         alloc,
-        &Call::subwin(
+        &constructors::subwin(
             window_of(win),
             saturated(lines),
             saturated(columns),
@@ -82,7 +83,7 @@ pub extern "C" fn curspan_derwin(
 {
     screen.call(
         alloc,
-        &Call::derwin(
+        &constructors::derwin(
             window_of(win),
             saturated(lines),
             saturated(columns),
@@ -102,7 +103,10 @@ pub extern "C" fn curspan_newpad(
 ) -> Answer
     ensures { Called ⟦<Outlet as Sink>⟧ screen.old.value (Call.Making (Making.Newpad (saturated lines) (saturated columns))) result screen.new.value }
 {
-    screen.call(alloc, &Call::newpad(saturated(lines), saturated(columns)))
+    screen.call(
+        alloc,
+        &constructors::newpad(saturated(lines), saturated(columns)),
+    )
 }
 
 /// Makes a pad that shows the part of a pad from a line and a column of it on. A size of 0 reaches to its edge.
@@ -121,7 +125,7 @@ pub extern "C" fn curspan_subpad(
 {
     screen.call(
         alloc,
-        &Call::subpad(
+        &constructors::subpad(
             window_of(pad),
             saturated(lines),
             saturated(columns),
@@ -136,7 +140,7 @@ pub extern "C" fn curspan_subpad(
 pub extern "C" fn curspan_delwin(alloc: Global, screen: &mut Handle, win: u32) -> Answer
     ensures { Called ⟦<Outlet as Sink>⟧ screen.old.value (Call.Making (Making.Delwin (window_of win))) result screen.new.value }
 {
-    screen.call(alloc, &Call::delwin(window_of(win)))
+    screen.call(alloc, &constructors::delwin(window_of(win)))
 }
 
 /// Moves a window that is in no panel to a place of the screen. No other window moves.
@@ -152,7 +156,7 @@ pub extern "C" fn curspan_mvwin(
 {
     screen.call(
         alloc,
-        &Call::mvwin(window_of(win), saturated(y), saturated(x)),
+        &constructors::mvwin(window_of(win), saturated(y), saturated(x)),
     )
 }
 
@@ -170,7 +174,7 @@ pub extern "C" fn curspan_mvderwin(
 {
     screen.call(
         alloc,
-        &Call::mvderwin(window_of(win), saturated(y), saturated(x)),
+        &constructors::mvderwin(window_of(win), saturated(y), saturated(x)),
     )
 }
 

@@ -1,5 +1,6 @@
 //! The calls that make panels, delete them, order them and move them, and those that ask about them.
 
+ghost use Rattle.world.specs.declared.call.Call.{Call};
 ghost use Rattle.world.specs.declared.call.Stacking.{Stacking};
 ghost use Rattle.capi.specs.Called.{Asked, Called};
 ghost use Rattle.capi.specs.Numbers.{panel_of, panel_or_none_of, saturated, window_of};
@@ -8,7 +9,7 @@ use crate::answer::Answer;
 use crate::handle::Handle;
 use crate::number::{panel_of, panel_or_none_of, saturated, window_of};
 use crate::surface::Outlet;
-use desk::{Call, Sink};
+use desk::Sink;
 use std::alloc::Global;
 
 // Written by tools/calls from calls.table: exports
@@ -18,7 +19,7 @@ use std::alloc::Global;
 pub extern "C" fn curspan_new_panel(alloc: Global, screen: &mut Handle, win: u32) -> Answer
     ensures { Called ⟦<Outlet as Sink>⟧ screen.old.value (Call.Stacking (Stacking.NewPanel (window_of win))) result screen.new.value }
 {
-    screen.call(alloc, &Call::new_panel(window_of(win)))
+    screen.call(alloc, &constructors::new_panel(window_of(win)))
 }
 
 /// Deletes a panel. Its window stays, and is in no panel any more.
@@ -26,7 +27,7 @@ pub extern "C" fn curspan_new_panel(alloc: Global, screen: &mut Handle, win: u32
 pub extern "C" fn curspan_del_panel(alloc: Global, screen: &mut Handle, panel: u32) -> Answer
     ensures { Called ⟦<Outlet as Sink>⟧ screen.old.value (Call.Stacking (Stacking.DelPanel (panel_of panel))) result screen.new.value }
 {
-    screen.call(alloc, &Call::del_panel(panel_of(panel)))
+    screen.call(alloc, &constructors::del_panel(panel_of(panel)))
 }
 
 /// Puts a panel on top, whether it was hidden or visible.
@@ -34,7 +35,7 @@ pub extern "C" fn curspan_del_panel(alloc: Global, screen: &mut Handle, panel: u
 pub extern "C" fn curspan_show_panel(alloc: Global, screen: &mut Handle, panel: u32) -> Answer
     ensures { Called ⟦<Outlet as Sink>⟧ screen.old.value (Call.Stacking (Stacking.ShowPanel (panel_of panel))) result screen.new.value }
 {
-    screen.call(alloc, &Call::show_panel(panel_of(panel)))
+    screen.call(alloc, &constructors::show_panel(panel_of(panel)))
 }
 
 /// Takes a visible panel out of the order.
@@ -42,7 +43,7 @@ pub extern "C" fn curspan_show_panel(alloc: Global, screen: &mut Handle, panel: 
 pub extern "C" fn curspan_hide_panel(alloc: Global, screen: &mut Handle, panel: u32) -> Answer
     ensures { Called ⟦<Outlet as Sink>⟧ screen.old.value (Call.Stacking (Stacking.HidePanel (panel_of panel))) result screen.new.value }
 {
-    screen.call(alloc, &Call::hide_panel(panel_of(panel)))
+    screen.call(alloc, &constructors::hide_panel(panel_of(panel)))
 }
 
 /// Moves a visible panel to the top.
@@ -50,7 +51,7 @@ pub extern "C" fn curspan_hide_panel(alloc: Global, screen: &mut Handle, panel: 
 pub extern "C" fn curspan_top_panel(alloc: Global, screen: &mut Handle, panel: u32) -> Answer
     ensures { Called ⟦<Outlet as Sink>⟧ screen.old.value (Call.Stacking (Stacking.TopPanel (panel_of panel))) result screen.new.value }
 {
-    screen.call(alloc, &Call::top_panel(panel_of(panel)))
+    screen.call(alloc, &constructors::top_panel(panel_of(panel)))
 }
 
 /// Moves a visible panel to the bottom.
@@ -58,7 +59,7 @@ pub extern "C" fn curspan_top_panel(alloc: Global, screen: &mut Handle, panel: u
 pub extern "C" fn curspan_bottom_panel(alloc: Global, screen: &mut Handle, panel: u32) -> Answer
     ensures { Called ⟦<Outlet as Sink>⟧ screen.old.value (Call.Stacking (Stacking.BottomPanel (panel_of panel))) result screen.new.value }
 {
-    screen.call(alloc, &Call::bottom_panel(panel_of(panel)))
+    screen.call(alloc, &constructors::bottom_panel(panel_of(panel)))
 }
 
 /// Moves the window of a panel, visible or hidden, to a place of the screen.
@@ -75,7 +76,7 @@ pub extern "C" fn curspan_move_panel(
 {
     screen.call(
         alloc,
-        &Call::move_panel(panel_of(panel), saturated(y), saturated(x)),
+        &constructors::move_panel(panel_of(panel), saturated(y), saturated(x)),
     )
 }
 
@@ -89,7 +90,10 @@ pub extern "C" fn curspan_replace_panel(
 ) -> Answer
     ensures { Called ⟦<Outlet as Sink>⟧ screen.old.value (Call.Stacking (Stacking.ReplacePanel (panel_of panel) (window_of win))) result screen.new.value }
 {
-    screen.call(alloc, &Call::replace_panel(panel_of(panel), window_of(win)))
+    screen.call(
+        alloc,
+        &constructors::replace_panel(panel_of(panel), window_of(win)),
+    )
 }
 
 /// The panel right above a visible one; of none, the bottom one.
@@ -97,7 +101,7 @@ pub extern "C" fn curspan_replace_panel(
 pub extern "C" fn curspan_panel_above(alloc: Global, screen: &mut Handle, panel: u32) -> Answer
     ensures { Asked ⟦<Outlet as Sink>⟧ screen.old.value (Call.Stacking (Stacking.PanelAbove (panel_or_none_of panel))) result screen.new.value }
 {
-    screen.ask(alloc, &Call::panel_above(panel_or_none_of(panel)))
+    screen.ask(alloc, &constructors::panel_above(panel_or_none_of(panel)))
 }
 
 /// The panel right below a visible one; of none, the top one.
@@ -105,7 +109,7 @@ pub extern "C" fn curspan_panel_above(alloc: Global, screen: &mut Handle, panel:
 pub extern "C" fn curspan_panel_below(alloc: Global, screen: &mut Handle, panel: u32) -> Answer
     ensures { Asked ⟦<Outlet as Sink>⟧ screen.old.value (Call.Stacking (Stacking.PanelBelow (panel_or_none_of panel))) result screen.new.value }
 {
-    screen.ask(alloc, &Call::panel_below(panel_or_none_of(panel)))
+    screen.ask(alloc, &constructors::panel_below(panel_or_none_of(panel)))
 }
 
 /// The window of a panel.
@@ -113,7 +117,7 @@ pub extern "C" fn curspan_panel_below(alloc: Global, screen: &mut Handle, panel:
 pub extern "C" fn curspan_panel_window(alloc: Global, screen: &mut Handle, panel: u32) -> Answer
     ensures { Asked ⟦<Outlet as Sink>⟧ screen.old.value (Call.Stacking (Stacking.PanelWindow (panel_of panel))) result screen.new.value }
 {
-    screen.ask(alloc, &Call::panel_window(panel_of(panel)))
+    screen.ask(alloc, &constructors::panel_window(panel_of(panel)))
 }
 
 /// Whether a panel is hidden.
@@ -121,7 +125,7 @@ pub extern "C" fn curspan_panel_window(alloc: Global, screen: &mut Handle, panel
 pub extern "C" fn curspan_panel_hidden(alloc: Global, screen: &mut Handle, panel: u32) -> Answer
     ensures { Asked ⟦<Outlet as Sink>⟧ screen.old.value (Call.Stacking (Stacking.PanelHidden (panel_of panel))) result screen.new.value }
 {
-    screen.ask(alloc, &Call::panel_hidden(panel_of(panel)))
+    screen.ask(alloc, &constructors::panel_hidden(panel_of(panel)))
 }
 
 // End of what tools/calls wrote

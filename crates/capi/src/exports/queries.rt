@@ -1,5 +1,6 @@
 //! The calls that ask about a window or pad.
 
+ghost use Rattle.world.specs.declared.call.Call.{Call};
 ghost use Rattle.world.specs.declared.call.Query.{Query};
 ghost use Rattle.capi.specs.Called.{Asked};
 ghost use Rattle.capi.specs.Numbers.{window_of};
@@ -8,7 +9,7 @@ use crate::answer::Answer;
 use crate::handle::Handle;
 use crate::number::window_of;
 use crate::surface::Outlet;
-use desk::{Call, Sink};
+use desk::Sink;
 use std::alloc::Global;
 
 // Written by tools/calls from calls.table: exports
@@ -18,7 +19,7 @@ use std::alloc::Global;
 pub extern "C" fn curspan_getyx(alloc: Global, screen: &mut Handle, win: u32) -> Answer
     ensures { Asked ⟦<Outlet as Sink>⟧ screen.old.value (Call.Query (Query.Getyx (window_of win))) result screen.new.value }
 {
-    screen.ask(alloc, &Call::getyx(window_of(win)))
+    screen.ask(alloc, &constructors::getyx(window_of(win)))
 }
 
 /// The line and the column of the screen where the window begins.
@@ -26,7 +27,7 @@ pub extern "C" fn curspan_getyx(alloc: Global, screen: &mut Handle, win: u32) ->
 pub extern "C" fn curspan_getbegyx(alloc: Global, screen: &mut Handle, win: u32) -> Answer
     ensures { Asked ⟦<Outlet as Sink>⟧ screen.old.value (Call.Query (Query.Getbegyx (window_of win))) result screen.new.value }
 {
-    screen.ask(alloc, &Call::getbegyx(window_of(win)))
+    screen.ask(alloc, &constructors::getbegyx(window_of(win)))
 }
 
 /// The number of lines, and the number of columns.
@@ -34,7 +35,7 @@ pub extern "C" fn curspan_getbegyx(alloc: Global, screen: &mut Handle, win: u32)
 pub extern "C" fn curspan_getmaxyx(alloc: Global, screen: &mut Handle, win: u32) -> Answer
     ensures { Asked ⟦<Outlet as Sink>⟧ screen.old.value (Call.Query (Query.Getmaxyx (window_of win))) result screen.new.value }
 {
-    screen.ask(alloc, &Call::getmaxyx(window_of(win)))
+    screen.ask(alloc, &constructors::getmaxyx(window_of(win)))
 }
 
 /// The line and the column of the parent where a derived window begins.
@@ -42,7 +43,7 @@ pub extern "C" fn curspan_getmaxyx(alloc: Global, screen: &mut Handle, win: u32)
 pub extern "C" fn curspan_getparyx(alloc: Global, screen: &mut Handle, win: u32) -> Answer
     ensures { Asked ⟦<Outlet as Sink>⟧ screen.old.value (Call.Query (Query.Getparyx (window_of win))) result screen.new.value }
 {
-    screen.ask(alloc, &Call::getparyx(window_of(win)))
+    screen.ask(alloc, &constructors::getparyx(window_of(win)))
 }
 
 /// The cell at the cursor.
@@ -50,7 +51,7 @@ pub extern "C" fn curspan_getparyx(alloc: Global, screen: &mut Handle, win: u32)
 pub extern "C" fn curspan_winch(alloc: Global, screen: &mut Handle, win: u32) -> Answer
     ensures { Asked ⟦<Outlet as Sink>⟧ screen.old.value (Call.Query (Query.Inch (window_of win))) result screen.new.value }
 {
-    screen.ask(alloc, &Call::winch(window_of(win)))
+    screen.ask(alloc, &constructors::winch(window_of(win)))
 }
 
 // End of what tools/calls wrote

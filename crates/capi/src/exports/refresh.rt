@@ -1,5 +1,6 @@
 //! The calls that refresh, and the one that sets the colours of a pair.
 
+ghost use Rattle.world.specs.declared.call.Call.{Call};
 ghost use Rattle.world.specs.declared.call.Refresh.{Refresh};
 ghost use Rattle.capi.specs.Called.{Called};
 ghost use Rattle.capi.specs.Numbers.{saturated, window_of};
@@ -8,7 +9,7 @@ use crate::answer::Answer;
 use crate::handle::Handle;
 use crate::number::{saturated, window_of};
 use crate::surface::Outlet;
-use desk::{Call, Sink};
+use desk::Sink;
 use std::alloc::Global;
 
 // Written by tools/calls from calls.table: exports
@@ -19,7 +20,7 @@ use std::alloc::Global;
 pub extern "C" fn curspan_wnoutrefresh(alloc: Global, screen: &mut Handle, win: u32) -> Answer
     ensures { Called ⟦<Outlet as Sink>⟧ screen.old.value (Call.Refresh (Refresh.Noutrefresh (window_of win))) result screen.new.value }
 {
-    screen.call(alloc, &Call::wnoutrefresh(window_of(win)))
+    screen.call(alloc, &constructors::wnoutrefresh(window_of(win)))
 }
 
 /// Takes the cells of a pad from line `pminrow` and column `pmincol` on into the lines from `sminrow` to `smaxrow` and
@@ -43,7 +44,7 @@ pub extern "C" fn curspan_pnoutrefresh(
 {
     screen.call(
         alloc,
-        &Call::pnoutrefresh(
+        &constructors::pnoutrefresh(
             window_of(pad),
             saturated(pminrow),
             saturated(pmincol),
@@ -61,7 +62,7 @@ pub extern "C" fn curspan_pnoutrefresh(
 pub extern "C" fn curspan_update_panels(alloc: Global, screen: &mut Handle) -> Answer
     ensures { Called ⟦<Outlet as Sink>⟧ screen.old.value (Call.Refresh Refresh.UpdatePanels) result screen.new.value }
 {
-    screen.call(alloc, &Call::update_panels())
+    screen.call(alloc, &constructors::update_panels())
 }
 
 /// Sends the bytes that show the virtual screen on the terminal: only what changed, or all of it after a clear. It
@@ -70,7 +71,7 @@ pub extern "C" fn curspan_update_panels(alloc: Global, screen: &mut Handle) -> A
 pub extern "C" fn curspan_doupdate(alloc: Global, screen: &mut Handle) -> Answer
     ensures { Called ⟦<Outlet as Sink>⟧ screen.old.value (Call.Refresh Refresh.Doupdate) result screen.new.value }
 {
-    screen.call(alloc, &Call::doupdate())
+    screen.call(alloc, &constructors::doupdate())
 }
 
 /// Gives a colour pair a foreground and a background: 0 black, 1 red, 2 green, 3 yellow, 4 blue, 5 magenta, 6 cyan, 7
@@ -88,7 +89,7 @@ pub extern "C" fn curspan_init_pair(
 {
     screen.call(
         alloc,
-        &Call::init_pair(
+        &constructors::init_pair(
             saturated(pair),
             saturated(foreground),
             saturated(background),

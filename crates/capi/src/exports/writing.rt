@@ -1,5 +1,6 @@
 //! The calls that write in a window or pad, or set how it is written in.
 
+ghost use Rattle.world.specs.declared.call.Call.{Call};
 ghost use Rattle.world.specs.declared.call.Writing.{Writing};
 ghost use Rattle.capi.specs.Called.{Called};
 ghost use Rattle.capi.specs.Numbers.{saturated, saturated_character, saturated_signed, window_of};
@@ -9,7 +10,7 @@ use crate::answer::{Answer, attrs_of};
 use crate::handle::Handle;
 use crate::number::{saturated, saturated_character, saturated_signed, window_of};
 use crate::surface::Outlet;
-use desk::{Call, Sink};
+use desk::Sink;
 use std::alloc::Global;
 
 // Written by tools/calls from calls.table: exports
@@ -27,7 +28,7 @@ pub extern "C" fn curspan_wmove(
 {
     screen.call(
         alloc,
-        &Call::wmove(window_of(win), saturated(y), saturated(x)),
+        &constructors::wmove(window_of(win), saturated(y), saturated(x)),
     )
 }
 
@@ -40,7 +41,7 @@ pub extern "C" fn curspan_waddch(alloc: Global, screen: &mut Handle, win: u32, c
 {
     screen.call(
         alloc,
-        &Call::waddch(window_of(win), saturated_character(ch)),
+        &constructors::waddch(window_of(win), saturated_character(ch)),
     )
 }
 
@@ -54,7 +55,7 @@ pub extern "C" fn curspan_waddstr(
 ) -> Answer
     ensures { Called ⟦<Outlet as Sink>⟧ screen.old.value (Call.Writing (Writing.Addstr (window_of win) text.entry)) result screen.new.value }
 {
-    screen.call(alloc, &Call::waddstr(window_of(win), text))
+    screen.call(alloc, &constructors::waddstr(window_of(win), text))
 }
 
 /// Inserts a character at the cursor, which stays: the cells from there on go one column right, and the last is lost.
@@ -64,7 +65,7 @@ pub extern "C" fn curspan_winsch(alloc: Global, screen: &mut Handle, win: u32, c
 {
     screen.call(
         alloc,
-        &Call::winsch(window_of(win), saturated_character(ch)),
+        &constructors::winsch(window_of(win), saturated_character(ch)),
     )
 }
 
@@ -74,7 +75,7 @@ pub extern "C" fn curspan_winsch(alloc: Global, screen: &mut Handle, win: u32, c
 pub extern "C" fn curspan_wdelch(alloc: Global, screen: &mut Handle, win: u32) -> Answer
     ensures { Called ⟦<Outlet as Sink>⟧ screen.old.value (Call.Writing (Writing.Delch (window_of win))) result screen.new.value }
 {
-    screen.call(alloc, &Call::wdelch(window_of(win)))
+    screen.call(alloc, &constructors::wdelch(window_of(win)))
 }
 
 /// Moves the cursor's line and those below down by one, loses the last, and sets the cursor's line to the background.
@@ -82,7 +83,7 @@ pub extern "C" fn curspan_wdelch(alloc: Global, screen: &mut Handle, win: u32) -
 pub extern "C" fn curspan_winsertln(alloc: Global, screen: &mut Handle, win: u32) -> Answer
     ensures { Called ⟦<Outlet as Sink>⟧ screen.old.value (Call.Writing (Writing.Insertln (window_of win))) result screen.new.value }
 {
-    screen.call(alloc, &Call::winsertln(window_of(win)))
+    screen.call(alloc, &constructors::winsertln(window_of(win)))
 }
 
 /// Moves the lines below the cursor's up by one, and sets the last line to the background.
@@ -90,7 +91,7 @@ pub extern "C" fn curspan_winsertln(alloc: Global, screen: &mut Handle, win: u32
 pub extern "C" fn curspan_wdeleteln(alloc: Global, screen: &mut Handle, win: u32) -> Answer
     ensures { Called ⟦<Outlet as Sink>⟧ screen.old.value (Call.Writing (Writing.Deleteln (window_of win))) result screen.new.value }
 {
-    screen.call(alloc, &Call::wdeleteln(window_of(win)))
+    screen.call(alloc, &constructors::wdeleteln(window_of(win)))
 }
 
 /// Sets all cells to the background, and the cursor to line 0 and column 0.
@@ -98,7 +99,7 @@ pub extern "C" fn curspan_wdeleteln(alloc: Global, screen: &mut Handle, win: u32
 pub extern "C" fn curspan_werase(alloc: Global, screen: &mut Handle, win: u32) -> Answer
     ensures { Called ⟦<Outlet as Sink>⟧ screen.old.value (Call.Writing (Writing.Erase (window_of win))) result screen.new.value }
 {
-    screen.call(alloc, &Call::werase(window_of(win)))
+    screen.call(alloc, &constructors::werase(window_of(win)))
 }
 
 /// Does as `werase`, and asks for a clear screen where the window is next taken into the virtual screen.
@@ -106,7 +107,7 @@ pub extern "C" fn curspan_werase(alloc: Global, screen: &mut Handle, win: u32) -
 pub extern "C" fn curspan_wclear(alloc: Global, screen: &mut Handle, win: u32) -> Answer
     ensures { Called ⟦<Outlet as Sink>⟧ screen.old.value (Call.Writing (Writing.Clear (window_of win))) result screen.new.value }
 {
-    screen.call(alloc, &Call::wclear(window_of(win)))
+    screen.call(alloc, &constructors::wclear(window_of(win)))
 }
 
 /// Sets the cells from the cursor to the end of its line to the background.
@@ -114,7 +115,7 @@ pub extern "C" fn curspan_wclear(alloc: Global, screen: &mut Handle, win: u32) -
 pub extern "C" fn curspan_wclrtoeol(alloc: Global, screen: &mut Handle, win: u32) -> Answer
     ensures { Called ⟦<Outlet as Sink>⟧ screen.old.value (Call.Writing (Writing.Clrtoeol (window_of win))) result screen.new.value }
 {
-    screen.call(alloc, &Call::wclrtoeol(window_of(win)))
+    screen.call(alloc, &constructors::wclrtoeol(window_of(win)))
 }
 
 /// Sets the cells from the cursor to the end of its line, and all lines below, to the background.
@@ -122,7 +123,7 @@ pub extern "C" fn curspan_wclrtoeol(alloc: Global, screen: &mut Handle, win: u32
 pub extern "C" fn curspan_wclrtobot(alloc: Global, screen: &mut Handle, win: u32) -> Answer
     ensures { Called ⟦<Outlet as Sink>⟧ screen.old.value (Call.Writing (Writing.Clrtobot (window_of win))) result screen.new.value }
 {
-    screen.call(alloc, &Call::wclrtobot(window_of(win)))
+    screen.call(alloc, &constructors::wclrtobot(window_of(win)))
 }
 
 /// Moves the lines of the scroll region up by `n`, or down by `-n` for a negative one. Those that leave it are lost,
@@ -131,7 +132,10 @@ pub extern "C" fn curspan_wclrtobot(alloc: Global, screen: &mut Handle, win: u32
 pub extern "C" fn curspan_wscrl(alloc: Global, screen: &mut Handle, win: u32, n: i32) -> Answer
     ensures { Called ⟦<Outlet as Sink>⟧ screen.old.value (Call.Writing (Writing.Scrl (window_of win) (saturated_signed n))) result screen.new.value }
 {
-    screen.call(alloc, &Call::wscrl(window_of(win), saturated_signed(n)))
+    screen.call(
+        alloc,
+        &constructors::wscrl(window_of(win), saturated_signed(n)),
+    )
 }
 
 /// Sets the scroll region to the lines from `top` to `bottom`, both inclusive.
@@ -148,7 +152,7 @@ pub extern "C" fn curspan_wsetscrreg(
 {
     screen.call(
         alloc,
-        &Call::wsetscrreg(window_of(win), saturated(top), saturated(bottom)),
+        &constructors::wsetscrreg(window_of(win), saturated(top), saturated(bottom)),
     )
 }
 
@@ -162,7 +166,7 @@ pub extern "C" fn curspan_scrollok(
 ) -> Answer
     ensures { Called ⟦<Outlet as Sink>⟧ screen.old.value (Call.Writing (Writing.Scrollok (window_of win) flag)) result screen.new.value }
 {
-    screen.call(alloc, &Call::scrollok(window_of(win), flag))
+    screen.call(alloc, &constructors::scrollok(window_of(win), flag))
 }
 
 /// Sets whether the window asks for a clear screen where it is next taken into the virtual screen.
@@ -175,7 +179,7 @@ pub extern "C" fn curspan_clearok(
 ) -> Answer
     ensures { Called ⟦<Outlet as Sink>⟧ screen.old.value (Call.Writing (Writing.Clearok (window_of win) flag)) result screen.new.value }
 {
-    screen.call(alloc, &Call::clearok(window_of(win), flag))
+    screen.call(alloc, &constructors::clearok(window_of(win), flag))
 }
 
 /// Sets the attributes that written characters get.
@@ -188,7 +192,10 @@ pub extern "C" fn curspan_wattrset(
 ) -> Answer
     ensures { Called ⟦<Outlet as Sink>⟧ screen.old.value (Call.Writing (Writing.Attrset (window_of win) (attrs_of attrs))) result screen.new.value }
 {
-    screen.call(alloc, &Call::wattrset(window_of(win), attrs_of(attrs)))
+    screen.call(
+        alloc,
+        &constructors::wattrset(window_of(win), attrs_of(attrs)),
+    )
 }
 
 /// Adds attributes to those that written characters get.
@@ -196,7 +203,10 @@ pub extern "C" fn curspan_wattrset(
 pub extern "C" fn curspan_wattron(alloc: Global, screen: &mut Handle, win: u32, attrs: u8) -> Answer
     ensures { Called ⟦<Outlet as Sink>⟧ screen.old.value (Call.Writing (Writing.Attron (window_of win) (attrs_of attrs))) result screen.new.value }
 {
-    screen.call(alloc, &Call::wattron(window_of(win), attrs_of(attrs)))
+    screen.call(
+        alloc,
+        &constructors::wattron(window_of(win), attrs_of(attrs)),
+    )
 }
 
 /// Takes attributes from those that written characters get.
@@ -209,7 +219,10 @@ pub extern "C" fn curspan_wattroff(
 ) -> Answer
     ensures { Called ⟦<Outlet as Sink>⟧ screen.old.value (Call.Writing (Writing.Attroff (window_of win) (attrs_of attrs))) result screen.new.value }
 {
-    screen.call(alloc, &Call::wattroff(window_of(win), attrs_of(attrs)))
+    screen.call(
+        alloc,
+        &constructors::wattroff(window_of(win), attrs_of(attrs)),
+    )
 }
 
 /// Sets the background to a character with attributes, of pair 0. No cell is written.
@@ -226,7 +239,7 @@ pub extern "C" fn curspan_wbkgdset(
 {
     screen.call(
         alloc,
-        &Call::wbkgdset(window_of(win), attrs_of(attrs), saturated_character(ch)),
+        &constructors::wbkgdset(window_of(win), attrs_of(attrs), saturated_character(ch)),
     )
 }
 
@@ -240,7 +253,10 @@ pub extern "C" fn curspan_wcolor_set(
 ) -> Answer
     ensures { Called ⟦<Outlet as Sink>⟧ screen.old.value (Call.Writing (Writing.ColorSet (window_of win) (saturated pair))) result screen.new.value }
 {
-    screen.call(alloc, &Call::wcolor_set(window_of(win), saturated(pair)))
+    screen.call(
+        alloc,
+        &constructors::wcolor_set(window_of(win), saturated(pair)),
+    )
 }
 
 /// Sets the colour pair of the background. No cell is written.
@@ -253,7 +269,10 @@ pub extern "C" fn curspan_wbkgdpair(
 ) -> Answer
     ensures { Called ⟦<Outlet as Sink>⟧ screen.old.value (Call.Writing (Writing.Bkgdpair (window_of win) (saturated pair))) result screen.new.value }
 {
-    screen.call(alloc, &Call::wbkgdpair(window_of(win), saturated(pair)))
+    screen.call(
+        alloc,
+        &constructors::wbkgdpair(window_of(win), saturated(pair)),
+    )
 }
 
 // End of what tools/calls wrote
