@@ -39,14 +39,6 @@ pub mod MoveLaws
 pub mod Sizes
 -- that panels stay sound, for the layers above
 pub mod PlaceLaws
--- small worlds worked out, for a reader of the definitions
-pub mod Examples
--- What the calls on panels do and answer, and which lines and places they affect, for a reader of the definitions
-pub mod PanelExamples
--- What copying and touching do to small windows, for a reader of the definitions; for `RefreshExamples`
-pub mod CopyExamples
--- What noutrefresh and pnoutrefresh do to small screens, for a reader of the definitions
-pub mod RefreshExamples
 -- what each effect requires so that it leaves a sound world, for worlds_stay_sound, as the files below
 pub mod Fits
 -- that what windows show and drawings have are cells

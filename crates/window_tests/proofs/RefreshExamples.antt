@@ -8,8 +8,8 @@ use Rattle.world.specs.World.{World}
 use Rattle.world.specs.calls.Affected.{affected_lines}
 use Rattle.world.specs.calls.Dispatch.{refusal, reply_of, world_after}
 use Rattle.world.specs.calls.Queries.{touched_columns}
-use Rattle.world.proofs.CopyExamples.{typed}
-use Rattle.world.proofs.Examples.{screen_after, win}
+use Rattle.window_tests.proofs.CopyExamples.{typed}
+use Rattle.window_tests.proofs.Examples.{screen_after, win}
 use Rattle.cell.specs.declared.refusal.Refusal.TheVariants.{BadRectangle, IsPad, NoSuchWindow, NotPad, OffScreen, OutsideWindow}
 use Rattle.world.specs.declared.call.Call.{Call}
 use Rattle.world.specs.declared.call.Call.TheVariants.{Copying, Making, Refresh, Writing}

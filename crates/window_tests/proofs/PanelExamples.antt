@@ -18,7 +18,7 @@ use Rattle.world.specs.declared.call.Stacking.{Stacking as Stack_call}
 use Rattle.world.specs.declared.call.Stacking.TheVariants.{NewPanel, DelPanel, ShowPanel, HidePanel, TopPanel, BottomPanel, MovePanel, ReplacePanel, PanelAbove, PanelBelow, PanelWindow, PanelHidden}
 use Rattle.world.specs.declared.call.Reply.{Reply}
 use Rattle.world.specs.declared.call.Reply.TheVariants.{Flag, Nothing, Number, Panel}
-use Rattle.world.proofs.Examples.{columns, screen_after, win}
+use Rattle.window_tests.proofs.Examples.{columns, screen_after, win}
 
 -- windows 1 and 2 of two lines, on lines 0 and 1, window 3 of one line, on line 3, and window 5 of two lines, on lines 2 and 3; number 4
 -- is a pad

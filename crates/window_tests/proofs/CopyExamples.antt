@@ -7,7 +7,7 @@ use Rattle.world.specs.Frames.{frame_above, frame_in_line}
 use Rattle.world.specs.World.{World}
 use Rattle.world.specs.calls.Dispatch.{call_frame, refusal, reply_of, world_after}
 use Rattle.world.specs.calls.Queries.{touched_columns}
-use Rattle.world.proofs.Examples.{screen_after, win}
+use Rattle.window_tests.proofs.Examples.{screen_after, win}
 use Rattle.cell.specs.declared.refusal.Refusal.TheVariants.{BadRectangle, IsPad, OutsideWindow}
 use Rattle.world.specs.declared.call.Call.{Call}
 use Rattle.world.specs.declared.call.Call.TheVariants.{Making, Writing, Copying}
