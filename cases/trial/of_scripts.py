@@ -68,9 +68,17 @@ def is_painted(program, script):
 REFUSES = ', column 1: every screen refuses this call: '
 
 
-# What else may be why, before a reason that check tells: pnoutrefresh of what is no pad, and replace_panel of no panel. Before any that
-# a window isn't there.
-SOONER = {'E19 BadRectangle': ('E9 NotPad',), 'E14 StandardScreen': ('E2 NoSuchPanel',)}
+# What else may be why, before a reason that check tells, by the name of the call; and before any that a window isn't there.
+SOONER = {
+    'subwin': ('E8 IsPad',),
+    'derwin': ('E8 IsPad',),
+    'subpad': ('E9 NotPad',),
+    'mvwin': ('E8 IsPad', 'E7 InPanel'),
+    'mvderwin': ('E10 NotDerived',),
+    'move_panel': ('E2 NoSuchPanel',),
+    'replace_panel': ('E2 NoSuchPanel',),
+    'pnoutrefresh': ('E9 NotPad', 'E5 OutsideWindow'),
+}
 
 
 def is_checked(program, script):
@@ -97,8 +105,10 @@ def is_checked(program, script):
         number, why = line.rstrip('\n').split(REFUSES)
         refusal, _, meaning = why.partition(': ')
         want_that('check says what the refusal means', meaning, line)
-        if last is None or int(number.split()[1]) < last:
-            why = [f'{number}: {it}' for it in (refusal, 'E1 NoSuchWindow', *SOONER.get(refusal, ()))]
+        place = int(number.split()[1])
+        if last is None or place < last:
+            word = script.text.split(b'\n')[place - 1].split(b' ')[0].decode()
+            why = [f'{number}: {it}' for it in (refusal, 'E1 NoSuchWindow', *SOONER.get(word, ()))]
             want_that('run refuses what every screen refuses', any(it in log for it in why), ran.log)
 
 

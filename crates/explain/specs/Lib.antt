@@ -4,6 +4,7 @@ pub mod Nearest
 pub mod Advice
 pub mod Suggestions
 pub mod Faults
+pub mod NamedWindows
 pub mod Everywhere
 pub mod Characters
 pub mod Reasons

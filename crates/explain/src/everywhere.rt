@@ -1,17 +1,16 @@
 //! The calls that every screen refuses, whatever its size, and whatever was called on it before.
 
-ghost use Rattle.std.specs.Prelude.{◌≡◌, ◌≤◌, ◌==◌, ◌&&◌, ◌||◌, ◌∷◌, [], IfSome, length};
+ghost use Rattle.std.specs.Prelude.{◌≡◌, ◌+◌, ◌-◌, ◌≤◌, ◌∷◌, [], IfSome, length};
 ghost use Rattle.std.specs.List.{list_any};
 ghost use Rattle.cell.specs.Refusals.{first_of};
-ghost use Rattle.cell.specs.declared.limits.TheConstants.{MOST_PANELS};
-ghost use Rattle.cell.specs.declared.refusal.Refusal.TheVariants.{BadRectangle, NoSuchPanel, NotPad, StandardScreen};
-ghost use Rattle.explain.specs.Everywhere.{IsRefusedEverywhere, are_past, copying_everywhere, is_no_panel, is_past, is_too_great, making_everywhere, no_panel, on_standard, only_if, refusal_everywhere, refused_line, stacking_everywhere, writing_everywhere, meaning};
-ghost use Rattle.world.specs.Panels.{standard_screen};
+ghost use Rattle.std.specs.Option.{option_or};
+ghost use Rattle.explain.specs.Everywhere.{IsRefusedEverywhere, are_past, copying_everywhere, is_no_panel, is_off_each_screen, is_past, is_too_great, making_everywhere, meaning, most_of, panel_test, query_everywhere, refresh_everywhere, refusal_everywhere, refused_line, rest_everywhere, stacking_everywhere, standard_test, writing_everywhere};
 ghost use Rattle.world.specs.calls.Making.{is_inside};
 ghost use Rattle.world.specs.calls.Refresh.{colour_tests, is_no_colour};
 ghost use Rattle.world.specs.calls.Writing.{is_bad_character, is_no_pair};
 
 use crate::findings::Finding;
+use crate::named_windows::names_no_window;
 use cell::{
     LARGEST_PAD, LARGEST_SCREEN, LAST_COLOUR, LAST_PAIR, MOST_PANELS, WinId, is_no_size,
     is_printable,
@@ -21,48 +20,75 @@ use world::{Call, Copying, Making, PanelId, Query, Refresh, Refusal, Stacking, W
 
 /// The refusal, if a test holds.
 fn only_if(test: bool, why: Refusal) -> Option<Refusal>
-    ensures { result ≡ only_if test why }
+    ensures { result ≡ first_of ((test, why) ∷ []) }
 {
     if test { Some(why) } else { None }
 }
 
-/// The refusal of a call on window 0, if a test holds.
-fn on_standard(win: WinId, test: bool, why: Refusal) -> Option<Refusal>
-    ensures { result ≡ on_standard win.0 test why }
+/// The refusal of a call on window 0.
+fn on_standard(win: WinId, why: Refusal) -> Option<Refusal>
+    ensures { result ≡ first_of (standard_test win.0 why ∷ []) }
 {
-    only_if(win.0 == 0 && test, why)
+    only_if(win.0 == 0, why)
 }
 
-/// Whether so many lines or columns from a place on are on a screen of the greatest size. 0 reaches to its edge.
-fn is_inside(n: u16, at: u16) -> bool
-    ensures { result ≡ is_inside n LARGEST_SCREEN at }
+/// A refusal, or else a second one, if its test holds.
+fn or_if(first: Option<Refusal>, test: bool, why: Refusal) -> Option<Refusal>
+    ensures { result ≡ option_or first (first_of ((test, why) ∷ [])) }
 {
-    if n == 0 {
-        at < LARGEST_SCREEN
+    first.or(only_if(test, why))
+}
+
+/// How many lines and columns a window has at most.
+fn most_of(win: WinId) -> u16
+    ensures { result ≡ most_of win.0 }
+{
+    if win.0 == 0 {
+        LARGEST_SCREEN
     } else {
-        u32::from(at) + u32::from(n) <= u32::from(LARGEST_SCREEN)
+        LARGEST_PAD
     }
 }
 
-/// Whether no screen has such a part.
-fn is_too_great(lines: u16, columns: u16, y: u16, x: u16) -> bool
-    ensures { result ≡ is_too_great lines columns y x }
+/// Whether no such window has that place.
+fn is_past(win: WinId, y: u32, x: u32) -> bool
+    ensures { result ≡ is_past win.0 y x }
 {
-    !(is_inside(lines, y) && is_inside(columns, x))
+    let most = u32::from(most_of(win));
+    most <= y || most <= x
 }
 
-/// Whether no screen has that line or column.
-fn is_past(n: u16) -> bool
-    ensures { result ≡ is_past n }
+/// Whether no screen has that place.
+fn is_off_each_screen(y: u16, x: u16) -> bool
+    ensures { result ≡ is_off_each_screen y x }
 {
-    n >= LARGEST_SCREEN
+    LARGEST_SCREEN <= y || LARGEST_SCREEN <= x
 }
 
-/// Whether no screen has so many lines from a line on.
-fn are_past(y: u16, n: u16) -> bool
-    ensures { result ≡ are_past y n }
+/// Whether so many lines or columns from a place on are among so many. 0 reaches to their end.
+fn is_inside(n: u16, most: u16, at: u16) -> bool
+    ensures { result ≡ is_inside n most at }
 {
-    is_past(y) || u32::from(y) + u32::from(n) > u32::from(LARGEST_SCREEN)
+    if n == 0 {
+        at < most
+    } else {
+        u32::from(at) + u32::from(n) <= u32::from(most)
+    }
+}
+
+/// Whether of so many lines and columns none has such a part.
+fn is_too_great(most: u16, lines: u16, columns: u16, y: u16, x: u16) -> bool
+    ensures { result ≡ is_too_great most lines columns y x }
+{
+    !(is_inside(lines, most, y) && is_inside(columns, most, x))
+}
+
+/// Whether no such window has so many lines from a line on.
+fn are_past(win: WinId, y: u16, n: u16) -> bool
+    ensures { result ≡ are_past win.0 y n }
+{
+    let most = most_of(win);
+    most <= y || u32::from(y) + u32::from(n) > u32::from(most)
 }
 
 /// Whether no text has the character.
@@ -93,55 +119,39 @@ fn is_no_colour(colour: u16) -> bool
     colour > u16::from(LAST_COLOUR)
 }
 
+#[rattlefmt::skip]
 fn of_making(making: &Making) -> Option<Refusal>
-    ensures { result ≡ making_everywhere making.now }
+    ensures { result ≡ first_of (making_everywhere making.now) }
 {
+    let no_part = Refusal::OutsideParent;
     match *making {
-        Making::Newwin {
-            lines,
-            columns,
-            y,
-            x,
-        } => only_if(is_too_great(lines, columns, y, x), Refusal::OffScreen),
-        Making::Derwin {
-            win,
-            lines,
-            columns,
-            y,
-            x,
-        } => on_standard(
-            win,
-            is_too_great(lines, columns, y, x),
-            Refusal::OutsideParent,
-        ),
-        Making::Newpad { lines, columns } => only_if(
-            is_no_size(LARGEST_PAD, lines) || is_no_size(LARGEST_PAD, columns),
-            Refusal::BadSize,
-        ),
-        Making::Subpad { pad, .. } => on_standard(pad, true, Refusal::NotPad),
-        Making::Delwin { win } => on_standard(win, true, Refusal::StandardScreen),
-        Making::Mvwin { win, .. } => on_standard(win, true, Refusal::StandardScreen),
-        Making::Mvderwin { win, .. } => on_standard(win, true, Refusal::NotDerived),
-        Making::Subwin { .. } => None,
+        Making::Newwin { lines, columns, y, x } => only_if(is_too_great(LARGEST_SCREEN, lines, columns, y, x), Refusal::OffScreen),
+        Making::Subwin { lines, columns, y, x, .. } => only_if(is_too_great(LARGEST_SCREEN, lines, columns, y, x), no_part),
+        Making::Derwin { lines, columns, y, x, .. } => only_if(is_too_great(LARGEST_SCREEN, lines, columns, y, x), no_part),
+        Making::Newpad { lines, columns } => only_if(is_no_size(LARGEST_PAD, lines) || is_no_size(LARGEST_PAD, columns), Refusal::BadSize),
+        Making::Subpad { pad, lines, columns, y, x } =>
+            or_if(on_standard(pad, Refusal::NotPad), is_too_great(LARGEST_PAD, lines, columns, y, x), no_part),
+        Making::Delwin { win } => on_standard(win, Refusal::StandardScreen),
+        Making::Mvwin { win, y, x } => or_if(on_standard(win, Refusal::StandardScreen), is_off_each_screen(y, x), Refusal::OffScreen),
+        Making::Mvderwin { win, y, x } => or_if(on_standard(win, Refusal::NotDerived), is_past(win, u32::from(y), u32::from(x)), no_part),
     }
 }
 
 fn of_writing(writing: &Writing<'_>) -> Option<Refusal>
-    ensures { result ≡ writing_everywhere writing.now }
+    ensures { result ≡ first_of (writing_everywhere writing.now) }
 {
     match *writing {
-        Writing::Move { win, y, x } => {
-            on_standard(win, is_past(y) || is_past(x), Refusal::OutsideWindow)
-        }
+        Writing::Move { win, y, x } => only_if(
+            is_past(win, u32::from(y), u32::from(x)),
+            Refusal::OutsideWindow,
+        ),
         Writing::Addch { ch, .. } => only_if(is_bad_character(ch), Refusal::BadCharacter),
         Writing::Addstr { text, .. } => only_if(has_bad_character(text), Refusal::BadCharacter),
         Writing::Insch { ch, .. } => only_if(!is_printable(ch), Refusal::BadCharacter),
-        Writing::Setscrreg { win, top, bottom } => {
-            only_if(
-                bottom < top || win.0 == 0 && is_past(bottom),
-                Refusal::BadRegion,
-            )
-        }
+        Writing::Setscrreg { win, top, bottom } => only_if(
+            bottom < top || is_past(win, u32::from(bottom), 0),
+            Refusal::BadRegion,
+        ),
         Writing::Bkgdset { ch, .. } => only_if(!is_printable(ch), Refusal::BadCharacter),
         Writing::ColorSet { pair, .. } => only_if(is_no_pair(pair), Refusal::BadPair),
         Writing::Bkgdpair { pair, .. } => only_if(is_no_pair(pair), Refusal::BadPair),
@@ -149,27 +159,32 @@ fn of_writing(writing: &Writing<'_>) -> Option<Refusal>
     }
 }
 
+/// Whether no such window has the last place of the rectangle that begins at a place and is as large as another, which is given by its first
+/// and its last place.
+fn ends_past(win: WinId, from: (u16, u16), first: (u16, u16), last: (u16, u16)) -> bool
+    ensures { result ≡ is_past win.0 (from.0 + (last.0 - first.0)) (from.1 + (last.1 - first.1)) }
+{
+    is_past(
+        win,
+        u32::from(from.0) + u32::from(last.0.saturating_sub(first.0)),
+        u32::from(from.1) + u32::from(last.1.saturating_sub(first.1)),
+    )
+}
+
+#[rattlefmt::skip]
 fn of_copying(copying: &Copying) -> Option<Refusal>
-    ensures { result ≡ copying_everywhere copying.now }
+    ensures { result ≡ first_of (copying_everywhere copying.now) }
 {
     match *copying {
-        Copying::Copywin {
-            dminrow,
-            dmincol,
-            dmaxrow,
-            dmaxcol,
-            ..
-        } => only_if(
-            dmaxrow < dminrow || dmaxcol < dmincol,
-            Refusal::BadRectangle,
-        ),
-        Copying::Touchline { win, y, n } => {
-            on_standard(win, are_past(y, n), Refusal::OutsideWindow)
+        Copying::Copywin { src, dst, sminrow, smincol, dminrow, dmincol, dmaxrow, dmaxcol, .. } => {
+            let order = only_if(dmaxrow < dminrow || dmaxcol < dmincol, Refusal::BadRectangle);
+            let lacks = is_past(dst, u32::from(dmaxrow), u32::from(dmaxcol));
+            let source_lacks = ends_past(src, (sminrow, smincol), (dminrow, dmincol), (dmaxrow, dmaxcol));
+            or_if(order, lacks || source_lacks, Refusal::OutsideWindow)
         }
-        Copying::Touchln { win, y, n, .. } => {
-            on_standard(win, are_past(y, n), Refusal::OutsideWindow)
-        }
-        Copying::IsLinetouched { win, y } => on_standard(win, is_past(y), Refusal::OutsideWindow),
+        Copying::Touchline { win, y, n } => only_if(are_past(win, y, n), Refusal::OutsideWindow),
+        Copying::Touchln { win, y, n, .. } => only_if(are_past(win, y, n), Refusal::OutsideWindow),
+        Copying::IsLinetouched { win, y } => only_if(is_past(win, u32::from(y), 0), Refusal::OutsideWindow),
         _ => None,
     }
 }
@@ -183,33 +198,24 @@ fn is_no_panel(panel: PanelId) -> bool
 
 /// The refusal of a panel that no screen has.
 fn no_panel(panel: PanelId) -> Option<Refusal>
-    ensures { result ≡ no_panel panel.0 }
+    ensures { result ≡ first_of (panel_test panel.0 ∷ []) }
 {
     only_if(is_no_panel(panel), Refusal::NoSuchPanel)
 }
 
-/// The refusal of a `replace_panel`.
-fn of_replace_panel(panel: PanelId, win: WinId) -> Option<Refusal>
-    ensures { result ≡ first_of ((is_no_panel panel.0, NoSuchPanel) ∷ (win.0 == standard_screen, StandardScreen) ∷ []) }
-{
-    if is_no_panel(panel) {
-        return Some(Refusal::NoSuchPanel);
-    }
-    only_if(win.0 == 0, Refusal::StandardScreen)
-}
-
+#[rattlefmt::skip]
 fn of_stacking(stacking: &Stacking) -> Option<Refusal>
-    ensures { result ≡ stacking_everywhere stacking.now }
+    ensures { result ≡ first_of (stacking_everywhere stacking.now) }
 {
     match *stacking {
-        Stacking::NewPanel { win } => on_standard(win, true, Refusal::StandardScreen),
+        Stacking::NewPanel { win } => on_standard(win, Refusal::StandardScreen),
         Stacking::DelPanel { panel } => no_panel(panel),
         Stacking::ShowPanel { panel } => no_panel(panel),
         Stacking::HidePanel { panel } => no_panel(panel),
         Stacking::TopPanel { panel } => no_panel(panel),
         Stacking::BottomPanel { panel } => no_panel(panel),
-        Stacking::MovePanel { panel, .. } => no_panel(panel),
-        Stacking::ReplacePanel { panel, win } => of_replace_panel(panel, win),
+        Stacking::MovePanel { panel, y, x } => or_if(no_panel(panel), is_off_each_screen(y, x), Refusal::OffScreen),
+        Stacking::ReplacePanel { panel, win } => or_if(no_panel(panel), win.0 == 0, Refusal::StandardScreen),
         Stacking::PanelAbove { panel } => no_panel(panel?),
         Stacking::PanelBelow { panel } => no_panel(panel?),
         Stacking::PanelWindow { panel } => no_panel(panel),
@@ -227,44 +233,54 @@ fn of_init_pair(pair: u16, foreground: u16, background: u16) -> Option<Refusal>
     )
 }
 
-/// The refusal of a `pnoutrefresh`, of which a last line or column may be before its first.
-fn of_pnoutrefresh(pad: WinId, ends_first: bool) -> Option<Refusal>
-    ensures { result ≡ first_of ((pad.0 == standard_screen, NotPad) ∷ (ends_first, BadRectangle) ∷ []) }
+#[rattlefmt::skip]
+fn of_refresh(refresh: &Refresh) -> Option<Refusal>
+    ensures { result ≡ first_of (refresh_everywhere refresh.now) }
 {
-    if pad.0 == 0 {
-        return Some(Refusal::NotPad);
+    match *refresh {
+        Refresh::Pnoutrefresh { pad, pminrow, pmincol, sminrow, smincol, smaxrow, smaxcol } => {
+            let kind = on_standard(pad, Refusal::NotPad);
+            let order = or_if(kind, smaxrow < sminrow || smaxcol < smincol, Refusal::BadRectangle);
+            let lacks = ends_past(pad, (pminrow, pmincol), (sminrow, smincol), (smaxrow, smaxcol));
+            let place = or_if(order, lacks, Refusal::OutsideWindow);
+            or_if(place, is_off_each_screen(smaxrow, smaxcol), Refusal::OffScreen)
+        }
+        Refresh::InitPair { pair, foreground, background } => of_init_pair(pair, foreground, background),
+        _ => None,
     }
-    only_if(ends_first, Refusal::BadRectangle)
+}
+
+fn of_query(query: &Query) -> Option<Refusal>
+    ensures { result ≡ first_of (query_everywhere query.now) }
+{
+    match *query {
+        Query::Getparyx { win } => on_standard(win, Refusal::NotDerived),
+        _ => None,
+    }
+}
+
+/// The refusal of a call by its arguments alone, where each window that it names may be there.
+fn of_rest(call: &Call<'_>) -> Option<Refusal>
+    ensures { result ≡ first_of (rest_everywhere call.now) }
+{
+    match call {
+        Call::Making(making) => of_making(making),
+        Call::Writing(writing) => of_writing(writing),
+        Call::Copying(copying) => of_copying(copying),
+        Call::Query(query) => of_query(query),
+        Call::Stacking(stacking) => of_stacking(stacking),
+        Call::Refresh(refresh) => of_refresh(refresh),
+    }
 }
 
 /// The refusal of a call by its arguments alone.
 fn by_arguments(call: &Call<'_>) -> Option<Refusal>
     ensures { result ≡ refusal_everywhere call.now }
 {
+    let (no_window, rest) = (names_no_window(call), of_rest(call));
     match call {
-        Call::Making(making) => of_making(making),
-        Call::Writing(writing) => of_writing(writing),
-        Call::Copying(copying) => of_copying(copying),
-        Call::Query(Query::Getparyx { win }) => on_standard(*win, true, Refusal::NotDerived),
-        Call::Stacking(stacking) => of_stacking(stacking),
-        Call::Refresh(
-            Refresh::Pnoutrefresh {
-                pad,
-                sminrow,
-                smincol,
-                smaxrow,
-                smaxcol,
-                ..
-            },
-        ) => of_pnoutrefresh(*pad, smaxrow < sminrow || smaxcol < smincol),
-        Call::Refresh(
-            Refresh::InitPair {
-                pair,
-                foreground,
-                background,
-            },
-        ) => of_init_pair(*pair, *foreground, *background),
-        _ => None,
+        Call::Stacking(_) => or_if(rest, no_window, Refusal::NoSuchWindow),
+        _ => only_if(no_window, Refusal::NoSuchWindow).or(rest),
     }
 }
 
@@ -282,16 +298,19 @@ fn meaning(why: Refusal) -> &'static [u8]
     ensures short { length result.now ≤ 112 }
 {
     match why {
+        Refusal::NoSuchWindow => b": windows and pads are numbered from 0 to 1000",
         Refusal::NoSuchPanel => {
             b": panels are numbered from 1 to 1000, or none for panel_above and panel_below"
         }
-        Refusal::OffScreen | Refusal::OutsideParent | Refusal::OutsideWindow =>
+        Refusal::OffScreen =>
             b": lines and columns count from 0, and a screen has at most 999 of each",
+        Refusal::OutsideParent | Refusal::OutsideWindow =>
+            b": lines and columns count from 0, and a screen has at most 999 of each, a pad 1000",
         Refusal::NotPad => b": window 0 is the standard screen, and no pad",
         Refusal::NotDerived => b": window 0 is the standard screen, and derives from no window",
         Refusal::BadSize => b": a pad has 1 to 1000 lines and 1 to 1000 columns",
         Refusal::BadRegion =>
-            b": the first line is after the last, or on window 0 the last is past 998",
+            b": the first line is after the last, or the last is past 998 on window 0, or past 999 on another",
         Refusal::BadCharacter =>
             b": characters are the space to the tilde; addch and addstr take \\n, \\r and \\b too, but no control sequences",
         Refusal::BadRectangle =>

@@ -9,6 +9,7 @@
 //! - `groups`: the calls of which the same is said
 //! - `laws`: the numerals that are printed are the limits
 //! - `more_advice`: further names, and parts of names
+//! - `named_windows`: whether a call names a window that no screen has
 //! - `names`: the name that a word begins with, and what begins a comment elsewhere
 //! - `nearest`: the call that a word, or two, were meant to be
 //! - `numbers`: what is said of too many or too few arguments
@@ -26,6 +27,7 @@ mod findings;
 mod groups;
 mod laws;
 mod more_advice;
+mod named_windows;
 mod names;
 mod nearest;
 mod numbers;

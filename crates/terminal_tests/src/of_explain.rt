@@ -3,7 +3,7 @@
 use cell::{Refusal, WinId};
 use explain::{finding, refusal_everywhere, refused_line};
 use script::{LONGEST_LINE, TextFault};
-use world::{Call, Copying, Making, PanelId, Refresh, Stacking, Writing};
+use world::{Call, Copying, Making, PanelId, Query, Refresh, Stacking, Writing};
 
 /// Faulty lines, and what is said of each.
 #[rattlefmt::skip]
@@ -51,7 +51,7 @@ fn faults_are_explained(rt: HostRuntime) {
 
 /// Calls, and why every screen refuses each, if each does.
 #[rattlefmt::skip]
-static REFUSED: [(Call<'static>, Option<Refusal>); 10] = [
+static REFUSED: [(Call<'static>, Option<Refusal>); 20] = [
     (Call::Making(Making::Newpad { lines: 0, columns: 0 }), Some(Refusal::BadSize)),
     (Call::Making(Making::Newwin { lines: 1000, columns: 1, y: 0, x: 0 }), Some(Refusal::OffScreen)),
     (Call::Making(Making::Delwin { win: WinId::STANDARD }), Some(Refusal::StandardScreen)),
@@ -61,6 +61,16 @@ static REFUSED: [(Call<'static>, Option<Refusal>); 10] = [
     (Call::Copying(Copying::Touchline { win: WinId::STANDARD, y: 998, n: 1 }), None),
     (Call::Copying(Copying::Touchline { win: WinId::STANDARD, y: 998, n: 2 }), Some(Refusal::OutsideWindow)),
     (Call::Stacking(Stacking::ReplacePanel { panel: PanelId(1), win: WinId::STANDARD }), Some(Refusal::StandardScreen)),
+    (Call::Stacking(Stacking::ReplacePanel { panel: PanelId(0), win: WinId(1001) }), Some(Refusal::NoSuchPanel)),
+    (Call::Stacking(Stacking::ReplacePanel { panel: PanelId(1), win: WinId(1001) }), Some(Refusal::NoSuchWindow)),
+    (Call::Query(Query::Getyx { win: WinId(1000) }), None),
+    (Call::Query(Query::Getyx { win: WinId(1001) }), Some(Refusal::NoSuchWindow)),
+    (Call::Copying(Copying::Overlay { src: WinId(1), dst: WinId(1001) }), Some(Refusal::NoSuchWindow)),
+    (Call::Writing(Writing::Move { win: WinId::STANDARD, y: 998, x: 999 }), Some(Refusal::OutsideWindow)),
+    (Call::Writing(Writing::Move { win: WinId(1), y: 999, x: 999 }), None),
+    (Call::Writing(Writing::Move { win: WinId(1), y: 1000, x: 0 }), Some(Refusal::OutsideWindow)),
+    (Call::Making(Making::Mvwin { win: WinId(1), y: 0, x: 999 }), Some(Refusal::OffScreen)),
+    (Call::Making(Making::Derwin { win: WinId(1), lines: 500, columns: 1, y: 500, x: 0 }), Some(Refusal::OutsideParent)),
     (
         Call::Refresh(Refresh::Pnoutrefresh {
             pad: WinId(1), pminrow: 0, pmincol: 0, sminrow: 5, smincol: 5, smaxrow: 5, smaxcol: 2,
