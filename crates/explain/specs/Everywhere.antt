@@ -32,8 +32,7 @@ use Rattle.world.specs.declared.panel.PanelId.{PanelId}
 use Rattle.world.specs.declared.call.Refresh.{Refresh}
 use Rattle.world.specs.declared.call.Refresh.TheVariants.{Pnoutrefresh, InitPair}
 
--- What may be sooner than this reason, beside that there is no such window: of a derived window that its parent is a pad, of a rectangle for a
--- pad that it is no pad, and the like. Of window 0 it is known that it is no pad.
+-- Why a screen may refuse the call by a test that is sooner, beside that it has no such window. Window 0 is no pad.
 abbrev pub sooner : Call → Refusal → List Refusal
 sooner (calls.Making (Subwin win nlines ncols y x)) OutsideParent = if win.0 == standard_screen then [] else IsPad ∷ []
 sooner (calls.Making (Derwin win nlines ncols y x)) OutsideParent = if win.0 == standard_screen then [] else IsPad ∷ []
@@ -48,7 +47,7 @@ sooner (calls.Refresh (Pnoutrefresh pad pminrow pmincol sminrow smincol smaxrow 
 sooner (calls.Refresh (Pnoutrefresh pad pminrow pmincol sminrow smincol smaxrow smaxcol)) OffScreen = NotPad ∷ OutsideWindow ∷ []
 sooner call why = []
 
--- Every screen refuses the call: for this reason, unless it has no such window, or for what else may be sooner.
+-- Every screen refuses the call, and for this reason, unless it is for one that is sooner.
 abbrev pub IsRefusedEverywhere : Call → Refusal → Type 0
 IsRefusedEverywhere call why = (world : World) → IsSound world
     → AllByRecursion (λ other. refusal world call ≢ Some other) (NoSuchWindow ∷ sooner call why) → refusal world call ≡ Some why
@@ -157,7 +156,7 @@ refresh_everywhere (Pnoutrefresh pad pminrow pmincol sminrow smincol smaxrow sma
 refresh_everywhere (InitPair pair foreground background) = colour_tests pair foreground background
 refresh_everywhere refresh = []
 
--- that a window that is named may be there
+-- it names a window that no screen has
 abbrev pub window_test : Call → Bool × Refusal
 window_test call = (list_any is_no_window (windows_of call), NoSuchWindow)
 
