@@ -86,8 +86,8 @@ fn is_told(why: Refusal, text: &str) -> bool {
 
 #[test]
 fn calls_that_every_screen_refuses_are_told(rt: HostRuntime) {
-    for (call, why) in &REFUSED {
-        assert!(rt; refusal_everywhere(call) == *why, "at {call:?}");
+    for (at, (call, why)) in REFUSED.iter().enumerate() {
+        assert!(rt; refusal_everywhere(call) == *why, "at {at}");
     }
     let line =
         "line 7, column 1: every screen refuses this call: E11 BadSize: a pad has 1 to 1000 lines and 1 to 1000 columns\n";

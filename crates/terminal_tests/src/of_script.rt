@@ -1,5 +1,6 @@
 //! What lines of scripts say, how they are read from pieces, and the lines of the log.
 
+use crate::rows::{ROWS, Row};
 use cell::{Attr, Cell, Refusal, WinId};
 use faulty::{Halting, Pieces};
 use script::{
@@ -9,98 +10,37 @@ use script::{
 use std::alloc::{AllocError, Global};
 use std::test::Fail;
 use streams::{Counted, CountedReader, Sent, WriteFault};
-use world::{Call, Composed, PanelId, Reply};
-
-/// Whether a call is written so.
-fn is_call(alloc: Global, call: &Call<'_>, text: &str) -> Result<bool, AllocError> {
-    Ok(format!(in alloc; "{call:?}")?.as_str() == text)
-}
+use world::{Composed, PanelId, Reply};
 
 /// Whether a fault is written so.
 fn is_fault(alloc: Global, fault: TextFault, text: &str) -> Result<bool, AllocError> {
     Ok(format!(in alloc; "{fault}")?.as_str() == text)
 }
 
-/// Whether a line says that: its call, its fault, or nothing.
+/// Whether a row's line makes its call.
+fn makes_call(row: &Row) -> bool {
+    let line = row.0.as_bytes();
+    if line.len() > LONGEST_LINE {
+        return false;
+    }
+    let mut arguments = Arguments::new();
+    match read_line(line, &mut arguments) {
+        Ok(Some(word)) => row.makes(word.call(&arguments)),
+        _ => false,
+    }
+}
+
+/// Whether a line makes no call, and that is said of it.
 fn says(alloc: Global, line: &str, text: &str) -> Result<bool, AllocError> {
     if line.len() > LONGEST_LINE {
         return Ok(false);
     }
-    let mut arguments = Arguments::new();
-    match read_line(line.as_bytes(), &mut arguments) {
-        Ok(Some(word)) => is_call(alloc, &word.call(&arguments), text),
+    match read_line(line.as_bytes(), &mut Arguments::new()) {
+        Ok(Some(_)) => Ok(false),
         Ok(None) => Ok(text == "nothing"),
         Err(fault) => is_fault(alloc, fault, text),
     }
 }
-
-/// Lines with their calls, a line of text each.
-static CALLS: &str = r"newwin 3 6 0 2 = Making(Newwin { lines: 3, columns: 6, y: 0, x: 2 })
-subwin 1 2 3 4 5 = Making(Subwin { win: WinId(1), lines: 2, columns: 3, y: 4, x: 5 })
-derwin 1 2 3 4 5 = Making(Derwin { win: WinId(1), lines: 2, columns: 3, y: 4, x: 5 })
-newpad 1000 999 = Making(Newpad { lines: 1000, columns: 999 })
-subpad 5 4 3 2 1 = Making(Subpad { pad: WinId(5), lines: 4, columns: 3, y: 2, x: 1 })
-delwin 65535 = Making(Delwin { win: WinId(65535) })
-mvwin 2 3 4 = Making(Mvwin { win: WinId(2), y: 3, x: 4 })
-mvderwin 2 3 4 = Making(Mvderwin { win: WinId(2), y: 3, x: 4 })
-move 0 7 9 = Writing(Move { win: WinId(0), y: 7, x: 9 })
-addch 0 # = Writing(Addch { win: WinId(0), ch: 35 })
-addstr 0 a  b = Writing(Addstr { win: WinId(0), text: [97, 32, 32, 98] })
-addstr 0  = Writing(Addstr { win: WinId(0), text: [] })
-addstr 0 a\nb\rc\bd\\ = Writing(Addstr { win: WinId(0), text: [97, 10, 98, 13, 99, 8, 100, 92] })
-addstr 0 \x41\xff = Writing(Addstr { win: WinId(0), text: [65, 255] })
-addstr 0 # ~ = Writing(Addstr { win: WinId(0), text: [35, 32, 126] })
-insch 0   = Writing(Insch { win: WinId(0), ch: 32 })
-delch 10 = Writing(Delch { win: WinId(10) })
-insertln 10 = Writing(Insertln { win: WinId(10) })
-deleteln 10 = Writing(Deleteln { win: WinId(10) })
-erase 10 = Writing(Erase { win: WinId(10) })
-clear 10 = Writing(Clear { win: WinId(10) })
-clrtoeol 10 = Writing(Clrtoeol { win: WinId(10) })
-clrtobot 10 = Writing(Clrtobot { win: WinId(10) })
-scrl 0 -32767 = Writing(Scrl { win: WinId(0), n: -32767 })
-setscrreg 0 1 2 = Writing(Setscrreg { win: WinId(0), top: 1, bottom: 2 })
-scrollok 0 on = Writing(Scrollok { win: WinId(0), flag: true })
-clearok 0 off = Writing(Clearok { win: WinId(0), flag: false })
-attrset 0 00 = Writing(Attrset { win: WinId(0), attrs: Attr(0) })
-attron 0 2a = Writing(Attron { win: WinId(0), attrs: Attr(42) })
-attroff 0 3f = Writing(Attroff { win: WinId(0), attrs: Attr(63) })
-color_set 3 63 = Writing(ColorSet { win: WinId(3), pair: 63 })
-bkgdpair 0 64 = Writing(Bkgdpair { win: WinId(0), pair: 64 })
-init_pair 1 7 0 = Refresh(InitPair { pair: 1, foreground: 7, background: 0 })
-bkgdset 0 10 . = Writing(Bkgdset { win: WinId(0), attrs: Attr(16), ch: 46 })
-overlay 1 2 = Copying(Overlay { src: WinId(1), dst: WinId(2) })
-overwrite 1 2 = Copying(Overwrite { src: WinId(1), dst: WinId(2) })
-copywin 1 2 3 4 5 6 7 8 on = Copying(Copywin { src: WinId(1), dst: WinId(2), sminrow: 3, smincol: 4, dminrow: 5, dmincol: 6, dmaxrow: 7, dmaxcol: 8, overlay: true })
-touchwin 1 = Copying(Touchwin { win: WinId(1) })
-untouchwin 1 = Copying(Untouchwin { win: WinId(1) })
-touchline 1 2 3 = Copying(Touchline { win: WinId(1), y: 2, n: 3 })
-touchln 1 2 3 off = Copying(Touchln { win: WinId(1), y: 2, n: 3, flag: false })
-syncup 1 = Copying(Syncup { win: WinId(1) })
-syncdown 1 = Copying(Syncdown { win: WinId(1) })
-is_linetouched 1 2 = Copying(IsLinetouched { win: WinId(1), y: 2 })
-is_wintouched 1 = Copying(IsWintouched { win: WinId(1) })
-getyx 1 = Query(Getyx { win: WinId(1) })
-getbegyx 1 = Query(Getbegyx { win: WinId(1) })
-getmaxyx 1 = Query(Getmaxyx { win: WinId(1) })
-getparyx 1 = Query(Getparyx { win: WinId(1) })
-inch 1 = Query(Inch { win: WinId(1) })
-new_panel 3 = Stacking(NewPanel { win: WinId(3) })
-del_panel 1 = Stacking(DelPanel { panel: PanelId(1) })
-show_panel 1 = Stacking(ShowPanel { panel: PanelId(1) })
-hide_panel 1 = Stacking(HidePanel { panel: PanelId(1) })
-top_panel 1 = Stacking(TopPanel { panel: PanelId(1) })
-bottom_panel 1 = Stacking(BottomPanel { panel: PanelId(1) })
-move_panel 1 2 3 = Stacking(MovePanel { panel: PanelId(1), y: 2, x: 3 })
-replace_panel 1 3 = Stacking(ReplacePanel { panel: PanelId(1), win: WinId(3) })
-panel_above 1 = Stacking(PanelAbove { panel: Some(PanelId(1)) })
-panel_below none = Stacking(PanelBelow { panel: None })
-panel_window 1 = Stacking(PanelWindow { panel: PanelId(1) })
-panel_hidden 1 = Stacking(PanelHidden { panel: PanelId(1) })
-noutrefresh 4 = Refresh(Noutrefresh { win: WinId(4) })
-pnoutrefresh 5 1 2 3 4 6 7 = Refresh(Pnoutrefresh { pad: WinId(5), pminrow: 1, pmincol: 2, sminrow: 3, smincol: 4, smaxrow: 6, smaxcol: 7 })
-update_panels = Refresh(UpdatePanels)
-doupdate = Refresh(Doupdate)";
 
 /// Lines that make no call, by what is said of them. A line with several faults has the first of them.
 #[rattlefmt::skip]
@@ -120,12 +60,10 @@ static OTHERS: [(&str, &[&str]); 5] = [
 ];
 
 #[test]
-fn words_make_their_calls(rt: HostRuntime) -> Result<(), Fail> {
-    for row in CALLS.lines() {
-        let (line, call) = row.split_once(" = ").ok_or("no call")?;
-        assert!(rt; says(rt.alloc(), line, call)?, "at {line}");
+fn words_make_their_calls(rt: HostRuntime) {
+    for row in &ROWS {
+        assert!(rt; makes_call(row), "at {}", row.0);
     }
-    Ok(())
 }
 
 #[test]

@@ -5,7 +5,7 @@ use cell::{Attr, Cell, WinId};
 use streams::Sent;
 
 /// A call, by the group that it is in. Lines and columns count from 0.
-#[derive(Clone, Copy, Debug)]
+#[derive(Clone, Copy)]
 pub enum Call<'a> {
     Making(Making),
     Writing(Writing<'a>),
@@ -16,7 +16,7 @@ pub enum Call<'a> {
 }
 
 /// The calls that make windows and pads, delete them, and place them.
-#[derive(Clone, Copy, Debug)]
+#[derive(Clone, Copy)]
 pub enum Making {
     /// Makes a window of so many lines and columns at a line and a column of the screen.
     Newwin {
@@ -73,7 +73,7 @@ pub enum Making {
 }
 
 /// The calls that write in a window or pad, or set how it is written in.
-#[derive(Clone, Copy, Debug)]
+#[derive(Clone, Copy)]
 pub enum Writing<'a> {
     /// Moves the cursor to a line and a column.
     Move { win: WinId, y: u16, x: u16 },
@@ -120,7 +120,7 @@ pub enum Writing<'a> {
 }
 
 /// The calls that copy cells from window to window, and those on what is touched of a window.
-#[derive(Clone, Copy, Debug)]
+#[derive(Clone, Copy)]
 pub enum Copying {
     /// Copies the cells that aren't spaces, where both windows cover the screen.
     Overlay {
@@ -186,7 +186,7 @@ pub enum Copying {
 }
 
 /// The calls that ask about a window or pad.
-#[derive(Clone, Copy, Debug)]
+#[derive(Clone, Copy)]
 pub enum Query {
     /// The line and the column of the cursor.
     Getyx { win: WinId },
@@ -201,7 +201,7 @@ pub enum Query {
 }
 
 /// The calls that make panels, delete them, order them and move them, and those that ask about them.
-#[derive(Clone, Copy, Debug)]
+#[derive(Clone, Copy)]
 pub enum Stacking {
     /// Puts a window into a new panel, visible on top.
     NewPanel { win: WinId },
@@ -230,7 +230,7 @@ pub enum Stacking {
 }
 
 /// The calls that refresh, and the one that sets the colours of a pair.
-#[derive(Clone, Copy, Debug)]
+#[derive(Clone, Copy)]
 pub enum Refresh {
     /// Takes what is touched of a window, and its cursor, into the virtual screen.
     Noutrefresh {
