@@ -23,10 +23,12 @@ all-short = refl
 
 pub like-short : (likeness : Likeness) (word : List ℕ) (o : Option (Bor (List ℕ))) → option_map (λ name. name.now) o ≡ call_like likeness word
     → IfSome o (λ name. length name.now ≤ 80)
+unfolding call_like
 like-short likeness word o is = grind (arith, (short-in call_words (is_like likeness word)), all-short)
 
 pub like-is : (likeness : Likeness) (word : List ℕ) (o : Option (Bor (List ℕ)))
     → option_map (λ name. name.now) o ≡ first_like likeness (slice_split is_space CALLS.now) word → option_map (λ name. name.now) o ≡ call_like likeness word
+unfolding call_like
 like-is likeness word o is = is ∙ ap (λ names. first_like likeness names word) names-are
 
 -- ---- likewise for the other names
@@ -39,8 +41,10 @@ others-short = refl
 
 pub others-is_short : (word : List ℕ) (o : Option (Bor (List ℕ))) → option_map (λ name. name.now) o ≡ nearest_other word
     → IfSome o (λ name. length name.now ≤ 80)
+unfolding nearest_other
 others-is_short word o is = grind (arith, (short-in other_names (is_like Near word)), others-short)
 
 pub others-is : (word : List ℕ) (o : Option (Bor (List ℕ))) → option_map (λ name. name.now) o ≡ first_like Near (slice_split is_space OTHER_NAMES.now) word
     → option_map (λ name. name.now) o ≡ nearest_other word
+unfolding nearest_other
 others-is word o is = is ∙ ap (λ names. first_like Near names word) others-are

@@ -376,7 +376,7 @@ advice_like_calls name = or_else (advice_in like_making_advised name) (advice_in
 abbrev pub foreign_advice : List ℕ → Option (List ℕ)
 foreign_advice name = advice_in foreign_advised name
 
-abbrev pub more_advice : List ℕ → Option (List ℕ)
+unfoldable pub more_advice : List ℕ → Option (List ℕ)
 more_advice name = or_else (advice_like_calls name) (foreign_advice name)
 
 abbrev pub advice_on : List ℕ → Option (List ℕ)

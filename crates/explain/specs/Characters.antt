@@ -56,7 +56,7 @@ abbrev pub is_mark_elsewhere : List ℕ → Bool
 is_mark_elsewhere rest = begins_with (226 ∷ 128 ∷ []) rest || begins_with (226 ∷ 136 ∷ 146 ∷ []) rest
 
 -- of a bad byte that begins a text
-abbrev pub bad_text_advice : ℕ → List ℕ → List ℕ
+unfoldable pub bad_text_advice : ℕ → List ℕ → List ℕ
 bad_text_advice b rest = if draws_line rest then codes "characters are those of ASCII: lines are drawn by + - and |"
     else (if is_space_elsewhere rest then codes "this space is not in ASCII: write a plain one, or none"
     else (if is_unseen rest then codes "this character is not seen, and not in ASCII: leave it out"
@@ -97,7 +97,7 @@ escape_reason rest = if begins_with (codes "t") rest then codes ": a tab is writ
     else codes ": no other mark needs a backslash, and a backslash itself is written as two")))))))
 
 -- of a text with such a backslash, by the first one
-abbrev pub text_reason : List ℕ → List ℕ
+unfoldable pub text_reason : List ℕ → List ℕ
 text_reason text = escape_reason (after_bad_escape text)
 
 -- ---- what is no character
@@ -133,7 +133,7 @@ longer_reason word argument = if begins_with (codes " ") argument then codes ": 
     else (if has_byte number_sign argument || has_part (codes "//") argument then codes ": it is more than one, and a comment has a line of its own"
     else end_reason word argument))))
 
-abbrev pub character_reason : List ℕ → List ℕ → List ℕ
+unfoldable pub character_reason : List ℕ → List ℕ → List ℕ
 character_reason word argument = if length argument == 0 then codes ": it is empty, and a space is \\x20, or one space more"
     else (if not (has_form Text argument) then text_reason argument
     else (if begins_with (codes "ACS_") argument then codes ": lines are drawn by characters such as + - and |"

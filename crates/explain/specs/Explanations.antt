@@ -44,7 +44,7 @@ one_word_or said word pieces = option_map_or one_word (call_of_words word pieces
 abbrev pub wanted_text : List ℕ → Form → List ℕ → List ℕ
 wanted_text word form argument = word ++ codes " wants " ++ requirement_of word form ++ codes ", not " ++ quotation argument
 
-abbrev pub ill_formed_text : List ℕ → List (List ℕ) → IllFormed → List ℕ
+unfoldable pub ill_formed_text : List ℕ → List (List ℕ) → IllFormed → List ℕ
 ill_formed_text word pieces ill = wanted_text word ill.form ill.argument
     ++ one_word_or (reason_after word (place_of word ill) ill.form ill.argument) word pieces
 
@@ -69,14 +69,14 @@ spaces_text word pieces = if has_comment pieces && not (writes word) then codes 
     else codes ": single spaces separate words, and none ends a line"
 
 -- what is said of a stray argument of those after a word: a text or a character may begin as a comment does
-abbrev pub stray_text : List ℕ → List (List ℕ) → List ℕ → List ℕ
+unfoldable pub stray_text : List ℕ → List (List ℕ) → List ℕ → List ℕ
 stray_text word pieces argument = if length argument == 0 then spaces_text word pieces
     else (if writes word then no_window
     else (if begins_comment argument then codes ": a comment has a line of its own, and begins with #"
     else codes ": a comment has a line of its own"))
 
 -- What is said after the number of arguments, which may be too many: of the stray one, or of the line, or else what they are.
-abbrev pub number_advice : List ℕ → Bool → Option (ℕ × List ℕ) → List ℕ
+unfoldable pub number_advice : List ℕ → Bool → Option (ℕ × List ℕ) → List ℕ
 number_advice line many None =
     let pieces = slice_split is_space line in
     one_word_or (unwrap_or (number_reason (word_in pieces) line (drop 1 pieces) many) (signature_text (word_in pieces))) (word_in pieces) (drop 1 pieces)
@@ -101,7 +101,7 @@ abbrev pub bad_line_text : List ℕ → List ℕ
 bad_line_text line = unwrap_or (marks_advice line) (bad_byte_text (slice_index line (bad_place line)) (bad_byte_advice line))
 
 -- what is said of a fault
-abbrev pub explanation : TextFault → List ℕ → List ℕ
+unfoldable pub explanation : TextFault → List ℕ → List ℕ
 explanation LineTooLong line = codes "the line is longer than 512 bytes"
 explanation BadByte line = bad_line_text line
 explanation UnknownCall line =

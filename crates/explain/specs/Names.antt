@@ -165,7 +165,7 @@ abbrev pub gives_value : List ℕ → Bool
 gives_value text = begins_with_one (codes "= += -= := <- ++") text
 
 -- the first word after one does, or, where that ends in a comma, some word
-abbrev pub has_value : List ℕ → List (List ℕ) → Bool
+unfoldable pub has_value : List ℕ → List (List ℕ) → Bool
 has_value word [] = false
 has_value word (piece ∷ pieces) = gives_value piece || (ends_with comma word && list_any gives_value pieces)
 
@@ -200,7 +200,7 @@ after_name [] = []
 after_name (b ∷ bs) = if is_name_byte b then after_name bs else b ∷ bs
 
 -- what follows a name and a dot, an arrow, two colons, or one colon before a letter, as in `win:refresh()`; or else the word
-abbrev pub after_dot : List ℕ → List ℕ
+unfoldable pub after_dot : List ℕ → List ℕ
 after_dot word = if begins_with (codes ".") (after_name word) then drop 1 (after_name word)
     else (if begins_with (codes "->") (after_name word) then drop 2 (after_name word)
     else (if begins_with (codes "::") (after_name word) then drop 2 (after_name word)
@@ -212,7 +212,7 @@ abbrev pub after_sigil : List ℕ → List ℕ
 after_sigil word = if begins_with (codes "$") word && has_part (codes "->") (drop 1 word) then drop 1 word else word
 
 -- the name of what a word calls: `win.refresh()`, `win->refresh()`, `self.ui.win.refresh()` and `refresh()` have the same
-abbrev pub called_name : List ℕ → List ℕ
+unfoldable pub called_name : List ℕ → List ℕ
 called_name word = name_in (after_dot (after_dot (after_dot (after_sigil word))))
 
 -- what follows the prefix that libraries for curses give to their names

@@ -60,7 +60,7 @@ is_like Near word name = is_near (letters_of word) (letters_of name)
 abbrev pub first_like : Likeness → List (List ℕ) → List ℕ → Option (List ℕ)
 first_like likeness names word = find (is_like likeness word) names
 
-abbrev pub call_like : Likeness → List ℕ → Option (List ℕ)
+unfoldable pub call_like : Likeness → List ℕ → Option (List ℕ)
 call_like likeness word = first_like likeness call_words word
 
 abbrev pub or_else : Option (List ℕ) → Option (List ℕ) → Option (List ℕ)
@@ -79,7 +79,7 @@ begun_call word = if nat_lt (length (letters_of word)) 4 then None else call_lik
 abbrev pub nearest : List ℕ → Option (List ℕ)
 nearest word = or_else (begun_call word) (call_like Near word)
 
-abbrev pub nearest_other : List ℕ → Option (List ℕ)
+unfoldable pub nearest_other : List ℕ → Option (List ℕ)
 nearest_other word = first_like Near other_names word
 
 -- the call with the letters of two words, in either order

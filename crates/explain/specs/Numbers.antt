@@ -56,7 +56,7 @@ abbrev pub takes_text : List ℕ → Bool
 takes_text word = writes word || bytes_eq word (codes "bkgdset")
 
 -- by the words after the first, which may be too many, and by the marks of the line
-abbrev pub marks_reason : List ℕ → List (List ℕ) → Bool → Option (List ℕ)
+unfoldable pub marks_reason : List ℕ → List (List ℕ) → Bool → Option (List ℕ)
 marks_reason line pieces many = if many && has_call pieces then Some (codes ": a line has one call")
     else (if has_byte semicolon line then Some (codes ": a line has one call, and no semicolon")
     else (if ends_with backslash line then Some (codes ": no line goes on in the next")
@@ -66,7 +66,7 @@ marks_reason line pieces many = if many && has_call pieces then Some (codes ": a
 
 -- of a word between numbers: by a comma of the line, as a sign of a sum, or else what is said of it where no arguments are
 -- too many
-abbrev pub between_reason : List ℕ → List ℕ → IllFormed → List ℕ
+unfoldable pub between_reason : List ℕ → List ℕ → IllFormed → List ℕ
 between_reason word line ill = if has_byte comma line then no_commas
     else (if bytes_eq ill.argument (codes "->") then codes ": an arrow is no argument: numbers alone are, in their order"
     else (if is_one_of (codes "+ - * / %") ill.argument && not (bytes_eq word (codes "scrl"))
@@ -74,7 +74,7 @@ between_reason word line ill = if has_byte comma line then no_commas
     else reason_after word (place_of word ill) ill.form ill.argument))
 
 -- of a call with too many
-abbrev pub too_many_reason : List ℕ → Option (List ℕ)
+unfoldable pub too_many_reason : List ℕ → Option (List ℕ)
 too_many_reason word = if bytes_eq word (codes "move") then Some (codes ": window, line, column; addstr writes a text after it")
     else (if bytes_eq word (codes "new_panel") then Some (codes ": one window, which newwin made; the log has the panel's number")
     else (if sets_attributes word then Some (codes ": attributes are one sum, as 11; see addstr for a text, color_set for a colour")
@@ -90,7 +90,7 @@ surplus_of word line None = too_many_reason word
 surplus_of word line (Some ill) = if is_word line ill.form ill.argument then Some (between_reason word line ill) else too_many_reason word
 
 -- or of what gives them names
-abbrev pub surplus_reason : List ℕ → List ℕ → List (List ℕ) → Option (List ℕ)
+unfoldable pub surplus_reason : List ℕ → List ℕ → List (List ℕ) → Option (List ℕ)
 surplus_reason word line pieces = if has_byte equals_sign line then Some no_names
     else surplus_of word line (find_ill_formed 0 (forms_of word) (arguments (forms_of word) pieces))
 
@@ -109,7 +109,7 @@ few_reason word pieces =
     option_map (λ ill. reason_after word (place_of word ill) ill.form ill.argument) (find_ill_formed 0 (forms_of word) (arguments (forms_of word) pieces))
 
 -- a mistake that is common
-abbrev pub common_reason : List ℕ → List ℕ → List (List ℕ) → Bool → Option (List ℕ)
+unfoldable pub common_reason : List ℕ → List ℕ → List (List ℕ) → Bool → Option (List ℕ)
 common_reason word line pieces many = if takes_text word then (if begins_number pieces then separation_reason line pieces many else None)
     else (if begins_bracketed pieces then Some no_brackets
     else (if joins_attributes word line pieces then Some (joined_reason pieces)

@@ -36,7 +36,7 @@ requirement_after word Character = if is_one_of (codes "insch bkgdset") word
 requirement_after word form = requirement form
 
 -- what an argument of that form has to be, after this word
-abbrev pub requirement_of : List ℕ → Form → List ℕ
+unfoldable pub requirement_of : List ℕ → Form → List ℕ
 requirement_of word form = if bytes_eq word (codes "init_pair") then pair_and_colours
     else (if bytes_eq word (codes "color_set") then window_and_pair
     else (if bytes_eq word (codes "bkgdpair") then window_and_pair
@@ -80,7 +80,7 @@ first_mark_reason argument = if is_quoted argument then Some (codes ": no quotes
     else None))))
 
 -- the marks of other languages that an argument may not have; where it has none, this is said
-abbrev pub mark_reason : List ℕ → List ℕ → List ℕ
+unfoldable pub mark_reason : List ℕ → List ℕ → List ℕ
 mark_reason said argument = unwrap_or (first_mark_reason argument)
     (if has_byte comma argument then no_commas
     else (if has_byte semicolon argument then codes ": no semicolon comes after an argument, and a line has one call"
@@ -103,12 +103,12 @@ abbrev pub is_attribute : List ℕ → Bool
 is_attribute name = is_one_of (codes "bold dim underline blink reverse invisible standout") name || begins_with (codes "a_") name
 
 -- a colour that is mixed of red, green and blue, as `#f00`, `0xff0000` and `rgb(255,0,0)`
-abbrev pub is_mixed : List ℕ → Bool
+unfoldable pub is_mixed : List ℕ → Bool
 is_mixed argument = begins_with (codes "rgb") argument || (is_marked argument && nat_le 4 (length argument))
     || (begins_with (codes "0x") argument && nat_le 8 (length argument) && not (has_byte vertical_bar argument))
 
 -- a colour in place of a number
-abbrev pub has_colour : List ℕ → Bool
+unfoldable pub has_colour : List ℕ → Bool
 has_colour argument = is_colour (name_of_argument argument) || is_mixed argument
 
 -- several as one: a comma is in it, and not at its end
@@ -187,7 +187,7 @@ abbrev pub has_base : List ℕ → Bool
 has_base argument = begins_with_one (codes "0x 0X 0o 0b") argument
 
 -- of what may stand for a number elsewhere
-abbrev pub name_reason : List ℕ → ℕ → List ℕ → List ℕ
+unfoldable pub name_reason : List ℕ → ℕ → List ℕ → List ℕ
 name_reason word place argument = if has_base argument then codes ": a number is decimal"
     else (if are_like_digits argument then no_letters
     else (if bytes_eq argument (codes "none") then codes ": only panel_above and panel_below take none"
@@ -199,7 +199,7 @@ abbrev pub minus_reason : List ℕ → List ℕ
 minus_reason rest = if are_digits rest then codes ": a number here has no minus" else no_options
 
 -- of a number without a sign
-abbrev pub unsigned_reason : List ℕ → ℕ → List ℕ → List ℕ
+unfoldable pub unsigned_reason : List ℕ → ℕ → List ℕ → List ℕ
 unsigned_reason word place argument = if are_digits argument then digits_reason (codes ": it is too great") argument
     else (if begins_with (codes "-") argument && nat_lt 1 (length argument) then minus_reason (drop 1 argument)
     else (if begins_with (codes "+") argument then codes ": a number has no plus"
@@ -232,7 +232,7 @@ abbrev pub is_none_or_all : List ℕ → Bool
 is_none_or_all name = is_default name || is_one_of (codes "all a_attributes") name
 
 -- of a sum of attributes, or of what is meant as one
-abbrev pub sum_reason : List ℕ → List ℕ
+unfoldable pub sum_reason : List ℕ → List ℕ
 sum_reason argument = if are_joined argument then one_sum
     else (if are_two_digits argument then (if list_any is_ascii_uppercase argument && nat_le (slice_index argument 0) digit_3 then codes ": the digits are in lower case"
     else codes ": it is too great, as the sum of all is 3f")
@@ -240,7 +240,7 @@ sum_reason argument = if are_joined argument then one_sum
     else mark_reason (codes ": a sum of 01 bold, 02 dim, 04 underline, 08 blink, 10 reverse, 20 invisible") argument))
 
 -- of attributes as other languages write them, or of their sum
-abbrev pub attributes_reason : List ℕ → List ℕ
+unfoldable pub attributes_reason : List ℕ → List ℕ
 attributes_reason argument = if is_none_or_all (name_of_argument argument) && not (has_byte vertical_bar argument)
     then codes ": 00 is no attribute, and 3f is all of them"
     else (if is_one_of (codes "standout a_standout") (name_of_argument argument) then codes ": a standout is 10, as reverse"
@@ -263,7 +263,7 @@ flag_reason word argument = if is_one_of (codes "ON On TRUE True true YES Yes ye
 abbrev pub unless_missing : List ℕ → List ℕ → List ℕ
 unless_missing said argument = if length argument == 0 then codes ": single spaces separate words, and none ends a line" else said
 
-abbrev pub reason : List ℕ → ℕ → Form → List ℕ → List ℕ
+unfoldable pub reason : List ℕ → ℕ → Form → List ℕ → List ℕ
 reason word place Number argument = unless_missing (unsigned_reason word place argument) argument
 reason word place NumberOrNone argument = unless_missing (unsigned_or_none_reason word place argument) argument
 reason word place Signed argument = unless_missing (signed_reason word place argument) argument
@@ -275,7 +275,7 @@ reason word place Text argument = text_reason argument
 -- ---- what more is said after some words, of the first argument or of another
 
 -- of what is no pair
-abbrev pub pair_reason : List ℕ → Option (List ℕ)
+unfoldable pub pair_reason : List ℕ → Option (List ℕ)
 pair_reason argument = if begins_with (codes "color_pair") (name_of_argument argument) then Some (codes ": a pair is its number")
     else (if is_one_of (codes "null nullptr nil") (name_of_argument argument) then Some (codes ": the window comes first, then its pair, and no NULL after it")
     else (if is_default (name_of_argument argument) then Some (codes ": pair 0 has the terminal's own colours")
@@ -285,7 +285,7 @@ pair_reason argument = if begins_with (codes "color_pair") (name_of_argument arg
     else None)))))
 
 -- after `init_pair`: of what is no colour
-abbrev pub colour_reason : List ℕ → Option (List ℕ)
+unfoldable pub colour_reason : List ℕ → Option (List ℕ)
 colour_reason argument = if is_one_of (codes "- -1") argument || is_default (name_of_argument argument)
     then Some (codes ": there is no number for the terminal's own colour, which unset pairs have")
     else (if is_mixed argument || is_list argument then Some colours
@@ -326,19 +326,19 @@ abbrev pub no_window : List ℕ
 no_window = codes ": the window's number comes first, then the text or character; stdscr is 0"
 
 -- of the first argument of a call with a text or a character: anything else begins that, without the window
-abbrev pub window_reason : List ℕ → Option (List ℕ)
+unfoldable pub window_reason : List ℕ → Option (List ℕ)
 window_reason argument = if not (is_like_window argument) then Some (if begins_with (codes "(") argument then no_brackets else no_window)
     else (if has_byte comma argument then Some (codes ": spaces separate arguments, and no commas; move sets the place of a text")
     else None)
 
 -- of attributes in place of the window
-abbrev pub attributes_first : List ℕ → Option (List ℕ)
+unfoldable pub attributes_first : List ℕ → Option (List ℕ)
 attributes_first argument = if are_two_digits argument then Some (codes ": the window comes first, then the attributes; a number has no leading 0")
     else (if names_pair argument then Some (codes ": the window comes first, and a pair is no attribute: see color_set, bkgdpair")
     else (if is_attribute (name_of_argument argument) then Some (codes ": the window comes first, then digits for attributes, as 01 for bold")
     else None))
 
-abbrev pub reason_of_call : List ℕ → ℕ → List ℕ → Option (List ℕ)
+unfoldable pub reason_of_call : List ℕ → ℕ → List ℕ → Option (List ℕ)
 reason_of_call word place argument = if not (place == 0) then later_reason word argument
     else (if writes word then window_reason argument
     else (if bytes_eq word (codes "scrl") && begins_with (codes "-") argument

@@ -9,7 +9,7 @@ use Rattle.script.specs.declared.words.QueryWord.TheVariants as query
 use Rattle.script.specs.declared.words.StackingWord.TheVariants as stacking
 use Rattle.script.specs.declared.words.RefreshWord.TheVariants as refresh
 
-abbrev pub names_of_arguments : Word → List ℕ
+unfoldable pub names_of_arguments : Word → List ℕ
 -- making and placing
 names_of_arguments (word.Making making.Newwin) = codes "lines, columns, top line, left column; the log has the window's number"
 names_of_arguments (word.Making making.Subwin) = codes "window, lines, columns, top line, left column of the screen"

@@ -36,7 +36,7 @@ abbrev pub see_nearest : List ℕ → Option (List ℕ)
 see_nearest word = option_map (λ name. codes "see " ++ name) (nearest word)
 
 -- the call that is near what follows a `w`, with which curses names calls that take a window
-abbrev pub see_nearest_rest : List ℕ → Option (List ℕ)
+unfoldable pub see_nearest_rest : List ℕ → Option (List ℕ)
 see_nearest_rest word = if begins_with (codes "w") word then see_nearest (drop 1 word) else None
 
 -- the call that is near a text; or else what is said of the other name that is near it; or else the call that is near its rest
@@ -44,7 +44,7 @@ unfoldable pub said_of_near : List ℕ → Option (List ℕ)
 said_of_near text = or_else (see_nearest text) (or_else (option_and_then said_of_name (nearest_other text)) (see_nearest_rest text))
 
 -- of the name of what a word calls, where that isn't all of the word; or else of a part of the word, as of `split-window`
-abbrev pub said_near_name : List ℕ → Option (List ℕ)
+unfoldable pub said_near_name : List ℕ → Option (List ℕ)
 said_near_name word = if length (called_name word) == length word then None
     else or_else (said_of_near (called_name word)) (advice_by_part word)
 
@@ -63,7 +63,7 @@ abbrev pub nothing_before : List ℕ
 nothing_before = codes "a line begins with the name of its call, and has nothing before it"
 
 -- of a name that is given a value: the size of the screen has an option for it, and the screen a number; and some are given a key
-abbrev pub said_of_value : List ℕ → List ℕ
+unfoldable pub said_of_value : List ℕ → List ℕ
 said_of_value name = if is_one_of (codes "lines cols columns rows") name then screen_size
     else (if is_one_of (codes "stdscr scr screen") name
     then codes "the screen is window 0, which is there from the first line on"
@@ -90,7 +90,7 @@ abbrev pub is_stroke : ℕ → Bool
 is_stroke byte = has_byte byte (codes "-+/\\|<>")
 
 -- of such bytes alone, where no comment and no redirection begins
-abbrev pub is_drawn : List ℕ → Bool
+unfoldable pub is_drawn : List ℕ → Bool
 is_drawn word = nat_lt 1 (length word) && list_all is_stroke word && not (begins_comment word || is_redirection word)
 
 -- between bars or strokes
@@ -132,7 +132,7 @@ abbrev pub is_prompt : List ℕ → Bool
 is_prompt word = nat_lt 1 (length word) && (list_any (λ byte. has_byte byte (codes "$#%>")) (drop (length word - 1) word) || is_drawn word)
 
 -- such a word; or a call after the name of a window or panel, with or without its number, or after a prompt, a bullet or the command
-abbrev pub is_before_call : List ℕ → List (List ℕ) → Bool
+unfoldable pub is_before_call : List ℕ → List (List ℕ) → Bool
 is_before_call word pieces = begins_marked word
     || (is_one_of (codes "win window panel pad screen stdscr curspan ./curspan % PS - * +") word && (begins_with_call pieces || begins_with_call (drop 1 pieces)))
 
@@ -144,7 +144,7 @@ said_of_pair word pieces = if has_part (codes "attr") word && (names_pair word |
 
 -- a label, the head of a block, or a setting: the word begins with a letter, ends in a colon, and is no call, nor one as in
 -- `printw("Name: %s", name)`
-abbrev pub is_label : List ℕ → Bool
+unfoldable pub is_label : List ℕ → Bool
 is_label word = ends_with colon word && list_any is_ascii_alphabetic (take 1 word) && not (has_byte round_bracket word) && not (is_some (word_of (name_in word)))
 
 -- what the tables have of a word and the next one with an underscore between them
@@ -175,7 +175,7 @@ said_of_statement word pieces = if is_statement word pieces then Some calls_alon
     else None)))
 
 -- of a word that is no call and the words after it
-abbrev pub said_of_line : List ℕ → List (List ℕ) → Option (List ℕ)
+unfoldable pub said_of_line : List ℕ → List (List ℕ) → Option (List ℕ)
 said_of_line word pieces = or_else (said_of_two word pieces) (or_else (said_of_pair word pieces)
     (or_else (said_of_other_line word pieces) (said_of_statement word pieces)))
 
@@ -223,14 +223,14 @@ said_of_path word = if has_part (codes "/curspan") word then Some on_command_lin
     else None)))
 
 -- of a word that begins with no letter
-abbrev pub said_of_marks : List ℕ → Option (List ℕ)
+unfoldable pub said_of_marks : List ℕ → Option (List ℕ)
 said_of_marks word = if begins_with (codes "\\") word then Some (said_of_backslash word)
     else (if is_step word then Some no_variables
     else (if begins_with (codes "-") word then Some (said_of_hyphen (drop 1 word))
     else or_else (said_of_markup word) (said_of_path word)))
 
 -- the call that is near the word, if its name is longer than what the word calls
-abbrev pub see_longer : List ℕ → Option (List ℕ)
+unfoldable pub see_longer : List ℕ → Option (List ℕ)
 see_longer word = option_and_then (λ name. if nat_lt (length (called_name word)) (length name) then Some (codes "see " ++ name) else None) (nearest word)
 
 -- this, and a name, if that is a call
@@ -243,7 +243,7 @@ gives_place word = (has_part (codes "addstr(") word || has_part (codes "addch(")
     && (begins_with_digit (after_comma word) || (ends_with comma word && not (begins_with (codes "add") word) && not (has_byte quotation_mark word) && not (has_byte apostrophe word)))
 
 -- how a call is written whose name has marks after it
-abbrev pub written_advice : List ℕ → List ℕ
+unfoldable pub written_advice : List ℕ → List ℕ
 written_advice word = if begins_with (codes ";") (after_name word) then codes "a line has one call, and no semicolon: see "
     else (if is_comment (after_name word) then codes "a comment has a line of its own: see "
     else (if is_redirection (after_name word) then codes "a script has no redirections or pipes: see "

@@ -100,7 +100,7 @@ pub struct Stray<'a> {
 pub fn has_digit(text: &[u8]) -> bool
     ensures { result ≡ list_any is_ascii_digit text.now }
 {
-    text.iter().any(|b| b.is_ascii_digit())
+    text.iter().any(u8::is_ascii_digit)
 }
 
 /// Whether an argument is none, or would begin a comment, here or in other languages.

@@ -83,6 +83,7 @@ fn is_unseen(rest: &[u8]) -> bool
 
 /// What is said of a bad byte that begins a text: of lines, spaces, what isn't seen, quotes and dashes in UTF-8, or of
 /// the byte.
+#[tactic(auto, unfolding(crate::specs::Characters::bad_text_advice))]
 pub fn bad_text_advice(byte: u8, rest: &[u8]) -> &'static [u8]
     ensures text { result.now ≡ bad_text_advice byte rest.now }
     ensures short { length result.now ≤ 80 }
@@ -173,6 +174,7 @@ fn begins_character(rest: &[u8]) -> bool
 }
 
 /// What is said of a text with a backslash that begins no escape.
+#[tactic(auto, unfolding(crate::specs::Characters::text_reason))]
 pub fn text_reason(text: &[u8]) -> &'static [u8]
     ensures text { result.now ≡ text_reason text.now }
     ensures short { length result.now ≤ 80 }
@@ -275,6 +277,7 @@ fn longer_reason(word: &[u8], argument: &[u8]) -> &'static [u8]
 }
 
 /// Why an argument is no character.
+#[tactic(auto, unfolding(crate::specs::Characters::character_reason))]
 pub fn character_reason(word: &[u8], argument: &[u8]) -> &'static [u8]
     requires { length argument.now ≤ LONGEST_LINE }
     ensures text { result.now ≡ character_reason word.now argument.now }

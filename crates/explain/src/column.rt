@@ -63,6 +63,7 @@ fn column_after(column: usize, forms: &[Form], text: Option<&[u8]>) -> usize
 
 /// The column of the first argument without its form, if there are too few, or of a word between numbers, if there are too
 /// many; or else of the first that is missing or too many.
+#[tactic(auto, unfolding(crate::specs::Faults::column_of_word))]
 fn column_of_word(line: &[u8], word: &[u8], text: Option<&[u8]>) -> usize
     requires short { length word.now + room_of text ≤ LONGEST_LINE }
     ensures { result ≡ column_of_word line.now (word.now ∷ pieces_of text.entry) (find_ill_formed_in (word.now ∷ pieces_of text.entry)) }
@@ -92,6 +93,7 @@ fn bytes_before(ill: IllFormed<'_>) -> usize
 }
 
 /// The column of a fault.
+#[tactic(auto, unfolding(crate::specs::Faults::column_of))]
 pub fn column_of(fault: TextFault, line: &[u8]) -> usize
     requires { length line.now ≤ LONGEST_LINE }
     ensures { result ≡ column_of fault line.now }

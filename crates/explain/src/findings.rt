@@ -68,7 +68,6 @@ fn append_one_word(text: &mut Finding, call: &[u8])
 }
 
 /// Appends why an argument of those after a word lacks its form.
-#[tactic(auto, unfolding(crate::specs::Explanations::one_word_or))]
 fn append_reason(text: &mut Finding, word: &[u8], arguments: Option<&[u8]>, ill: IllFormed<'_>)
     requires room { length text.old.items ≤ 1280 }
     requires word { length word.now + room_of arguments ≤ LONGEST_LINE }
@@ -101,6 +100,7 @@ fn append_wanted(text: &mut Finding, word: &[u8], form: Form, argument: &[u8])
 }
 
 /// Appends what a word wants in place of an argument of those after it.
+#[tactic(auto, unfolding(crate::specs::Explanations::ill_formed_text))]
 fn append_ill_formed(text: &mut Finding, word: &[u8], arguments: Option<&[u8]>, ill: IllFormed<'_>)
     requires room { length text.old.items ≤ 64 }
     requires word { length word.now + room_of arguments ≤ LONGEST_LINE }
@@ -127,7 +127,6 @@ fn append_bad_byte(text: &mut Finding, byte: u8, said: &[u8])
 }
 
 /// Appends what is said of a word that is no call and of those after it, where nothing else is said.
-#[tactic(auto, unfolding(crate::specs::Suggestions::line_advice))]
 fn append_line_advice(text: &mut Finding, word: &[u8], arguments: Option<&[u8]>)
     requires room { length text.old.items ≤ 602 }
     requires word { length word.now + room_of arguments ≤ LONGEST_LINE }
@@ -150,6 +149,7 @@ fn append_line_advice(text: &mut Finding, word: &[u8], arguments: Option<&[u8]>)
 }
 
 /// Appends what to write for a word that is no call, or else what is said of it and of those after it.
+#[tactic(auto, unfolding(crate::specs::Names::called_name))]
 fn append_said(text: &mut Finding, word: &[u8], arguments: Option<&[u8]>)
     requires room { length text.old.items ≤ 602 }
     requires word { length word.now + room_of arguments ≤ LONGEST_LINE }
@@ -241,6 +241,7 @@ fn spaces_text(word: &[u8], arguments: Option<&[u8]>) -> &'static [u8]
 }
 
 /// What is said of a stray argument of those after a word: a text or a character may begin as a comment does.
+#[tactic(auto, unfolding(crate::specs::Explanations::stray_text))]
 fn stray_text(word: &[u8], arguments: Option<&[u8]>, argument: &[u8]) -> &'static [u8]
     ensures text { result.now ≡ stray_text word.now (pieces_of arguments.entry) argument.now }
     ensures short { length result.now ≤ 80 }
@@ -282,7 +283,6 @@ fn append_or_signature(text: &mut Finding, said: Option<&[u8]>, word: &[u8])
 }
 
 /// Appends what is said after the number of a word's arguments, which may be too many.
-#[tactic(auto, unfolding(crate::specs::Explanations::one_word_or))]
 fn append_number_advice(text: &mut Finding, line: &[u8], many: bool, stray: Option<Stray<'_>>)
     requires room { length text.old.items ≤ 1024 }
     requires line { length line.now ≤ LONGEST_LINE }
@@ -341,6 +341,7 @@ fn append_bad_line(text: &mut Finding, line: &[u8])
 }
 
 /// Appends what is said of a fault.
+#[tactic(auto, unfolding(crate::specs::Explanations::explanation))]
 fn append_explanation(text: &mut Finding, fault: TextFault, line: &[u8])
     requires room { length text.old.items ≤ 64 }
     requires short { length line.now ≤ LONGEST_LINE }

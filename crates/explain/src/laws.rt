@@ -12,6 +12,7 @@ ghost use Rattle.explain.specs.Explanations.{explanation};
 ghost use Rattle.explain.specs.Reasons.{numeral_in, pair_and_colours, requirement, window_and_pair};
 
 /// The numerals that a person reads are the limits of a script's text, and of pairs and colours.
+#[tactic(auto, unfolding(crate::specs::Explanations::explanation))]
 pub fn limits_in_texts()
     ensures number { numeral_in 19 (requirement Number) ≡ GREATEST_NUMBER }
     ensures none { numeral_in 19 (requirement NumberOrNone) ≡ GREATEST_NUMBER }

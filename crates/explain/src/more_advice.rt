@@ -246,6 +246,7 @@ fn foreign_advice(name: &[u8]) -> Option<&'static [u8]>
 }
 
 /// What is said of a further name, if something is.
+#[tactic(auto, unfolding(crate::specs::Advice::more_advice))]
 pub fn more_advice(name: &[u8]) -> Option<&'static [u8]>
     ensures text { option_map (λ text. text.now) result ≡ more_advice name.now }
     ensures short { IfSome result (λ text. length text.now ≤ 80) }

@@ -127,6 +127,7 @@ fn has_some_value(text: Option<&[u8]>) -> bool
 }
 
 /// Whether the first of the words after one does, or, where that ends in a comma, some of them.
+#[tactic(auto, unfolding(crate::specs::Names::has_value))]
 pub fn has_value(word: &[u8], text: Option<&[u8]>) -> bool
     ensures { result ≡ has_value word.now (pieces_of text.entry) }
 {
@@ -218,6 +219,7 @@ pub fn after_name(word: &[u8]) -> &[u8]
 }
 
 /// What follows a name and a dot, an arrow, two colons, or one colon before a letter; or else the word.
+#[tactic(auto, unfolding(crate::specs::Names::after_dot))]
 pub fn after_dot(word: &[u8]) -> &[u8]
     ensures text { result.now ≡ after_dot word.now }
     ensures short { length result.now ≤ length word.now }
@@ -323,7 +325,7 @@ pub fn has_pair(text: Option<&[u8]>) -> bool
 pub fn has_byte(text: &[u8], byte: u8) -> bool
     ensures { result ≡ has_byte byte text.now }
 {
-    text.iter().any(|b| *b == byte)
+    text.contains(&byte)
 }
 
 /// Whether a text has digits, and nothing else.
@@ -351,7 +353,7 @@ pub fn are_like_digits(text: &[u8]) -> bool
 pub fn are_hexadecimal(text: &[u8]) -> bool
     ensures { result ≡ list_all is_ascii_hexdigit text.now }
 {
-    text.iter().all(|b| b.is_ascii_hexdigit())
+    text.iter().all(u8::is_ascii_hexdigit)
 }
 
 /// Whether a text is two hexadecimal digits, in lower case or upper case.

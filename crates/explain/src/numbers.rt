@@ -124,6 +124,7 @@ fn takes_text(word: &[u8]) -> bool
 }
 
 /// What is said by the words after the first, which may be too many, and by the marks of the line.
+#[tactic(auto, unfolding(crate::specs::Numbers::marks_reason))]
 fn marks_reason(line: &[u8], text: Option<&[u8]>, many: bool) -> Option<&'static [u8]>
     requires { room_of text ≤ LONGEST_LINE + 1 }
     ensures text { option_map (λ text. text.now) result ≡ marks_reason line.now (pieces_of text.entry) many }
@@ -148,6 +149,7 @@ fn marks_reason(line: &[u8], text: Option<&[u8]>, many: bool) -> Option<&'static
 }
 
 /// What is said of a word between numbers: that the line has commas or computes, or what is said in its place alone.
+#[tactic(auto, unfolding(crate::specs::Numbers::between_reason))]
 fn between_reason(word: &[u8], line: &[u8], ill: IllFormed<'_>) -> &'static [u8]
     requires { length ill.argument.now ≤ LONGEST_LINE }
     ensures text { result.now ≡ between_reason word.now line.now (record
@@ -168,6 +170,7 @@ fn between_reason(word: &[u8], line: &[u8], ill: IllFormed<'_>) -> &'static [u8]
 
 /// What is said of arguments that are too many: of what gives them names, of a word between numbers, or else of the
 /// call.
+#[tactic(auto, unfolding(crate::specs::Numbers::surplus_reason))]
 fn surplus_reason(word: &[u8], line: &[u8], text: Option<&[u8]>) -> Option<&'static [u8]>
     requires { room_of text ≤ LONGEST_LINE + 1 }
     ensures text { option_map (λ text. text.now) result ≡ surplus_reason word.now line.now (pieces_of text.entry) }
@@ -183,6 +186,7 @@ fn surplus_reason(word: &[u8], line: &[u8], text: Option<&[u8]>) -> Option<&'sta
 }
 
 /// What is said of a call with too many arguments.
+#[tactic(auto, unfolding(crate::specs::Numbers::too_many_reason))]
 fn too_many_reason(word: &[u8]) -> Option<&'static [u8]>
     ensures text { option_map (λ text. text.now) result ≡ too_many_reason word.now }
     ensures short { IfSome result (λ text. length text.now ≤ 80) }
@@ -268,6 +272,7 @@ pub fn number_reason(
 }
 
 /// What is said of a wrong number of arguments by a mistake that is common.
+#[tactic(auto, unfolding(crate::specs::Numbers::common_reason))]
 fn common_reason(word: &[u8], line: &[u8], text: Option<&[u8]>, many: bool) -> Option<&'static [u8]>
     requires { room_of text ≤ LONGEST_LINE + 1 }
     ensures text { option_map (λ text. text.now) result ≡ common_reason word.now line.now (pieces_of text.entry) many }

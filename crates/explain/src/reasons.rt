@@ -48,6 +48,7 @@ fn requirement_after(word: &[u8], form: Form) -> &'static [u8]
 }
 
 /// What an argument of a form has to be after a word: of a call that takes pairs or colours all that it takes is said.
+#[tactic(auto, unfolding(crate::specs::Reasons::requirement_of))]
 pub fn requirement_of(word: &[u8], form: Form) -> &'static [u8]
     ensures text { result.now ≡ requirement_of word.now form }
     ensures short { length result.now ≤ 80 }
@@ -123,6 +124,7 @@ fn first_mark_reason(argument: &[u8]) -> Option<&'static [u8]>
 }
 
 /// The marks of other languages that an argument may not have; where it has none, this is said.
+#[tactic(auto, unfolding(crate::specs::Reasons::mark_reason))]
 fn mark_reason(said: &'static [u8], argument: &[u8]) -> &'static [u8]
     requires { length said.now ≤ 80 }
     ensures text { result.now ≡ mark_reason said.now argument.now }
@@ -178,6 +180,7 @@ fn is_attribute(name: &[u8]) -> bool
 }
 
 /// Whether a colour is mixed of red, green and blue, as `#f00`, `0xff0000` and `rgb(255,0,0)`.
+#[tactic(auto, unfolding(crate::specs::Reasons::is_mixed))]
 fn is_mixed(argument: &[u8]) -> bool
     ensures { result ≡ is_mixed argument.now }
 {
@@ -187,6 +190,7 @@ fn is_mixed(argument: &[u8]) -> bool
 }
 
 /// Whether a colour is in place of a number.
+#[tactic(auto, unfolding(crate::specs::Reasons::has_colour))]
 fn has_colour(name: &[u8], argument: &[u8]) -> bool
     requires { name.now ≡ name_of_argument argument.now }
     ensures { result ≡ has_colour argument.now }
@@ -343,6 +347,7 @@ fn has_base(argument: &[u8]) -> bool
 }
 
 /// What is said of an argument that may stand for a number elsewhere.
+#[tactic(auto, unfolding(crate::specs::Reasons::name_reason))]
 fn name_reason(word: &[u8], place: usize, argument: &[u8]) -> &'static [u8]
     ensures text { result.now ≡ name_reason word.now place argument.now }
     ensures short { length result.now ≤ 80 }
@@ -375,6 +380,7 @@ fn minus_reason(rest: &[u8]) -> &'static [u8]
 }
 
 /// Why an argument is no number without a sign.
+#[tactic(auto, unfolding(crate::specs::Reasons::unsigned_reason))]
 fn unsigned_reason(word: &[u8], place: usize, argument: &[u8]) -> &'static [u8]
     requires { length argument.now ≤ LONGEST_LINE }
     ensures text { result.now ≡ unsigned_reason word.now place argument.now }
@@ -432,7 +438,7 @@ fn signed_reason(word: &[u8], place: usize, argument: &[u8]) -> &'static [u8]
 fn has_upper_case(text: &[u8]) -> bool
     ensures { result ≡ list_any is_ascii_uppercase text.now }
 {
-    text.iter().any(|b| b.is_ascii_uppercase())
+    text.iter().any(u8::is_ascii_uppercase)
 }
 
 /// Whether attributes are in one argument: with a comma between them, or another mark after a digit.
@@ -454,6 +460,7 @@ fn is_none_or_all(name: &[u8]) -> bool
 }
 
 /// What is said of a sum of attributes, or of what is meant as one.
+#[tactic(auto, unfolding(crate::specs::Reasons::sum_reason))]
 fn sum_reason(argument: &[u8]) -> &'static [u8]
     ensures text { result.now ≡ sum_reason argument.now }
     ensures short { length result.now ≤ 80 }
@@ -477,6 +484,7 @@ fn sum_reason(argument: &[u8]) -> &'static [u8]
 }
 
 /// Why it is no set of attributes.
+#[tactic(auto, unfolding(crate::specs::Reasons::attributes_reason))]
 fn attributes_reason(argument: &[u8]) -> &'static [u8]
     requires { length argument.now ≤ LONGEST_LINE }
     ensures text { result.now ≡ attributes_reason argument.now }
@@ -544,6 +552,7 @@ fn unless_missing(said: &'static [u8], argument: &[u8]) -> &'static [u8]
 }
 
 /// Why an argument lacks its form, where more is to be said than the form.
+#[tactic(auto, unfolding(crate::specs::Reasons::reason))]
 fn reason(word: &[u8], place: usize, form: Form, argument: &[u8]) -> &'static [u8]
     requires { length argument.now ≤ LONGEST_LINE }
     ensures text { result.now ≡ reason word.now place form argument.now }
@@ -564,6 +573,7 @@ fn reason(word: &[u8], place: usize, form: Form, argument: &[u8]) -> &'static [u
 }
 
 /// What is said of an argument that is no pair, by its name.
+#[tactic(auto, unfolding(crate::specs::Reasons::pair_reason))]
 fn pair_reason(name: &[u8], argument: &[u8]) -> Option<&'static [u8]>
     requires { name.now ≡ name_of_argument argument.now }
     ensures text { option_map (λ text. text.now) result ≡ pair_reason argument.now }
@@ -591,6 +601,7 @@ fn pair_reason(name: &[u8], argument: &[u8]) -> Option<&'static [u8]>
 }
 
 /// What more is said after `init_pair` of an argument after the first, by its name.
+#[tactic(auto, unfolding(crate::specs::Reasons::colour_reason))]
 fn colour_reason(name: &[u8], argument: &[u8]) -> Option<&'static [u8]>
     requires { name.now ≡ name_of_argument argument.now }
     ensures text { option_map (λ text. text.now) result ≡ colour_reason argument.now }
@@ -686,6 +697,7 @@ pub const NO_WINDOW: &[u8] =
 
 /// What is said of the first argument of a call with a text or a character: anything else begins that, without the
 /// window.
+#[tactic(auto, unfolding(crate::specs::Reasons::window_reason))]
 fn window_reason(argument: &[u8]) -> Option<&'static [u8]>
     ensures text { option_map (λ text. text.now) result ≡ window_reason argument.now }
     ensures short { IfSome result (λ text. length text.now ≤ 80) }
@@ -704,6 +716,7 @@ fn window_reason(argument: &[u8]) -> Option<&'static [u8]>
 }
 
 /// What is said of attributes in place of the window.
+#[tactic(auto, unfolding(crate::specs::Reasons::attributes_first))]
 fn attributes_first(argument: &[u8]) -> Option<&'static [u8]>
     requires { length argument.now ≤ LONGEST_LINE }
     ensures text { option_map (λ text. text.now) result ≡ attributes_first argument.now }
@@ -724,6 +737,7 @@ fn attributes_first(argument: &[u8]) -> Option<&'static [u8]>
 }
 
 /// What more is said after some words, of an argument after so many others.
+#[tactic(auto, unfolding(crate::specs::Reasons::reason_of_call))]
 fn reason_of_call(word: &[u8], place: usize, argument: &[u8]) -> Option<&'static [u8]>
     requires { length argument.now ≤ LONGEST_LINE }
     ensures text { option_map (λ text. text.now) result ≡ reason_of_call word.now place argument.now }

@@ -1,4 +1,5 @@
 //! What the arguments of each call are.
+#![tactic(auto, unfolding(crate::specs::Signatures::names_of_arguments))]
 
 ghost use Rattle.std.specs.Prelude.{◌≡◌, ◌≤◌, length};
 ghost use Rattle.explain.specs.Signatures.{names_of_arguments};

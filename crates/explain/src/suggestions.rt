@@ -120,6 +120,7 @@ fn said_of_name<'a>(name: &'a [u8]) -> Option<Said<'a>>
 }
 
 /// The call that is nearest to what follows a `w`, with which curses names calls that take a window.
+#[tactic(auto, unfolding(crate::specs::Suggestions::see_nearest_rest))]
 fn see_nearest_rest<'a>(word: &[u8]) -> Option<Said<'a>>
     ensures said { said_now result ≡ see_nearest_rest word.now }
     ensures short { IfSome result (λ s. length s.text.now ≤ 80) }
@@ -160,6 +161,7 @@ fn said_of_near<'a>(text: &[u8]) -> Option<Said<'a>>
 }
 
 /// What is said of what the name of a word's call is near, where that isn't all of the word; or else of a part of it.
+#[tactic(auto, unfolding(crate::specs::Suggestions::said_near_name))]
 fn said_near_name<'a>(word: &[u8], name: &[u8]) -> Option<Said<'a>>
     requires { name.now ≡ called_name word.now }
     ensures said { said_now result ≡ said_near_name word.now }
@@ -202,6 +204,7 @@ const NUMBER_FIRST: &[u8] = b"a line begins with the name of its call, and numbe
 const NAME_FIRST: &[u8] = b"a line begins with the name of a call, and a comment with #";
 
 /// What is said of a name that is given a value.
+#[tactic(auto, unfolding(crate::specs::Suggestions::said_of_value))]
 fn said_of_value(name: &[u8]) -> &'static [u8]
     ensures text { result.now ≡ said_of_value name.now }
     ensures short { length result.now ≤ 80 }
@@ -270,6 +273,7 @@ fn are_strokes(text: &[u8]) -> bool
 }
 
 /// Whether a word is of lines and arrows alone, and begins no comment and no redirection.
+#[tactic(auto, unfolding(crate::specs::Suggestions::is_drawn))]
 fn is_drawn(word: &[u8]) -> bool
     ensures { result ≡ is_drawn word.now }
 {
@@ -281,9 +285,12 @@ fn is_between(word: &[u8], text: Option<&[u8]>) -> bool
     ensures { result ≡ is_between word.now (pieces_of text.entry) }
 {
     let last = last_word(after_first(word), text);
-    begins_with(word, b"|") && ends_with(last, b'|')
-        || word == b"/".as_slice() && ends_with(last, b'/')
-        || word == b"\\".as_slice() && ends_with(last, b'\\')
+    match word {
+        [b'|', ..] => ends_with(last, b'|'),
+        [b'/'] => ends_with(last, b'/'),
+        [b'\\'] => ends_with(last, b'\\'),
+        _ => false,
+    }
 }
 
 /// Whether a word and those after it are a line of a picture.
@@ -354,6 +361,7 @@ fn is_prompt(word: &[u8]) -> bool
 
 /// Whether a word is a call with a mark before it; or names a window or panel, or is a prompt, a bullet or the command,
 /// and a call comes next or one word later.
+#[tactic(auto, unfolding(crate::specs::Suggestions::is_before_call))]
 fn is_before_call(word: &[u8], text: Option<&[u8]>) -> bool
     ensures { result ≡ is_before_call word.now (pieces_of text.entry) }
 {
@@ -384,6 +392,7 @@ fn said_of_pair(word: &[u8], text: Option<&[u8]>) -> Option<&'static [u8]>
 }
 
 /// Whether a word is a label, the head of a block, or a setting, and not a call of curses with a text.
+#[tactic(auto, unfolding(crate::specs::Suggestions::is_label))]
 fn is_label(word: &[u8]) -> bool
     requires { length word.now ≤ LONGEST_LINE }
     ensures { result ≡ is_label word.now }
@@ -470,6 +479,7 @@ fn said_of_statement(word: &[u8], text: Option<&[u8]>) -> Option<&'static [u8]>
 }
 
 /// What is said of a word that is no call and of the words after it.
+#[tactic(auto, unfolding(crate::specs::Suggestions::said_of_line))]
 pub fn said_of_line(word: &[u8], text: Option<&[u8]>) -> Option<&'static [u8]>
     requires { length word.now + room_of text ≤ LONGEST_LINE }
     ensures said { option_map (λ text. text.now) result ≡ said_of_line word.now (pieces_of text.entry) }
@@ -572,6 +582,7 @@ fn said_of_path(word: &[u8]) -> Option<&'static [u8]>
 }
 
 /// What is said of a word that begins with no letter.
+#[tactic(auto, unfolding(crate::specs::Suggestions::said_of_marks))]
 fn said_of_marks(word: &[u8]) -> Option<&'static [u8]>
     ensures said { option_map (λ text. text.now) result ≡ said_of_marks word.now }
     ensures short { IfSome result (λ text. length text.now ≤ 80) }
@@ -592,6 +603,7 @@ fn said_of_marks(word: &[u8]) -> Option<&'static [u8]>
 }
 
 /// The call that is near a word, if its name is longer than that of what the word calls.
+#[tactic(auto, unfolding(crate::specs::Suggestions::see_longer))]
 fn see_longer<'a>(word: &[u8], name: &[u8]) -> Option<Said<'a>>
     requires { name.now ≡ called_name word.now }
     ensures said { said_now result ≡ see_longer word.now }
@@ -633,6 +645,7 @@ fn gives_place(word: &[u8]) -> bool
 }
 
 /// How a call is written whose name has marks after it.
+#[tactic(auto, unfolding(crate::specs::Suggestions::written_advice))]
 fn written_advice(word: &[u8]) -> &'static [u8]
     ensures text { result.now ≡ written_advice word.now }
     ensures short { length result.now ≤ 80 }
