@@ -1,5 +1,5 @@
 -- The findings of a script, a line at a time.
-use Rattle.std.proofs.Common.{◌≡◌, ℕ, ◌+◌, ◌<◌, List, [], ◌∷◌, ◌++◌, length, Bool, true, false, not, Err, refl, ap, ◌∙◌, append-nil, append_assoc, length-append, arith}
+use Rattle.std.proofs.Common.{◌≡◌, ℕ, ◌+◌, ◌<◌, List, Option, [], ◌∷◌, ◌++◌, length, Bool, true, false, not, Err, refl, sym, ap, ◌∙◌, append-nil, append_assoc, length-append, arith}
 use Rattle.std.proofs.lemmas.Bool.{both_ways, false_from_ne_true}
 use Rattle.std.proofs.lemmas.Bool.Decides.{nat_tests}
 use Rattle.std.proofs.lemmas.Grind.{flat_map-append}
@@ -9,6 +9,8 @@ use Rattle.std.proofs.Math.Seq.{take-append-add}
 use Rattle.std.proofs.KnownBytes.{Appends-trans, Consumes-nil, Consumes-trans}
 use Rattle.std.specs.List.{All, flat_map, slice_split}
 use Rattle.std.specs.Io.KnownBytes.{Consumes, IsAtEnd}
+use Rattle.std.specs.Option.{option_map_or}
+use Rattle.cell.specs.declared.refusal.Refusal.{Refusal}
 use Rattle.streams.specs.Sinks.{Seen}
 use Rattle.streams.specs.Sources.{SourceSeen}
 use Rattle.script.specs.Characters.{is_newline}
@@ -17,11 +19,16 @@ use Rattle.script.specs.declared.bytes.LineEnd.{LineEnd}
 use Rattle.script.specs.declared.bytes.LineEnd.TheVariants.{Newline, ReadFailed}
 use Rattle.script.specs.declared.fault.TextFault.TheVariants.{LineTooLong}
 use Rattle.script.specs.declared.limits.TheConstants.{LONGEST_LINE}
+use Rattle.script.specs.Words.{placeless}
+use Rattle.world.specs.declared.call.Call.{Call}
+use Rattle.explain.specs.Everywhere.{refusal_everywhere, refused_line}
 use Rattle.script.specs.Lines.{EndsLine, HasNoNewline, IsKept, ReadingEnds, ReadsToEnd, end_failed, has_newline, met_end}
 use Rattle.commands.specs.Shows.{IsWholeAt}
 use Rattle.commands.specs.Written.{IsNotWritten, PuttingEnds, WritingEnds}
 use Rattle.commands.proofs.PutLemmas.{cut_before, not_put, nothing_put, put_after}
-use Rattle.checks.specs.Checks.{count_line, count_of, report, findings, findings_from, finding_of, finding_of_rest}
+use Rattle.explain.specs.Explanations.{explanation}
+use Rattle.explain.specs.Faults.{column_of}
+use Rattle.checks.specs.Checks.{count_line, count_of, report, findings, findings_from, finding_of, finding_of_call, finding_of_rest}
 use Rattle.checks.specs.declared.check.Report.{Report}
 use Rattle.checks.specs.steps.Checking.{IsReported, ReportsMore, ReportsScript, finding_of_read}
 
@@ -48,6 +55,20 @@ pub line_dropped : (first old : Seen) (before : Report) (lines : List (List ℕ)
     → faulty ≡ next_number before.faulty → IsReported first old (record { faulty = faulty; is_written = false }) (lines ++ text ∷ [])
 line_dropped first old before lines text faulty r written more = record { put = rw (flat_more lines text) (cut_before _ _ _ _ _ r.put written); faulty = grind (arith, count_more) }
 
+-- ---- a call
+
+-- Where its text is makes no difference to what every screen refuses.
+same_refusal : (call : Call) → refusal_everywhere (placeless call) ≡ refusal_everywhere call
+same_refusal call = grind arith
+
+pub call_found : (number : ℕ) (given call : Call) (o : Option Refusal) → o ≡ refusal_everywhere given → placeless given ≡ call
+    → option_map_or (λ why. refused_line number why ∷ []) o [] ≡ finding_of_call number call
+call_found number given call o which is =
+    ap (λ (r : Option Refusal). option_map_or (λ why. refused_line number why ∷ []) r []) (which ∙ sym (same_refusal given) ∙ ap refusal_everywhere is)
+
+pub none_more : (out : Seen) (report : Report) → ReportsMore out out report report []
+none_more out report = λ first reported r. rw (append-nil reported) r
+
 -- ---- lines that are read
 
 no_newlines : (line : List ℕ) → HasNoNewline line → All (λ b. is_newline b ≡ false) line
@@ -67,9 +88,11 @@ long_line line h = grind (arith, nat_tests)
 -- the finding of a line, kept or not, is by what it says
 found_is : (n : ℕ) (line kept : List ℕ) (is_kept : Bool) (end : LineEnd) → IsKept is_kept line kept → end_failed end ≡ false
     → finding_of_read n kept is_kept end ≡ finding_of n line (parse_line line)
+unfolding explanation column_of
 found_is n line kept is_kept end k e = grind (arith, long_line)
 
 found_is_rest : (n : ℕ) (line kept : List ℕ) (is_kept : Bool) → IsKept is_kept line kept → finding_of_read n kept is_kept ReadFailed ≡ finding_of_rest n line
+unfolding explanation column_of
 found_is_rest n line kept is_kept k = grind (arith, nat_tests)
 
 -- The findings of the lines of a script that were read, and what is left of it.
