@@ -1,10 +1,9 @@
 -- What is known of a new window: its size, and where it is.
-use Rattle.std.proofs.Common.{◌≡◌, ℕ, ◌+◌, ◌<◌, ◌≤◌, if◌then◌else◌, Option, Some, None, List, arith}
+use Rattle.std.proofs.Common.{◌≡◌, ℕ, ◌+◌, ◌≤◌, Option, Some, None, List, arith}
 use Rattle.std.specs.Option.{option_map}
-use Rattle.std.proofs.lemmas.Bool.{and_parts, leb-true, ltb-true}
 use Rattle.world.specs.Windows.{Backing, part_of, Window, WindowMap}
 use Rattle.world.specs.Sound.{IsOnScreen}
-use Rattle.world.specs.calls.Making.{is_inside, extent, derived_window, place_from}
+use Rattle.world.specs.calls.Making.{extent, derived_window, place_from}
 use Rattle.world.specs.Effects.{under_number}
 use Rattle.world.specs.World.{new_window}
 use Rattle.slots.specs.declared.slot.Part.{Part}
@@ -19,14 +18,6 @@ use Rattle.slots.proofs.Origins.{HasOrigin}
 
 pub alone_in : (slots : List (Option Kept)) (k : Kept) (cells : Cells) → part_in cells ≡ None → k.depth ≡ 0 → HasParentIn slots k cells
 alone_in slots k cells e h = grind arith
-
-pub record IsExtent (n all at r : ℕ) : Type 0 where
-  pub given : r ≡ extent n all at
-  pub some : 0 < r
-  pub inside : at + r ≤ all
-
-pub extent-is : (n all at r : ℕ) → (if is_inside n all at then Some (extent n all at) else None) ≡ Some r → IsExtent n all at r
-extent-is n all at r h = grind (arith, and_parts, ltb-true, leb-true)
 
 -- a new window lies on the screen
 pub placed_new : (lines columns n m y x : ℕ) (src : Backing) (k : Kept) → window_of k ≡ new_window n m (Some (y, x)) src → y + n ≤ lines → x + m ≤ columns → IsOnScreen lines columns (window_of k)

@@ -1,7 +1,7 @@
 //! Making, moving and deleting windows and pads. The table knows no panels: it moves and deletes as if no window were
 //! in one.
 
-ghost use Rattle.std.specs.Prelude.{◌≡◌, ◌<◌, ◌+◌, ◌^◌, Some, None, IsSome, MatchOption, ⊤, nat_le, if◌then◌else◌};
+ghost use Rattle.std.specs.Prelude.{◌≡◌, ◌<◌, ◌≤◌, ◌+◌, ◌^◌, IsSome, IfOk, IfErr, MatchOption, ⊤, true, false, nat_le};
 ghost use Rattle.cell.specs.Refusals.{first_of};
 ghost use Rattle.world.specs.calls.Making.{is_inside, extent, place_from, part_tests, derived_from, next_window};
 ghost use Rattle.world.specs.Effects.{makes};
@@ -34,8 +34,8 @@ impl Grids {
         ensures { Made its_number self.old (Making.Newwin nlines ncols begin_y begin_x) result self.new }
     {
         prove!(self.has_window(WinId::STANDARD));
-        let lines = extent_inside(nlines, self.lines, begin_y).ok_or(Refusal::OffScreen)?;
-        let columns = extent_inside(ncols, self.columns, begin_x).ok_or(Refusal::OffScreen)?;
+        let lines = extent_inside(nlines, self.lines, begin_y, Refusal::OffScreen)?;
+        let columns = extent_inside(ncols, self.columns, begin_x, Refusal::OffScreen)?;
         let number = free_number(&self.slots).ok_or(Refusal::TooMany)?;
         let slot = Slot::with_grid(self.alloc, number, lines, columns, Some((begin_y, begin_x)))?;
         fill_slot_at(&mut self.slots, number, slot)?;
@@ -136,8 +136,8 @@ impl Grids {
             (makes (next_window (windows self.old)) (derived_from (windows self.old) win.0 nlines ncols y x)) result self.new }
     {
         let parent = self.slot(win)?;
-        let lines = extent_inside(nlines, parent.lines(), y).ok_or(Refusal::OutsideParent)?;
-        let columns = extent_inside(ncols, parent.columns(), x).ok_or(Refusal::OutsideParent)?;
+        let lines = extent_inside(nlines, parent.lines(), y, Refusal::OutsideParent)?;
+        let columns = extent_inside(ncols, parent.columns(), x, Refusal::OutsideParent)?;
         let place = place_from(parent.place(), y, x);
         let depth = parent.depth() + 1;
         let origin = origin_of(&self.slots, win.0).onward(y, x);
@@ -215,14 +215,20 @@ impl Grids {
 }
 
 /// How many lines or columns from a place on are meant, where 0 reaches to the edge, if they end before the edge.
-fn extent_inside(n: u16, all: u16, at: u16) -> Option<u16>
-    ensures { result ≡ (if is_inside n all at then Some (extent n all at) else None) }
+fn extent_inside(n: u16, all: u16, at: u16, outside: Refusal) -> Result<u16, Refusal>
+    ensures ok { IfOk result (λ size. (is_inside n all at ≡ true) × (size ≡ extent n all at)) }
+    ensures inside { IfOk result (λ size. (0 < size) × (at + size ≤ all)) }
+    ensures err { IfErr result (λ refusal. (is_inside n all at ≡ false) × (refusal ≡ outside)) }
 {
     if at >= all {
-        return None;
+        return Err(outside);
     }
     let size = if n == 0 { all - at } else { n };
-    if size <= all - at { Some(size) } else { None }
+    if size <= all - at {
+        Ok(size)
+    } else {
+        Err(outside)
+    }
 }
 
 /// Whether n lines or columns from a line or column on end before the edge.

@@ -2,7 +2,6 @@
 use Rattle.std.specs.Prelude.{unwrap_or}
 use Rattle.std.proofs.Common.{◌≡◌, ◌+◌, Some, arith, ◌∙◌, ap, refl, sym, rules}
 use Rattle.std.specs.Option.{option_map}
-use Rattle.std.proofs.lemmas.Grind.{common_steps}
 use Rattle.world.specs.Windows.{part_of}
 use Rattle.world.specs.calls.Making.{next_window, place_from}
 use Rattle.world.specs.Effects.{under_number}
@@ -13,13 +12,19 @@ use Rattle.slots.specs.Kept.{window_of}
 use Rattle.slots.specs.Slots.{slot_at, window_map}
 use Rattle.grids.specs.Tables.{windows}
 use Rattle.slots.proofs.Chain.{depth_below}
-use Rattle.grids.proofs.NewWindows.{IsWindowTable-added, windows-added, extent-is, derived_in, placed_derived, made_derived}
+use Rattle.grids.proofs.NewWindows.{IsWindowTable-added, windows-added, derived_in, placed_derived, made_derived}
 use Rattle.slots.proofs.Origins.{origin-derived}
 use Rattle.grids.proofs.Sounds.{sound}
 use Rattle.grids.proofs.table.Grids.derive.Goals as goal
 
 pub overflow_add-depth : goal.overflow_add-depth
-overflow_add-depth c = grind (arith, common_steps, depth_below)
+overflow_add-depth c =
+    let t = the_view c.self.inside in
+    let e = rw (← c.self.view_is) at c.in_ok-parent.ensures.found in
+    omega (arith, depth_below t.slots c.self.invariant.chained c.args.win.0 c.in_ok-parent.parent.now e)
+
+pub invariant_of-self : goal.invariant_of-self
+invariant_of-self c = rw c.in_err-fill_slot_at.ensures.unchanged c.self.invariant
 
 pub invariant_of-self-2 : goal.invariant_of-self-2
 invariant_of-self-2 c =
@@ -28,17 +33,17 @@ invariant_of-self-2 c =
     let k = c.in_ok-slot.slot in
     let p = c.in_ok-parent.parent.now in
     let kept = c.in_ok-slot.ensures.kept in
-    let e : slot_at t.slots a.win.0 ≡ Some p = grind (arith, common_steps) in
+    let e : slot_at t.slots a.win.0 ≡ Some p = rw (← c.self.view_is) at c.in_ok-parent.ensures.found in
     let free = rw (c.deref-2.ensures.value, c.in_ok-number.ensures.ok_part) at c.free_number.ensures.free in
-    let lines = extent-is a.nlines p.lines a.y c.in_ok-lines.lines (rw (← c.lines.ensures) (sym c.extent_inside.ensures ∙ c.in_ok-lines.ensures.ok_part)) in
-    let columns = extent-is a.ncols p.columns a.x c.in_ok-columns.columns (rw (← c.columns.ensures) (sym c.extent_inside-2.ensures ∙ c.in_ok-columns.ensures.ok_part)) in
+    let lines = rw c.lines.ensures at c.in_ok-lines.ensures.inside in
+    let columns = rw c.columns.ensures at c.in_ok-columns.ensures.inside in
     let made = rw (c.place_from-place.ensures, c.place.ensures) at c.in_ok-slot.ensures.window in
     let o = c.origin_of in
     let leads = rw c.deref.ensures.value at o.ensures.leads in
     IsWindowTable-added t c.fill_slot_at.new.slots.items c.in_ok-number.number k c.in_ok-fill_slot_at.ensures.set c.self.invariant free kept.0
     (derived_in t.slots k p (record { parent = a.win.0; line = a.y; column = a.x }) c.in_ok-lines.lines c.in_ok-columns.columns kept.2 e (kept.1 ∙ ap (λ d. d + 1) c.depth-depth.ensures)
-    made lines.inside columns.inside)
-    (placed_derived t c.self.invariant a.win.0 k p c.in_ok-lines.lines c.in_ok-columns.columns a.y a.x (part_of a.win.0 a.y a.x) e made lines.inside columns.inside)
+    made lines.1 columns.1)
+    (placed_derived t c.self.invariant a.win.0 k p c.in_ok-lines.lines c.in_ok-columns.columns a.y a.x (part_of a.win.0 a.y a.x) e made lines.1 columns.1)
     (λ chained. origin-derived t.slots c.fill_slot_at.new.slots.items c.in_ok-number.number k c.self.invariant.chained c.in_ok-fill_slot_at.ensures.set free.free
     (record { parent = a.win.0; line = a.y; column = a.x }) (record { grid = o.result.grid; line = o.result.line; column = o.result.column }) kept.2 (rw e refl) leads
     (c.in_ok-slot.ensures.origin ∙ c.onward-origin.ensures) c.in_ok-fill_slot_at.ensures.set.few chained)
@@ -52,9 +57,9 @@ returns c = record {
       let t = the_view c.self.inside in
       let n = c.in_ok-number.number in
       let p = c.in_ok-parent.parent.now in
-      let e : slot_at t.slots a.win.0 ≡ Some p = grind (arith, common_steps) in
-      let lines = extent-is a.nlines p.lines a.y c.in_ok-lines.lines (rw (← c.lines.ensures) (sym c.extent_inside.ensures ∙ c.in_ok-lines.ensures.ok_part)) in
-      let columns = extent-is a.ncols p.columns a.x c.in_ok-columns.columns (rw (← c.columns.ensures) (sym c.extent_inside-2.ensures ∙ c.in_ok-columns.ensures.ok_part)) in
+      let e : slot_at t.slots a.win.0 ≡ Some p = rw (← c.self.view_is) at c.in_ok-parent.ensures.found in
+      let lines = rw c.lines.ensures at c.in_ok-lines.ensures.ok in
+      let columns = rw c.columns.ensures at c.in_ok-columns.ensures.ok in
       let made = rw (c.place_from-place.ensures, c.place.ensures) at c.in_ok-slot.ensures.window in
       let free = rw (c.deref-2.ensures.value, c.in_ok-number.ensures.ok_part) at c.free_number.ensures.number in
       let next : next_window (windows t) ≡ n = ap (λ o. unwrap_or o standard_screen) (sym free) in
@@ -62,7 +67,7 @@ returns c = record {
       (windows-added t c.fill_slot_at.new.slots.items n c.in_ok-slot.slot c.in_ok-fill_slot_at.ensures.set
       (new_window c.in_ok-lines.lines c.in_ok-columns.columns (place_from p.place a.y a.x) (part_of a.win.0 a.y a.x)) made
       ∙ ap (under_number (windows t) n) (made_derived (window_map t.slots) p a.win.0 a.nlines a.ncols a.y a.x c.in_ok-lines.lines c.in_ok-columns.columns
-      (ap (option_map window_of) e) lines.given columns.given));
+      (ap (option_map window_of) e) lines.1 columns.1));
   unchanged = tt;
   sound = sound _ (invariant_of-self-2 c);
 }

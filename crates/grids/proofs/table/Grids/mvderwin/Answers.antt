@@ -1,5 +1,5 @@
 -- The window shows another part of its parent, and the origins are set again.
-use Rattle.std.proofs.Common.{arith, rules, refl}
+use Rattle.std.proofs.Common.{◌∙◌, arith, rules, refl, sym}
 use Rattle.std.proofs.lemmas.Grind.{common_steps}
 use Rattle.grids.specs.contracts.table.Grids.{the_view}
 use Rattle.grids.proofs.Shifts.{IsWindowTable-shifted, chained-shifted, windows-shifted}
@@ -10,13 +10,15 @@ pub settle-requires-clause-chained : goal.settle-requires-clause-chained
 settle-requires-clause-chained c =
     chained-shifted (the_view c.self.inside) c.shift_slot.new.slots.items c.args.win.0 c.args.par_y c.args.par_x c.self.invariant c.shift_slot.ensures
     c.in_ok-slot.slot.now c.in_ok-parent.parent.now c.in_ok-part.part
-    (grind (arith, common_steps)) (grind (arith, common_steps)) (grind (arith, common_steps)) (grind (arith, common_steps)) (grind (arith, common_steps))
+    (rw (← c.self.view_is) at c.in_ok-slot.ensures.found) (sym c.part.ensures ∙ c.in_ok-part.ensures.ok_part) (rw (← c.self.view_is) at c.in_ok-parent.ensures.found)
+    (grind (arith, common_steps)) (grind (arith, common_steps))
 
 pub invariant_of-self : goal.invariant_of-self
 invariant_of-self c =
     IsWindowTable-shifted (the_view c.self.inside) c.shift_slot.new.slots.items c.args.win.0 c.args.par_y c.args.par_x c.self.invariant c.shift_slot.ensures
     c.in_ok-slot.slot.now c.in_ok-parent.parent.now c.in_ok-part.part
-    (grind (arith, common_steps)) (grind (arith, common_steps)) (grind (arith, common_steps)) (grind (arith, common_steps)) (grind (arith, common_steps))
+    (rw (← c.self.view_is) at c.in_ok-slot.ensures.found) (sym c.part.ensures ∙ c.in_ok-part.ensures.ok_part) (rw (← c.self.view_is) at c.in_ok-parent.ensures.found)
+    (grind (arith, common_steps)) (grind (arith, common_steps))
     c.settle.new.slots.items c.settle.ensures
 
 pub returns : goal.returns

@@ -11,6 +11,9 @@ use Rattle.slots.proofs.Origins.{origin-alone}
 use Rattle.grids.proofs.Sounds.{sound}
 use Rattle.grids.proofs.table.Grids.newpad.Goals as goal
 
+pub invariant_of-self : goal.invariant_of-self
+invariant_of-self c = rw c.in_err-fill_slot_at.ensures.unchanged c.self.invariant
+
 pub invariant_of-self-2 : goal.invariant_of-self-2
 invariant_of-self-2 c =
     let t = the_view c.self.inside in

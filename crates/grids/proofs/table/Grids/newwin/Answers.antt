@@ -7,10 +7,13 @@ use Rattle.world.specs.calls.Making.{extent, next_window}
 use Rattle.world.specs.Panels.{standard_screen}
 use Rattle.grids.specs.Tables.{windows}
 use Rattle.grids.specs.contracts.table.Grids.{the_view}
-use Rattle.grids.proofs.NewWindows.{IsWindowTable-added, windows-added, alone_in, extent-is, placed_new}
+use Rattle.grids.proofs.NewWindows.{IsWindowTable-added, windows-added, alone_in, placed_new}
 use Rattle.slots.proofs.Origins.{origin-alone}
 use Rattle.grids.proofs.Sounds.{sound}
 use Rattle.grids.proofs.table.Grids.newwin.Goals as goal
+
+pub invariant_of-self : goal.invariant_of-self
+invariant_of-self c = rw c.in_err-fill_slot_at.ensures.unchanged c.self.invariant
 
 pub invariant_of-self-2 : goal.invariant_of-self-2
 invariant_of-self-2 c =
@@ -19,10 +22,8 @@ invariant_of-self-2 c =
     let k = c.in_ok-slot.slot in
     let kept = c.in_ok-slot.ensures.kept in
     let free = rw (c.deref.ensures.value, c.in_ok-number.ensures.ok_part) at c.free_number.ensures.free in
-    let lines = extent-is a.nlines t.lines a.begin_y c.in_ok-lines.lines (sym c.extent_inside.ensures ∙ c.in_ok-lines.ensures.ok_part) in
-    let columns = extent-is a.ncols t.columns a.begin_x c.in_ok-columns.columns (sym c.extent_inside-2.ensures ∙ c.in_ok-columns.ensures.ok_part) in
     IsWindowTable-added t c.fill_slot_at.new.slots.items c.in_ok-number.number k c.in_ok-fill_slot_at.ensures.set c.self.invariant free kept.0 (alone_in t.slots k k.cells kept.2 kept.1)
-    (placed_new t.lines t.columns c.in_ok-lines.lines c.in_ok-columns.columns a.begin_y a.begin_x blank_grid k c.in_ok-slot.ensures.window lines.inside columns.inside)
+    (placed_new t.lines t.columns c.in_ok-lines.lines c.in_ok-columns.columns a.begin_y a.begin_x blank_grid k c.in_ok-slot.ensures.window c.in_ok-lines.ensures.inside.1 c.in_ok-columns.ensures.inside.1)
     (λ chained. origin-alone t.slots c.fill_slot_at.new.slots.items c.in_ok-number.number k c.self.invariant.chained c.in_ok-fill_slot_at.ensures.set free.free kept.2 c.in_ok-slot.ensures.origin)
 
 pub returns : goal.returns
@@ -33,10 +34,8 @@ returns c = record {
       let a = c.args in
       let t = the_view c.self.inside in
       let n = c.in_ok-number.number in
-      let lines = extent-is a.nlines t.lines a.begin_y c.in_ok-lines.lines (sym c.extent_inside.ensures ∙ c.in_ok-lines.ensures.ok_part) in
-      let columns = extent-is a.ncols t.columns a.begin_x c.in_ok-columns.columns (sym c.extent_inside-2.ensures ∙ c.in_ok-columns.ensures.ok_part) in
       let made : ℕ → ℕ → Window = λ l m. new_window l m (Some (a.begin_y, a.begin_x)) blank_grid in
-      let found : made c.in_ok-lines.lines c.in_ok-columns.columns ≡ made (extent a.nlines t.lines a.begin_y) (extent a.ncols t.columns a.begin_x) = λ i. made (lines.given i) (columns.given i) in
+      let found : made c.in_ok-lines.lines c.in_ok-columns.columns ≡ made (extent a.nlines t.lines a.begin_y) (extent a.ncols t.columns a.begin_x) = λ i. made (c.in_ok-lines.ensures.ok.1 i) (c.in_ok-columns.ensures.ok.1 i) in
       let free = rw (c.deref.ensures.value, c.in_ok-number.ensures.ok_part) at c.free_number.ensures.number in
       let next : next_window (windows t) ≡ n = ap (λ o. unwrap_or o standard_screen) (sym free) in
       rw (← c.self.view_is, next)
