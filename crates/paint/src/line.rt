@@ -206,10 +206,9 @@ fn goes_on(shown: &[Shown], wanted: &[Shown], at: usize, end: usize, rendition: 
     requires same { length shown.now ≡ length wanted.now }
     requires at { at ≤ end }
     requires inside { end ≤ length wanted.now }
-    ensures inside { result ≡ true → at + 1 < end }
-    ensures first { result ≡ true → (slice_index_or wanted.now at shown_blank).rendition ≡ rendition }
-    ensures second { result ≡ true → (slice_index_or wanted.now (at + 1) shown_blank).rendition ≡ rendition }
-    ensures changed { result ≡ true → same_shown (slice_index_or shown.now (at + 1) shown_blank) (slice_index_or wanted.now (at + 1) shown_blank) ≡ false }
+    ensures { result ≡ true → (at + 1 < end) × ((slice_index_or wanted.now at shown_blank).rendition ≡ rendition)
+        × ((slice_index_or wanted.now (at + 1) shown_blank).rendition ≡ rendition)
+        × (same_shown (slice_index_or shown.now (at + 1) shown_blank) (slice_index_or wanted.now (at + 1) shown_blank) ≡ false) }
 {
     if end - at < 2 {
         return false;

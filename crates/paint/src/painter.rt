@@ -133,27 +133,18 @@ impl Painter {
         self.cursor = None;
         let size = (self.lines, self.columns);
         let (pen, runs, shown) = (&mut self.pen, &mut self.runs, &mut self.picture);
-        let sent = match changes {
-            Some(changes) if known.is_some() && !runs.order().is_empty() => {
-                show(
-                    pen, runs, sink, size, known, shown, picture, cursor, changes,
-                )?
-            }
-            _ => {
-                find_changes(&mut self.changes, changes, size.1, known, shown, picture);
-                show(
-                    pen,
-                    runs,
-                    sink,
-                    size,
-                    known,
-                    shown,
-                    picture,
-                    cursor,
-                    &self.changes,
-                )?
-            }
+        let given = if known.is_some() && !runs.order().is_empty() {
+            changes
+        } else {
+            None
         };
+        if given.is_none() {
+            find_changes(&mut self.changes, changes, size.1, known, shown, picture);
+        }
+        let changes = given.unwrap_or(&self.changes);
+        let sent = show(
+            pen, runs, sink, size, known, shown, picture, cursor, changes,
+        )?;
         self.cursor = Some(cursor);
         Ok(sent)
     }

@@ -1,5 +1,6 @@
--- `ends_of`: what the kit tries by itself takes seconds at these, which `search` finds at once.
-use Rattle.std.proofs.Common.{rules}
+-- `ends_of`: what the kit tries by itself takes seconds at these.
+use Rattle.std.proofs.Common.{arith, rules}
+use Rattle.std.proofs.lemmas.Grind.{elements}
 use Rattle.paint.proofs.line.ends_of.Goals as goal
 
 pub returns-clause-long : goal.returns-clause-long
@@ -7,3 +8,6 @@ returns-clause-long c = search rules
 
 pub returns-clause-ends : goal.returns-clause-ends
 returns-clause-ends c = search rules
+
+pub loop-x-preserved : goal.loop-x-preserved
+loop-x-preserved c = record { long = search rules; ends = grind (arith, elements) }
