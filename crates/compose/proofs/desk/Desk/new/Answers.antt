@@ -1,4 +1,5 @@
-use Rattle.std.proofs.Common.{rules}
+use Rattle.std.proofs.Common.{arith, rules}
+use Rattle.std.proofs.lemmas.Grind.{common_steps}
 use Rattle.compose.proofs.DamageCovers.{IsDesk-new}
 use Rattle.compose.proofs.desk.Desk.new.Goals as goal
 
@@ -7,3 +8,7 @@ invariant_of-result c = IsDesk-new _ c.args.lines c.args.cols (search rules) c.i
 
 pub returns-clause-sound : goal.returns-clause-sound
 returns-clause-sound c = (invariant_of-result c).sound
+
+-- what the kit tries first takes seconds at this
+pub returns-clause-world : goal.returns-clause-world
+returns-clause-world c = grind (arith, common_steps)
