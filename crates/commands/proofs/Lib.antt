@@ -14,3 +14,7 @@ pub mod TakenLemmas
 pub mod PictureTexts
 -- A stream is read into a terminal piece by piece; for `read_stream`
 pub mod FeedingLemmas
+-- A program to which subcommands are added in turn; for `command`
+pub mod SubcommandLemmas
+-- What is said of an error, by its kind; for `usage`
+pub mod RefusedLemmas

@@ -49,9 +49,11 @@ fn usage_fault(
 ) -> Result<Error, AllocError>
     ensures { IfOk result (λ e. kind_of e ≡ error) }
 {
-    subcommand(alloc, kind)?
-        .bin_name(name_in_usage(kind))?
-        .error(error, message)
+    let mut command = subcommand(alloc, kind)?.bin_name(name_in_usage(kind))?;
+    let error = command.error(error, message);
+    // by a call, since a drop of each of its fields here takes long to prove
+    drop(command);
+    error
 }
 
 /// The usage fault of a variable that is no size.

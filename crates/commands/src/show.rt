@@ -1,9 +1,11 @@
 //! Shows what a stream of terminal bytes leaves on a terminal.
 
-ghost use Rattle.std.specs.Prelude.{◌≡◌, ◌<◌, ◌⊎◌};
+ghost use Rattle.std.specs.Prelude.{◌≡◌, ◌<◌, ◌⊎◌, []};
+ghost use Rattle.ecma.specs.Readers.{HasRead, blank_terminal};
 ghost use Rattle.commands.specs.CommandLine.{IsSize};
 ghost use Rattle.commands.specs.Shows.{Shows, offset_line, terminal_text};
 ghost use Rattle.commands.specs.Statuses.{LacksMemory};
+ghost use Rattle.commands.specs.declared.requests.Job.{Job};
 ghost use Rattle.commands.specs.declared.status.Need.{Need};
 ghost use Rattle.commands.specs.steps.Feeding.{Feeds, LogsFault};
 ghost use Rattle.commands.specs.Written.{WritingEnds, outputs};
@@ -82,7 +84,28 @@ fn judge<L: Sink>(log: &mut L, fault: Option<NotInProfile>) -> u8
     }
 }
 
-/// Reads a stream to its end, prints the picture that it leaves on a terminal of the job's size, and gives the status.
+/// Reads a stream to its end into a terminal, prints the picture that it leaves, and gives the status.
+fn show_on<R: Source, O: Sink, L: Sink>(
+    terminal: &mut Terminal,
+    input: &mut R,
+    out: &mut O,
+    log: &mut L,
+) -> u8
+    ensures shown { (job : Job) → HasRead [] (blank_terminal job.lines job.cols) terminal.old
+        → Shows job (R.seen input.old) (R.seen input.new) (outputs (O.seen out.old) (L.seen log.old)) (outputs (O.seen out.new) (L.seen log.new)) result }
+    ensures log { result < 2 → (L.seen log.new).failures ≡ (L.seen log.old).failures }
+{
+    if !read_stream(input, terminal) {
+        return log_failure(log, ScriptFault::Reading);
+    }
+    if print_terminal(out, terminal) {
+        judge(log, terminal.fault())
+    } else {
+        log_failure(log, ScriptFault::Log)
+    }
+}
+
+/// Shows the stream that is read on a terminal of the job's size, and gives the status.
 pub fn show_stream<R: Source, O: Sink, L: Sink>(
     alloc: Global,
     job: Job,
@@ -96,16 +119,8 @@ pub fn show_stream<R: Source, O: Sink, L: Sink>(
         ⊎ Shows job (R.seen input.old) (R.seen input.new) (outputs (O.seen out.old) (L.seen log.old)) (outputs (O.seen out.new) (L.seen log.new)) result }
     ensures log { result < 2 → (L.seen log.new).failures ≡ (L.seen log.old).failures }
 {
-    let mut terminal = match Terminal::new(alloc, job.lines, job.cols) {
-        Ok(terminal) => terminal,
-        Err(_) => return no_memory(log, Need::Screen),
-    };
-    if !read_stream(input, &mut terminal) {
-        return log_failure(log, ScriptFault::Reading);
-    }
-    if print_terminal(out, &terminal) {
-        judge(log, terminal.fault())
-    } else {
-        log_failure(log, ScriptFault::Log)
+    match Terminal::new(alloc, job.lines, job.cols) {
+        Ok(mut terminal) => show_on(&mut terminal, input, out, log),
+        Err(_) => no_memory(log, Need::Screen),
     }
 }

@@ -1,7 +1,7 @@
 //! The definition of the command line, for `clap`.
 
 ghost use Rattle.std.specs.Prelude.{◌≡◌, IfOk, false};
-ghost use Rattle.clap.specs.Words.{app_of, new_app, rule_of, with_rule, with_subcommand};
+ghost use Rattle.clap.specs.Words.{app_of, new_app, rule_of, with_rule};
 ghost use Rattle.clap.specs.declared.builder.command.Command.TheViews.{out-Command};
 ghost use Rattle.commands.specs.CommandLine.{bare, check_mode, curspan, file_rule, log_rule, mode, on_screen, quiet_rule, size_rule, with_files};
 
@@ -20,6 +20,9 @@ A script has a call a line, and is read from standard input where no FILE is nam
 
 Example:
   printf 'addstr 0 hi\\nupdate_panels\\ndoupdate\\n' | curspan run --lines 24 --cols 80";
+
+/// The subcommands that need a screen.
+const KINDS: [Kind; 3] = [Kind::Run, Kind::Paint, Kind::Show];
 
 /// The help of the option for the lines of a screen.
 pub const LINES_HELP: &str = "Lines of the screen, 1 to 999 [env: LINES]";
@@ -160,20 +163,14 @@ fn program<'a>(alloc: Global) -> Command<'a>
         .subcommand_required(true)
 }
 
-/// A program with one more subcommand, that of a kind.
-fn with_kind<'a>(alloc: Global, program: Command<'a>, kind: Kind) -> Result<Command<'a>, AllocError>
-    ensures { IfOk result (λ c. app_of c ≡ with_subcommand (app_of program.entry) (mode kind).top) }
-{
-    program.subcommand(subcommand(alloc, kind)?)
-}
-
 /// The program's command line.
 pub fn command<'a>(alloc: Global) -> Result<Command<'a>, AllocError>
     ensures { IfOk result (λ c. app_of c ≡ curspan) }
 {
-    let mut program = program(alloc);
-    program = with_kind(alloc, program, Kind::Run)?;
-    program = with_kind(alloc, program, Kind::Paint)?;
-    program = with_kind(alloc, program, Kind::Show)?;
-    program.subcommand(checking(alloc)?)
+    let mut subcommands = Vec::with_capacity(alloc, KINDS.len() + 1)?;
+    for kind in KINDS {
+        subcommands.push(subcommand(alloc, kind)?)?;
+    }
+    subcommands.push(checking(alloc)?)?;
+    program(alloc).subcommands(subcommands)
 }

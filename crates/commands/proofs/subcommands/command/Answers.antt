@@ -1,21 +1,21 @@
--- `command`: the subcommands are added in turn.
-use Rattle.std.proofs.Common.{◌≡◌, ap, ◌∙◌}
+-- `command`: the subcommands are added in turn (`SubcommandLemmas`).
+use Rattle.std.proofs.Common.{◌≡◌, ◌∷◌, ◌∙◌, [], arith, ap, map}
 use Rattle.std.proofs.lemmas.Result.{IfOk-weaker}
-use Rattle.clap.specs.Words.{App, app_of, with_subcommand}
-use Rattle.commands.specs.CommandLine.{check_mode, mode}
+use Rattle.commands.specs.CommandLine.{bare, check_mode, mode}
 use Rattle.commands.specs.declared.requests.Kind.TheVariants.{Run, Paint, Show}
+use Rattle.commands.proofs.SubcommandLemmas.{all_added, kind_made, one_more}
 use Rattle.commands.proofs.subcommands.command.Goals as goal
-
--- a subcommand is added to a program that is known
-added : (sub : App) (old known new : App) → new ≡ with_subcommand old sub.top → old ≡ known → new ≡ with_subcommand known sub.top
-added sub old known new add is = add ∙ ap (λ a. with_subcommand a sub.top) is
 
 pub returns : goal.returns
 returns c =
-    let with_run = added (mode Run) _ _ _ c.in_ok-program.ensures c.program-program.ensures.app in
-    let with_paint = added (mode Paint) _ _ _ c.in_ok-program-2.ensures with_run in
-    let with_show = added (mode Show) _ _ _ c.in_ok-program-3.ensures with_paint in
-    let check = c.in_ok-checking.ensures in
-    IfOk-weaker c.subcommand.result _ _
-    (λ r h. added check_mode _ _ _ (h.shape check.local ∙ ap (λ (a : App). with_subcommand (app_of c.in_ok-program-3.program) a.top) check.app) with_show)
-    c.subcommand.ensures
+    let ends : c.loop-kind.kind-index ≡ 3 = omega arith in
+    let made = rw ends at c.loop-kind.invariant in
+    let all = one_more _ c.in_ok-checking.field-0 _ check_mode made c.in_ok-checking.ensures.app c.in_ok-checking.ensures.local in
+    IfOk-weaker c.subcommands.result _ _
+    (λ r adds. all_added _ r _ (mode Run ∷ mode Paint ∷ mode Show ∷ check_mode ∷ []) bare adds (ap (map _) c.in_ok-push-2.ensures.items ∙ all) c.program.ensures.app)
+    c.subcommands.ensures
+
+pub loop-kind-preserved : goal.loop-kind-preserved
+loop-kind-preserved c =
+    ap (map _) c.in_ok-push.ensures.items ∙ kind_made _ _ (Run ∷ Paint ∷ Show ∷ []) _ _ c.loop-kind-test.true c.loop-kind.invariant c.in_ok-subcommand.ensures.mode
+    c.in_ok-subcommand.ensures.local

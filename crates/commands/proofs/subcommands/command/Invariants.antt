@@ -1,0 +1,6 @@
+use Rattle.std.proofs.Common.{◌≡◌, map, take}
+use Rattle.commands.proofs.SubcommandLemmas.{defined, made}
+use Rattle.commands.proofs.subcommands.command.Given as goal
+
+abbrev pub invariant-loop-kind : goal.invariant-loop-kind
+invariant-loop-kind l = map defined l.subcommands.items ≡ made (take l.kind-index l.kind-items)
