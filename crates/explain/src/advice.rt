@@ -215,7 +215,11 @@ pub fn is_in(name: &[u8], text: Option<&[u8]>) -> bool
 pub fn is_among(name: &[u8], names: &[u8]) -> bool
     ensures { result ≡ list_any (bytes_eq name.now) (names_in names.now) }
 {
-    is_in(name, Some(names))
+    let (first, rest) = split_at_space(names);
+    if name == first {
+        return true;
+    }
+    is_in(name, rest)
 }
 
 /// What rows say of a name: the first of them that has the name. Rows without its first letter are passed over.

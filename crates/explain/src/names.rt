@@ -325,7 +325,7 @@ pub fn has_pair(text: Option<&[u8]>) -> bool
 pub fn has_byte(text: &[u8], byte: u8) -> bool
     ensures { result ≡ has_byte byte text.now }
 {
-    text.contains(&byte)
+    text.iter().any(|b| *b == byte)
 }
 
 /// Whether a text has digits, and nothing else.

@@ -4,7 +4,7 @@
 ghost use Rattle.std.specs.Prelude.{◌≡◌, ◌≤◌, ◌<◌, ◌+◌, ◌++◌, ◌∷◌, [], IfSome, MatchOption, length, option_map};
 ghost use Rattle.std.specs.Str.{bytes_eq};
 ghost use Rattle.script.specs.Pieces.{pieces_of, room_of};
-ghost use Rattle.explain.specs.Nearest.{are_swapped, begun_call, call_like, call_of_words, first_like, is_beginning, is_like, is_near, letters_of, near_call_of_words, nearest, nearest_other, same_call};
+ghost use Rattle.explain.specs.Nearest.{begun_call, call_like, call_of_words, first_like, is_beginning, is_first_wrong, is_like, is_near, letters_of, near_call_of_words, nearest, nearest_other, same_call};
 
 use crate::names::{Name, begins_with_letter};
 use script::{LONGEST_LINE, split_at_space};
@@ -59,16 +59,23 @@ fn has_letters_of(text: &[u8], other: &[u8]) -> bool
     }
 }
 
-/// Whether two texts have the same letters where the first two of one change places. The first letters are given with
-/// what follows them.
-fn are_swapped(letter: u8, rest: &[u8], other_letter: u8, others: &[u8]) -> bool
-    ensures { result ≡ are_swapped (letter ∷ letters_of rest.now) (other_letter ∷ letters_of others.now) }
+/// Whether texts have the same letters where the first letter of one, which is given with what follows it, is dropped,
+/// added or changed, or changes places with the next.
+fn is_first_wrong(letter: u8, rest: &[u8], other_letter: u8, others: &[u8]) -> bool
+    ensures { result ≡ is_first_wrong (letter ∷ letters_of rest.now) (other_letter ∷ letters_of others.now) }
 {
     match (first_letter(rest), first_letter(others)) {
-        (Some((second, after)), Some((other_second, afters))) => {
-            letter == other_second && second == other_letter && has_letters_of(after, afters)
+        (None, None) => true,
+        (Some((second, after)), None) => { second == other_letter && first_letter(after).is_none() }
+        (None, Some((other_second, afters))) => {
+            letter == other_second && first_letter(afters).is_none()
         }
-        _ => false,
+        (Some((second, after)), Some((other_second, afters))) => {
+            second == other_second && has_letters_of(after, afters)
+                || second == other_letter && has_letters_of(after, others)
+                || letter == other_second && has_letters_of(rest, afters)
+                || letter == other_second && second == other_letter && has_letters_of(after, afters)
+        }
     }
 }
 
@@ -85,10 +92,7 @@ fn is_near(text: &[u8], other: &[u8]) -> bool
             if letter == other_letter {
                 is_near(rest, others)
             } else {
-                has_letters_of(rest, others)
-                    || has_letters_of(rest, other)
-                    || has_letters_of(text, others)
-                    || are_swapped(letter, rest, other_letter, others)
+                is_first_wrong(letter, rest, other_letter, others)
             }
         }
     }
