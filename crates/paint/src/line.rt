@@ -206,9 +206,13 @@ fn goes_on(shown: &[Shown], wanted: &[Shown], at: usize, end: usize, rendition: 
     requires same { length shown.now ≡ length wanted.now }
     requires at { at ≤ end }
     requires inside { end ≤ length wanted.now }
-    ensures { result ≡ true → (at + 1 < end) × ((slice_index_or wanted.now at shown_blank).rendition ≡ rendition)
+    ensures on { result ≡ true → (at + 1 < end) × ((slice_index_or wanted.now at shown_blank).rendition ≡ rendition)
         × ((slice_index_or wanted.now (at + 1) shown_blank).rendition ≡ rendition)
         × (same_shown (slice_index_or shown.now (at + 1) shown_blank) (slice_index_or wanted.now (at + 1) shown_blank) ≡ false) }
+    ensures whole { at + 1 < end → (slice_index_or wanted.now at shown_blank).rendition ≡ rendition
+        → (slice_index_or wanted.now (at + 1) shown_blank).rendition ≡ rendition
+        → same_shown (slice_index_or shown.now (at + 1) shown_blank) (slice_index_or wanted.now (at + 1) shown_blank) ≡ false
+        → result ≡ true }
 {
     if end - at < 2 {
         return false;
