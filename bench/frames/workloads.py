@@ -1,6 +1,8 @@
 """Workloads as scripts of Curspan's calls: what programs on a terminal do, frame by frame, the same on every run.
 
 Each is a function of a `Script`, which has the size of the screen and takes calls, and of a number of frames."""
+import collections
+import itertools
 
 WORDS = ('window panel screen cursor line column cell text region border shadow mark copy order depth picture terminal rendition colour '
          'pair blank erase scroll insert delete parent derived origin place size table number list name byte stream token sink source '
@@ -450,7 +452,55 @@ def keywords(script, frames):
         script.frame()
 
 
-WORKLOADS = {each.__name__: each for each in (edit, mail, monitor, windows, repaint, sparse, colours, log, pager, levels, processes, keywords)}
+def life(script, frames):
+    """A game of life that is sown on 40 percent of the cells, and played again and again: living cells have the colour of their number of
+    neighbours."""
+    lines, columns = script.lines, script.columns
+    for pair in range(1, 7):
+        script.call('init_pair', pair, pair, 0)
+    boards, alive = [], {(y, x) for y in range(lines) for x in range(columns) if script.chance.below(10) < 4}
+    for _ in range(12):
+        around = itertools.product((-1, 0, 1), repeat=2)
+        beside = collections.Counter(((y + down) % lines, (x + right) % columns) for down, right in around if down or right for y, x in alive)
+        boards.append(script.pad(lines, columns))
+        by_pair = sorted((1 + beside[place] % 6, *place) for place in alive)
+        for pair, cells in itertools.groupby(by_pair, lambda cell: cell[0]):
+            script.call('color_set', boards[-1], pair)
+            for _, y, x in cells:
+                script.text(boards[-1], y, x, 'o')
+        alive = {place for place, count in beside.items() if count == 3 or count == 2 and place in alive}
+    for number in range(frames):
+        script.call('copywin', boards[number % 12], 0, 0, 0, 0, 0, lines - 1, columns - 1, 'off')
+        script.frame()
+
+
+def pan(script, frames):
+    """A map in colours on a pad, larger than the screen, over which the screen is panned by some lines and columns."""
+    lines, columns, chance = script.lines, script.columns, script.chance
+    for pair in range(1, 7):
+        script.call('init_pair', pair, pair, 0)
+    high, wide = lines * 3 // 2, columns * 3 // 2
+    ground = script.pad(high, wide)
+    above = [0] * wide
+    for y in range(high):
+        row = [chance.below(7)]
+        for kind in above[1:]:
+            row.append(chance.one_of((kind, row[-1], chance.below(7))))
+        script.call('move', ground, y, 0)
+        for kind, cells in itertools.groupby(row):
+            script.call('color_set', ground, kind)
+            script.call('addstr', ground, '.~"^%#*'[kind] * len(list(cells)))
+        above = row
+    top = left = 0
+    for _ in range(frames):
+        top = max(0, min(high - lines, top + chance.below(5) - 2))
+        left = max(0, min(wide - columns, left + chance.below(9) - 4))
+        script.call('pnoutrefresh', ground, top, left, 0, 0, lines - 1, columns - 1)
+        script.call('doupdate')
+
+
+WORKLOADS = {each.__name__: each for each in (edit, mail, monitor, windows, repaint, sparse, colours, log, pager, levels, processes, keywords,
+                                              life, pan)}
 
 
 def script_of(name, lines, columns, frames):
