@@ -103,8 +103,8 @@ class Bench:
         size = [str(lines), str(columns)]
         return ([self.program, 'run', '--lines', size[0], '--cols', size[1]], [f'{self.work}/ncurses_run', *size, os.devnull])
 
-    def of_frame(self, name, size, measure, frames, runs):
-        """What a frame takes of Curspan and of ncurses: a run of the whole script less one without its update_panels and doupdate."""
+    def of_frame(self, name, size, measure, frames, runs, sides):
+        """What a frame takes of Curspan, side 0, and of ncurses, side 1: a run of the whole script less one without its updates."""
         script = workloads.script_of(name, *SIZES[size], frames)
         whole, without = f'{self.work}/whole', f'{self.work}/without'
         write(whole, script)
@@ -112,17 +112,17 @@ class Bench:
         programs = self.programs(*SIZES[size])
         spent = {}
         for _ in range(runs):
-            for key in ((0, whole), (0, without), (1, whole), (1, without)):
+            for key in ((side, text) for side in sides for text in (whole, without)):
                 spent.setdefault(key, []).append(measure(programs[key[0]], key[1]))
-        return [(min(spent[i, whole]) - min(spent[i, without])) / frames for i in (0, 1)]
+        return [(min(spent[side, whole]) - min(spent[side, without])) / frames for side in sides]
 
     def time_of_frame(self, name, size, runs):
         """Microseconds a frame."""
-        return [each * 1e6 for each in self.of_frame(name, size, self.spend, TIMED_FRAMES[size], runs)]
+        return [each * 1e6 for each in self.of_frame(name, size, self.spend, TIMED_FRAMES[size], runs, (0, 1))]
 
-    def instructions_of_frame(self, name, size):
+    def instructions_of_frame(self, name, size, sides=(0, 1)):
         """Thousands of instructions a frame."""
-        return [each / 1e3 for each in self.of_frame(name, size, self.count, COUNTED_FRAMES[size], 1)]
+        return [each / 1e3 for each in self.of_frame(name, size, self.count, COUNTED_FRAMES[size], 1, sides)]
 
 
 def has_valgrind():
