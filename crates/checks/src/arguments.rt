@@ -114,24 +114,21 @@ fn is_stray(argument: &[u8]) -> bool
         || argument == b"--".as_slice()
 }
 
-/// An argument that is none, and its column.
-#[derive(Clone, Copy)]
-pub struct Stray<'a> {
-    pub column: usize,
-    pub argument: &'a [u8],
-}
-
-/// The first stray argument.
-pub fn find_stray<'a>(column: usize, forms: &[Form], text: Option<&'a [u8]>) -> Option<Stray<'a>>
+/// The first stray argument, and its column before it.
+pub fn find_stray<'a>(
+    column: usize,
+    forms: &[Form],
+    text: Option<&'a [u8]>,
+) -> Option<(usize, &'a [u8])>
     requires short { IfSome text (λ t. column + length t.now ≤ LONGEST_LINE + 2) }
-    ensures { option_map (λ stray. (stray.column, stray.argument.now)) result ≡ find_stray column (arguments forms.now (pieces_of text.entry)) }
+    ensures { option_map (λ stray. (stray.0, stray.1.now)) result ≡ find_stray column (arguments forms.now (pieces_of text.entry)) }
 {
     let Some(text) = text else { return None };
     match forms.split_first() {
         Some((form, others)) => {
             let (argument, rest) = next_argument(*form, text);
             if is_stray(argument) {
-                Some(Stray { column, argument })
+                Some((column, argument))
             } else {
                 find_stray(column + argument.len() + 1, others, rest)
             }
@@ -139,7 +136,7 @@ pub fn find_stray<'a>(column: usize, forms: &[Form], text: Option<&'a [u8]>) -> 
         None => {
             let (argument, rest) = split_at_space(text);
             if is_stray(argument) {
-                Some(Stray { column, argument })
+                Some((column, argument))
             } else {
                 find_stray(column + argument.len() + 1, &[], rest)
             }

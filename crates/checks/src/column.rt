@@ -72,8 +72,8 @@ fn column_of_number(line: &[u8], word: &[u8], text: Option<&[u8]>) -> usize
     requires short { length word.now + room_of text ≤ LONGEST_LINE }
     ensures { result ≡ column_of_number line.now (word.now ∷ pieces_of text.entry) }
 {
-    if let Some(stray) = find_stray(word.len() + 2, forms_of(word), text) {
-        return stray.column;
+    if let Some((column, _)) = find_stray(word.len() + 2, forms_of(word), text) {
+        return column;
     }
     match misplaced(line, word, text) {
         Some(ill) => ill.column,

@@ -1,14 +1,14 @@
 //! The line about a fault: where it is, what is there, and what is wanted; and the one about a call that every screen refuses.
 
-ghost use Rattle.std.specs.Prelude.{◌≡◌, ◌≤◌, ◌+◌, length};
+ghost use Rattle.std.specs.Prelude.{◌≡◌, ◌≤◌, ◌+◌, ◌*◌, ◌++◌, length};
 ghost use Rattle.script.specs.Pieces.{room_of};
+ghost use Rattle.script.specs.Words.{entry_of};
 ghost use Rattle.checks.specs.Faults.{column_of};
-ghost use Rattle.checks.specs.Findings.{Says};
+ghost use Rattle.checks.specs.Findings.{Says, listed};
 
 use crate::arguments::{IllFormed, count, find_ill_formed, find_stray, forms_of};
 use crate::column::{bad_byte, column_of, misplaced};
 use crate::said::{ROOM, Said};
-use crate::spelled::append_calls;
 use crate::suggest::suggest;
 use crate::written_names::names_of_arguments;
 use arrayvec::ArrayVec;
@@ -27,6 +27,30 @@ pub const FINDING_ROOM: usize = ROOM + 256;
 
 /// The line about a fault.
 pub type Finding = ArrayVec<u8, FINDING_ROOM>;
+
+/// How a word is written.
+fn spelled(word: Word) -> &'static [u8]
+    ensures text { result.now ≡ (entry_of word).word }
+    ensures short { length result.now ≤ 16 }
+{
+    word.name()
+}
+
+/// Appends some calls.
+fn append_calls(text: &mut Finding, words: &[Word])
+    requires { length text.old.items + 20 * length words.now ≤ FINDING_ROOM }
+    ensures text { text.new.items ≡ text.old.items ++ listed words.now }
+    ensures short { length text.new.items ≤ length text.old.items + 20 * length words.now }
+{
+    if let Some((word, others)) = words.split_first() {
+        append(text, b" ");
+        append(text, spelled(*word));
+        if !others.is_empty() {
+            append(text, b",");
+        }
+        append_calls(text, others);
+    }
+}
 
 /// The line that says something of a place.
 fn line_about(number: u64, column: usize, said: &Said) -> Finding
@@ -96,8 +120,8 @@ fn say_number(said: &mut Said, line: &[u8], word: &[u8], text: Option<&[u8]>)
     requires { length word.now + room_of text ≤ LONGEST_LINE }
 {
     say_taken(said, word, count(forms_of(word), text));
-    if let Some(stray) = find_stray(word.len() + 2, forms_of(word), text) {
-        said.text(if stray.argument.is_empty() {
+    if let Some((_, stray)) = find_stray(word.len() + 2, forms_of(word), text) {
+        said.text(if stray.is_empty() {
             b"; single spaces separate words, and none ends a line".as_slice()
         } else {
             b"; a comment has a line of its own"

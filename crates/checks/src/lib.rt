@@ -3,7 +3,7 @@
 //! - `arguments`, `column`: the arguments of a faulty line, and where its fault is
 //! - `everywhere`: the calls that every screen refuses
 //! - `findings`, `report`: the line about a fault, and about such a call, and the lines about a script
-//! - `said`, `spelled`: the text of such a line, as it is gathered, and the calls that it names
+//! - `said`: the text of such a line, as it is gathered
 //! - `suggest`: the calls to see in place of a word that is none
 //! - `written_curses`, `written_names`: what `tools/calls` writes
 #![tactic(auto)]
@@ -14,7 +14,6 @@ mod everywhere;
 mod findings;
 mod report;
 mod said;
-mod spelled;
 mod suggest;
 mod written_curses;
 mod written_names;
