@@ -66,13 +66,6 @@ fn is_bad_character(character: u8) -> bool
     !(is_printable(character) || matches!(character, 8 | 10 | 13))
 }
 
-/// Whether a text has such a character.
-fn has_bad_character(text: &[u8]) -> bool
-    ensures { result ≡ list_any is_bad_character text.now }
-{
-    text.iter().any(|ch| is_bad_character(*ch))
-}
-
 /// Whether no such window has the last place of the rectangle that begins at a place and is as large as another, which
 /// is given by its first and its last place.
 fn ends_past(win: WinId, from: (u16, u16), first: (u16, u16), last: (u16, u16)) -> bool
@@ -119,7 +112,7 @@ fn of_writing(writing: &Writing<'_>) -> Option<Refusal>
         | Writing::ColorSet { win, .. } | Writing::Bkgdpair { win, .. } if win.0 > MOST_WINDOWS => Some(NoSuchWindow),
         Writing::Move { win, y, x } if is_past(win, u32::from(y), u32::from(x)) => Some(OutsideWindow),
         Writing::Addch { ch, .. } if is_bad_character(ch) => Some(BadCharacter),
-        Writing::Addstr { text, .. } if has_bad_character(text) => Some(BadCharacter),
+        Writing::Addstr { text, .. } if text.iter().any(|ch| is_bad_character(*ch)) => Some(BadCharacter),
         Writing::Insch { ch, .. } | Writing::Bkgdset { ch, .. } if !is_printable(ch) => Some(BadCharacter),
         Writing::Setscrreg { win, top, bottom } if bottom < top || is_past(win, u32::from(bottom), 0) => Some(BadRegion),
         Writing::ColorSet { pair, .. } | Writing::Bkgdpair { pair, .. } if pair > u16::from(LAST_PAIR) => Some(BadPair),

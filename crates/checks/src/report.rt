@@ -26,14 +26,6 @@ struct Report {
     is_written: bool,
 }
 
-/// How a script was read, and what was said of it.
-#[derive(Clone, Copy)]
-struct Checked {
-    /// Whether it was read to its end.
-    is_whole: bool,
-    report: Report,
-}
-
 /// Writes one line more of a report, unless a write failed before.
 fn report_text<O: Sink>(out: &mut O, report: Report, text: &[u8]) -> Report
     ensures { ReportsMore (O.seen out.old) (O.seen out.new) report result (text.now ∷ []) }
@@ -116,9 +108,10 @@ fn report_read<O: Sink>(
     }
 }
 
-/// Reads a script to its end or until a read fails, and reports each faulty line. Nothing is flushed.
-fn report_lines<R: Source, O: Sink>(input: &mut R, out: &mut O) -> Checked
-    ensures { ReportsScript (R.seen input.old) (R.seen input.new) (O.seen out.old) (O.seen out.new) result.is_whole result.report }
+/// Reads a script to its end or until a read fails, reports each faulty line, and answers whether it was read to its end.
+/// Nothing is flushed.
+fn report_lines<R: Source, O: Sink>(input: &mut R, out: &mut O) -> (bool, Report)
+    ensures { ReportsScript (R.seen input.old) (R.seen input.new) (O.seen out.old) (O.seen out.new) result.0 result.1 }
 {
     let mut lines = Lines::new();
     let mut taken = Arguments::new();
@@ -132,18 +125,8 @@ fn report_lines<R: Source, O: Sink>(input: &mut R, out: &mut O) -> Checked
         report = report_read(out, report, number, end, is_kept, lines.line(), &mut taken);
         match end {
             LineEnd::Newline => number = number.saturating_add(1),
-            LineEnd::ScriptEnd => {
-                return Checked {
-                    is_whole: true,
-                    report,
-                };
-            }
-            LineEnd::ReadFailed => {
-                return Checked {
-                    is_whole: false,
-                    report,
-                };
-            }
+            LineEnd::ScriptEnd => return (true, report),
+            LineEnd::ReadFailed => return (false, report),
         }
     }
 }
@@ -170,13 +153,13 @@ fn count_line(n: u64) -> ArrayVec<u8, COUNT_ROOM>
 }
 
 /// Writes how many lines a report has, and flushes, and answers whether all of it went out.
-fn end_report<O: Sink>(out: &mut O, checked: Checked) -> bool
-    ensures { EndsReport (O.seen out.old) (O.seen out.new) checked.report result }
+fn end_report<O: Sink>(out: &mut O, report: Report) -> bool
+    ensures { EndsReport (O.seen out.old) (O.seen out.new) report result }
 {
-    if !checked.report.is_written {
+    if !report.is_written {
         return false;
     }
-    write_out(out, count_line(checked.report.faulty).as_slice())
+    write_out(out, count_line(report.faulty).as_slice())
 }
 
 /// Reads a script to its end or until a read fails, says on the output of each faulty line where it is and what is
@@ -189,13 +172,13 @@ pub fn check_script<R: Source, O: Sink, L: Sink>(input: &mut R, out: &mut O, log
     ensures log { result < 2 → (L.seen log.new).failures ≡ (L.seen log.old).failures }
 {
     let checked = report_lines(input, out);
-    if !end_report(out, checked) {
+    if !end_report(out, checked.1) {
         return log_failure(log, ScriptFault::Log);
     }
-    if !checked.is_whole {
+    if !checked.0 {
         return log_failure(log, ScriptFault::Reading);
     }
-    if checked.report.faulty == 0 {
+    if checked.1.faulty == 0 {
         ACCEPTED
     } else {
         BAD_TEXT

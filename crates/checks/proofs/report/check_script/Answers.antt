@@ -9,7 +9,7 @@ returns-then-not-end_report-clause-checked g c =
     let ended = rw c.if-not-end_report.true at (c.end_report.ensures _ _ report.reported) in
     record {
       text = report.text;
-      is_whole = c.report_lines-checked.result.is_whole;
+      is_whole = c.report_lines-checked.result.0;
       reads = report.reads;
       lines = report.lines;
       found = report.found;
