@@ -17,7 +17,7 @@ def finding(number, line, fault):
         forms = CALLS[word][0]
         pieces = pieces_of(line, forms)
         wanted = f'{len(forms)} argument' + ('' if len(forms) == 1 else 's')
-        what = f'{word} wants ' if fault.kind == BAD_ARGUMENT else f'{word} takes {wanted}, {len(pieces)} given: '
+        what = f'{word} wants ' if fault.kind == BAD_ARGUMENT else f'{word} takes {wanted}, {len(pieces)} given'
     return f'line {number}, column {fault.column}: {what}'
 
 

@@ -1,5 +1,5 @@
 -- The findings of a script, a line at a time.
-use Rattle.std.proofs.Common.{◌≡◌, ℕ, ◌+◌, ◌<◌, List, Option, [], ◌∷◌, ◌++◌, length, Bool, true, false, not, Err, refl, sym, ap, ◌∙◌, append-nil, append_assoc, length-append, arith}
+use Rattle.std.proofs.Common.{◌≡◌, ℕ, ◌+◌, ◌<◌, List, [], ◌∷◌, ◌++◌, length, Bool, true, false, not, Err, refl, sym, ap, subst, ◌∙◌, append-nil, append_assoc, length-append, arith}
 use Rattle.std.proofs.lemmas.Bool.{both_ways, false_from_ne_true}
 use Rattle.std.proofs.lemmas.Bool.Decides.{nat_tests}
 use Rattle.std.proofs.lemmas.Grind.{flat_map-append}
@@ -9,28 +9,27 @@ use Rattle.std.proofs.Math.Seq.{take-append-add}
 use Rattle.std.proofs.KnownBytes.{Appends-trans, Consumes-nil, Consumes-trans}
 use Rattle.std.specs.List.{All, flat_map, slice_split}
 use Rattle.std.specs.Io.KnownBytes.{Consumes, IsAtEnd}
-use Rattle.std.specs.Option.{option_map_or}
 use Rattle.cell.specs.declared.refusal.Refusal.{Refusal}
 use Rattle.streams.specs.Sinks.{Seen}
 use Rattle.streams.specs.Sources.{SourceSeen}
 use Rattle.script.specs.Characters.{is_newline}
 use Rattle.script.specs.Readings.{next_number, parse_line}
 use Rattle.script.specs.declared.bytes.LineEnd.{LineEnd}
-use Rattle.script.specs.declared.bytes.LineEnd.TheVariants.{Newline, ReadFailed}
+use Rattle.script.specs.declared.bytes.LineEnd.TheVariants.{Newline, ReadFailed, ScriptEnd}
 use Rattle.script.specs.declared.fault.TextFault.TheVariants.{LineTooLong}
 use Rattle.script.specs.declared.limits.TheConstants.{LONGEST_LINE}
 use Rattle.script.specs.Words.{placeless}
 use Rattle.world.specs.declared.call.Call.{Call}
-use Rattle.explain.specs.Everywhere.{refusal_everywhere, refused_line}
+use Rattle.checks.specs.Everywhere.{HoldsUpTo, IsRefusedEverywhere}
+use Rattle.world.specs.World.{World}
+use Rattle.world.specs.calls.Dispatch.{tests_of}
 use Rattle.script.specs.Lines.{EndsLine, HasNoNewline, IsKept, ReadingEnds, ReadsToEnd, end_failed, has_newline, met_end}
 use Rattle.commands.specs.Shows.{IsWholeAt}
 use Rattle.commands.specs.Written.{IsNotWritten, PuttingEnds, WritingEnds}
 use Rattle.commands.proofs.PutLemmas.{cut_before, not_put, nothing_put, put_after}
-use Rattle.explain.specs.Explanations.{explanation}
-use Rattle.explain.specs.Faults.{column_of}
-use Rattle.checks.specs.Checks.{count_line, count_of, report, findings, findings_from, finding_of, finding_of_call, finding_of_rest}
-use Rattle.checks.specs.declared.check.Report.{Report}
-use Rattle.checks.specs.steps.Checking.{IsReported, ReportsMore, ReportsScript, finding_of_read}
+use Rattle.checks.specs.Checks.{AreFindings, AreFindingsOf, ReportsLine, ReportsRest, count_line, count_of, report}
+use Rattle.checks.specs.declared.report.Report.{Report}
+use Rattle.checks.specs.steps.Checking.{IsReported, ReportsMore, ReportsRead, ReportsScript, ReportsSome}
 
 -- ---- lines with a finding
 
@@ -58,13 +57,11 @@ line_dropped first old before lines text faulty r written more = record { put = 
 -- ---- a call
 
 -- Where its text is makes no difference to what every screen refuses.
-same_refusal : (call : Call) → refusal_everywhere (placeless call) ≡ refusal_everywhere call
-same_refusal call = grind arith
+same_tests : (world : World) (call : Call) → tests_of world (placeless call) ≡ tests_of world call
+same_tests world call = grind arith
 
-pub call_found : (number : ℕ) (given call : Call) (o : Option Refusal) → o ≡ refusal_everywhere given → placeless given ≡ call
-    → option_map_or (λ why. refused_line number why ∷ []) o [] ≡ finding_of_call number call
-call_found number given call o which is =
-    ap (λ (r : Option Refusal). option_map_or (λ why. refused_line number why ∷ []) r []) (which ∙ sym (same_refusal given) ∙ ap refusal_everywhere is)
+pub call_found : (given call : Call) (why : Refusal) → IsRefusedEverywhere given why → placeless given ≡ call → IsRefusedEverywhere call why
+call_found given call why refused is = λ world sound. subst (HoldsUpTo why) (sym (same_tests world given) ∙ ap (tests_of world) is) (refused world sound)
 
 pub none_more : (out : Seen) (report : Report) → ReportsMore out out report report []
 none_more out report = λ first reported r. rw (append-nil reported) r
@@ -74,26 +71,29 @@ none_more out report = λ first reported r. rw (append-nil reported) r
 no_newlines : (line : List ℕ) → HasNoNewline line → All (λ b. is_newline b ≡ false) line
 no_newlines line h = grind (arith, false_from_ne_true, both_ways, list_any_at)
 
-line_first : (failed : Bool) (n : ℕ) (line : List ℕ) (pieces : List (List ℕ)) → 0 < length pieces
-    → findings_from failed n (line ∷ pieces) ≡ finding_of n line (parse_line line) ++ findings_from failed (next_number n) pieces
-line_first failed n line pieces some = grind arith
+line_first : (failed : Bool) (n : ℕ) (line : List ℕ) (pieces here others : List (List ℕ)) → 0 < length pieces → ReportsLine n line (parse_line line) here
+    → AreFindings failed (next_number n) pieces others → AreFindings failed n (line ∷ pieces) (here ++ others)
+line_first false n line pieces here others some first rest = (here, others, refl, first, rest)
+line_first true n line [] here others some first rest = elim some [ ]
+line_first true n line (piece ∷ pieces) here others some first rest = (here, others, refl, first, rest)
 
-line_of_script : (failed : Bool) (n : ℕ) (line left : List ℕ) → HasNoNewline line
-    → findings_from failed n (slice_split is_newline (line ++ 10 ∷ left)) ≡ finding_of n line (parse_line line) ++ findings_from failed (next_number n) (slice_split is_newline left)
-line_of_script failed n line left h = grind (arith, slice_split_at, no_newlines, line_first, length-slice_split)
+line_of_script : (failed : Bool) (n : ℕ) (line left : List ℕ) (here others : List (List ℕ)) → HasNoNewline line → ReportsLine n line (parse_line line) here
+    → AreFindings failed (next_number n) (slice_split is_newline left) others → AreFindings failed n (slice_split is_newline (line ++ 10 ∷ left)) (here ++ others)
+line_of_script failed n line left here others h first rest =
+    let split : slice_split is_newline (line ++ 10 ∷ left) ≡ line ∷ slice_split is_newline left = grind (arith, slice_split_at, no_newlines) in
+    rw split (line_first failed n line (slice_split is_newline left) here others (grind (arith, length-slice_split)) first rest)
 
 long_line : (line : List ℕ) → LONGEST_LINE < length line → parse_line line ≡ Err LineTooLong
 long_line line h = grind (arith, nat_tests)
 
--- the finding of a line, kept or not, is by what it says
-found_is : (n : ℕ) (line kept : List ℕ) (is_kept : Bool) (end : LineEnd) → IsKept is_kept line kept → end_failed end ≡ false
-    → finding_of_read n kept is_kept end ≡ finding_of n line (parse_line line)
-unfolding explanation column_of
-found_is n line kept is_kept end k e = grind (arith, long_line)
+-- what is reported of a line, kept or not, is by what it says
+found_is : (n : ℕ) (line kept : List ℕ) (is_kept : Bool) (end : LineEnd) (texts : List (List ℕ)) → IsKept is_kept line kept → end_failed end ≡ false
+    → ReportsRead n kept is_kept end texts → ReportsLine n line (parse_line line) texts
+found_is n line kept is_kept end texts k e r = grind (arith, long_line)
 
-found_is_rest : (n : ℕ) (line kept : List ℕ) (is_kept : Bool) → IsKept is_kept line kept → finding_of_read n kept is_kept ReadFailed ≡ finding_of_rest n line
-unfolding explanation column_of
-found_is_rest n line kept is_kept k = grind (arith, nat_tests)
+found_is_rest : (n : ℕ) (line kept : List ℕ) (is_kept : Bool) (texts : List (List ℕ)) → IsKept is_kept line kept → ReportsRead n kept is_kept ReadFailed texts
+    → ReportsRest n line texts
+found_is_rest n line kept is_kept texts k r = grind (arith, nat_tests)
 
 -- The findings of the lines of a script that were read, and what is left of it.
 pub record Checking (input rest : SourceSeen) (out after : Seen) (unused : List ℕ) (number : ℕ) (report : Report) : Type 0 where
@@ -104,7 +104,8 @@ pub record Checking (input rest : SourceSeen) (out after : Seen) (unused : List 
   pub read_once : input.met_end ≡ false → rest.read_past_end ≡ input.read_past_end
   pub failures : rest.failures ≡ input.failures
   pub reported : IsReported out after report lines
-  pub says : (failed : Bool) (more : List ℕ) → findings failed (text ++ more) ≡ lines ++ findings_from failed number (slice_split is_newline (unused ++ more))
+  pub says : (failed : Bool) (more : List ℕ) (others : List (List ℕ)) → AreFindings failed number (slice_split is_newline (unused ++ more)) others
+      → AreFindingsOf failed (text ++ more) (lines ++ others)
 
 pub checking_none : (input : SourceSeen) (out : Seen) (unused : List ℕ) (report : Report) → unused ≡ [] → report.is_written ≡ true → report.faulty ≡ 0
     → Checking input input out out unused 1 report
@@ -116,32 +117,48 @@ checking_none input out unused report e written none = record {
   read_once = λ unmet. refl;
   failures = refl;
   reported = none_reported out report written none;
-  says = λ failed more. rw e refl;
+  says = λ failed more others found. rw e at found;
 }
 
 -- How the reading of a whole line ends.
 abbrev pub LineReadingEnds : SourceSeen → SourceSeen → List ℕ → List ℕ → LineEnd → Type 0
 LineReadingEnds old new unused left end = ReadingEnds old new unused left (met_end end) (end_failed end) (has_newline end)
 
+-- the bytes of a line that has its newline, and more after them
+line_bytes : (unused bytes line left more : List ℕ) (end : LineEnd) → end ≡ Newline → EndsLine end (unused ++ bytes) line left
+    → unused ++ (bytes ++ more) ≡ line ++ 10 ∷ (left ++ more)
+line_bytes unused bytes line left more end is e = grind (arith, append_assoc)
+
 pub checking_next : (input r1 r2 : SourceSeen) (out o1 o2 : Seen) (unused left kept : List ℕ) (n : ℕ) (before after : Report) (is_kept : Bool) (end : LineEnd)
     → Checking input r1 out o1 unused n before → (r : ReadsToEnd r1 r2 unused left end) → IsKept is_kept r.line kept → end ≡ Newline
     → LineReadingEnds r1 r2 unused left end
-    → ReportsMore o1 o2 before after (finding_of_read n kept is_kept end) → Checking input r2 out o2 left (next_number n) after
+    → ReportsSome (ReportsRead n kept is_kept end) o1 o2 before after → Checking input r2 out o2 left (next_number n) after
 checking_next input r1 r2 out o1 o2 unused left kept n before after is_kept end s r k is reading more = record {
   text = s.text ++ r.bytes;
-  lines = s.lines ++ finding_of_read n kept is_kept end;
+  lines = s.lines ++ more.0;
   read = Consumes-trans _ _ _ _ _ s.read r.read;
   met = grind arith;
   read_once = grind arith;
   failures = grind arith;
-  reported = more out s.lines s.reported;
-  says = λ failed m. grind (arith, append_assoc, found_is, s.says failed (r.bytes ++ m), line_of_script failed n r.line (left ++ m) r.no_newline);
+  reported = more.2 out s.lines s.reported;
+  says = λ failed m others found.
+      let first : ReportsLine n r.line (parse_line r.line) more.0 = found_is n r.line kept is_kept end more.0 k (ap end_failed is) more.1 in
+      let all = line_of_script failed n r.line (left ++ m) more.0 others r.no_newline first found in
+      let whole : unused ++ (r.bytes ++ m) ≡ r.line ++ 10 ∷ (left ++ m) = line_bytes unused r.bytes r.line left m end is r.ends in
+      rw (append_assoc s.text r.bytes m, append_assoc s.lines more.0 others) (s.says failed (r.bytes ++ m) (more.0 ++ others) (rw whole all));
 }
 
 -- the findings of the last line
-last_found : (end : LineEnd) (n : ℕ) (all line left kept : List ℕ) (is_kept : Bool) → has_newline end ≡ false → EndsLine end all line left → HasNoNewline line → IsKept is_kept line kept
-    → findings_from (end_failed end) n (slice_split is_newline all) ≡ finding_of_read n kept is_kept end
-last_found end n all line left kept is_kept last e h k = grind (arith, slice_split_none, no_newlines, append-nil, found_is, found_is_rest)
+last_found : (end : LineEnd) (n : ℕ) (all line left kept : List ℕ) (is_kept : Bool) (texts : List (List ℕ)) → has_newline end ≡ false → EndsLine end all line left
+    → HasNoNewline line → IsKept is_kept line kept → ReportsRead n kept is_kept end texts
+    → AreFindings (end_failed end) n (slice_split is_newline all) texts
+last_found Newline n all line left kept is_kept texts last e h k r = cc
+last_found ScriptEnd n all line left kept is_kept texts last e h k r = let found = found_is n line kept is_kept ScriptEnd texts k refl r in
+    let split : slice_split is_newline all ≡ line ∷ [] = grind (arith, slice_split_none, no_newlines) in
+    rw split (texts, [], sym (append-nil texts), found, refl)
+last_found ReadFailed n all line left kept is_kept texts last e h k r = let found = found_is_rest n line kept is_kept texts k r in
+    let split : slice_split is_newline all ≡ line ∷ [] = grind (arith, slice_split_none, no_newlines) in
+    rw split found
 
 failed_unless_whole : (end : LineEnd) → has_newline end ≡ false → end_failed end ≡ not (met_end end)
 failed_unless_whole end last = grind arith
@@ -152,10 +169,10 @@ whole_at is_whole seen h = grind arith
 pub checked : (input r1 r2 : SourceSeen) (out o1 o2 : Seen) (unused left kept : List ℕ) (n : ℕ) (before after : Report) (is_kept is_whole : Bool) (end : LineEnd)
     → Checking input r1 out o1 unused n before → (r : ReadsToEnd r1 r2 unused left end) → IsKept is_kept r.line kept → has_newline end ≡ false → met_end end ≡ is_whole
     → LineReadingEnds r1 r2 unused left end
-    → ReportsMore o1 o2 before after (finding_of_read n kept is_kept end) → ReportsScript input r2 out o2 is_whole after
+    → ReportsSome (ReportsRead n kept is_kept end) o1 o2 before after → ReportsScript input r2 out o2 is_whole after
 checked input r1 r2 out o1 o2 unused left kept n before after is_kept is_whole end s r k last whole reading more =
     let failed : end_failed end ≡ not is_whole = failed_unless_whole end last ∙ ap not whole in
-    let says : findings (not is_whole) (s.text ++ r.bytes) ≡ s.lines ++ finding_of_read n kept is_kept end = grind (arith, last_found, s.says (not is_whole) r.bytes) in
+    let last_one : AreFindings (end_failed end) n (slice_split is_newline (unused ++ r.bytes)) more.0 = last_found end n _ r.line left kept is_kept more.0 last r.ends r.no_newline k more.1 in
     record {
       text = s.text ++ r.bytes;
       reads = record {
@@ -164,7 +181,9 @@ checked input r1 r2 out o1 o2 unused left kept n before after is_kept is_whole e
         failures = grind arith;
         read_once = grind arith;
       };
-      reported = rw says (more out s.lines s.reported);
+      lines = s.lines ++ more.0;
+      found = s.says (not is_whole) r.bytes more.0 (rw failed at last_one);
+      reported = more.2 out s.lines s.reported;
     }
 
 -- ---- the end of a report

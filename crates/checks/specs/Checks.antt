@@ -1,12 +1,13 @@
 -- What `check` reports of the script that it reads.
-use Rattle.std.specs.Prelude.{◌≡◌, ◌⊎◌, ◌==◌, ◌++◌, ◌∷◌, ◌-◌, ◌^◌, [], ℕ, Bool, true, false, not, List, Option, Result, Ok, Err, codes, decimal, length, min, nat_lt, if◌then◌else◌}
+use Rattle.std.specs.Prelude.{◌≡◌, ◌⊎◌, ⊤, ◌==◌, ◌++◌, ◌∷◌, ◌-◌, ◌^◌, [], ℕ, Bool, true, false, not, List, Option, Some, None, Result, Ok, Err, codes, decimal, length, min, nat_lt, if◌then◌else◌}
 use Rattle.std.specs.List.{flat_map, slice_split}
-use Rattle.std.specs.Option.{option_map_or}
 use Rattle.streams.specs.Sinks.{Seen}
 use Rattle.streams.specs.Sources.{SourceSeen}
 use Rattle.script.specs.Characters.{is_newline, newline}
-use Rattle.explain.specs.Everywhere.{refusal_everywhere, refused_line}
-use Rattle.explain.specs.Explanations.{finding}
+use Rattle.checks.specs.Everywhere.{IsRefusedEverywhere}
+use Rattle.checks.specs.Faults.{column_of}
+use Rattle.checks.specs.Findings.{Says}
+use Rattle.cell.specs.declared.refusal.Refusal.{Refusal}
 use Rattle.script.specs.Log.{last_line}
 use Rattle.script.specs.Readings.{next_number, parse_line}
 use Rattle.script.specs.declared.fault.ScriptFault.TheVariants.{Reading, Log}
@@ -19,28 +20,41 @@ use Rattle.commands.specs.Written.{IsNotWritten, IsWritten, Outputs, TriesToLog}
 
 -- ---- the findings
 
--- the finding of a call: none, unless every screen refuses it
-abbrev pub finding_of_call : ℕ → Call → List (List ℕ)
-finding_of_call number call = option_map_or (λ why. refused_line number why ∷ []) (refusal_everywhere call) []
+-- what is reported of a call: nothing, or a line where every screen refuses it
+abbrev pub ReportsCall : ℕ → Call → List (List ℕ) → Type 0
+ReportsCall number call [] = ⊤
+ReportsCall number call (text ∷ []) = ((why : Refusal) × IsRefusedEverywhere call why) × Says number 1 text
+ReportsCall number call texts = ⊥
 
--- the finding of a line by what it says: none, if that is nothing
-abbrev pub finding_of : ℕ → List ℕ → Result (Option Call) TextFault → List (List ℕ)
-finding_of number line (Ok call) = option_map_or (finding_of_call number) call []
-finding_of number line (Err fault) = finding number fault line ∷ []
+-- a line about a fault, and no other
+abbrev pub ReportsFault : ℕ → TextFault → List ℕ → List (List ℕ) → Type 0
+ReportsFault number fault line (text ∷ []) = Says number (column_of fault line) text
+ReportsFault number fault line texts = ⊥
+
+-- what is reported of a line by what it says, at which `run` would stop if that is a fault
+abbrev pub ReportsLine : ℕ → List ℕ → Result (Option Call) TextFault → List (List ℕ) → Type 0
+ReportsLine number line (Ok None) texts = texts ≡ []
+ReportsLine number line (Ok (Some call)) texts = ReportsCall number call texts
+ReportsLine number line (Err fault) texts = ReportsFault number fault line texts
 
 -- The bytes after the last newline, where a read failed after them: they are no line, unless they are too many.
-abbrev pub finding_of_rest : ℕ → List ℕ → List (List ℕ)
-finding_of_rest number rest = if nat_lt LONGEST_LINE (length rest) then finding number LineTooLong rest ∷ [] else []
+abbrev pub ReportsRestIf : Bool → ℕ → List ℕ → List (List ℕ) → Type 0
+ReportsRestIf true number rest texts = ReportsFault number LineTooLong rest texts
+ReportsRestIf false number rest texts = texts ≡ []
 
--- the findings of lines from a number on
-abbrev pub findings_from : Bool → ℕ → List (List ℕ) → List (List ℕ)
-findings_from failed n [] = []
-findings_from true n (rest ∷ []) = finding_of_rest n rest
-findings_from failed n (line ∷ lines) = finding_of n line (parse_line line) ++ findings_from failed (next_number n) lines
+abbrev pub ReportsRest : ℕ → List ℕ → List (List ℕ) → Type 0
+ReportsRest number rest texts = ReportsRestIf (nat_lt LONGEST_LINE (length rest)) number rest texts
+
+-- what is reported of lines from a number on
+abbrev pub AreFindings : Bool → ℕ → List (List ℕ) → List (List ℕ) → Type 0
+AreFindings failed n [] texts = texts ≡ []
+AreFindings true n (rest ∷ []) texts = ReportsRest n rest texts
+AreFindings failed n (line ∷ lines) texts =
+    (here others : List (List ℕ)) × (texts ≡ here ++ others) × ReportsLine n line (parse_line line) here × AreFindings failed (next_number n) lines others
 
 -- A line for each faulty line of a script whose bytes these are. A read failed after them, or they are all.
-abbrev pub findings : Bool → List ℕ → List (List ℕ)
-findings failed text = findings_from failed 1 (slice_split is_newline text)
+abbrev pub AreFindingsOf : Bool → List ℕ → List (List ℕ) → Type 0
+AreFindingsOf failed text = AreFindings failed 1 (slice_split is_newline text)
 
 -- ---- what is written
 
@@ -71,4 +85,6 @@ pub record Checks (input rest : SourceSeen) (old new : Outputs) (status : ℕ) :
   pub text : List ℕ
   pub is_whole : Bool
   pub reads : ReadsStream input rest is_whole text
-  pub ends : Reports is_whole (findings (not is_whole) text) old new status
+  pub lines : List (List ℕ)
+  pub found : AreFindingsOf (not is_whole) text lines
+  pub ends : Reports is_whole lines old new status

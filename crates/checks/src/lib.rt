@@ -1,9 +1,21 @@
-//! `check`, over any reader and writers.
-//! This is a library of its own, so that what explains a fault and the command line are proved beside each other.
+//! What `check` says of a script: of each faulty line where its fault is and what is wrong, and which calls every screen refuses.
 //!
-//! - `check`: reads a script, and reports its faulty lines
+//! - `arguments`, `column`: the arguments of a faulty line, and where its fault is
+//! - `everywhere`: the calls that every screen refuses
+//! - `findings`, `report`: the line about a fault, and about such a call, and the lines about a script
+//! - `said`: the text of such a line, as it is gathered
+//! - `suggest`: the calls to see in place of a word that is none
+//! - `written_curses`, `written_names`: what `tools/calls` writes
 #![tactic(auto)]
 
-mod check;
+mod arguments;
+mod column;
+mod everywhere;
+mod findings;
+mod report;
+mod said;
+mod suggest;
+mod written_curses;
+mod written_names;
 
-pub use check::check_script;
+pub use report::check_script;

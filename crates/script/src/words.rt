@@ -101,7 +101,7 @@ pub enum RefreshWord {
 /// Each word, in the list of its first letter: `a` has the list 1, as the last five bits of its code say, and `z` the
 /// list 26.
 #[rattlefmt::skip]
-const WORDS: [&[Word]; 32] = [
+pub const WORDS: [&[Word]; 32] = [
     &[],
     &[
         Word::Writing(Addch), Word::Writing(Addstr), Word::Writing(Attrset), Word::Writing(Attron),
@@ -269,6 +269,13 @@ impl Word {
         ensures count { length result.now ≤ MOST_ARGUMENTS }
     {
         self.row(&Arguments::new()).forms
+    }
+
+    /// How the word is written.
+    pub fn name(self) -> &'static [u8]
+        ensures { result.now ≡ (entry_of self).word }
+    {
+        self.name_and_forms().0
     }
 
     /// The call that the arguments make.

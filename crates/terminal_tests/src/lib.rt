@@ -1,4 +1,4 @@
-//! The tests of what knows no windows, by public calls alone: `cell`, `small_set`, `streams`, `script`, `explain`, `ecma`
+//! The tests of what knows no windows, by public calls alone: `cell`, `small_set`, `streams`, `script`, `ecma`
 //! and `paint`.
 //! `docs/DECISIONS.md` says why tests have crates of their own.
 #![tactic(auto)]
@@ -7,8 +7,6 @@
 mod of_cell;
 #[cfg(test)]
 mod of_ecma;
-#[cfg(test)]
-mod of_explain;
 #[cfg(test)]
 mod of_faulty_streams;
 #[cfg(test)]

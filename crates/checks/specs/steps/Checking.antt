@@ -1,24 +1,23 @@
 -- What reporting a script's lines one after another does: definitions for the contracts of single steps.
-use Rattle.std.specs.Prelude.{◌≡◌, ◌++◌, ◌∷◌, [], ℕ, Bool, true, false, not, List}
+use Rattle.std.specs.Prelude.{◌≡◌, ◌++◌, [], ℕ, Bool, true, false, not, List}
 use Rattle.std.specs.List.{flat_map}
 use Rattle.streams.specs.Sinks.{Seen}
 use Rattle.streams.specs.Sources.{SourceSeen}
-use Rattle.explain.specs.Explanations.{finding}
 use Rattle.script.specs.Readings.{parse_line}
 use Rattle.script.specs.declared.bytes.LineEnd.{LineEnd}
 use Rattle.script.specs.declared.bytes.LineEnd.TheVariants.{Newline, ScriptEnd, ReadFailed}
 use Rattle.script.specs.declared.fault.TextFault.TheVariants.{LineTooLong}
 use Rattle.commands.specs.Shows.{ReadsStream}
 use Rattle.commands.specs.Written.{PuttingEnds, WritingEnds}
-use Rattle.checks.specs.Checks.{count_of, report, findings, finding_of}
-use Rattle.checks.specs.declared.check.Report.{Report}
+use Rattle.checks.specs.Checks.{AreFindingsOf, ReportsFault, ReportsLine, count_of, report}
+use Rattle.checks.specs.declared.report.Report.{Report}
 
--- the finding of a line as it was read
-abbrev pub finding_of_read : ℕ → List ℕ → Bool → LineEnd → List (List ℕ)
-finding_of_read number line false end = finding number LineTooLong [] ∷ []
-finding_of_read number line true ReadFailed = []
-finding_of_read number line true Newline = finding_of number line (parse_line line)
-finding_of_read number line true ScriptEnd = finding_of number line (parse_line line)
+-- what is reported of a line as it was read
+abbrev pub ReportsRead : ℕ → List ℕ → Bool → LineEnd → List (List ℕ) → Type 0
+ReportsRead number line false end texts = ReportsFault number LineTooLong [] texts
+ReportsRead number line true ReadFailed texts = texts ≡ []
+ReportsRead number line true Newline texts = ReportsLine number line (parse_line line) texts
+ReportsRead number line true ScriptEnd texts = ReportsLine number line (parse_line line) texts
 
 -- These lines were written, all of them or a prefix, and counted.
 pub record IsReported (old new : Seen) (report : Report) (lines : List (List ℕ)) : Type 0 where
@@ -30,11 +29,17 @@ abbrev pub ReportsMore : Seen → Seen → Report → Report → List (List ℕ)
 ReportsMore old new before after lines =
     (first : Seen) (reported : List (List ℕ)) → IsReported first old before reported → IsReported first new after (reported ++ lines)
 
+-- The same of some lines.
+abbrev pub ReportsSome : (List (List ℕ) → Type 0) → Seen → Seen → Report → Report → Type 0
+ReportsSome P old new before after = (texts : List (List ℕ)) × P texts × ReportsMore old new before after texts
+
 -- A script was read to its end, or until a read failed, and is reported.
 pub record ReportsScript (old new : SourceSeen) (output after : Seen) (is_whole : Bool) (report : Report) : Type 0 where
   pub text : List ℕ
   pub reads : ReadsStream old new is_whole text
-  pub reported : IsReported output after report (findings (not is_whole) text)
+  pub lines : List (List ℕ)
+  pub found : AreFindingsOf (not is_whole) text lines
+  pub reported : IsReported output after report lines
 
 -- What was reported is ended and flushed, or that failed.
 abbrev pub EndsReport : Seen → Seen → Report → Bool → Type 0

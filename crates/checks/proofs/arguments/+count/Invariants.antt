@@ -1,0 +1,5 @@
+use Rattle.script.specs.Pieces.{room_of}
+use Rattle.checks.proofs.arguments.+count.Given as goal
+
+abbrev pub decreases-count : goal.decreases-count
+decreases-count l = room_of l.text

@@ -1,0 +1,5 @@
+use Rattle.std.proofs.Common.{length}
+use Rattle.checks.proofs.column.+column_after.Given as goal
+
+abbrev pub decreases-column_after : goal.decreases-column_after
+decreases-column_after l = length l.forms.now

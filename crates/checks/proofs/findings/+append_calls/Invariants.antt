@@ -1,0 +1,5 @@
+use Rattle.std.proofs.Common.{length}
+use Rattle.checks.proofs.findings.+append_calls.Given as goal
+
+abbrev pub decreases-append_calls : goal.decreases-append_calls
+decreases-append_calls l = length l.words.now

@@ -1,0 +1,6 @@
+-- `report_fault`: the one line.
+use Rattle.std.proofs.Common.{◌∷◌, [], sym}
+use Rattle.checks.proofs.report.report_fault.Goals as goal
+
+pub returns : goal.returns
+returns g c = (_ ∷ [], rw (sym c.as_slice.ensures.value) at c.finding.ensures, c.report_text.ensures)

@@ -1,5 +1,0 @@
-use Rattle.script.specs.Pieces.{room_of}
-use Rattle.explain.proofs.arguments.+count.Given as goal
-
-abbrev pub decreases-count : goal.decreases-count
-decreases-count l = room_of l.text

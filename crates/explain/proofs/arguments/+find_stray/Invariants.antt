@@ -1,5 +1,0 @@
-use Rattle.script.specs.Pieces.{room_of}
-use Rattle.explain.proofs.arguments.+find_stray.Given as goal
-
-abbrev pub decreases-find_stray : goal.decreases-find_stray
-decreases-find_stray l = room_of l.text

@@ -1,9 +1,0 @@
-use Rattle.std.proofs.Common.{◌≡◌, length}
-use Rattle.explain.specs.Faults.{after_bad_escape}
-use Rattle.explain.proofs.characters.after_bad_escape.Given as goal
-
-abbrev pub invariant-loop-first : goal.invariant-loop-first
-invariant-loop-first l = after_bad_escape l.text ≡ after_bad_escape l.left
-
-abbrev pub decreases-loop-first : goal.decreases-loop-first
-decreases-loop-first l = length l.left

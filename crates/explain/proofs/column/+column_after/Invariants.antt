@@ -1,5 +1,0 @@
-use Rattle.std.proofs.Common.{length}
-use Rattle.explain.proofs.column.+column_after.Given as goal
-
-abbrev pub decreases-column_after : goal.decreases-column_after
-decreases-column_after l = length l.forms.now

@@ -1,0 +1,127 @@
+"""What tools/calls writes for check: the names of each call's arguments, and from curses.table what is said of names that are no calls."""
+import sys
+
+from calls_text import fill
+
+# How many calls a row may name, as MOST_CALLS in crates/checks/src/said.rt, and how long a name may be, as NAME_ROOM in suggest.rt.
+MOST_CALLS, NAME_ROOM = 4, 32
+# How many rows stand in a group.
+GROUP = 9
+
+
+class Row:
+    """A row of the table: its line there, names, the calls to see, and a note."""
+
+    def __init__(self, number, line):
+        names, colon, rest = line.partition(':')
+        see, _, note = rest.partition('(')
+        self.number, self.names, self.see, self.note = number, names.split(), see.split(), note.strip().removesuffix(')')
+        if not colon or not self.names or not (self.see or self.note):
+            refuse(self, 'a row is names, a colon, and calls or a note in brackets')
+
+    def said(self):
+        """What is said after the name."""
+        return (f': {self.note}' if self.note else '') + (f': see {", ".join(self.see)}' if self.see else '')
+
+
+def refuse(row, why):
+    sys.exit(f'calls: curses.table, line {row.number}: {why}')
+
+
+def read_rows(path, calls):
+    """The rows by part, each part with its title."""
+    words, seen, parts = {call.word for call in calls}, {}, []
+    for number, line in enumerate(path.read_text().split('\n'), 1):
+        if line.startswith('== '):
+            parts.append((line[3:], []))
+        elif line and not line.startswith('#'):
+            look_at(Row(number, line), parts[-1][1], words, seen)
+    return parts
+
+
+def look_at(row, rows, words, seen):
+    """Adds a row to those of its part, if it is right."""
+    for name in row.names:
+        if name in words:
+            refuse(row, f'{name} is a call')
+        if name in seen:
+            refuse(row, f'{name} stands in line {seen[name]} too')
+        if name != name.lower() or len(name) > NAME_ROOM:
+            refuse(row, f'{name} has letters in upper case, or is longer than {NAME_ROOM} bytes')
+        seen[name] = row.number
+    for call in row.see:
+        if call not in words:
+            refuse(row, f'{call} is no call')
+    if len(row.see) > MOST_CALLS:
+        refuse(row, f'a row names {MOST_CALLS} calls at most')
+    if row.names != sorted(row.names) or (rows and rows[-1].names[0] > row.names[0]):
+        refuse(row, f'{row.names[0]} is out of order')
+    rows.append(row)
+
+
+def row_of_rattle(row, variants):
+    rest = f'&[{", ".join(variants[it] for it in row.see)}], b"{escaped(row.note)}")'
+    names = fill(f'b"{" ".join(row.names)}",', '       ', 154, '(').replace('\n', ' \\\n')
+    return f'{names} {rest}' if len(names.split('\n')[-1] + rest) < 150 else f'{names}\n       {rest}'
+
+
+def escaped(text):
+    return text.replace('\\', '\\\\').replace('"', '\\"')
+
+
+def table(parts, calls):
+    """The rows in groups, since a proof over one long list of rows takes much longer."""
+    variants = {call.word: f'{call.group}({call.variant})' for call in calls}
+    rows = [row_of_rattle(row, variants) for _, rows in parts for row in rows]
+    groups = [',\n      '.join(rows[at:at + GROUP]) for at in range(0, len(rows), GROUP)]
+    return '\n'.join([f'#[rattlefmt::skip]\npub const CURSES: [&[Row]; {len(groups)}] = [', *(f'    &[{group}],' for group in groups), '];'])
+
+
+def entries(parts):
+    """The rows of the first part as the manual has them."""
+    for row in parts[0][1]:
+        said = row.note.replace('\\', '\\e').replace('-', '\\-')
+        see = f'see {bold(row.see)}' if row.see else ''
+        yield '.IP \\(bu 2\n' + fill(f'{bold(row.names)}: {"; ".join(it for it in [said, see] if it)}', '')
+
+
+def bold(names):
+    return ', '.join(f'\\fB{name}\\fR' for name in names)
+
+
+def case(parts):
+    """A case that has each name as a line."""
+    said = [(name, row.said()) for _, rows in parts for row in rows for name in row.names]
+    lines = [f'line {number}, column 1: unknown call "{name}"{text}' for number, (name, text) in enumerate(said, 1)]
+    return '\n'.join(['Each name of curses.table; tools/calls writes this case.', '--- words check', '--- script', *(name for name, _ in said), '--- out',
+                      *lines, f'{len(said)} faulty lines', '--- status 2', ''])
+
+
+def names(group, calls):
+    """The function that has the names of the arguments of a group's calls, those with the same in one arm."""
+    of_names = {}
+    for call in calls:
+        of_names.setdefault(' '.join(name for name, _ in call.arguments), []).append(f'{group}Word::{call.variant}')
+    arms = [fill(f'{" | ".join(words)} => b"{text}",'.replace('" | "', '"\xa0|\xa0"'), '        ', 150).replace('\xa0', ' ') for text, words in of_names.items()]
+    return '\n'.join(['#[rattlefmt::skip]', f'fn of_{group.lower()}(word: {group}Word) -> &\'static [u8]',
+                      f'    ensures {{ HasNames (words.{group} word) result.now }}', '{', '    match word {', *arms, '    }', '}'])
+
+
+def all_names(groups):
+    arms = [f'        Word::{group}(word) => of_{group.lower()}(word),' for group in groups]
+    whole = '\n'.join(['/// The names of a call\'s arguments, in their order, with a space between any two.', 'pub fn names_of_arguments(word: Word) -> &\'static [u8]',
+                       '    ensures { HasNames word result.now }', '{', '    match word {', *arms, '    }', '}'])
+    return '\n\n'.join([*(names(group, calls) for group, (_, calls) in groups.items()), whole])
+
+
+def parts(path, groups):
+    calls = [call for _, its in groups.values() for call in its]
+    rows = read_rows(path, calls)
+    yield 'crates/checks/src/written_names.rt', 'arguments', all_names(groups)
+    yield 'crates/checks/src/written_curses.rt', 'curses', table(rows, calls)
+    yield 'docs/curspan.1', 'curses', '\n'.join(entries(rows))
+
+
+def cases(path, groups):
+    calls = [call for _, its in groups.values() for call in its]
+    yield 'cases/check/names_of_curses_that_are_no_calls.case', case(read_rows(path, calls))
