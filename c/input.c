@@ -50,7 +50,7 @@ int ungetch(int key) {
 
 int flushinp(void) {
     if (!stdscr) return ERR;
-    if (curspan_terminal.line >= 0) tcflush(curspan_terminal.line, TCIFLUSH);
+    if (curspan_the_tty.line >= 0) tcflush(curspan_the_tty.line, TCIFLUSH);
     queue.count = queue.keys = 0;
     return OK;
 }
@@ -77,7 +77,7 @@ static bool wait_for_input(int milliseconds) {
     int left = milliseconds;
     bool found = false;
     clock_gettime(CLOCK_MONOTONIC, &begun);
-    while (curspan_wait(curspan_terminal.in, left, &found) == WAIT_STOPPED) {
+    while (curspan_wait(curspan_the_tty.in, left, &found) == WAIT_STOPPED) {
         curspan_redraw_after_stop();
         if (queue.keys > 0) return false;
         if (milliseconds >= 0) left = since(&begun) < milliseconds ? milliseconds - (int)since(&begun) : 0;
@@ -87,7 +87,7 @@ static bool wait_for_input(int milliseconds) {
 
 /* Whether reading waits for a byte: not from a descriptor that the program has so. */
 static bool is_blocking(void) {
-    int flags = fcntl(curspan_terminal.in, F_GETFL);
+    int flags = fcntl(curspan_the_tty.in, F_GETFL);
     return flags >= 0 && !(flags & O_NONBLOCK);
 }
 
@@ -95,7 +95,7 @@ static bool is_blocking(void) {
 static int read_byte(void) {
     unsigned char byte;
     ssize_t count;
-    while ((count = read(curspan_terminal.in, &byte, 1)) < 0 && errno == EINTR && curspan_redraw_after_stop()) continue;
+    while ((count = read(curspan_the_tty.in, &byte, 1)) < 0 && errno == EINTR && curspan_redraw_after_stop()) continue;
     return count == 1 ? byte : ERR;
 }
 
@@ -145,7 +145,7 @@ static int key_of_line(WINDOW *win) {
 
 /* Whether getch waits for a whole line, which is edited meanwhile. */
 static bool wants_line(void) {
-    return queue.count == 0 && curspan_terminal.line >= 0 && !curspan_modes.raw && !curspan_modes.cbreak && !queue.is_reading_line;
+    return queue.count == 0 && curspan_the_tty.line >= 0 && !curspan_modes.raw && !curspan_modes.cbreak && !queue.is_reading_line;
 }
 
 /* The key that comes next, or ERR where none comes in time. */
@@ -180,7 +180,7 @@ int wgetch(WINDOW *win) {
     curspan_redraw_after_stop();
     look_at_size();
     if (queue.keys == 0 && wants_line()) return key_of_line(win);
-    if (queue.keys == 0 && win->keypad != (curspan_terminal.is_keypad != 0)) curspan_switch_keypad(win->keypad);
+    if (queue.keys == 0 && win->keypad != (curspan_the_tty.is_keypad != 0)) curspan_switch_keypad(&curspan_the_tty, win->keypad);
     show(win);
     if (queue.keys > 0) return pull();
     int key = next_key(win);
@@ -197,7 +197,7 @@ int wgetch(WINDOW *win) {
 int keypad(WINDOW *win, bool flag) {
     if (is_there(win) == ERR) return ERR;
     win->keypad = flag;
-    curspan_switch_keypad(flag);
+    curspan_switch_keypad(&curspan_the_tty, flag);
     return OK;
 }
 
