@@ -95,11 +95,12 @@ static int size_of(int wanted, int found, int other) {
     return size < CURSPAN_LARGEST_SCREEN ? size : CURSPAN_LARGEST_SCREEN;
 }
 
-void curspan_find_size(const struct curspan_tty *tty, int *lines, int *columns) {
+bool curspan_find_size(const struct curspan_tty *tty, int *lines, int *columns) {
     struct winsize found = {0, 0, 0, 0};
-    if (ioctl(tty->out, TIOCGWINSZ, &found) != 0) found.ws_row = found.ws_col = 0;
-    *lines = size_of(*lines, found.ws_row, 24);
-    *columns = size_of(*columns, found.ws_col, 80);
+    bool is_there = ioctl(tty->out, TIOCGWINSZ, &found) == 0;
+    *lines = size_of(*lines, is_there ? found.ws_row : 0, 24);
+    *columns = size_of(*columns, is_there ? found.ws_col : 0, 80);
+    return is_there;
 }
 
 /* ---- those of curspan_terminal.h */
@@ -124,7 +125,7 @@ struct terminal {
 
 const char *curspan_terminal_text(uint32_t status) {
     static const char *const texts[] = {
-        "done", "a descriptor is no terminal's", "TERM is dumb: such a terminal has no screen", "the terminal is open already",
+        "done", "there is no terminal", "TERM is dumb: such a terminal has no screen", "the terminal is open already",
         "the terminal is not open", "another terminal owns the signals", "another thread opened the terminal",
         "another process opened the terminal, of which this one is a child", "there is no memory for it",
         "the screen is closed, or has no such pair or colour", "the system refused it", "the terminal was given back meanwhile",
@@ -338,12 +339,12 @@ static long now(void) {
 static bool is_changed(struct terminal *it) {
     int lines = 0, columns = 0;
     bool owns = it->options & CURSPAN_TERMINAL_SIGNALS, was_stopped = owns && curspan_was_stopped(), is_told = owns && curspan_was_resized();
-    curspan_find_size(&it->tty, &lines, &columns);
-    bool is_other = lines != it->lines || columns != it->columns;
+    bool is_other = curspan_find_size(&it->tty, &lines, &columns) && (lines != it->lines || columns != it->columns);
+    if (!was_stopped && !is_told && !is_other) return false;
     it->lines = lines;
     it->columns = columns;
-    if (was_stopped || is_told || is_other) it->tty.was_away = true;
-    return was_stopped || is_told || is_other;
+    it->tty.was_away = true;
+    return true;
 }
 
 /* Waits for input for some milliseconds, or without end where they are negative, and answers whether something is there, or else the key that

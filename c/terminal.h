@@ -50,8 +50,8 @@ enum { CURSPAN_INPUT_FLAGS = BRKINT | IXON | PARMRK }; /* which are off then */
 #define CURSPAN_LEAVE "\033[0m\033[?25h\033[%d;1H\033[?1049l"
 /* The number in a variable of the environment, or -1 where there is none, or one past 32767. */
 int curspan_number_in(const char *variable);
-/* The size that is wanted, else that of the terminal, else 24 by 80. */
-void curspan_find_size(const struct curspan_tty *tty, int *lines, int *columns);
+/* The size that is wanted, else that of the terminal, else 24 by 80. Answers whether the terminal is there. */
+bool curspan_find_size(const struct curspan_tty *tty, int *lines, int *columns);
 
 /* ---- recolouring.c */
 

@@ -37,7 +37,7 @@ typedef struct curspan_terminal {
 
 enum curspan_terminal_status {
     CURSPAN_TERMINAL_OK = 0,
-    CURSPAN_TERMINAL_NONE = 1,          /* a descriptor is no terminal's */
+    CURSPAN_TERMINAL_NONE = 1,          /* there is no terminal */
     CURSPAN_TERMINAL_DUMB = 2,          /* TERM is dumb */
     CURSPAN_TERMINAL_OPEN = 3,          /* it is open already */
     CURSPAN_TERMINAL_CLOSED = 4,        /* it isn't open */
