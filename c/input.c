@@ -7,7 +7,6 @@
 #include <fcntl.h>
 #include <stdlib.h>
 #include <string.h>
-#include <time.h>
 #include <unistd.h>
 
 int ESCDELAY = 1000;
@@ -63,24 +62,16 @@ int set_escdelay(int milliseconds) {
 
 /* ---- bytes */
 
-/* How many milliseconds have passed since some time. */
-static long since(const struct timespec *then) {
-    struct timespec now;
-    clock_gettime(CLOCK_MONOTONIC, &now);
-    return (long)(now.tv_sec - then->tv_sec) * 1000 + (now.tv_nsec - then->tv_nsec) / 1000000;
-}
-
 /* Waits until there is something to read, without end where the time is negative, and answers whether there is. A
    signal ends it, but for the one that stops the program, unless the terminal has another size after it. */
 static bool wait_for_input(int milliseconds) {
-    struct timespec begun;
+    long end = curspan_now() + milliseconds;
     int left = milliseconds;
     bool found = false;
-    clock_gettime(CLOCK_MONOTONIC, &begun);
     while (curspan_wait(curspan_the_tty.in, left, &found) == WAIT_STOPPED) {
         curspan_redraw_after_stop();
         if (queue.keys > 0) return false;
-        if (milliseconds >= 0) left = since(&begun) < milliseconds ? milliseconds - (int)since(&begun) : 0;
+        if (milliseconds >= 0) left = curspan_left_until(end);
     }
     return found;
 }

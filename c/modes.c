@@ -64,45 +64,41 @@ void curspan_end_raw(const struct curspan_modes *modes, const struct termios *li
 
 /* ---- the modes of X/Open */
 
-int cbreak(void) {
-    struct termios modes = curspan_the_tty.program;
-    modes.c_lflag &= ~(tcflag_t)ICANON;
-    modes.c_lflag |= ISIG;
-    modes.c_iflag &= ~(tcflag_t)ICRNL;
-    curspan_read_at_once(&modes);
-    if (change(&modes) == ERR) return ERR;
-    curspan_modes.cbreak = true;
+/* Makes other modes those of the program, and notes how keys are read then. */
+static int change_reading(const struct termios *modes, bool is_raw, bool is_cbreak) {
+    if (change(modes) == ERR) return ERR;
+    curspan_modes.raw = is_raw;
+    curspan_modes.cbreak = is_cbreak;
     curspan_modes.half_delay = 0;
     return OK;
+}
+
+int cbreak(void) {
+    struct termios modes = curspan_the_tty.program;
+    modes.c_lflag = (modes.c_lflag & ~(tcflag_t)ICANON) | ISIG;
+    modes.c_iflag &= ~(tcflag_t)ICRNL;
+    curspan_read_at_once(&modes);
+    return change_reading(&modes, curspan_modes.raw, true);
 }
 
 int nocbreak(void) {
     struct termios modes = curspan_the_tty.program;
     modes.c_lflag |= ICANON;
     modes.c_iflag |= ICRNL;
-    if (change(&modes) == ERR) return ERR;
-    curspan_modes.cbreak = false;
-    curspan_modes.half_delay = 0;
-    return OK;
+    return change_reading(&modes, curspan_modes.raw, false);
 }
 
 int raw(void) {
     struct termios modes = curspan_the_tty.program;
     curspan_make_raw(&modes);
-    if (change(&modes) == ERR) return ERR;
-    curspan_modes.raw = curspan_modes.cbreak = true;
-    curspan_modes.half_delay = 0;
-    return OK;
+    return change_reading(&modes, true, true);
 }
 
 int noraw(void) {
     struct termios modes = curspan_the_tty.program;
     modes.c_lflag |= ISIG | ICANON | (curspan_the_tty.shell.c_lflag & IEXTEN);
     modes.c_iflag |= CURSPAN_INPUT_FLAGS;
-    if (change(&modes) == ERR) return ERR;
-    curspan_modes.raw = curspan_modes.cbreak = false;
-    curspan_modes.half_delay = 0;
-    return OK;
+    return change_reading(&modes, false, false);
 }
 
 int halfdelay(int tenths) {
@@ -146,19 +142,8 @@ int typeahead(int descriptor) {
 
 /* ---- modes of the program and of the shell */
 
-int def_prog_mode(void) {
-    struct termios modes;
-    if (get(&modes) == ERR) return ERR;
-    curspan_the_tty.program = modes;
-    return OK;
-}
-
-int def_shell_mode(void) {
-    struct termios modes;
-    if (get(&modes) == ERR) return ERR;
-    curspan_the_tty.shell = modes;
-    return OK;
-}
+int def_prog_mode(void) { return get(&curspan_the_tty.program); }
+int def_shell_mode(void) { return get(&curspan_the_tty.shell); }
 
 int reset_prog_mode(void) {
     if (set(&curspan_the_tty.program) == ERR) return ERR;
@@ -189,14 +174,8 @@ int baudrate(void) {
         speed_t code;
         int bits;
     } rates[] = {
-        {B50, 50}, {B75, 75}, {B110, 110}, {B134, 134}, {B150, 150}, {B200, 200}, {B300, 300}, {B600, 600}, {B1200, 1200},
-        {B1800, 1800}, {B2400, 2400}, {B4800, 4800}, {B9600, 9600}, {B19200, 19200}, {B38400, 38400},
-#ifdef B57600
-        {B57600, 57600},
-#endif
-#ifdef B115200
-        {B115200, 115200},
-#endif
+        {B50, 50}, {B75, 75}, {B110, 110}, {B134, 134}, {B150, 150}, {B200, 200}, {B300, 300}, {B600, 600}, {B1200, 1200}, {B1800, 1800},
+        {B2400, 2400}, {B4800, 4800}, {B9600, 9600}, {B19200, 19200}, {B38400, 38400}, {B57600, 57600}, {B115200, 115200},
     };
     if (curspan_the_tty.line < 0) return ERR;
     speed_t speed = cfgetospeed(&curspan_the_tty.shell);

@@ -103,6 +103,17 @@ bool curspan_find_size(const struct curspan_tty *tty, int *lines, int *columns) 
     return is_there;
 }
 
+long curspan_now(void) {
+    struct timespec time;
+    clock_gettime(CLOCK_MONOTONIC, &time);
+    return (long)time.tv_sec * 1000 + time.tv_nsec / 1000000;
+}
+
+int curspan_left_until(long end) {
+    long left = end - curspan_now();
+    return left > 0 ? (int)left : 0;
+}
+
 /* ---- those of curspan_terminal.h */
 
 enum { TYPED = 256, ESCAPE_DELAY = 100, PASTE_DELAY = 1000, SLICE = 500, PASTE_ENDS = 6 };
@@ -329,12 +340,6 @@ uint32_t curspan_terminal_init_pair(curspan_terminal *terminal, curspan *screen,
 
 /* ---- keys */
 
-static long now(void) {
-    struct timespec time;
-    clock_gettime(CLOCK_MONOTONIC, &time);
-    return (long)time.tv_sec * 1000 + time.tv_nsec / 1000000;
-}
-
 /* Whether the size is another than was told last, or the terminal was given back meanwhile. */
 static bool is_changed(struct terminal *it) {
     int lines = 0, columns = 0;
@@ -349,19 +354,18 @@ static bool is_changed(struct terminal *it) {
 
 /* Waits for input for some milliseconds, or without end where they are negative, and answers whether something is there, or else the key that
    tells what came in its place: none, a new size or a signal. One that owns no signals looks at its size meanwhile. */
-static uint32_t wait_for_input(struct terminal *it, long milliseconds) {
+static uint32_t wait_for_input(struct terminal *it, int milliseconds) {
     bool found = false, owns = it->options & CURSPAN_TERMINAL_SIGNALS;
-    long end = now() + milliseconds, left = milliseconds;
-    for (;; left = end - now() > 0 ? end - now() : 0) {
-        int slice = milliseconds < 0 || (!owns && left > SLICE) ? (owns ? -1 : SLICE) : (int)left;
+    long end = curspan_now() + milliseconds;
+    for (;;) {
+        int left = milliseconds < 0 ? -1 : curspan_left_until(end), how = WAIT_ENDED;
         struct pollfd input = {it->tty.in, POLLIN, 0};
-        int how = WAIT_ENDED, count = 0;
-        if (owns) how = curspan_wait(it->tty.in, slice, &found);
-        else found = (count = poll(&input, 1, slice)) > 0;
-        if (found) return 0;
+        if (owns) how = curspan_wait(it->tty.in, left, &found);
+        else if (poll(&input, 1, left < 0 || left > SLICE ? SLICE : left) < 0) how = WAIT_INTERRUPTED;
+        if (found || input.revents) return 0;
         if (is_changed(it)) return CURSPAN_KEY_RESIZE;
-        if (how == WAIT_INTERRUPTED || count < 0) return CURSPAN_KEY_INTERRUPTED;
-        if (milliseconds >= 0 && now() >= end) return CURSPAN_KEY_NONE;
+        if (how == WAIT_INTERRUPTED) return CURSPAN_KEY_INTERRUPTED;
+        if (milliseconds >= 0 && curspan_left_until(end) == 0) return CURSPAN_KEY_NONE;
     }
 }
 
@@ -417,12 +421,12 @@ static bool take_key(struct terminal *it, bool is_all, curspan_key *key) {
 
 static uint32_t next_key(struct terminal *it, int milliseconds, curspan_key *key) {
     const curspan_key none = {CURSPAN_KEY_NONE, 0, "", 0};
-    long end = now() + milliseconds;
+    long end = curspan_now() + milliseconds;
     *key = none;
     if (is_changed(it)) return CURSPAN_KEY_RESIZE;
     while (!take_key(it, it->is_at_end, key)) {
         bool is_begun = it->is_pasting || it->taken < it->count;
-        long left = is_begun ? (it->is_pasting ? PASTE_DELAY : it->escape_delay) : milliseconds < 0 ? -1 : end - now() > 0 ? end - now() : 0;
+        int left = it->is_pasting ? PASTE_DELAY : is_begun ? it->escape_delay : milliseconds < 0 ? -1 : curspan_left_until(end);
         *key = none;
         if (it->is_at_end) return CURSPAN_KEY_EOF;
         uint32_t code = wait_for_input(it, left);

@@ -48,6 +48,9 @@ void curspan_make_raw(struct termios *modes);
 enum { CURSPAN_INPUT_FLAGS = BRKINT | IXON | PARMRK }; /* which are off then */
 #define CURSPAN_ENTER "\033[?1049h"
 #define CURSPAN_LEAVE "\033[0m\033[?25h\033[%d;1H\033[?1049l"
+/* Milliseconds of a clock, and how many are left until some time. */
+long curspan_now(void);
+int curspan_left_until(long end);
 /* The number in a variable of the environment, or -1 where there is none, or one past 32767. */
 int curspan_number_in(const char *variable);
 /* The size that is wanted, else that of the terminal, else 24 by 80. Answers whether the terminal is there. */

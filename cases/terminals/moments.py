@@ -20,7 +20,10 @@ ENDS = ['Ctrl-C', 'TERM', 'HUP', 'Ctrl-Z', 'fault']
 
 def end(terminal, command, how):
     if how == 'Ctrl-C':
+        is_taken = b'\x1b[?1049h' in terminal.bytes
         terminal.type(b'\x03')
+        if not is_taken and not terminal.ends(5):
+            terminal.type(b'\x03')    # while it begins, Python may lose one in a callback of an import, and bash while it waits for a command
     elif how in ('TERM', 'HUP'):
         os.kill(terminal.process, {'TERM': signal.SIGTERM, 'HUP': signal.SIGHUP}[how])
     elif how == 'fault':
@@ -42,10 +45,11 @@ def try_one(command, how, moment):
     limit = time.monotonic() + moment
     while time.monotonic() < limit:
         terminal.read(0.001)
+    state = 'taken' if b'1049h' in terminal.bytes else 'not taken yet'
     good = end(terminal, command, how) and terminal.ends(15)
     found = terminal.differences(3)
     if not good or found:
-        print(f'moments: {command[-1]}, {how} after {moment:.4f} s: {"it ends, and " if good else "it does not end, or was not given back; "}'
+        print(f'moments: {command[-1]}, {how} after {moment:.4f} s, {state}: {"it ends, and " if good else "it does not end, or was not given back; "}'
               f'other than before: {found}; what came last: {terminal.bytes[-200:]!r}')
     terminal.close()
     return good and not found

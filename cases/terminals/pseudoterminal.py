@@ -17,7 +17,8 @@ def lead(slave, words, environment, statuses, commands):
     if job == 0:
         os.setpgid(0, 0)
         os.tcsetpgrp(slave, os.getpid())
-        signal.signal(signal.SIGTTOU, signal.SIG_DFL)
+        for number in (signal.SIGTTOU, signal.SIGINT, signal.SIGQUIT, signal.SIGHUP):
+            signal.signal(number, signal.SIG_DFL)    # whoever runs the tests may ignore some
         for descriptor in range(3):
             os.dup2(slave, descriptor)
         os.closerange(3, 256)
