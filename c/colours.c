@@ -2,36 +2,31 @@
    others, Curspan knows each pair by two colours of its own, and those that the program gave it are put into the bytes on their way to the
    terminal. Alternate characters are of pairs of their own, by which it is known where the terminal draws with them. Nothing here is proved. */
 #include "inside.h"
+#include "terminal.h"
 
 #include <string.h>
 
-enum {
-    EIGHT = 8,
-    OWN = -1,    /* the terminal's own colour */
-    SHORTEST = 9 /* what comes before the end of a selection that has colours */
-};
+enum { EIGHT = 8, OWN = OWN_COLOUR };
 
 static short colours[LAST_PAIR + 1][2]; /* what the program gave */
 static bool is_given[LAST_PAIR + 1];
 static uint8_t owns[2][LAST_PAIR + 1]; /* the pair of curspan.h that stands for one which may be shown, alternate or not, or 0 */
 static attr_t stands_for[LAST_OWN + 1]; /* and which one that is */
-static bool has_pairs;                 /* some of them may be shown */
 static short defaults[2] = {OWN, OWN}; /* the colours of pair 0, and those that -1 is */
 static bool has_defaults;              /* they are set */
 static bool is_own_colour;             /* -1 is a colour */
-static bool is_alternate;               /* the terminal draws alternate characters now */
+static struct curspan_palette palette; /* all this, as it was last asked for */
+static bool is_stale = true;           /* it isn't so any more */
 
 void curspan_forget_colours(void) {
     memset(colours, 0, sizeof colours);
     memset(is_given, 0, sizeof is_given);
     memset(owns, 0, sizeof owns);
     memset(stands_for, 0, sizeof stands_for);
-    has_pairs = has_defaults = is_own_colour = is_alternate = false;
+    memset(&palette, 0, sizeof palette);
+    has_defaults = is_own_colour = false;
     defaults[0] = defaults[1] = OWN;
-}
-
-void curspan_number_pairs(curspan *screen) {
-    for (int own = 1; own <= LAST_OWN; own++) curspan_init_pair(screen, (uint16_t)own, (uint16_t)(own / EIGHT), (uint16_t)(own % EIGHT));
+    is_stale = true;
 }
 
 /* A pair of curspan.h that stands for none: that of the same number, or the last one. */
@@ -47,7 +42,7 @@ int curspan_use_pair(attr_t attrs) {
     if ((attrs & (A_COLOR | A_ALTCHARSET)) == 0) return 0;
     if (!of[pair]) of[pair] = (uint8_t)free_own(attrs & A_ALTCHARSET ? LAST_OWN : pair);
     if (!of[pair]) return attrs & A_ALTCHARSET ? of[0] : 0;
-    has_pairs = true;
+    if (stands_for[of[pair]] != (attrs & (A_COLOR | A_ALTCHARSET))) is_stale = palette.changes = true;
     stands_for[of[pair]] = attrs & (A_COLOR | A_ALTCHARSET);
     return of[pair];
 }
@@ -59,7 +54,7 @@ static int set_defaults(int foreground, int background) {
     if (!stdscr) return ERR;
     defaults[0] = (short)foreground;
     defaults[1] = (short)background;
-    has_defaults = true;
+    has_defaults = is_stale = true;
     return OK;
 }
 
@@ -103,7 +98,7 @@ int init_pair(short pair, short foreground, short background) {
     if (is_given[pair] && is_shown(pair) && are_others) curspan_invalidate(&curspan_the_screen);
     colours[pair][0] = foreground;
     colours[pair][1] = background;
-    is_given[pair] = true;
+    is_given[pair] = is_stale = true;
     return OK;
 }
 
@@ -117,56 +112,17 @@ int pair_content(short pair, short *foreground, short *background) {
 /* ---- the bytes */
 
 /* A colour of a pair: the foreground or the background. */
-static int colour_of(int pair, int which) {
+static signed char colour_of(int pair, int which) {
     int colour = is_given[pair] ? colours[pair][which] : OWN;
-    return colour == OWN ? defaults[which] : colour;
+    return (signed char)(colour == OWN ? defaults[which] : colour);
 }
 
-static uint8_t digit_of(int colour) { return (uint8_t)('0' + (colour == OWN ? 9 : colour)); }
-
-static uint8_t *append(uint8_t *out, const void *text, size_t length) {
-    memmove(out, text, length);
-    return out + length;
-}
-
-/* Lets the terminal draw alternate characters from there on, or the others. */
-static uint8_t *switch_to(uint8_t *out, bool flag) {
-    if (flag == is_alternate) return out;
-    is_alternate = flag;
-    return append(out, flag ? "\033(0" : CURSPAN_PLAIN_SET, 3);
-}
-
-/* Appends a selection of a rendition with the colours that its pair has for the program: it ends as 3f;4bm where it has one. */
-static uint8_t *append_selection(uint8_t *out, const uint8_t *bytes, size_t length) {
-    const uint8_t *end = bytes + length - 1;
-    bool has_colours = length > SHORTEST && end[-6] == ';' && end[-5] == '3' && end[-3] == ';' && end[-2] == '4';
-    attr_t attrs = has_colours ? stands_for[(end[-4] - '0') * EIGHT + end[-1] - '0'] : A_NORMAL;
-    int pair = PAIR_NUMBER(attrs), foreground = colour_of(pair, 0), background = colour_of(pair, 1);
-    const uint8_t selected[] = {';', '3', digit_of(foreground), ';', '4', digit_of(background)};
-    if (has_colours) length -= sizeof selected;
-    out = append(switch_to(out, attrs & A_ALTCHARSET), bytes, length - 1);
-    if (foreground != OWN || background != OWN) out = append(out, selected, sizeof selected);
-    return append(out, "m", 1);
-}
-
-/* Where a control sequence ends that begins there. */
-static const uint8_t *end_of(const uint8_t *begin, const uint8_t *last) {
-    const uint8_t *at = begin + 1;
-    while (at < last && (*at < '@' || *at == '[')) at++;
-    return at < last ? at + 1 : last;
-}
-
-size_t curspan_recolour(const uint8_t *bytes, size_t length, uint8_t *out) {
-    const uint8_t *last = bytes + length, *begin, *end;
-    uint8_t *to = out;
-    bool changes = has_pairs || defaults[0] != OWN || defaults[1] != OWN;
-    while (changes && bytes < last && (begin = memchr(bytes, '\033', (size_t)(last - bytes)))) {
-        end = end_of(begin, last);
-        to = append(to, bytes, (size_t)(begin - bytes));
-        to = end[-1] == 'm' ? append_selection(to, begin, (size_t)(end - begin)) : append(to, begin, (size_t)(end - begin));
-        bytes = end;
+struct curspan_palette *curspan_palette_now(void) {
+    for (int own = 0; is_stale && own <= LAST_OWN; own++) {
+        for (int which = 0; which < 2; which++) palette.colours[own][which] = colour_of(PAIR_NUMBER(stands_for[own]), which);
+        palette.are_alternate[own] = stands_for[own] & A_ALTCHARSET;
     }
-    return (size_t)(append(to, bytes, (size_t)(last - bytes)) - out);
+    if (is_stale && (defaults[0] != OWN || defaults[1] != OWN)) palette.changes = true;
+    is_stale = false;
+    return &palette;
 }
-
-void curspan_note_alternate(bool flag) { is_alternate = flag; }

@@ -7,7 +7,6 @@
 #include <fcntl.h>
 #include <stdlib.h>
 #include <string.h>
-#include <time.h>
 #include <unistd.h>
 
 int ESCDELAY = 1000;
@@ -50,7 +49,7 @@ int ungetch(int key) {
 
 int flushinp(void) {
     if (!stdscr) return ERR;
-    if (curspan_terminal.line >= 0) tcflush(curspan_terminal.line, TCIFLUSH);
+    if (curspan_the_tty.line >= 0) tcflush(curspan_the_tty.line, TCIFLUSH);
     queue.count = queue.keys = 0;
     return OK;
 }
@@ -63,31 +62,23 @@ int set_escdelay(int milliseconds) {
 
 /* ---- bytes */
 
-/* How many milliseconds have passed since some time. */
-static long since(const struct timespec *then) {
-    struct timespec now;
-    clock_gettime(CLOCK_MONOTONIC, &now);
-    return (long)(now.tv_sec - then->tv_sec) * 1000 + (now.tv_nsec - then->tv_nsec) / 1000000;
-}
-
 /* Waits until there is something to read, without end where the time is negative, and answers whether there is. A
    signal ends it, but for the one that stops the program, unless the terminal has another size after it. */
 static bool wait_for_input(int milliseconds) {
-    struct timespec begun;
+    long end = curspan_now() + milliseconds;
     int left = milliseconds;
     bool found = false;
-    clock_gettime(CLOCK_MONOTONIC, &begun);
-    while (curspan_wait(curspan_terminal.in, left, &found) == WAIT_STOPPED) {
+    while (curspan_wait(curspan_the_tty.in, left, &found) == WAIT_STOPPED) {
         curspan_redraw_after_stop();
         if (queue.keys > 0) return false;
-        if (milliseconds >= 0) left = since(&begun) < milliseconds ? milliseconds - (int)since(&begun) : 0;
+        if (milliseconds >= 0) left = curspan_left_until(end);
     }
     return found;
 }
 
 /* Whether reading waits for a byte: not from a descriptor that the program has so. */
 static bool is_blocking(void) {
-    int flags = fcntl(curspan_terminal.in, F_GETFL);
+    int flags = fcntl(curspan_the_tty.in, F_GETFL);
     return flags >= 0 && !(flags & O_NONBLOCK);
 }
 
@@ -95,7 +86,7 @@ static bool is_blocking(void) {
 static int read_byte(void) {
     unsigned char byte;
     ssize_t count;
-    while ((count = read(curspan_terminal.in, &byte, 1)) < 0 && errno == EINTR && curspan_redraw_after_stop()) continue;
+    while ((count = read(curspan_the_tty.in, &byte, 1)) < 0 && errno == EINTR && curspan_redraw_after_stop()) continue;
     return count == 1 ? byte : ERR;
 }
 
@@ -145,7 +136,7 @@ static int key_of_line(WINDOW *win) {
 
 /* Whether getch waits for a whole line, which is edited meanwhile. */
 static bool wants_line(void) {
-    return queue.count == 0 && curspan_terminal.line >= 0 && !curspan_modes.raw && !curspan_modes.cbreak && !queue.is_reading_line;
+    return queue.count == 0 && curspan_the_tty.line >= 0 && !curspan_modes.raw && !curspan_modes.cbreak && !queue.is_reading_line;
 }
 
 /* The key that comes next, or ERR where none comes in time. */
@@ -180,7 +171,7 @@ int wgetch(WINDOW *win) {
     curspan_redraw_after_stop();
     look_at_size();
     if (queue.keys == 0 && wants_line()) return key_of_line(win);
-    if (queue.keys == 0 && win->keypad != (curspan_terminal.is_keypad != 0)) curspan_switch_keypad(win->keypad);
+    if (queue.keys == 0 && win->keypad != (curspan_the_tty.is_keypad != 0)) curspan_switch_keypad(&curspan_the_tty, win->keypad);
     show(win);
     if (queue.keys > 0) return pull();
     int key = next_key(win);
@@ -197,7 +188,7 @@ int wgetch(WINDOW *win) {
 int keypad(WINDOW *win, bool flag) {
     if (is_there(win) == ERR) return ERR;
     win->keypad = flag;
-    curspan_switch_keypad(flag);
+    curspan_switch_keypad(&curspan_the_tty, flag);
     return OK;
 }
 

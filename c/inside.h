@@ -139,6 +139,8 @@ typedef struct {
 } curspan_spelling;
 
 curspan_spelling curspan_spell_part(curspan_unfinished *begun, uint8_t byte);
+/* The character that some bytes begin with, and its length: 0 where more must come, and ERR where they begin none. */
+int curspan_decode(const uint8_t *bytes, size_t count, uint32_t *character);
 /* Says that a character is begun at the cursor, or that it was finished there. */
 void curspan_keep_begun(WINDOW *win, int y, int x);
 /* Forgets the character that is begun where the cursor was moved since. */
@@ -207,8 +209,6 @@ void curspan_take_panels(void);
 /* Forgets all panels. */
 void curspan_forget_panels(void);
 
-/* Gives each pair of a screen colours of its own, by which curspan_recolour knows it. */
-void curspan_number_pairs(curspan *screen);
 /* Forgets the colours of pairs. */
 void curspan_forget_colours(void);
 /* The pair of curspan.h that stands for the program's in some attributes, and for A_ALTCHARSET in them, from then on. There are 63: where all
@@ -216,14 +216,8 @@ void curspan_forget_colours(void);
 int curspan_use_pair(attr_t attrs);
 /* What a pair of curspan.h stands for. */
 attr_t curspan_attributes_of(int own);
-/* Appends some bytes for the terminal to others, with the colours that pairs have now, and answers how many were appended: not more than
-   CURSPAN_RECOLOURED times as many. They may be behind the others with room for all between. */
-size_t curspan_recolour(const uint8_t *bytes, size_t length, uint8_t *out);
-enum { CURSPAN_RECOLOURED = 4 };
-/* Lets the terminal draw no alternate characters. */
-#define CURSPAN_PLAIN_SET "\033(B"
-/* Notes whether the terminal may draw alternate characters. */
-void curspan_note_alternate(bool flag);
+/* What the pairs of curspan.h are now, in the bytes on their way. */
+struct curspan_palette *curspan_palette_now(void);
 
 static inline bool is_number(int n) { return n >= 0 && n <= NUMBER; }
 

@@ -3,8 +3,6 @@
 #include "inside.h"
 #include "terminal.h"
 
-#include "sequences.h"
-
 #include <stdlib.h>
 #include <string.h>
 
@@ -27,18 +25,13 @@ static void take_out(struct key **at) {
     if (key->is_defined) free(key);
 }
 
-/* Whether the keys of this terminal have a sequence. */
-static bool is_of_terminal(const struct curspan_sequence *sequence) {
-    return !sequence->type || strncmp(type_of_terminal, sequence->type, strlen(sequence->type)) == 0;
-}
-
 void curspan_forget_keys(const char *type) {
     while (keys) take_out(&keys);
     if (!type) type = getenv("TERM");
     snprintf(type_of_terminal, sizeof type_of_terminal, "%s", type ? type : "unknown");
     for (size_t i = CURSPAN_SEQUENCES; i-- > 0;) {
         const struct key key = {keys, curspan_sequences[i].bytes, curspan_sequences[i].key, false, false};
-        if (!is_of_terminal(&curspan_sequences[i])) continue;
+        if (!curspan_is_of_type(&curspan_sequences[i], type_of_terminal)) continue;
         table[i] = key;
         keys = &table[i];
     }

@@ -4,45 +4,26 @@
 #include "inside.h"
 #include "terminal.h"
 
-#include <errno.h>
 #include <stddef.h>
 #include <string.h>
 #include <unistd.h>
-
-enum { INPUT_FLAGS = BRKINT | IXON | PARMRK };
 
 struct curspan_modes curspan_modes;
 
 static struct termios saved; /* what savetty kept */
 
 static int get(struct termios *modes) {
-    if (curspan_terminal.line >= 0 && tcgetattr(curspan_terminal.line, modes) == 0) return OK;
+    if (curspan_the_tty.line >= 0 && tcgetattr(curspan_the_tty.line, modes) == 0) return OK;
     return ERR;
 }
 
-static int set(const struct termios *modes) {
-    if (curspan_terminal.line < 0) return ERR;
-    while (tcsetattr(curspan_terminal.line, TCSADRAIN, modes) != 0)
-        if (errno != EINTR) return ERR;
-    return OK;
-}
+static int set(const struct termios *modes) { return curspan_set_modes(&curspan_the_tty, modes) ? OK : ERR; }
 
 /* Makes modes those of the program. */
 static int change(const struct termios *modes) {
     if (set(modes) == ERR) return ERR;
-    curspan_terminal.program = *modes;
+    curspan_the_tty.program = *modes;
     return OK;
-}
-
-static void read_at_once(struct termios *modes) {
-    modes->c_cc[VMIN] = 1;
-    modes->c_cc[VTIME] = 0;
-}
-
-static void make_raw(struct termios *modes) {
-    modes->c_lflag &= ~(tcflag_t)(ICANON | ISIG | IEXTEN);
-    modes->c_iflag &= ~(tcflag_t)INPUT_FLAGS;
-    read_at_once(modes);
 }
 
 /* Of both descriptors the input's terminal is taken. */
@@ -50,7 +31,7 @@ static int line_of(int in, int out) { return in >= 0 && isatty(in) ? in : isatty
 
 void curspan_begin_modes(void) {
     const struct curspan_modes first = {.echo = true, .newline = true, .meta = true};
-    struct curspan_terminal *terminal = &curspan_terminal;
+    struct curspan_tty *terminal = &curspan_the_tty;
     int line = line_of(terminal->in, terminal->out);
     curspan_modes = first;
     if (line < 0 || tcgetattr(line, &terminal->shell) != 0) return;
@@ -65,16 +46,14 @@ void curspan_begin_modes(void) {
     change(&modes);
 }
 
-int curspan_resume_modes(void) { return set(&curspan_terminal.program); }
-
 void curspan_begin_raw(struct curspan_modes *modes, struct termios *line) {
-    struct termios raw = curspan_terminal.program;
+    struct termios raw = curspan_the_tty.program;
     *modes = curspan_modes;
     if (get(line) == ERR) memset(line, 0, sizeof *line);
     curspan_modes.raw = curspan_modes.cbreak = curspan_modes.newline = true;
     curspan_modes.echo = false;
     curspan_modes.half_delay = 0;
-    make_raw(&raw);
+    curspan_make_raw(&raw);
     set(&raw);
 }
 
@@ -85,45 +64,41 @@ void curspan_end_raw(const struct curspan_modes *modes, const struct termios *li
 
 /* ---- the modes of X/Open */
 
-int cbreak(void) {
-    struct termios modes = curspan_terminal.program;
-    modes.c_lflag &= ~(tcflag_t)ICANON;
-    modes.c_lflag |= ISIG;
-    modes.c_iflag &= ~(tcflag_t)ICRNL;
-    read_at_once(&modes);
-    if (change(&modes) == ERR) return ERR;
-    curspan_modes.cbreak = true;
+/* Makes other modes those of the program, and notes how keys are read then. */
+static int change_reading(const struct termios *modes, bool is_raw, bool is_cbreak) {
+    if (change(modes) == ERR) return ERR;
+    curspan_modes.raw = is_raw;
+    curspan_modes.cbreak = is_cbreak;
     curspan_modes.half_delay = 0;
     return OK;
+}
+
+int cbreak(void) {
+    struct termios modes = curspan_the_tty.program;
+    modes.c_lflag = (modes.c_lflag & ~(tcflag_t)ICANON) | ISIG;
+    modes.c_iflag &= ~(tcflag_t)ICRNL;
+    curspan_read_at_once(&modes);
+    return change_reading(&modes, curspan_modes.raw, true);
 }
 
 int nocbreak(void) {
-    struct termios modes = curspan_terminal.program;
+    struct termios modes = curspan_the_tty.program;
     modes.c_lflag |= ICANON;
     modes.c_iflag |= ICRNL;
-    if (change(&modes) == ERR) return ERR;
-    curspan_modes.cbreak = false;
-    curspan_modes.half_delay = 0;
-    return OK;
+    return change_reading(&modes, curspan_modes.raw, false);
 }
 
 int raw(void) {
-    struct termios modes = curspan_terminal.program;
-    make_raw(&modes);
-    if (change(&modes) == ERR) return ERR;
-    curspan_modes.raw = curspan_modes.cbreak = true;
-    curspan_modes.half_delay = 0;
-    return OK;
+    struct termios modes = curspan_the_tty.program;
+    curspan_make_raw(&modes);
+    return change_reading(&modes, true, true);
 }
 
 int noraw(void) {
-    struct termios modes = curspan_terminal.program;
-    modes.c_lflag |= ISIG | ICANON | (curspan_terminal.shell.c_lflag & IEXTEN);
-    modes.c_iflag |= INPUT_FLAGS;
-    if (change(&modes) == ERR) return ERR;
-    curspan_modes.raw = curspan_modes.cbreak = false;
-    curspan_modes.half_delay = 0;
-    return OK;
+    struct termios modes = curspan_the_tty.program;
+    modes.c_lflag |= ISIG | ICANON | (curspan_the_tty.shell.c_lflag & IEXTEN);
+    modes.c_iflag |= CURSPAN_INPUT_FLAGS;
+    return change_reading(&modes, false, false);
 }
 
 int halfdelay(int tenths) {
@@ -151,7 +126,7 @@ int meta(WINDOW *win, bool flag) {
 }
 
 int intrflush(WINDOW *win, bool flag) {
-    struct termios modes = curspan_terminal.program;
+    struct termios modes = curspan_the_tty.program;
     (void)win;
     modes.c_lflag = flag ? modes.c_lflag & ~(tcflag_t)NOFLSH : modes.c_lflag | NOFLSH;
     return stdscr ? change(&modes) : ERR;
@@ -167,28 +142,17 @@ int typeahead(int descriptor) {
 
 /* ---- modes of the program and of the shell */
 
-int def_prog_mode(void) {
-    struct termios modes;
-    if (get(&modes) == ERR) return ERR;
-    curspan_terminal.program = modes;
-    return OK;
-}
-
-int def_shell_mode(void) {
-    struct termios modes;
-    if (get(&modes) == ERR) return ERR;
-    curspan_terminal.shell = modes;
-    return OK;
-}
+int def_prog_mode(void) { return get(&curspan_the_tty.program); }
+int def_shell_mode(void) { return get(&curspan_the_tty.shell); }
 
 int reset_prog_mode(void) {
-    if (set(&curspan_terminal.program) == ERR) return ERR;
-    return curspan_terminal.is_keypad ? curspan_switch_keypad(true) : OK;
+    if (set(&curspan_the_tty.program) == ERR) return ERR;
+    return !curspan_the_tty.is_keypad || curspan_switch_keypad(&curspan_the_tty, true) ? OK : ERR;
 }
 
 int reset_shell_mode(void) {
-    if (curspan_terminal.is_keypad) curspan_switch_keypad(false);
-    return set(&curspan_terminal.shell);
+    if (curspan_the_tty.is_keypad) curspan_switch_keypad(&curspan_the_tty, false);
+    return set(&curspan_the_tty.shell);
 }
 
 int savetty(void) { return get(&saved); }
@@ -198,8 +162,8 @@ int resetty(void) { return set(&saved); }
 
 /* A character of the line that edits it, or ERR where that is off. */
 static char editing_character(int which) {
-    cc_t off = (cc_t)fpathconf(curspan_terminal.line, _PC_VDISABLE), character = curspan_terminal.shell.c_cc[which];
-    return curspan_terminal.line < 0 || character == off ? (char)ERR : (char)character;
+    cc_t off = (cc_t)fpathconf(curspan_the_tty.line, _PC_VDISABLE), character = curspan_the_tty.shell.c_cc[which];
+    return curspan_the_tty.line < 0 || character == off ? (char)ERR : (char)character;
 }
 
 char erasechar(void) { return editing_character(VERASE); }
@@ -210,17 +174,11 @@ int baudrate(void) {
         speed_t code;
         int bits;
     } rates[] = {
-        {B50, 50}, {B75, 75}, {B110, 110}, {B134, 134}, {B150, 150}, {B200, 200}, {B300, 300}, {B600, 600}, {B1200, 1200},
-        {B1800, 1800}, {B2400, 2400}, {B4800, 4800}, {B9600, 9600}, {B19200, 19200}, {B38400, 38400},
-#ifdef B57600
-        {B57600, 57600},
-#endif
-#ifdef B115200
-        {B115200, 115200},
-#endif
+        {B50, 50}, {B75, 75}, {B110, 110}, {B134, 134}, {B150, 150}, {B200, 200}, {B300, 300}, {B600, 600}, {B1200, 1200}, {B1800, 1800},
+        {B2400, 2400}, {B4800, 4800}, {B9600, 9600}, {B19200, 19200}, {B38400, 38400}, {B57600, 57600}, {B115200, 115200},
     };
-    if (curspan_terminal.line < 0) return ERR;
-    speed_t speed = cfgetospeed(&curspan_terminal.shell);
+    if (curspan_the_tty.line < 0) return ERR;
+    speed_t speed = cfgetospeed(&curspan_the_tty.shell);
     for (size_t i = 0; i < sizeof rates / sizeof rates[0]; i++)
         if (rates[i].code == speed) return rates[i].bits;
     return ERR;

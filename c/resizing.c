@@ -405,6 +405,6 @@ int resizeterm(int lines, int columns) {
 
 void curspan_resize_to_terminal(bool is_told) {
     int lines, columns;
-    curspan_find_size(&lines, &columns);
+    curspan_find_screen_size(&lines, &columns);
     if (is_told || is_term_resized(lines, columns)) resizeterm(lines, columns);
 }

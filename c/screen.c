@@ -6,10 +6,7 @@
 
 #include <errno.h>
 #include <stdlib.h>
-#include <string.h>
-#include <sys/ioctl.h>
 #include <time.h>
-#include <unistd.h>
 
 int LINES, COLS;
 int COLORS = 8, COLOR_PAIRS = LAST_OWN + 1;
@@ -19,46 +16,28 @@ static bool ignores_environment;
 
 void use_env(bool flag) { ignores_environment = !flag; }
 
-int curspan_number_in(const char *variable) {
-    const char *text = getenv(variable);
-    char *end;
-    if (!text || *text < '0' || *text > '9') return ERR;
-    long number = strtol(text, &end, 10);
-    return *end == 0 && number <= 32767 ? (int)number : ERR;
-}
-
 /* The size in a variable of the environment, or 0 where that is none. */
 static int size_in(const char *variable) {
     int size = ignores_environment ? ERR : curspan_number_in(variable);
     return size == ERR || size > CURSPAN_LARGEST_SCREEN ? 0 : size;
 }
 
-/* The first of three sizes that is one. */
-static int size_of(int wanted, int found, int other) {
-    int size = wanted > 0 ? wanted : found > 0 ? found : other;
-    return least(size, CURSPAN_LARGEST_SCREEN);
-}
-
-void curspan_find_size(int *lines, int *columns) {
-    struct winsize found = {0, 0, 0, 0};
-    if (ioctl(curspan_terminal.out, TIOCGWINSZ, &found) != 0) found.ws_row = found.ws_col = 0;
-    *lines = size_of(size_in("LINES"), found.ws_row, 24);
-    *columns = size_of(size_in("COLUMNS"), found.ws_col, 80);
+void curspan_find_screen_size(int *lines, int *columns) {
+    *lines = size_in("LINES");
+    *columns = size_in("COLUMNS");
+    curspan_find_size(&curspan_the_tty, lines, columns);
 }
 
 void curspan_tell_size(int lines) {
-    snprintf(curspan_terminal.last_line, sizeof curspan_terminal.last_line, "%s\033[0m\033[?25h\033[%d;1H",
-             curspan_has_alternates ? CURSPAN_PLAIN_SET : "", lines);
+    snprintf(curspan_the_tty.leave, sizeof curspan_the_tty.leave, "%s" CURSPAN_LEAVE, curspan_has_alternates ? CURSPAN_PLAIN_SET : "", lines);
 }
 
 SCREEN *newterm(const char *type, FILE *out, FILE *in) {
-    const struct curspan_terminal none = {.in = -1, .out = -1, .line = -1};
-    if (!out || stdscr || fileno(out) < 0 || fflush(out) != 0) return NULL;
-    curspan_terminal = none;
-    curspan_terminal.stream = out;
-    curspan_terminal.out = fileno(out);
-    curspan_terminal.in = in ? fileno(in) : -1;
-    curspan_find_size(&LINES, &COLS);
+    const struct curspan_tty begun = {.in = in ? fileno(in) : -1, .out = out ? fileno(out) : -1, .line = -1, .enter = CURSPAN_ENTER};
+    if (!out || stdscr || begun.out < 0 || fflush(out) != 0) return NULL;
+    curspan_the_tty = begun;
+    curspan_stream = out;
+    curspan_find_screen_size(&LINES, &COLS);
     curspan_answer answer = curspan_open(&curspan_the_screen, (uint16_t)LINES, (uint16_t)COLS);
     if (answer.status != CURSPAN_OK) return NULL;
     curspan_begin(answer);
@@ -66,8 +45,7 @@ SCREEN *newterm(const char *type, FILE *out, FILE *in) {
     curspan_begin_map();
     curspan_tell_size(LINES);
     curspan_forget_input();
-    curspan_terminal.owner = getpid();
-    curspan_catch_signals();
+    curspan_attend(&curspan_the_tty, true);
     curspan_begin_modes();
     return (SCREEN *)&curspan_the_screen;
 }
@@ -83,18 +61,17 @@ WINDOW *initscr(void) {
 int endwin(void) {
     if (!stdscr) return ERR;
     curspan_hold_stop();
-    int answer = curspan_give_back();
+    bool is_done = curspan_give_back(&curspan_the_tty);
     curspan_let_stop();
-    return answer;
+    return is_done ? OK : ERR;
 }
 
-bool isendwin(void) { return stdscr && curspan_terminal.is_ended; }
+bool isendwin(void) { return stdscr && curspan_the_tty.is_ended; }
 
 void delscreen(SCREEN *screen) {
     if (!screen || screen != (SCREEN *)&curspan_the_screen) return;
-    if (curspan_is_owed()) endwin();
-    curspan_terminal.owner = 0;
-    curspan_leave_signals();
+    if (curspan_is_owed(&curspan_the_tty)) endwin();
+    curspan_abandon(&curspan_the_tty);
     curspan_close(&curspan_the_screen);
     curspan_forget_all();
     curspan_forget_output();

@@ -1,18 +1,23 @@
-/* Signals: the terminal is given back before one of them ends or stops the program, and at its exit. A handler calls only what the standard
+/* Signals: terminals are given back before one of them ends or stops the program, and at its exit. A handler calls only what the standard
    allows in one. Nothing here is proved. */
 #define _GNU_SOURCE
-#include "inside.h"
+#include "curspan_terminal.h"
 #include "terminal.h"
 
 #include <errno.h>
 #include <poll.h>
+#include <pthread.h>
 #include <stdlib.h>
 #include <string.h>
 #include <unistd.h>
 
-static const int ending[] = {SIGINT, SIGTERM, SIGQUIT};
+static const int ending[] = {SIGINT, SIGTERM, SIGQUIT, SIGHUP}, faults[] = {SIGSEGV, SIGBUS, SIGFPE, SIGILL, SIGABRT};
 
-enum { ENDING = sizeof ending / sizeof ending[0], LAST_SIGNAL = 64 };
+enum { ENDING = sizeof ending / sizeof ending[0], FAULTS = sizeof faults / sizeof faults[0], LAST_SIGNAL = 64, STACK = 32768 };
+
+static struct curspan_tty *volatile first;     /* of the terminals that are open */
+static struct curspan_tty *volatile signalled; /* the one that owns the signals, or NULL */
+static struct sigaction after_fault[FAULTS];   /* what the program has done at each */
 
 static volatile sig_atomic_t was_stopped, was_resized;
 static volatile sig_atomic_t is_held, stop_is_due; /* the program is not to be stopped now; it is to be then */
@@ -30,25 +35,39 @@ static void on(int number, void (*handler)(int), int flags) {
     sigaction(number, &action, NULL);
 }
 
-/* Whether this process has the terminal: one that was forked has not. */
-static bool has_terminal(void) { return curspan_terminal.owner == getpid(); }
+/* Whether this process has something of a terminal to give back: one that was forked has not. */
+static bool owes(const struct curspan_tty *tty) { return tty && tty->owner == getpid() && curspan_is_owed(tty); }
+
+void curspan_terminal_give_back(void) {
+    for (struct curspan_tty *tty = first; tty; tty = tty->next)
+        if (owes(tty)) curspan_give_back(tty);
+}
 
 static void end(int number) {
-    if (has_terminal() && curspan_is_owed()) curspan_give_back();
+    curspan_terminal_give_back();
     on(number, SIG_DFL, 0);
     raise(number); /* it comes when this handler returns */
 }
 
+/* What comes by itself comes again where this handler returns, and what was sent is sent again. */
+static void fault(int number, siginfo_t *info, void *context) {
+    (void)context;
+    curspan_terminal_give_back();
+    for (int i = 0; i < FAULTS; i++)
+        if (faults[i] == number) sigaction(number, &after_fault[i], NULL);
+    if (info->si_code <= 0 || number == SIGABRT) raise(number);
+}
+
 /* Whether the terminal listens to this process, and not to one that runs before it. */
-static bool is_in_front(void) { return tcgetpgrp(curspan_terminal.line) == getpgrp(); }
+static bool is_in_front(void) { return tcgetpgrp(signalled->line) == getpgrp(); }
 
 static void stop_now(void);
 
 /* Gives the terminal back and stops. When the program goes on its modes are set again, and the next refresh or getch draws all. */
 static void stop(int number) {
-    struct curspan_terminal *terminal = &curspan_terminal;
+    struct curspan_tty *terminal = signalled;
     int before = errno;
-    bool is_owed = has_terminal() && curspan_is_owed(), is_keypad = terminal->is_keypad;
+    bool is_owed = owes(terminal), is_keypad = is_owed && terminal->is_keypad;
     (void)number;
     if (is_held) {
         stop_is_due = true;
@@ -56,13 +75,13 @@ static void stop(int number) {
     }
     if (is_owed) {
         if (is_in_front()) tcgetattr(terminal->line, &terminal->program);
-        curspan_give_back();
+        curspan_give_back(terminal);
     }
     stop_now();
     if (is_owed) {
         if (is_in_front()) tcgetattr(terminal->line, &terminal->shell);
         if (terminal->line >= 0) tcsetattr(terminal->line, TCSADRAIN, &terminal->program);
-        if (is_keypad) curspan_switch_keypad(true);
+        if (is_keypad) curspan_switch_keypad(terminal, true);
         terminal->is_ended = false;
         was_stopped = true;
     }
@@ -102,25 +121,78 @@ static void leave(int number, void (*handler)(int)) {
     if (has(number, handler)) on(number, SIG_DFL, 0);
 }
 
-static void give_back_at_exit(void) {
-    if (has_terminal() && curspan_is_owed()) curspan_give_back();
+/* Catches faults, also one for want of stack, before what the program does at them. */
+static void catch_faults(void) {
+    static char stack[STACK];
+    stack_t other = {.ss_sp = stack, .ss_size = STACK}, now;
+    struct sigaction action;
+    if (sigaltstack(NULL, &now) == 0 && now.ss_flags & SS_DISABLE) sigaltstack(&other, NULL);
+    memset(&action, 0, sizeof action);
+    action.sa_sigaction = fault;
+    action.sa_flags = SA_SIGINFO | SA_ONSTACK | SA_RESTART;
+    sigemptyset(&action.sa_mask);
+    for (int i = 0; i < FAULTS; i++) sigaction(faults[i], &action, &after_fault[i]);
 }
 
-void curspan_catch_signals(void) {
-    static bool is_registered;
-    if (!is_registered) is_registered = atexit(give_back_at_exit) == 0;
+static void leave_faults(void) {
+    struct sigaction now;
+    for (int i = 0; i < FAULTS; i++)
+        if (sigaction(faults[i], NULL, &now) == 0 && now.sa_flags & SA_SIGINFO && now.sa_sigaction == fault) sigaction(faults[i], &after_fault[i], NULL);
+}
+
+static void catch_signals(void) {
     was_stopped = was_resized = is_held = stop_is_due = false;
     for (int i = 0; i < ENDING; i++) catch_default(ending[i], end, 0);
     catch_default(SIGTSTP, stop, SA_RESTART);
     if (has(SIGWINCH, SIG_IGN)) on(SIGWINCH, SIG_DFL, 0);
     catch_default(SIGWINCH, note_size, 0);
+    catch_faults();
 }
 
-void curspan_leave_signals(void) {
+static void leave_signals(void) {
     for (int i = 0; i < ENDING; i++) leave(ending[i], end);
     leave(SIGTSTP, stop);
     leave(SIGWINCH, note_size);
+    leave_faults();
 }
+
+/* Several threads may open and close terminals of their own. */
+static pthread_mutex_t among_threads = PTHREAD_MUTEX_INITIALIZER;
+
+static bool own_signals(struct curspan_tty *tty) {
+    if (signalled && signalled->owner == getpid()) return false;
+    signalled = tty;
+    catch_signals();
+    return true;
+}
+
+bool curspan_attend(struct curspan_tty *tty, bool shall_own) {
+    static bool is_registered;
+    pthread_mutex_lock(&among_threads);
+    if (!is_registered) is_registered = atexit(curspan_terminal_give_back) == 0;
+    tty->owner = getpid();
+    tty->next = first;
+    bool is_owner = !shall_own || own_signals(tty);
+    if (is_owner) first = tty;
+    pthread_mutex_unlock(&among_threads);
+    return is_owner;
+}
+
+void curspan_abandon(struct curspan_tty *tty) {
+    pthread_mutex_lock(&among_threads);
+    struct curspan_tty *before = first;
+    if (before == tty) first = tty->next;
+    for (; before; before = before->next)
+        if (before->next == tty) before->next = tty->next;
+    if (signalled == tty) {
+        if (tty->owner == getpid()) leave_signals();
+        signalled = NULL;
+    }
+    tty->owner = 0;
+    pthread_mutex_unlock(&among_threads);
+}
+
+struct curspan_tty *curspan_first_tty(void) { return first; }
 
 /* Takes a flag that a handler set. */
 static bool taken(volatile sig_atomic_t *flag) {

@@ -1,9 +1,10 @@
-/* What the files share that are about the terminal: its bytes, its modes, its keys and the signals. */
-#ifndef CURSPAN_TERMINAL_H
-#define CURSPAN_TERMINAL_H
+/* What the files share that are about terminals: their bytes, modes, keys and signals. */
+#ifndef CURSPAN_INSIDE_TERMINAL_H
+#define CURSPAN_INSIDE_TERMINAL_H
 
 #include <signal.h>
 #include <stdbool.h>
+#include <stdint.h>
 #include <stdio.h>
 #include <sys/types.h>
 #include <termios.h>
@@ -11,45 +12,98 @@
 /* Whether the picture is on the terminal's other page. */
 enum { PAGE_LEFT, PAGE_ENTERING, PAGE_ENTERED };
 
-/* The terminal, as handlers of signals read it too. */
-struct curspan_terminal {
-    int in, out;                     /* the descriptors that newterm was given */
-    FILE *stream;                    /* the output, for what isn't of the picture */
+/* A terminal of curses.h or of curspan_terminal.h, as handlers of signals read it too. */
+struct curspan_tty {
+    int in, out;
     int line;                        /* that of both whose modes are set: -1 where neither is a terminal */
-    pid_t owner;                     /* the process that has the screen, or 0 */
+    pid_t owner;                     /* the process that has it, or 0 */
     volatile sig_atomic_t page;
-    volatile sig_atomic_t is_ended;  /* endwin was called, and no refresh since */
+    volatile sig_atomic_t is_ended;  /* it was given back, and not taken since */
     volatile sig_atomic_t was_away;  /* it was given back, and its size may be another */
     volatile sig_atomic_t is_keypad; /* it sends the sequences of an application's keypad */
     struct termios shell, program;   /* the modes outside, and those of the program */
-    char last_line[40];              /* ends renditions, shows the cursor and moves it to the last line */
+    char enter[48], leave[64];       /* what is written where the picture comes and goes */
+    struct curspan_tty *next;        /* of those that are open */
 };
 
-extern struct curspan_terminal curspan_terminal;
+/* ---- terminal.c */
+
+/* Writes all of some bytes. A handler of signals may call it. */
+bool curspan_put(const struct curspan_tty *tty, const void *bytes, size_t length);
+/* Writes all of a text. A handler of signals may call it. */
+bool curspan_put_text(const struct curspan_tty *tty, const char *text);
+/* Switches the sequences of the keypad on or off. */
+bool curspan_switch_keypad(struct curspan_tty *tty, bool flag);
+/* Comes to the picture's page, with the program's modes, where it isn't there. */
+bool curspan_come_back(struct curspan_tty *tty);
+/* Leaves the terminal's other page and its keypad, with the modes as they were before. A handler of signals may call it. */
+bool curspan_give_back(struct curspan_tty *tty);
+/* Whether there is something to give back. */
+static inline bool curspan_is_owed(const struct curspan_tty *tty) { return !tty->is_ended || tty->page != PAGE_LEFT; }
+/* Sets the modes of the line. */
+bool curspan_set_modes(const struct curspan_tty *tty, const struct termios *modes);
+/* Lets a read answer as soon as there is a byte, and the keys of signals be bytes. */
+void curspan_read_at_once(struct termios *modes);
+void curspan_make_raw(struct termios *modes);
+enum { CURSPAN_INPUT_FLAGS = BRKINT | IXON | PARMRK }; /* which are off then */
+#define CURSPAN_ENTER "\033[?1049h"
+#define CURSPAN_LEAVE "\033[0m\033[?25h\033[%d;1H\033[?1049l"
+/* Milliseconds of a clock, and how many are left until some time. */
+long curspan_now(void);
+int curspan_left_until(long end);
+/* The number in a variable of the environment, or -1 where there is none, or one past 32767. */
+int curspan_number_in(const char *variable);
+/* The size that is wanted, else that of the terminal, else 24 by 80. Answers whether the terminal is there. */
+bool curspan_find_size(const struct curspan_tty *tty, int *lines, int *columns);
+
+/* ---- recolouring.c */
+
+enum {
+    OWN_COLOUR = -1, /* the terminal's own */
+    OWN_PAIRS = 64   /* of curspan.h */
+};
+
+/* What the pairs of curspan.h become in the bytes on their way, each known by two colours of its own: its number in base 8. */
+struct curspan_palette {
+    signed char colours[OWN_PAIRS][2]; /* those of 0 are for cells that have none */
+    bool are_alternate[OWN_PAIRS];     /* drawn with the terminal's alternate characters */
+    bool changes;                      /* some of it does */
+    bool is_alternate;                 /* the terminal draws alternate characters now */
+};
+
+/* Gives each pair of a screen its two colours. */
+struct curspan;
+void curspan_number_pairs(struct curspan *screen);
+/* Appends some bytes for the terminal to others, with the colours of a palette, and answers how many were appended: not more than
+   CURSPAN_RECOLOURED times as many. They may be behind the others with room for all between. */
+size_t curspan_recolour(struct curspan_palette *palette, const uint8_t *bytes, size_t length, uint8_t *out);
+enum { CURSPAN_RECOLOURED = 4 };
+/* Lets the terminal draw no alternate characters. */
+#define CURSPAN_PLAIN_SET "\033(B"
+
+/* The bytes on their way: those that the screen sent stand behind room for them as they are recoloured. */
+struct curspan_outgoing {
+    uint8_t *bytes;
+    size_t room;
+};
+
+/* Writes what a screen sent. Where it can't be written it is lost. */
+bool curspan_hand_on(const struct curspan_tty *tty, struct curspan *screen, struct curspan_palette *palette, struct curspan_outgoing *outgoing);
 
 /* ---- output.c */
 
-/* Writes all of a text. A handler of signals may call it. */
-int curspan_put_text(const char *text);
+/* The terminal of curses.h, and its output, for what isn't of the picture. */
+extern struct curspan_tty curspan_the_tty;
+extern FILE *curspan_stream;
 /* Draws all again where the program was stopped and goes on, and answers whether it was. */
 bool curspan_redraw_after_stop(void);
-/* Switches the sequences of the keypad on or off. */
-int curspan_switch_keypad(bool flag);
-/* Leaves the terminal's other page and its keypad, with the modes as they were before. A handler of signals may call it. */
-int curspan_give_back(void);
-/* Whether there is something to give back. */
-static inline bool curspan_is_owed(void) { return !curspan_terminal.is_ended || curspan_terminal.page != PAGE_LEFT; }
 /* Forgets what the last screen's bytes and cursor were. */
 void curspan_forget_output(void);
-/* How curs_set wants the cursor. */
-extern int curspan_visibility;
 
 /* ---- modes.c */
 
 /* Sets the modes of a new screen. */
 void curspan_begin_modes(void);
-/* Sets the program's modes again. */
-int curspan_resume_modes(void);
 
 /* How keys are read: each is a mode that a function of X/Open sets. */
 struct curspan_modes {
@@ -65,10 +119,13 @@ void curspan_end_raw(const struct curspan_modes *modes, const struct termios *li
 
 /* ---- signals.c */
 
-/* Catches the signals that the program left as they were, and gives the terminal back at exit. */
-void curspan_catch_signals(void);
-/* Leaves the signals that are still caught as they were. */
-void curspan_leave_signals(void);
+/* Gives a terminal back at exit, and where it shall own the signals, and none does, catches those that the program left as they were.
+   Answers whether it owns them. */
+bool curspan_attend(struct curspan_tty *tty, bool shall_own);
+/* Leaves a terminal, and the signals that are still caught where it owned them. */
+void curspan_abandon(struct curspan_tty *tty);
+/* The first of the terminals that are open. */
+struct curspan_tty *curspan_first_tty(void);
 /* Holds back the signal that stops the program, and lets it through again. */
 void curspan_hold_stop(void);
 void curspan_let_stop(void);
@@ -92,12 +149,31 @@ void curspan_resize_to_terminal(bool is_told);
 
 /* ---- screen.c */
 
-/* The number in a variable of the environment, or ERR where there is none, or one past 32767. */
-int curspan_number_in(const char *variable);
-/* The size that the environment asks for, else that of the terminal, else 24 by 80. */
-void curspan_find_size(int *lines, int *columns);
+/* The size of the screen: what the environment asks for goes before. */
+void curspan_find_screen_size(int *lines, int *columns);
 /* Takes a new size over into what endwin writes. */
 void curspan_tell_size(int lines);
+
+/* ---- sequences.c */
+
+/* A sequence of a key. */
+struct curspan_sequence {
+    const char *bytes;
+    int key;
+    const char *type; /* with what the types of the terminals begin that have it, or NULL for all */
+};
+
+enum { CURSPAN_SEQUENCES = 154 };
+extern const struct curspan_sequence curspan_sequences[CURSPAN_SEQUENCES];
+
+/* Whether the keys of a type of terminal have a sequence. */
+bool curspan_is_of_type(const struct curspan_sequence *sequence, const char *type);
+
+/* ---- terminal_keys.c */
+
+/* The key that some bytes begin with, and how many of them it has: 0 where more must come, unless none do. */
+struct curspan_key;
+size_t curspan_first_key(const unsigned char *bytes, size_t count, bool is_all, struct curspan_key *key);
 
 /* ---- keys.c and input.c */
 

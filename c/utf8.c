@@ -1,5 +1,6 @@
 /* Characters that aren't ASCII. A window has none of them: they come as UTF-8, and each is drawn by a letter or a
    question mark in as many columns as it takes. Nothing here is proved. */
+#include "curspan_terminal.h"
 #include "inside.h"
 #include "widths.h"
 
@@ -83,4 +84,28 @@ curspan_spelling curspan_spell_part(curspan_unfinished *begun, uint8_t byte) {
     begun->count = 0;
     uint32_t character = decoded(begun->bytes, count);
     return is_character(character, count) ? drawn(character) : spelled(byte);
+}
+
+int curspan_decode(const uint8_t *bytes, size_t count, uint32_t *character) {
+    int length = bytes[0] < 128 ? 1 : length_by(bytes[0]);
+    for (int i = 1; i < length && (size_t)i < count; i++)
+        if (!is_begun(bytes, i + 1)) return ERR;
+    if (length == 0) return ERR;
+    if (count < (size_t)length) return 0;
+    *character = length == 1 ? bytes[0] : decoded(bytes, length);
+    return length == 1 || is_character(*character, length) ? length : ERR;
+}
+
+size_t curspan_plain_text(const char *text, size_t length, char *out) {
+    size_t count = 0;
+    for (size_t at = 0; at < length;) {
+        uint32_t character = '?';
+        int size = curspan_decode((const uint8_t *)text + at, length - at, &character);
+        bool is_plain = size > 0 && ((character >= ' ' && character < 127) || (character && strchr("\b\n\r", (int)character)));
+        curspan_spelling is = size > 0 && character >= 128 ? drawn(character) : (curspan_spelling){{is_plain ? (uint8_t)character : '?'}, 1, false};
+        memmove(out + count, is.text, (size_t)is.count);
+        count += (size_t)is.count;
+        at += size > 0 ? (size_t)size : 1;
+    }
+    return count;
 }

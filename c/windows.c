@@ -1,6 +1,7 @@
 /* Windows and pads: making and placing them, asking about them, and their options. Nothing here is proved: it looks at what C alone can
    pass, as null and negative arguments, and keeps what Curspan doesn't tell back. */
 #include "inside.h"
+#include "terminal.h"
 
 #include <stddef.h>
 

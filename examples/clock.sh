@@ -9,16 +9,16 @@ if ! [[ $seconds =~ ^[0-9]{1,5}$ ]]; then
     exit 2
 fi
 
-open_screen 5 22
-border 0 5 22 clock
-ask derwin 0 1 8 2 7 || exit
-face=$answer
-call attrset "$face" 01
+curspan_open 5 22 || exit
+curspan_border 0 5 22 clock
+curspan_ask derwin 0 1 8 2 7 || exit
+face=$curspan_answer
+curspan_call attrset "$face" 01
 for ((left = 10#$seconds; left > 0; left--)); do
     printf -v time '%(%H:%M:%S)T' -1
-    call move "$face" 0 0
-    write_text "$face" "$time"
-    show
-    if read_key 1; then break; fi
+    curspan_call move "$face" 0 0
+    curspan_text "$face" "$time"
+    curspan_show
+    if curspan_read_key 1; then break; fi
 done
-close_screen
+curspan_close

@@ -15,30 +15,30 @@ fi
 write_item() {
     local text
     printf -v text ' %-34.34s' "${items[$1]}"
-    call move "$list" "$1" 0
-    write_text "$list" "$text"
+    curspan_call move "$list" "$1" 0
+    curspan_text "$list" "$text"
 }
 
 # Shows the chosen item in reverse.
 point_at() {
-    call attrset "$list" 10
+    curspan_call attrset "$list" 10
     write_item "$1"
-    call attrset "$list" 00
-    show
+    curspan_call attrset "$list" 00
+    curspan_show
 }
 
-open_screen $((count + 2)) 38
-border 0 $((count + 2)) 38 menu
-ask derwin 0 "$count" 36 1 1 || exit
-list=$answer
+curspan_open $((count + 2)) 38 || exit
+curspan_border 0 $((count + 2)) 38 menu
+curspan_ask derwin 0 "$count" 36 1 1 || exit
+list=$curspan_answer
 for ((i = 0; i < count; i++)); do write_item "$i"; done
 
 at=0
 chosen=none
 point_at 0
-while read_key; do
+while curspan_read_key; do
     write_item "$at"
-    case $key in
+    case $curspan_key in
         up | k) at=$(((at + count - 1) % count)) ;;
         down | j) at=$(((at + 1) % count)) ;;
         home | pageup) at=0 ;;
@@ -48,5 +48,5 @@ while read_key; do
     esac
     point_at "$at"
 done
-close_screen
+curspan_close
 [ "$chosen" != none ] && printf '%s\n' "${items[chosen]}"

@@ -16,45 +16,45 @@ fill_bar() {
     local all=$((${#steps[@]} * 10)) text full
     full=$(($1 * width / all))
     printf -v text '%*d%%%*s' $((width / 2 + 1)) $(($1 * 100 / all)) $((width - width / 2 - 2)) ''
-    call move "$bar" 0 0
-    call attrset "$bar" 10
-    write_text "$bar" "${text:0:full}"
-    call attrset "$bar" 00
-    write_text "$bar" "${text:full}"
+    curspan_call move "$bar" 0 0
+    curspan_call attrset "$bar" 10
+    curspan_text "$bar" "${text:0:full}"
+    curspan_call attrset "$bar" 00
+    curspan_text "$bar" "${text:full}"
 }
 
-open_screen 14 60
-border 0 14 60 'Installing'
-ask newwin 5 44 7 12 || exit
-box=$answer
-border "$box" 5 44
-ask derwin "$box" 1 40 3 2 || exit
-bar=$answer
-ask getmaxyx "$bar" || exit
-width=${answer#* }
-ask new_panel "$box" || exit
-panel=$answer
+curspan_open 14 60 || exit
+curspan_border 0 14 60 'Installing'
+curspan_ask newwin 5 44 7 12 || exit
+box=$curspan_answer
+curspan_border "$box" 5 44
+curspan_ask derwin "$box" 1 40 3 2 || exit
+bar=$curspan_answer
+curspan_ask getmaxyx "$bar" || exit
+width=${curspan_answer#* }
+curspan_ask new_panel "$box" || exit
+panel=$curspan_answer
 
 for ((i = 0; i < ${#steps[@]}; i++)); do
-    call move 0 $((i + 2)) 3
-    write_text 0 "[ ] ${steps[i]}"
-    call move "$box" 1 2
+    curspan_call move 0 $((i + 2)) 3
+    curspan_text 0 "[ ] ${steps[i]}"
+    curspan_call move "$box" 1 2
     printf -v text '%-40s' "${steps[i]} .."
-    write_text "$box" "$text"
+    curspan_text "$box" "$text"
     for ((part = 0; part < 10; part++)); do
         fill_bar $((i * 10 + part))
-        show
-        read_key "$tenth" || true
+        curspan_show
+        curspan_read_key "$tenth" || true
     done
-    call move 0 $((i + 2)) 4
-    write_text 0 x
+    curspan_call move 0 $((i + 2)) 4
+    curspan_text 0 x
 done
 fill_bar $((${#steps[@]} * 10))
-show
-read_key "$tenth" || true
-call hide_panel "$panel"
-call move 0 $((${#steps[@]} + 3)) 3
-write_text 0 'All is set up. Press a key.'
-show
-read_key || true
-close_screen
+curspan_show
+curspan_read_key "$tenth" || true
+curspan_call hide_panel "$panel"
+curspan_call move 0 $((${#steps[@]} + 3)) 3
+curspan_text 0 'All is set up. Press a key.'
+curspan_show
+curspan_read_key || true
+curspan_close

@@ -1,242 +1,292 @@
+# shellcheck shell=bash
 # A terminal for scripts of bash: `curspan run` is a co-process that takes calls on a pipe, draws on the terminal, and
-# answers on another pipe, its standard error. Another script takes this one in with `.` and calls:
+# answers on another pipe. Another script takes this file in with `.`; docs/shell.md tells of its functions and variables.
 #
-#   open_screen LINES COLUMNS  the terminal becomes a screen of this size; it is given back when the script ends, also
-#                              by Ctrl-C or another signal (Ctrl-\ ends nothing, as bash has it)
-#   call WORD..                a call, as in `call move 0 2 3`; status 1, and no call, where a word has a newline
-#   write_text WINDOW TEXT     addstr of any text, of any length: what can't be shown becomes a question mark
-#   ask WORD..                 a call that answers: the answer is in `answer`; status 1 where it was refused, or has none
-#   show                       what was drawn is on the terminal
-#   read_key [SECONDS]         a key is in `key`: its character, its name (up, down, left, right, home, end, pageup,
-#                              pagedown, insert, delete, backspace, enter, escape), or all that it sends; status 1 where
-#                              none came in that time. At Ctrl-Z the terminal is given back and the script stops; when it
-#                              goes on, the picture is there again
-#   close_screen               the terminal is given back, and standard error has the calls that were refused
-#
-# CURSPAN is the program, or else the `curspan` of this repository, or that installed with this file, or the one on the
-# path.
-here=$(dirname "$(readlink -f "${BASH_SOURCE[0]}")")
-for curspan in "${CURSPAN:-}" "$here/../curspan" "$here/../../../../bin/curspan" curspan; do
-    if [ -f "$curspan" ] && [ -x "$curspan" ]; then break; fi
+#   curspan_open [LINES COLUMNS]      curspan_close            curspan_resize
+#   curspan_call WORD..               curspan_text WINDOW TEXT
+#   curspan_ask WORD..                curspan_border WINDOW LINES COLUMNS [TITLE]
+#   curspan_show                      curspan_read_key [SECONDS]
+#                                     curspan_ask_line WINDOW LINE COLUMN WIDTH [TEXT]
+curspan_file=${BASH_SOURCE[0]} curspan_owner='' curspan_answer='' curspan_key='' curspan_lines=0 curspan_columns=0
+curspan_here=$(dirname "$(readlink -f "$curspan_file")")
+for curspan_program in "${CURSPAN:-}" "$curspan_here/../curspan" "$curspan_here/../../bin/curspan" curspan; do
+    if [ -f "$curspan_program" ] && [ -x "$curspan_program" ]; then break; fi
 done
-unset here
 
 # What would end the script, but for what bash ignores or uses itself.
-deadly=(HUP INT TERM USR1 USR2 VTALRM PROF XCPU XFSZ ABRT SYS TRAP)
-
-# How many calls are made before their answers are read: so many fit into the smallest pipe, and no one waits for ever.
-most_unread=50
+curspan_deadly=(HUP INT TERM USR1 USR2 VTALRM PROF XCPU XFSZ ABRT SYS TRAP)
 
 # Becomes the program, whose name among its words is in UTF-8 whatever its folder's is.
-run_program() { exec -a curspan "$curspan" "$@"; }
+curspan_run() { exec -a curspan "$curspan_program" "$@"; }
 
-# Ends the script by a signal, and gives the terminal back before; between `hold` and `release` it is only noted.
-end_by() {
-    ended=$1
-    if [ -z "$held" ]; then
-        close_screen
-        exit_by "$1"
-    fi
+# Says what is wrong, with the line of the script that called: at once, or after the terminal is given back.
+curspan_complain() {
+    local i=1 text to=2
+    while [ "${BASH_SOURCE[i]:-}" = "$curspan_file" ]; do i=$((i + 1)); done
+    text="${BASH_SOURCE[i]:-bash}: line ${BASH_LINENO[i - 1]}: ${FUNCNAME[i - 1]}: $1"
+    if [ -n "$curspan_owner" ]; then to=$curspan_told; fi
+    printf '%s\n' "$text" >&"$to"
+    return 1
 }
 
-exit_by() { exit $((128 + $(kill -l "$1"))); }
+# Whether there is a screen, and this shell opened it: a subshell has other variables and no pipe.
+curspan_is_here() {
+    # without a number `return` answers in a trap what was before it
+    if [ "$curspan_owner" = "$BASHPID" ]; then return 0; fi
+    if [ -z "$curspan_owner" ]; then curspan_complain 'no screen is open'
+    else curspan_complain 'this is a subshell, and only the shell that opened the screen may call'; fi
+}
 
 # Between these the terminal is changed, or bash reads, within which it runs what a signal has it do. A signal that came
 # ends the script at the second.
-hold() { held=yes; }
-release() {
-    held=
-    [ -z "$ended" ] || exit_by "$ended"
+curspan_hold() { curspan_held=yes; }
+curspan_release() {
+    curspan_held=
+    [ -z "$curspan_ended" ] || curspan_end
+}
+curspan_note_end() {
+    curspan_ended=$1
+    [ -n "$curspan_held" ] || curspan_end
+}
+curspan_end() { exit $((128 + $(kill -l "$curspan_ended"))); }
+
+# At exit what the script itself wanted then is done after the terminal is given back.
+curspan_at_exit() {
+    local status=$?
+    curspan_close
+    eval "set -- $curspan_at_exit_before"
+    [ $# = 0 ] || { (exit "$status"); eval "$3"; }
+    exit "$status"
 }
 
 # Keys come as they are pressed and aren't shown, Ctrl-Z and Ctrl-\ among them; Ctrl-C drops nothing that is on its way
 # to the terminal.
-take_terminal() {
-    tty_before=$(stty -g < /dev/tty) && stty -echo -icanon noflsh susp undef quit undef < /dev/tty || exit
-    printf %s "$enter_page" > /dev/tty
-    page=taken
+curspan_take_terminal() {
+    stty -echo -icanon noflsh susp undef quit undef < /dev/tty
+    printf %s "$curspan_enter_page" > /dev/tty
 }
 
 # What is written gets some time to be read: with its modes of before, a terminal drops at Ctrl-C what isn't read yet.
-give_terminal_back() {
-    if [ -n "$page" ]; then
-        printf %s "$leave_page" > /dev/tty
-        sleep 0.05
-    fi
-    page=
-    if [ -n "$tty_before" ]; then stty "$tty_before" < /dev/tty; fi
-}
+curspan_give_terminal_back() {
+    printf %s "$curspan_leave_page" > /dev/tty
+    sleep 0.05
+    stty "$curspan_modes" < /dev/tty
+} 2> /dev/null
 
-# Wants a terminal of so many lines and columns. One that doesn't know its size has the usual one of its kind.
-want_terminal() {
-    local lines columns
-    if ! { : < /dev/tty; } 2> /dev/null; then
-        echo 'There is no terminal to draw on.' >&2
-        exit 1
-    fi
+# Puts the size of the terminal into `lines` and `columns`. One that doesn't know it has the usual one of its kind.
+curspan_find_size() {
+    local IFS=' '
     read -r lines columns < <(stty size < /dev/tty)
-    if [ "${lines:-0}" = 0 ]; then lines=$(tput lines) columns=$(tput cols); fi
-    if [ "$lines" -lt "$1" ] || [ "$columns" -lt "$2" ]; then
-        echo "The terminal has $lines lines of $columns columns, and $1 of $2 are needed." >&2
-        exit 1
-    fi
+    if [ "${lines:-0}" = 0 ] || [ "${columns:-0}" = 0 ]; then lines=$(tput lines) columns=$(tput cols); fi
+    lines=$((lines < 999 ? lines : 999)) columns=$((columns < 999 ? columns : 999))
 }
 
-open_screen() {
-    local signal ends
-    told=() sent=0 unread=0 program='' page='' tty_before='' ended='' held=''
-    trap close_screen EXIT
-    # shellcheck disable=SC2064 # the name is that of the signal
-    for signal in "${deadly[@]}"; do trap "end_by $signal" "$signal"; done
-    want_terminal "$@"
-    (run_program --help) > /dev/null || exit
-    enter_page=$(tput smcup; tput civis)
-    leave_page=$(tput sgr0; tput cnorm; tput rmcup)
-    hold
-    take_terminal
-    # What ends the script doesn't end the program: the end of its input does. Where it ended by itself, `call` meets a
-    # closed pipe.
-    trap '' PIPE
+# Locks the terminal itself, whose number the system tells, so that no other script takes it meanwhile.
+curspan_lock_terminal() {
+    local stat number path IFS=' '
+    curspan_lock=
+    command -v flock > /dev/null && stat=$(< "/proc/$$/stat") || return 0
+    read -r _ _ _ _ number _ <<< "${stat##*) }"
+    path=/dev/pts/$(((number >> 8 & 0xfff) - 136 << 8 | number & 0xff))
+    [ $((number >> 8 & 0xfff)) != 4 ] || path=/dev/tty$((number & 0xff))
+    { exec {curspan_lock}< "$path"; } 2> /dev/null || return 0
+    flock -n "$curspan_lock"
+}
+curspan_unlock_terminal() {
+    [ -z "$curspan_lock" ] || { flock -u "$curspan_lock"; exec {curspan_lock}<&-; }
+    curspan_lock=
+}
+
+# Starts the program. Its shell gives the terminal back where the program ends, as it does where the script is gone, by
+# whatever way; unless it was told that another one follows. What ends the script doesn't end these.
+curspan_start() {
+    local ends line
     # shellcheck disable=SC2069 # answers go to the pipe, and what is drawn to the terminal
-    coproc screen { trap '' HUP INT QUIT TERM TSTP; run_program run --lines "$1" --cols "$2" 2>&1 > /dev/tty; }
-    ends=("${screen[0]:-}" "${screen[1]:-}") program=${screen_PID:-}
-    # the signal that ends the script may have ended the program before it ignored that
-    if ! { exec {answers}<&"${ends[0]}" {calls}>&"${ends[1]}"; } 2> /dev/null; then
-        program=
-        release
-        exit 1
-    fi
-    eval "exec ${ends[0]}<&- ${ends[1]}>&-"
-    release
+    coproc curspan_process {
+        trap '' HUP INT QUIT TERM TSTP TTOU
+        trap 'followed=yes' USR1
+        followed=
+        (printf '%s\n' "$BASHPID"; curspan_run run --lines "$curspan_lines" --cols "$curspan_columns" 2>&1 > /dev/tty)
+        [ -n "$followed" ] || { curspan_give_terminal_back; curspan_unlock_terminal; }
+    } 2> /dev/null
+    ends=("${curspan_process[@]}") curspan_guard=${curspan_process_PID:-}
+    curspan_calls=${ends[1]:-} curspan_sent=0
+    { exec {curspan_answers}<&"${ends[0]}"; } 2> /dev/null
+    curspan_read_answer
+    curspan_drawer=$line
 }
 
-# It may begin again where it was broken off: what is done is done once.
-close_screen() {
+# Ends the program, which has made all calls, and waits for its shell: for two seconds, and then ends it too.
+curspan_stop() {
     local line status=0
-    trap '' "${deadly[@]}"
-    if [ -n "$program" ]; then
-        exec {calls}>&-
-        while read -r -u "$answers" line; do note "$line"; done
-        exec {answers}<&-
-        wait "$program" || status=$?
-        program=
+    eval "exec $curspan_calls>&-"
+    kill -KILL "$curspan_drawer"
+    while [ "$status" = 0 ]; do
+        read -r -t 2 -u "$curspan_answers" line || status=$?
+    done
+    exec {curspan_answers}<&-
+    if [ "$status" -gt 128 ]; then kill -KILL "$curspan_guard"; curspan_give_terminal_back; fi
+} 2> /dev/null
+
+curspan_open() {
+    local IFS=$' \t\n' signal fd lines columns
+    if [ -n "$curspan_owner" ]; then curspan_complain 'a screen is open already'; return 1; fi
+    for fd in 0 1 2; do [ -e "/proc/$BASHPID/fd/$fd" ] || eval "exec $fd<> /dev/null"; done
+    if ! [[ "$*" =~ ^([0-9]{1,3}\ [0-9]{1,3})?$ ]]; then curspan_complain "lines and columns are wanted, or neither, and not: $*"; return 1; fi
+    if ! { : < /dev/tty; } 2> /dev/null; then curspan_complain 'there is no terminal to draw on'; return 1; fi
+    if [ "${TERM:-dumb}" = dumb ]; then curspan_complain 'the terminal is dumb, as TERM says'; return 1; fi
+    if ! (curspan_run --help) > /dev/null 2>&1; then curspan_complain "the program $curspan_program doesn't run; CURSPAN names another"; return 1; fi
+    curspan_find_size
+    if [ "$lines" -lt "${1:-1}" ] || [ "$columns" -lt "${2:-1}" ]; then
+        curspan_complain "the terminal has $lines lines of $columns columns, and $1 of $2 are needed"
+        return 1
     fi
-    give_terminal_back
-    [ "${#told[@]}" = 0 ] || printf 'curspan: %s\n' "${told[@]}" >&2
-    told=()
-    trap - EXIT PIPE "${deadly[@]}"
+    if ! curspan_lock_terminal; then curspan_complain 'another script has this terminal'; return 1; fi
+    curspan_modes=$(stty -g < /dev/tty) && curspan_told=$(mktemp) || { curspan_complain "the terminal's modes can't be kept"; return 1; }
+    fd=$curspan_told
+    exec {curspan_told}>> "$fd" {curspan_told_again}< "$fd"
+    rm -f "$fd"
+    curspan_enter_page=$(tput smcup; tput civis) curspan_leave_page=$(tput sgr0; tput cnorm; tput rmcup)
+    curspan_ended='' curspan_held='' curspan_resized='' curspan_lines=${1:-$lines} curspan_columns=${2:-$columns} curspan_full=$#
+    curspan_at_exit_before=$(trap -p EXIT) curspan_traps_before=$(trap -p "${curspan_deadly[@]}" PIPE WINCH)
+    curspan_owner=$BASHPID
+    trap curspan_at_exit EXIT
+    # shellcheck disable=SC2064 # the name is that of the signal
+    for signal in "${curspan_deadly[@]}"; do trap "curspan_note_end $signal" "$signal"; done
+    trap '' PIPE
+    trap 'curspan_resized=yes' WINCH
+    curspan_hold
+    curspan_take_terminal
+    curspan_start
+    curspan_release
+}
+
+# What is told of calls is said where the terminal is given back.
+curspan_close() {
+    local line status=0
+    curspan_is_here || return 1
+    trap '' "${curspan_deadly[@]}"
+    curspan_stop
+    curspan_unlock_terminal
+    curspan_owner=
+    exec {curspan_told}>&-
+    while IFS= read -r -u "$curspan_told_again" line; do printf '%s\n' "$line" >&2; status=1; done
+    exec {curspan_told_again}<&-
+    trap - EXIT PIPE WINCH "${curspan_deadly[@]}"
+    eval "$curspan_traps_before"
+    eval "$curspan_at_exit_before"
     return "$status"
 }
 
-# Keeps a line that the program said for the end of the script, but for an answer.
-note() {
-    case ${1#line *: } in
-        [0-9]* | true | false | none) ;;
-        *) told+=("$1") ;;
-    esac
+# A new, blank screen of the terminal's size, after the key `resize`.
+curspan_resize() {
+    local lines columns
+    curspan_is_here || return 1
+    curspan_find_size
+    if [ "$curspan_full" != 0 ]; then return 0; fi
+    curspan_hold
+    kill -USR1 "$curspan_guard" 2> /dev/null
+    curspan_stop
+    curspan_lines=$lines curspan_columns=$columns
+    curspan_start
+    curspan_release
 }
 
-# Has the program make a call.
-send() {
-    sent=$((sent + 1))
-    { printf '%s\n' "$*" >&"$calls"; } 2> /dev/null || exit
+# Reads a line of what the program answers into `line`. What a signal has bash do is done meanwhile.
+curspan_read_answer() {
+    local part status
+    line=
+    while :; do
+        status=0
+        IFS= read -r -t 0.2 -u "$curspan_answers" part || status=$?
+        line+=$part
+        if [ "$status" = 0 ]; then return 0; fi
+        if [ "$status" -le 128 ]; then return 1; fi
+        [ -z "$curspan_ended" ] || curspan_release
+    done 2> /dev/null
 }
 
-# Waits until all calls are made, and reads what they answered, with that of a line of the script in `answer`. The last
-# one always answers.
-catch_up() {
-    local asked=${1:-} line=
-    answer=
-    send getyx 0
-    hold
-    while read -r -u "$answers" line; do
+# The script ends where the program has: it met a line that is no call.
+curspan_fail() {
+    local said
+    said=$(printf '%s\n' "$1" | (curspan_run check) 2> /dev/null | head -n 1)
+    curspan_complain "${said:-the program has ended}"
+    curspan_held=
+    exit 2
+}
+
+# Makes a call, waits until it is made, and puts what it answered into `curspan_answer`. A second one always answers.
+curspan_make() {
+    local IFS=' ' line
+    curspan_answer=
+    curspan_is_here || return 1
+    case $* in *$'\n'*) curspan_complain "a call is one line, and this has more: ${*//$'\n'/ }"; return 1 ;; esac
+    curspan_sent=$((curspan_sent + 2))
+    curspan_hold
+    { printf '%s\ngetyx 0\n' "$*" >&"$curspan_calls"; } 2> /dev/null || curspan_fail "$*"
+    while curspan_read_answer; do
         case $line in
-            "line $sent: "*) break ;;
-            "line $asked: "*) answer=${line#line *: } ;;
+            "line $curspan_sent: "*) break ;;
+            "line $((curspan_sent - 1)): "*) curspan_answer=${line#line *: } ;;
         esac
-        note "$line"
     done
-    release
-    unread=0
-    # without a last answer the program has ended
-    [ -n "$line" ] || exit 1
+    [ -n "$line" ] || curspan_fail "$*"
+    curspan_release
+    case $curspan_answer in E*) curspan_complain "$* is refused: $curspan_answer" ;; esac
 }
 
-# Whether words are one line of a script; else that is noted.
-is_line() {
-    case $* in
-        *$'\n'*) told+=("not called, since it has a newline: ${*//$'\n'/ }"); return 1 ;;
-    esac
-}
+curspan_call() { curspan_make "$@"; }
 
-call() {
-    is_line "$@" || return
-    send "$@"
-    unread=$((unread + 1))
-    if [ "$unread" -ge "$most_unread" ]; then catch_up; fi
-}
+curspan_ask() { curspan_make "$@" && [ -n "$curspan_answer" ]; }
 
 # A line of a script has 512 bytes at most, and a backslash takes two of them.
-write_text() {
+curspan_text() {
     local text=${2//[^ -~]/?} piece at
     for ((at = 0; at < ${#text}; at += 240)); do
         piece=${text:at:240}
-        call addstr "$1" "${piece//\\/\\\\}"
+        curspan_make addstr "$1" "${piece//\\/\\\\}" || return 1
     done
 }
 
-ask() {
-    answer=
-    is_line "$@" || return
-    send "$@"
-    catch_up "$sent"
-    case $answer in '' | E*) return 1 ;; esac
-}
-
-show() {
-    call update_panels
-    call doupdate
-    catch_up
-}
+curspan_show() { curspan_make update_panels && curspan_make doupdate; }
 
 # Stops the script as Ctrl-Z does any other, with the terminal given back. When it goes on, the terminal is its own
 # again.
-stop_script() {
-    catch_up
-    hold
-    give_terminal_back
+curspan_stop_script() {
+    curspan_hold
+    curspan_give_terminal_back
     kill -TSTP 0
-    take_terminal
-    release
-    call clearok 0 on
-    show
+    curspan_take_terminal
+    curspan_release
+    curspan_make clearok 0 on
+    curspan_show
 }
 
 # Reads a byte, or what is one character, into `byte`, for so many microseconds, or for ever. It waits a fifth of a second
 # at a time, since a signal is noted meanwhile.
-read_byte() {
+curspan_read_byte() {
     local left=${1:-} span=200000 wait status
-    while [ "$left" != 0 ]; do
+    while [ "$left" != 0 ] && [ -z "$curspan_resized" ]; do
         if [ -n "$left" ]; then
             span=$((left < span ? left : span))
             left=$((left - span))
         fi
         printf -v wait '0.%06d' "$span"
         status=0
-        hold
+        curspan_hold
         IFS= read -r -N 1 -t "$wait" byte < /dev/tty || status=$?
-        release
+        curspan_release
         # bash has also read what comes just as the time is over
-        if [ -n "$byte" ]; then return; fi
+        if [ -n "$byte" ]; then return 0; fi
         [ "$status" -gt 128 ] || return 1
     done
     return 1
 }
 
 # Reads what a key sends after an escape into `rest`: what comes at once, up to the end of a control sequence.
-read_rest() {
+curspan_read_rest() {
     rest=
-    while read_byte 100000; do
+    while curspan_read_byte 100000; do
         rest+=$byte
         case $rest in
             '[' | '[[' | O | '['*[0-9\;:\<=\>?\ !-/]) ;;
@@ -245,53 +295,77 @@ read_rest() {
     done
 }
 
-read_key() {
+curspan_read_key() {
     local byte rest left='' part
+    curspan_is_here || return 1
     if [ $# != 0 ]; then
         part=${1#"${1%%.*}"}000000
         part=${part#.}
         left=$((10#0${1%%.*} * 1000000 + 10#${part:0:6}))
     fi
-    key=
+    curspan_key=
     while
-        read_byte "$left" || return 1
+        if ! curspan_read_byte "$left"; then
+            if [ -z "$curspan_resized" ]; then return 1; fi
+            curspan_resized='' curspan_key=resize
+            return 0
+        fi
         [ "$byte" = $'\cZ' ]
-    do stop_script; done
-    key=$byte
-    case $key in
-        $'\n' | $'\r') key=enter ;;
-        $'\b' | $'\x7f') key=backspace ;;
-        $'\e') read_rest
+    do curspan_stop_script; done
+    curspan_key=$byte
+    case $curspan_key in
+        $'\n' | $'\r') curspan_key=enter ;;
+        $'\t') curspan_key=tab ;;
+        $'\b' | $'\x7f') curspan_key=backspace ;;
+        $'\e') curspan_read_rest
             case $rest in
-                '') key=escape ;;
-                '[A' | OA) key=up ;;
-                '[B' | OB) key=down ;;
-                '[C' | OC) key=right ;;
-                '[D' | OD) key=left ;;
-                '[H' | OH | '[1~' | '[7~') key=home ;;
-                '[F' | OF | '[4~' | '[8~') key=end ;;
-                '[2~') key=insert ;;
-                '[3~') key=delete ;;
-                '[5~') key=pageup ;;
-                '[6~') key=pagedown ;;
-                *) key+=$rest ;;
+                '') curspan_key=escape ;;
+                '[A' | OA) curspan_key=up ;;
+                '[B' | OB) curspan_key=down ;;
+                '[C' | OC) curspan_key=right ;;
+                '[D' | OD) curspan_key=left ;;
+                '[H' | OH | '[1~' | '[7~') curspan_key=home ;;
+                '[F' | OF | '[4~' | '[8~') curspan_key=end ;;
+                '[2~') curspan_key=insert ;;
+                '[3~') curspan_key=delete ;;
+                '[5~') curspan_key=pageup ;;
+                '[6~') curspan_key=pagedown ;;
+                *) curspan_key+=$rest ;;
             esac ;;
     esac
 }
 
+# Lets a line be edited at a place of a window: Enter ends it, with the line in `curspan_answer`, and Escape gives it up.
+curspan_ask_line() {
+    local text=${5:-} shown
+    while
+        printf -v shown '%-*.*s' "$4" "$4" "${text: -$((${#text} < $4 ? ${#text} : $4 - 1))}_"
+        curspan_make move "$1" "$2" "$3" && curspan_text "$1" "$shown" && curspan_show
+    do
+        curspan_read_key || continue
+        case $curspan_key in
+            enter) curspan_answer=$text; return 0 ;;
+            escape | resize) return 1 ;;
+            backspace) text=${text%?} ;;
+            $'\cU') text= ;;
+            [[:print:]]) text+=$curspan_key ;;
+        esac
+    done
+    return 1
+}
+
 # Draws a border of characters around a window of a number of lines and columns, and a title in it.
-border() {
+curspan_border() {
     local window=$1 lines=$2 columns=$3 title=${4:-} edge blank y
     printf -v edge '%*s' $((columns - 2)) ''
     blank="|$edge|"
     edge="+${edge// /-}+"
-    call move "$window" 0 0
-    write_text "$window" "$edge"
-    for ((y = 1; y < lines - 1; y++)); do call move "$window" "$y" 0; write_text "$window" "$blank"; done
-    call move "$window" $((lines - 1)) 0
-    write_text "$window" "$edge"
+    curspan_make move "$window" 0 0 && curspan_text "$window" "$edge" || return 1
+    for ((y = 1; y < lines - 1; y++)); do curspan_make move "$window" "$y" 0; curspan_text "$window" "$blank"; done
+    curspan_make move "$window" $((lines - 1)) 0
+    curspan_text "$window" "$edge"
     if [ -n "$title" ]; then
-        call move "$window" 0 2
-        write_text "$window" " $title "
+        curspan_make move "$window" 0 2
+        curspan_text "$window" " $title "
     fi
 }

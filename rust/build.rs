@@ -1,5 +1,5 @@
-//! Finds Curspan's library: in the folder that `CURSPAN_LIB_DIR` names, or where pkg-config finds
-//! `curspan.pc`. The archive is taken where the folder has it, so that the program needs no library
+//! Finds Curspan's library: in the folder that `CURSPAN_LIB_DIR` names, in `lib` of the one that
+//! `CURSPAN_PREFIX` names, as `./install` puts it, or where pkg-config finds `curspan.pc`. The archive is taken where the folder has it, so that the program needs no library
 //! to run, and else the shared library.
 
 use std::env;
@@ -7,8 +7,9 @@ use std::path::{Path, PathBuf};
 use std::process::{self, Command};
 
 /// The environment on which it depends what is found.
-const VARIABLES: [&str; 6] = [
+const VARIABLES: [&str; 7] = [
     "CURSPAN_LIB_DIR",
+    "CURSPAN_PREFIX",
     "PKG_CONFIG",
     "PKG_CONFIG_PATH",
     "PKG_CONFIG_LIBDIR",
@@ -45,8 +46,9 @@ fn kind_in(folder: &Path) -> Result<&'static str, String> {
 }
 
 fn link() -> Result<(), String> {
-    let folder = match env::var_os("CURSPAN_LIB_DIR") {
-        Some(folder) => PathBuf::from(folder),
+    let prefix = env::var_os("CURSPAN_PREFIX").map(|prefix| Path::new(&prefix).join("lib"));
+    let folder = match env::var_os("CURSPAN_LIB_DIR").map(PathBuf::from).or(prefix) {
+        Some(folder) => folder,
         None => folder_of_pkg_config()?,
     };
     let kind = kind_in(&folder)?;
@@ -66,7 +68,10 @@ fn main() {
     }
     if let Err(why) = link() {
         eprintln!("curspan: the library was not found: {why}");
-        eprintln!("curspan: set CURSPAN_LIB_DIR to the folder of libcurspan.a,");
+        eprintln!(
+            "curspan: set CURSPAN_PREFIX to where ./install or a package put it, as /usr/local,"
+        );
+        eprintln!("curspan: CURSPAN_LIB_DIR to the folder of libcurspan.a,");
         eprintln!("curspan: or PKG_CONFIG_PATH to that of curspan.pc");
         process::exit(1);
     }

@@ -87,7 +87,7 @@ class Method:
         """Its parameters as a docstring has them."""
         if self.call.name in PLACED:
             rest = ''.join(f', {name}' if index == 0 else '' for index, (name, _) in enumerate(self.parameters)).lstrip(', ')
-            return f'{self.name}([y, x, ]{rest}, attrs=None, *, pair=None)' if rest else f'{self.name}([y, x])'
+            return f'{self.name}([y, x, ]{rest}, attrs=None, *, pair=None, y=None, x=None)' if rest else f'{self.name}([y, x])'
         words = ['$self', *(f'{name}={self.defaults[name]}' if name in self.defaults else name for name, _ in self.parameters)]
         return f'{self.name}({", ".join(words)})\n--\n'
 
@@ -111,8 +111,9 @@ class Method:
         if self.call.name in PLACED:
             what = [f'{name}: {TYPES[kind][2]}' for name, kind in self.parameters]
             more = ['attrs: Optional[Attr] = ...', '*', 'pair: Optional[int] = ...'] if what else []
-            return [line for place in ([], ['y: int', 'x: int'])
-                    for line in ('@overload', f'def {self.name}({", ".join(["self", *place, *what, *more])}) -> {hint}: ...')]
+            place = ['y: int', 'x: int']
+            return [line for before, after in [([], []), (place, []), ([], place)][:3 if what else 2]
+                    for line in ('@overload', f'def {self.name}({", ".join(["self", *before, *what, *more, *after])}) -> {hint}: ...')]
         words = ['self', *(f'{name}: {self.hint(name, kind)}' for name, kind in self.parameters)]
         return [f'def {self.name}({", ".join(words)}) -> {hint}: ...']
 

@@ -8,7 +8,7 @@ import curspan
 from curspan import Attr
 from terminal import BAR, WARNING, dialog, open_screen, read_key, show
 
-CTRL_C, CTRL_Q, CTRL_S = '\x03', '\x11', '\x13'
+CTRL_C, CTRL_Q, CTRL_S = 'ctrl+c', 'ctrl+q', 'ctrl+s'
 
 
 def shown(text: str) -> str:

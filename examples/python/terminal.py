@@ -1,64 +1,34 @@
-"""What the examples share: a screen as large as the terminal, its keys, and dialogs. All else that a terminal can do is Python's own."""
+"""What the examples share: the terminal with a screen in its colours, and dialogs."""
 import contextlib
-import os
-import select
 import sys
-import termios
-import tty
-from typing import Iterator, Optional
+from typing import Iterator, List, Optional
 
 import curspan
 from curspan import Attr, Color
 
-# The sequences that keys send, on terminals like xterm.
-KEYS = {'\x1b[A': 'up', '\x1b[B': 'down', '\x1b[C': 'right', '\x1b[D': 'left', '\x1b[H': 'home', '\x1b[F': 'end', '\x1b[3~': 'delete',
-        '\x1bOA': 'up', '\x1bOB': 'down', '\x1bOC': 'right', '\x1bOD': 'left', '\x1b[1~': 'home', '\x1b[4~': 'end',
-        '\r': 'enter', '\n': 'enter', '\x7f': 'backspace', '\b': 'backspace', '\t': 'tab', '\x1b': 'escape'}
-SECONDS_WITHIN_A_KEY = 0.1
 PLAIN, BAR, WARNING = 1, 2, 3   # colour pairs
+opened: List[curspan.Terminal] = []
 
 
 @contextlib.contextmanager
 def open_screen(raw: bool = False) -> Iterator[curspan.Screen]:
     """A screen over the terminal, which is given back at the end. Raw, Ctrl-C and the like are keys."""
-    if not (sys.stdin.isatty() and sys.stdout.isatty()):
-        sys.exit(f'{sys.argv[0]}: this wants a terminal')
-    modes, size, out = termios.tcgetattr(sys.stdin), os.get_terminal_size(), sys.stdout.buffer
-    (tty.setraw if raw else tty.setcbreak)(sys.stdin.fileno())
-    out.write(b'\x1b[?1049h')   # a page of its own
     try:
-        with curspan.Screen(min(size.lines, 999), min(size.columns, 999), out) as screen:
-            screen.init_pair(PLAIN, Color.BLACK, Color.WHITE)
-            screen.init_pair(BAR, Color.WHITE, Color.BLUE)
-            screen.init_pair(WARNING, Color.WHITE, Color.RED)
-            yield screen
-    finally:
-        out.write(b'\x1b[0m\x1b[?1049l')
-        out.flush()
-        termios.tcsetattr(sys.stdin, termios.TCSAFLUSH, modes)
-
-
-def read_byte(seconds: Optional[float]) -> str:
-    """A byte that is typed in time, as a character, or none."""
-    if not select.select([sys.stdin], [], [], seconds)[0]:
-        return ''
-    byte = os.read(sys.stdin.fileno(), 1)
-    if not byte:
-        raise SystemExit('the terminal is gone')
-    return byte.decode('latin-1')
+        found = curspan.Terminal(raw=raw, cursor=True, paste=False)
+    except curspan.TerminalError as why:
+        sys.exit(f'{sys.argv[0]}: this wants a terminal: {why}')
+    with found as terminal:
+        opened.append(terminal)
+        screen = terminal.screen()
+        screen.init_pair(PLAIN, Color.BLACK, Color.WHITE)
+        screen.init_pair(BAR, Color.WHITE, Color.BLUE)
+        screen.init_pair(WARNING, Color.WHITE, Color.RED)
+        yield screen
 
 
 def read_key(seconds: Optional[float] = None) -> Optional[str]:
-    """The next key: a character, the name of another key, or None where none comes in time."""
-    typed = read_byte(seconds)
-    if typed == '\x1b':
-        typed += read_byte(SECONDS_WITHIN_A_KEY)
-        while typed[1:2] in ('[', 'O') and not '@' <= typed[-1] <= '~' or typed in ('\x1b[', '\x1bO'):
-            more = read_byte(SECONDS_WITHIN_A_KEY)
-            if not more:
-                break
-            typed += more
-    return KEYS.get(typed, typed or None)
+    """The next key, or None where none comes in time."""
+    return opened[-1].key(seconds)
 
 
 def show(screen: curspan.Screen) -> None:

@@ -12,23 +12,24 @@ A Screen keeps windows and sends the bytes that show what changed of them:
 Screen, Window, Pad and Panel have a method for each call, and each call that is refused raises an exception with the refusal's name, as
 OutsideWindow. The page docs/python.md explains all.
 """
-from ._curspan import Pad, Panel, Screen, Window, commit as __commit__, version as __version__
+from ._curspan import Pad, Panel, Screen, Terminal, Window, commit as __commit__, version as __version__
 from ._errors import (
     # Written by tools/calls from calls.table: imports
     NoSuchWindow, NoSuchPanel, OffScreen, OutsideParent, OutsideWindow, HasDerived, InPanel, IsPad,
     NotPad, NotDerived, BadSize, BadRegion, BadCharacter, StandardScreen, Hidden, ScrollingOff,
     TooMany, NoMemory, BadRectangle, BadPair,
     # End of what tools/calls wrote
-    Closed, Error, Refusal, WriteFailed,
+    Closed, Error, Refusal, TerminalError, WriteFailed,
 )
-from ._values import Attr, Cell, Color, Shown
+from ._values import Attr, Cell, Color, Paste, Shown
+from ._wrapper import wrapper
 
 __all__ = [
-    'Screen', 'Window', 'Pad', 'Panel', 'Attr', 'Color', 'Cell', 'Shown',
+    'Terminal', 'wrapper', 'Screen', 'Window', 'Pad', 'Panel', 'Attr', 'Color', 'Cell', 'Shown', 'Paste',
     # Written by tools/calls from calls.table: exported
     'NoSuchWindow', 'NoSuchPanel', 'OffScreen', 'OutsideParent', 'OutsideWindow', 'HasDerived',
     'InPanel', 'IsPad', 'NotPad', 'NotDerived', 'BadSize', 'BadRegion', 'BadCharacter',
     'StandardScreen', 'Hidden', 'ScrollingOff', 'TooMany', 'NoMemory', 'BadRectangle', 'BadPair',
     # End of what tools/calls wrote
-    'Closed', 'Error', 'Refusal', 'WriteFailed', '__commit__', '__version__',
+    'Closed', 'Error', 'Refusal', 'TerminalError', 'WriteFailed', '__commit__', '__version__',
 ]

@@ -125,6 +125,10 @@ class Closed(Error):
     status = 22
 
 
+class TerminalError(Error):
+    """A terminal can't be opened or used. Its text says why."""
+
+
 BY_STATUS: Dict[int, Type[Error]] = {it.status: it for it in [*Refusal.__subclasses__(), WriteFailed, Closed]}
-for _it in (Error, Refusal, *BY_STATUS.values()):
+for _it in (Error, Refusal, TerminalError, *BY_STATUS.values()):
     _it.__module__ = 'curspan'

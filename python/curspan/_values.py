@@ -14,7 +14,7 @@ class Attr(enum.Flag):
 
 
 class Color(enum.IntEnum):
-    """The colours of the terminal, for init_pair."""
+    """The colours of the terminal, for init_pair. DEFAULT is its own, on a screen that a Terminal made."""
     BLACK = 0
     RED = 1
     GREEN = 2
@@ -23,6 +23,7 @@ class Color(enum.IntEnum):
     MAGENTA = 5
     CYAN = 6
     WHITE = 7
+    DEFAULT = -1
 
 
 class Cell(NamedTuple):
@@ -40,5 +41,9 @@ class Shown(NamedTuple):
     background: Optional[Color] = None
 
 
-for _it in (Attr, Color, Cell, Shown):
+class Paste(str):
+    """A text that was pasted into the terminal."""
+
+
+for _it in (Attr, Color, Cell, Shown, Paste):
     _it.__module__ = 'curspan'

@@ -63,6 +63,20 @@ bool curspan_take_number(PyObject *object, uint32_t *number) {
     return true;
 }
 
+/* A colour, or the terminal's own on a screen that one shows. */
+bool curspan_take_colour(PyObject *object, const Screen *screen, int *colour) {
+    long long value;
+    int overflow;
+    if (!take_long(object, &value, &overflow)) return false;
+    bool is_own = !overflow && (value == -1 || value == DEFAULT_COLOUR);
+    if (is_own && !screen->terminal) {
+        PyErr_SetString(PyExc_ValueError, "Color.DEFAULT is for screens that a Terminal made: others have no colours of the terminal's own");
+        return false;
+    }
+    *colour = is_own ? -1 : overflow || value < 0 || value > 7 ? 8 : (int)value;
+    return true;
+}
+
 /* A number of lines that is too great scrolls all of them out, as the greatest does. */
 bool curspan_take_signed(PyObject *object, int32_t *number) {
     long long value;

@@ -8,7 +8,7 @@
 
 #include <stdbool.h>
 
-#include "curspan.h"
+#include "curspan_terminal.h"
 
 /* Python 3.9 has these as 3.10 put them into the stable ABI. */
 #ifndef METH_FASTCALL
@@ -39,6 +39,8 @@ struct Screen {
     PyObject_HEAD
     curspan handle;
     PyObject *file;       /* or NULL */
+    PyObject *terminal;   /* that shows it, or NULL */
+    bool replaces;        /* characters that a window can't have */
     bool file_is_raw;     /* its `write` may take a part, and None says that it took nothing */
     uint32_t lines, columns;
     Objects windows, panels;
@@ -57,14 +59,17 @@ struct Screen {
 #define AS_FUNCTION(it) (PyCFunction)(void (*)(void))(it)
 
 /* The types of the module, once it is imported. */
-extern PyObject *curspan_window_type, *curspan_pad_type, *curspan_panel_type;
+extern PyObject *curspan_screen_type, *curspan_window_type, *curspan_pad_type, *curspan_panel_type;
 extern PyMethodDef curspan_screen_methods[], curspan_window_methods[], curspan_pad_methods[], curspan_panel_methods[];
-extern PyType_Spec curspan_screen_spec, curspan_window_spec, curspan_pad_spec, curspan_panel_spec;
+extern PyType_Spec curspan_terminal_spec, curspan_screen_spec, curspan_window_spec, curspan_pad_spec, curspan_panel_spec;
 
 /* ---- values.c: values of Python's classes, and refusals */
 
 bool curspan_find_values(void);
 PyObject *curspan_refuse(uint32_t status);
+PyObject *curspan_refuse_character(const char *message, PyObject *character, Py_ssize_t position);
+PyObject *curspan_terminal_error(void);
+PyObject *curspan_paste(const char *text, Py_ssize_t length);
 PyObject *curspan_attributes(uint32_t bits);
 PyObject *curspan_cell(uint32_t cell);
 PyObject *curspan_shown(uint32_t cell);
@@ -81,6 +86,7 @@ typedef struct Parameters {
 
 PyObject *const *curspan_put_in_order(const Parameters *parameters, PyObject *const *given, Py_ssize_t count, PyObject *names, PyObject **room);
 bool curspan_take_number(PyObject *object, uint32_t *number);
+bool curspan_take_colour(PyObject *object, const Screen *screen, int *colour);
 bool curspan_take_signed(PyObject *object, int32_t *number);
 bool curspan_take_flag(PyObject *object, bool *flag);
 bool curspan_take_attributes(PyObject *object, uint8_t *bits);
@@ -117,6 +123,11 @@ int curspan_visit_object(PyObject *self, visitproc visit, void *arg);
 PyObject *curspan_list_of_cells(const uint32_t *cells, uint32_t count, PyObject *(*object)(uint32_t));
 PyObject *curspan_characters(const uint32_t *cells, uint32_t count);
 PyObject *curspan_iterate_lines(PyObject *self, uint32_t lines, PyObject *(*line)(PyObject *, PyObject *));
+
+/* ---- terminal.c */
+
+bool curspan_show_on(PyObject *terminal, Screen *screen);
+PyObject *curspan_give_pair(PyObject *terminal, Screen *screen, uint32_t pair, int foreground, int background);
 
 /* ---- the other files: methods that are written by hand, in the order of their tables */
 

@@ -348,17 +348,17 @@ PyMethodDef curspan_window_methods[] = {
      "Moves the cursor to line y and column x. Refused: NoSuchWindow; OutsideWindow for a place that the\n"
      "window hasn't."},
     {"addch", AS_FUNCTION(curspan_window_addch), METH_FASTCALL | METH_KEYWORDS,
-     "addch([y, x, ]ch, attrs=None, *, pair=None)\n"
+     "addch([y, x, ]ch, attrs=None, *, pair=None, y=None, x=None)\n"
      "Writes a character at the cursor, which advances, from the last column to the next line. Past the\n"
      "last column of the scroll region's last line the region scrolls, if the window may scroll, and else\n"
      "the cursor stays there. A newline (code 10), carriage return (13) or backspace (8) moves the cursor.\n"
      "Refused: NoSuchWindow; BadCharacter for another character outside 32 to 126."},
     {"addstr", AS_FUNCTION(curspan_window_addstr), METH_FASTCALL | METH_KEYWORDS,
-     "addstr([y, x, ]text, attrs=None, *, pair=None)\n"
+     "addstr([y, x, ]text, attrs=None, *, pair=None, y=None, x=None)\n"
      "Writes the characters of a text in order, each as addch does. No character of a refused text is\n"
      "written. Refused: NoSuchWindow; BadCharacter for a character other than 8, 10, 13 and 32 to 126."},
     {"insch", AS_FUNCTION(curspan_window_insch), METH_FASTCALL | METH_KEYWORDS,
-     "insch([y, x, ]ch, attrs=None, *, pair=None)\n"
+     "insch([y, x, ]ch, attrs=None, *, pair=None, y=None, x=None)\n"
      "Inserts a character at the cursor, which stays: the cells from there on go one column right, and the\n"
      "last is lost. Refused: NoSuchWindow; BadCharacter for a character outside 32 to 126."},
     {"delch", AS_FUNCTION(curspan_window_delch), METH_FASTCALL | METH_KEYWORDS,

@@ -1,7 +1,7 @@
 /* The module: its types, and what it says of the library. */
 #include "inside.h"
 
-static PyObject *screen_type;
+static PyObject *terminal_type;
 
 /* Makes a type, once. */
 static bool make_type(PyObject **type, PyType_Spec *spec, PyObject *base) {
@@ -14,7 +14,7 @@ static bool make_type(PyObject **type, PyType_Spec *spec, PyObject *base) {
 }
 
 static bool make_types(void) {
-    return make_type(&screen_type, &curspan_screen_spec, NULL) && make_type(&curspan_window_type, &curspan_window_spec, NULL) &&
+    return make_type(&terminal_type, &curspan_terminal_spec, NULL) && make_type(&curspan_screen_type, &curspan_screen_spec, NULL) && make_type(&curspan_window_type, &curspan_window_spec, NULL) &&
            make_type(&curspan_pad_type, &curspan_pad_spec, curspan_window_type) && make_type(&curspan_panel_type, &curspan_panel_spec, NULL);
 }
 
@@ -34,7 +34,7 @@ static int fill(PyObject *module) {
     }
     if (!curspan_find_values() || !make_types()) return -1;
     owner = PyInterpreterState_Get();
-    bool is_full = add(module, "Screen", screen_type) && add(module, "Window", curspan_window_type) && add(module, "Pad", curspan_pad_type) && add(module, "Panel", curspan_panel_type);
+    bool is_full = add(module, "Terminal", terminal_type) && add(module, "Screen", curspan_screen_type) && add(module, "Window", curspan_window_type) && add(module, "Pad", curspan_pad_type) && add(module, "Panel", curspan_panel_type);
     if (!is_full || PyModule_AddStringConstant(module, "version", curspan_version()) < 0 || PyModule_AddStringConstant(module, "commit", curspan_commit()) < 0) return -1;
     return 0;
 }

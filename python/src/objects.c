@@ -3,7 +3,7 @@
 
 #include <string.h>
 
-PyObject *curspan_window_type, *curspan_pad_type, *curspan_panel_type;
+PyObject *curspan_screen_type, *curspan_window_type, *curspan_pad_type, *curspan_panel_type;
 
 static bool make_room(Objects *objects, uint32_t number) {
     uint32_t room = objects->room ? objects->room : 8;

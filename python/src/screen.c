@@ -7,15 +7,23 @@ bool curspan_is_closed(const Screen *screen) { return curspan_getmaxyx(&screen->
 
 static int clear(PyObject *self) {
     Py_CLEAR(SCREEN(self)->file);
+    Py_CLEAR(SCREEN(self)->terminal);
     return 0;
 }
 
 static PyObject *make(PyTypeObject *type, PyObject *arguments, PyObject *names) {
-    static char *words[] = {"lines", "columns", "file", NULL};
+    static char *words[] = {"lines", "columns", "file", "errors", NULL};
     PyObject *lines, *columns, *file = Py_None;
-    if (!PyArg_ParseTupleAndKeywords(arguments, names, "OO|O:Screen", words, &lines, &columns, &file)) return NULL;
+    const char *errors = "strict";
+    if (!PyArg_ParseTupleAndKeywords(arguments, names, "OO|O$s:Screen", words, &lines, &columns, &file, &errors)) return NULL;
+    bool replaces = strcmp(errors, "replace") == 0;
+    if (!replaces && strcmp(errors, "strict") != 0) {
+        PyErr_Format(PyExc_ValueError, "errors is 'strict' or 'replace', and not '%s'", errors);
+        return NULL;
+    }
     Screen *screen = SCREEN(PyType_GenericAlloc(type, 0));
     if (!screen) return NULL;
+    screen->replaces = replaces;
     memset(screen->colours, DEFAULT_COLOUR, sizeof screen->colours);
     if (!curspan_take_number(lines, &screen->lines) || !curspan_take_number(columns, &screen->columns) || !curspan_set_file(screen, file)) {
         Py_DECREF(screen);
@@ -41,6 +49,7 @@ static void free_screen(PyObject *self) {
 static int visit(PyObject *self, visitproc visit, void *arg) {
     Py_VISIT(Py_TYPE(self));
     Py_VISIT(SCREEN(self)->file);
+    Py_VISIT(SCREEN(self)->terminal);
     return 0;
 }
 
@@ -76,15 +85,18 @@ PyObject *curspan_screen_invalidate(PyObject *self, PyObject *none) {
 PyObject *curspan_screen_init_pair(PyObject *self, PyObject *const *given, Py_ssize_t count, PyObject *names) {
     static const Parameters parameters = {"init_pair", 3, 3, {"pair", "foreground", "background"}};
     PyObject *room[3];
-    uint32_t pair, foreground, background;
+    uint32_t pair;
+    int foreground, background;
+    Screen *screen = SCREEN(self);
     if (!(given = in_order(&parameters, given, count, names, room))) return NULL;
-    if (!curspan_take_number(given[0], &pair) || !curspan_take_number(given[1], &foreground) || !curspan_take_number(given[2], &background)) return NULL;
-    curspan_answer answer = curspan_init_pair(&SCREEN(self)->handle, pair, foreground, background);
-    if (answer.status == CURSPAN_OK) {
-        SCREEN(self)->colours[pair][0] = (int8_t)foreground;
-        SCREEN(self)->colours[pair][1] = (int8_t)background;
+    if (!curspan_take_number(given[0], &pair) || !curspan_take_colour(given[1], screen, &foreground) || !curspan_take_colour(given[2], screen, &background)) return NULL;
+    PyObject *answer = screen->terminal ? curspan_give_pair(screen->terminal, screen, pair, foreground, background)
+                                        : nothing(curspan_init_pair(&screen->handle, pair, (uint32_t)foreground, (uint32_t)background));
+    if (answer) {
+        screen->colours[pair][0] = (int8_t)(foreground < 0 ? DEFAULT_COLOUR : foreground);
+        screen->colours[pair][1] = (int8_t)(background < 0 ? DEFAULT_COLOUR : background);
     }
-    return nothing(answer);
+    return answer;
 }
 
 PyObject *curspan_screen_bottom_panel(PyObject *self, PyObject *none) {
@@ -102,6 +114,10 @@ static int read_row(Screen *screen, PyObject *y, uint32_t *cells) {
     uint32_t line;
     if (!curspan_take_number(y, &line)) return -1;
     curspan_answer answer = curspan_shown_row(&screen->handle, line, cells, CURSPAN_LARGEST_SCREEN);
+    for (uint32_t x = 0; screen->terminal && x < answer.first; x++) {
+        uint32_t foreground = CURSPAN_FOREGROUND(cells[x]), own = foreground > 7 ? 0 : 8 * foreground + CURSPAN_BACKGROUND(cells[x]);
+        cells[x] = (cells[x] & 0xffff) | (uint32_t)screen->colours[own][0] << 16 | (uint32_t)screen->colours[own][1] << 24;
+    }
     if (answer.status == CURSPAN_OK) return (int)answer.first;
     curspan_refuse(answer.status);
     return -1;
@@ -172,7 +188,7 @@ static PyObject *get_closed(PyObject *self, void *closure) {
 
 static PyObject *get_file(PyObject *self, void *closure) {
     (void)closure;
-    PyObject *file = SCREEN(self)->file ? SCREEN(self)->file : Py_None;
+    PyObject *file = SCREEN(self)->terminal ? SCREEN(self)->terminal : SCREEN(self)->file ? SCREEN(self)->file : Py_None;
     Py_INCREF(file);
     return file;
 }
@@ -200,9 +216,10 @@ static PyGetSetDef properties[] = {
 };
 
 static const char about[] =
-    "Screen(lines, columns, file=None)\n--\n\n"
+    "Screen(lines, columns, file=None, *, errors='strict')\n--\n\n"
     "A blank screen of 1 to 999 lines and columns, with windows, panels and a virtual screen.\n\n"
     "doupdate writes to the file, which is open for bytes, as sys.stdout.buffer. Without a file take() gives the bytes.\n"
+    "A text with a character that a window can't have raises BadCharacter, or with errors='replace' is written with another in its place.\n"
     "Its text, str(screen), is the picture of the standard screen and the visible panels, as `curspan paint` prints it.";
 
 static PyType_Slot slots[] = {

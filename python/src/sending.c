@@ -88,6 +88,7 @@ static bool send(Screen *screen) {
 PyObject *curspan_screen_doupdate(PyObject *self, PyObject *none) {
     (void)none;
     curspan_answer answer = curspan_doupdate(&SCREEN(self)->handle);
+    if (answer.status == CURSPAN_OK && SCREEN(self)->terminal && !curspan_show_on(SCREEN(self)->terminal, SCREEN(self))) return NULL;
     if (answer.status == CURSPAN_OK && SCREEN(self)->file && !send(SCREEN(self))) return NULL;
     return number(answer);
 }

@@ -3,7 +3,7 @@
 
 enum { ATTRIBUTES = 64, COLOURS = 8, KEPT = 256 };
 
-static PyObject *attribute_type, *cell_type, *shown_type, *colour_type, *errors;
+static PyObject *attribute_type, *cell_type, *shown_type, *colour_type, *errors, *error_of_terminals, *paste_type;
 static PyObject *attributes[ATTRIBUTES]; /* of each sum of bits the one object of the enum */
 static PyObject *colours[COLOURS];
 
@@ -34,7 +34,8 @@ static bool find(PyObject **place, const char *module, const char *name) {
 bool curspan_find_values(void) {
     if (!find(&attribute_type, "curspan._values", "Attr") || !find(&cell_type, "curspan._values", "Cell")) return false;
     if (!find(&shown_type, "curspan._values", "Shown") || !find(&colour_type, "curspan._values", "Color")) return false;
-    if (!find(&errors, "curspan._errors", "BY_STATUS")) return false;
+    if (!find(&errors, "curspan._errors", "BY_STATUS") || !find(&error_of_terminals, "curspan._errors", "TerminalError")) return false;
+    if (!find(&paste_type, "curspan._values", "Paste")) return false;
     for (int bits = 0; bits < ATTRIBUTES; bits++)
         if (!put(&attributes[bits], PyObject_CallFunction(attribute_type, "i", bits))) return false;
     for (int colour = 0; colour < COLOURS; colour++)
@@ -54,6 +55,31 @@ PyObject *curspan_refuse(uint32_t status) {
     if (error) PyErr_SetString(error, curspan_text(status));
     Py_XDECREF(error);
     return NULL;
+}
+
+/* Raises BadCharacter with the character and its place. */
+PyObject *curspan_refuse_character(const char *message, PyObject *character, Py_ssize_t position) {
+    PyObject *type, *value, *trace, *place = PyLong_FromSsize_t(position);
+    curspan_refuse(CURSPAN_BAD_CHARACTER);
+    PyErr_Fetch(&type, &value, &trace);
+    Py_XDECREF(value);
+    value = PyObject_CallFunction(type, "s", message);
+    if (value && place && PyObject_SetAttrString(value, "character", character) == 0 && PyObject_SetAttrString(value, "position", place) == 0)
+        PyErr_SetObject(type, value);
+    Py_XDECREF(place);
+    Py_XDECREF(value);
+    Py_XDECREF(type);
+    Py_XDECREF(trace);
+    return NULL;
+}
+
+PyObject *curspan_terminal_error(void) { return error_of_terminals; }
+
+PyObject *curspan_paste(const char *text, Py_ssize_t length) {
+    PyObject *decoded = PyUnicode_DecodeUTF8(text, length, "replace");
+    PyObject *paste = decoded ? PyObject_CallFunctionObjArgs(paste_type, decoded, NULL) : NULL;
+    Py_XDECREF(decoded);
+    return paste;
 }
 
 PyObject *curspan_attributes(uint32_t bits) {

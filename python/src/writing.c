@@ -1,19 +1,25 @@
 /* The methods that may be given a place first, as those of Python's curses: addch, addstr, insch, delch and inch. */
 #include "inside.h"
 
-/* What a method that writes was given: ([y, x,] what, attrs=None, *, pair=None). */
+#include <string.h>
+
+/* What a method that writes was given: ([y, x,] what, attrs=None, *, pair=None, y=None, x=None). */
 typedef struct Written {
     PyObject *y, *x, *what, *attrs, *pair;
 } Written;
 
 /* Puts an argument that has a name in its place. */
 static bool put_named(const char *method, PyObject *name, PyObject *object, Written *written) {
-    bool is_attrs = PyUnicode_CompareWithASCIIString(name, "attrs") == 0, is_pair = PyUnicode_CompareWithASCIIString(name, "pair") == 0;
-    if (!is_attrs && !is_pair) PyErr_Format(PyExc_TypeError, "%s() got an unexpected keyword argument %R", method, name);
-    else if (is_attrs && written->attrs) PyErr_Format(PyExc_TypeError, "%s() got multiple values for argument 'attrs'", method);
-    else if (is_attrs) written->attrs = object;
-    else written->pair = object;
-    return !PyErr_Occurred();
+    static const char *const words[] = {"attrs", "pair", "y", "x"};
+    PyObject **places[] = {&written->attrs, &written->pair, &written->y, &written->x};
+    for (int i = 0; i < 4; i++) {
+        if (PyUnicode_CompareWithASCIIString(name, words[i]) != 0) continue;
+        if (*places[i]) PyErr_Format(PyExc_TypeError, "%s() got multiple values for argument '%s'", method, words[i]);
+        *places[i] = object;
+        return !PyErr_Occurred();
+    }
+    PyErr_Format(PyExc_TypeError, "%s() got an unexpected keyword argument %R", method, name);
+    return false;
 }
 
 static bool sort(const char *method, PyObject *const *given, Py_ssize_t count, PyObject *names, Written *written) {
@@ -27,6 +33,35 @@ static bool sort(const char *method, PyObject *const *given, Py_ssize_t count, P
         if (!put_named(method, PyTuple_GetItem(names, i), given[count + i], written)) return false;
     written->attrs = unless_none(written->attrs);
     written->pair = unless_none(written->pair);
+    if (!written->y == !written->x) return true;
+    PyErr_Format(PyExc_TypeError, "%s() takes a line and a column, or neither", method);
+    return false;
+}
+
+/* Whether a window can have a character of a text. */
+static bool is_written(uint32_t ch) { return (ch >= ' ' && ch < 127) || ch == '\b' || ch == '\n' || ch == '\r'; }
+
+/* Raises what a call that writes was refused for: where that is a character, with it and its place. */
+static PyObject *refuse(curspan_answer answer, PyObject *what) {
+    char message[120];
+    Py_ssize_t at = 0, count = PyUnicode_Check(what) ? PyUnicode_GetLength(what) : 0;
+    while (at < count && is_written(PyUnicode_ReadChar(what, at))) at++;
+    PyObject *character = answer.status == CURSPAN_BAD_CHARACTER && at < count ? PyUnicode_Substring(what, at, at + 1) : NULL;
+    if (!character) return PyErr_Occurred() ? NULL : curspan_refuse(answer.status);
+    PyOS_snprintf(message, sizeof message, "%s: U+%04X, at %zd",
+                  curspan_text(answer.status), (unsigned)PyUnicode_ReadChar(what, at), at);
+    curspan_refuse_character(message, character, at);
+    Py_DECREF(character);
+    return NULL;
+}
+
+/* Puts other characters in the place of those that a window can't have, in a text that goes when `room` does. */
+static bool replace(const Screen *screen, const uint8_t **text, size_t *length, PyObject **room) {
+    if (!screen->replaces) return true;
+    *room = PyBytes_FromStringAndSize((const char *)*text, (Py_ssize_t)*length);
+    if (!*room) return false;
+    *length = curspan_plain_text((const char *)*text, *length, PyBytes_AsString(*room));
+    *text = (const uint8_t *)PyBytes_AsString(*room);
     return true;
 }
 
@@ -72,19 +107,32 @@ static PyObject *write_at(PyObject *self, const Written *written, const Stroke *
     }
     answer = is_plain ? make(self, stroke) : make_in(self, written, bits, pair, stroke);
     if (answer.status != CURSPAN_OK && written->y) curspan_wmove(HANDLE(self), NUMBER(self), before.first, before.second);
-    return nothing(answer);
+    if (answer.status != CURSPAN_OK) return refuse(answer, written->what);
+    Py_RETURN_NONE;
 }
 
 PyObject *curspan_window_addstr(PyObject *self, PyObject *const *given, Py_ssize_t count, PyObject *names) {
     Written written;
     Stroke stroke = {0};
+    PyObject *room = NULL;
     if (!sort("addstr", given, count, names, &written) || !curspan_take_text(written.what, &stroke.text, &stroke.length)) return NULL;
-    return write_at(self, &written, &stroke);
+    if (!replace(NUMBERED(self)->screen, &stroke.text, &stroke.length, &room)) return NULL;
+    PyObject *answer = write_at(self, &written, &stroke);
+    Py_XDECREF(room);
+    return answer;
 }
 
 static PyObject *write_character(PyObject *self, const char *method, PyObject *const *given, Py_ssize_t count, PyObject *names, Stroke stroke) {
     Written written;
+    PyObject *room = NULL;
+    const uint8_t *text;
+    size_t length;
     if (!sort(method, given, count, names, &written) || !curspan_take_character(written.what, &stroke.ch)) return NULL;
+    if (stroke.ch > 127 && PyUnicode_Check(written.what)) {
+        if (!curspan_take_text(written.what, &text, &length) || !replace(NUMBERED(self)->screen, &text, &length, &room)) return NULL;
+        if (room) stroke.ch = length > 0 ? *text : '?';
+        Py_XDECREF(room);
+    }
     return write_at(self, &written, &stroke);
 }
 

@@ -15,14 +15,20 @@ ROOT = pathlib.Path(__file__).resolve().parent.parent.parent
 PAGE, README = ROOT / 'docs/python.md', ROOT / 'README.md'
 
 
+# Runs a program whose terminal that of the standard input is.
+TAKING = 'import fcntl, runpy, sys, termios; fcntl.ioctl(0, termios.TIOCSCTTY, 0); runpy.run_path(sys.argv[1], run_name="__main__")'
+
+
 def typed(program):
-    """What a program puts out at a terminal."""
+    """What a program puts out at a terminal, at which a key was typed."""
     with tempfile.NamedTemporaryFile('w', suffix='.py') as file:
         file.write(program)
         file.flush()
         ours, theirs = pty.openpty()
         subprocess.run(['stty', 'rows', '24', 'columns', '80'], stdin=theirs, check=True)
-        done = subprocess.run([sys.executable, '-B', file.name], stdin=theirs, stdout=theirs, stderr=subprocess.PIPE, timeout=30, check=False)
+        os.write(ours, b'x')
+        done = subprocess.run([sys.executable, '-B', '-c', TAKING, file.name], stdin=theirs, stdout=theirs, stderr=subprocess.PIPE, timeout=30,
+                              start_new_session=True, env={**os.environ, 'TERM': 'xterm'}, check=False)
         out = os.read(ours, 100000)
         os.close(ours)
         os.close(theirs)
@@ -46,7 +52,7 @@ class Documents(unittest.TestCase):
         self.assertIn(text, re.sub(rb'\x1b\[[0-9;]*[A-Za-z]', b'', out))
 
     def test_first_program_of_the_page(self):
-        self.shows(re.search(r'```python\n(import os\n.*?)```', PAGE.read_text(), re.DOTALL)[1], b'hello from Python')
+        self.shows(re.search(r'```python\n(import curspan\n.*?)```', PAGE.read_text(), re.DOTALL)[1], b'hello from Python')
 
     def test_program_of_the_readme(self):
         self.shows(re.sub('(?m)^    ', '', re.search(r'(?m)(^    import sys\n(?:    .*\n|\n)*?)\n\S', README.read_text())[1]), b'hello from Python')
@@ -55,7 +61,7 @@ class Documents(unittest.TestCase):
         for name in curspan.__all__:
             with self.subTest(name=name):
                 self.assertTrue(getattr(curspan, name).__doc__)
-        for kind in (curspan.Screen, curspan.Window, curspan.Pad, curspan.Panel):
+        for kind in (curspan.Terminal, curspan.Screen, curspan.Window, curspan.Pad, curspan.Panel):
             for name, value in vars(kind).items():
                 if not name.startswith('_'):
                     with self.subTest(name=f'{kind.__name__}.{name}'):
@@ -64,7 +70,7 @@ class Documents(unittest.TestCase):
     def test_stubs_have_each_name(self):
         """The stubs and the extension have the same methods and properties."""
         stubs = (pathlib.Path(curspan.__file__).parent / '_curspan.pyi').read_text()
-        for kind in (curspan.Screen, curspan.Window, curspan.Pad, curspan.Panel):
+        for kind in (curspan.Terminal, curspan.Screen, curspan.Window, curspan.Pad, curspan.Panel):
             body = re.search(rf'(?ms)^class {kind.__name__}\b.*?(?=^class |^@final|\Z)', stubs)[0]
             said = {name for name in re.findall(r'^    (?:def )?(\w+)[(:]', body, re.MULTILINE) if not name.startswith('_')}
             own = {name for name in vars(kind) if not name.startswith('_')}

@@ -1,7 +1,7 @@
 #![forbid(unsafe_code)]
 
 use std::fmt;
-use std::ops::{BitOr, BitOrAssign};
+use std::ops::{BitAnd, BitAndAssign, BitOr, BitOrAssign, Not};
 
 /// A set of attributes of characters.
 ///
@@ -11,6 +11,7 @@ use std::ops::{BitOr, BitOrAssign};
 /// let title = Attributes::BOLD | Attributes::REVERSE;
 /// assert!(title.contains(Attributes::BOLD));
 /// assert_eq!(format!("{title:?}"), "BOLD | REVERSE");
+/// assert_eq!(title & !Attributes::BOLD, Attributes::REVERSE);
 /// ```
 #[derive(Clone, Copy, PartialEq, Eq, Hash, Default)]
 pub struct Attributes(u8);
@@ -81,6 +82,29 @@ impl BitOr for Attributes {
 impl BitOrAssign for Attributes {
     fn bitor_assign(&mut self, other: Attributes) {
         *self = *self | other;
+    }
+}
+
+impl BitAnd for Attributes {
+    type Output = Attributes;
+
+    fn bitand(self, other: Attributes) -> Attributes {
+        Attributes(self.0 & other.0)
+    }
+}
+
+impl BitAndAssign for Attributes {
+    fn bitand_assign(&mut self, other: Attributes) {
+        *self = *self & other;
+    }
+}
+
+impl Not for Attributes {
+    type Output = Attributes;
+
+    /// All attributes that aren't in the set.
+    fn not(self) -> Attributes {
+        Attributes(!self.0 & Attributes::ALL.0)
     }
 }
 

@@ -3,7 +3,7 @@
 use crate::{Attributes, Refusal};
 use std::fmt;
 
-/// One of the eight colours.
+/// One of the eight colours, or the terminal's own.
 #[derive(Clone, Copy, PartialEq, Eq, Hash, Debug)]
 pub enum Color {
     /// Colour 0.
@@ -22,6 +22,9 @@ pub enum Color {
     Cyan,
     /// Colour 7.
     White,
+    /// The terminal's own, where a [`Terminal`](crate::terminal::Terminal) gives it to a pair; each
+    /// other call refuses it with [`BadPair`](Refusal::BadPair).
+    Default,
 }
 
 impl Color {

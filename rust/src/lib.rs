@@ -25,8 +25,8 @@
 //! # }
 //! ```
 //!
-//! Over `std::io::stdout()` these bytes go to the terminal. The crate reads no keys and sets no
-//! modes of the terminal; the crate's examples show how a program does that by `stty`.
+//! Over `std::io::stdout()` these bytes go to the terminal. A [`Terminal`](terminal::Terminal) reads
+//! keys and has a screen of its size.
 //!
 //! # What is proved
 //!
@@ -54,6 +54,8 @@ mod refusal;
 mod screen;
 #[allow(unsafe_code)]
 mod sys;
+pub mod terminal;
+mod text;
 
 pub use attributes::Attributes;
 pub use cells::{Cell, Color, ShownCell};
@@ -61,6 +63,7 @@ pub use error::Error;
 pub use handles::{Panel, Window, STDSCR};
 pub use refusal::Refusal;
 pub use screen::Screen;
+pub use text::{plain, WindowWriter};
 
 // The examples of the page on the crate run too.
 #[doc = include_str!("../README.md")]

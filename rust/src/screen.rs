@@ -69,9 +69,17 @@ impl<W: Write> Screen<W> {
     ///
     /// Those of the writer. Whatever part of the bytes it took, the terminal may show anything
     /// then, and the next `doupdate` clears it and sends all, so that one which succeeds repairs
-    /// it. And [`OutOfMemory`](io::ErrorKind::OutOfMemory) where there is no memory for the bytes;
+    /// it: it is made at once where the writer was [`Interrupted`](io::ErrorKind::Interrupted). And [`OutOfMemory`](io::ErrorKind::OutOfMemory) where there is no memory for the bytes;
     /// those that were made come before the next one's.
     pub fn doupdate(&mut self) -> io::Result<u32> {
+        match self.send() {
+            Err(error) if error.kind() == io::ErrorKind::Interrupted => self.send(),
+            answer => answer,
+        }
+    }
+
+    /// Writes what the screen sends: all of it where the terminal may show anything.
+    fn send(&mut self) -> io::Result<u32> {
         if self.is_unsure {
             self.sys.invalidate();
         }

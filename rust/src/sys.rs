@@ -1,12 +1,16 @@
-//! The functions of `curspan.h`, of which each is safe to call: the one module with unsafe code.
+//! The functions of `curspan.h` and `curspan_terminal.h`, of which each is safe to call: the one module with unsafe code.
 #![allow(clippy::too_many_arguments)]
 
 use crate::cells::{Cell, ShownCell};
-use crate::Refusal;
+use crate::{Color, Refusal};
 use std::cell::UnsafeCell;
 use std::collections::TryReserveError;
-use std::os::raw::c_void;
-use std::ptr;
+use std::ffi::{CStr, CString};
+use std::os::raw::{c_char, c_void};
+use std::os::unix::ffi::OsStrExt;
+use std::path::Path;
+use std::time::Duration;
+use std::{io, ptr};
 
 /// A screen of the library: C's `curspan`, which is open. Only the library looks inside. It may be
 /// moved, as `curspan.h` says. A query takes what it points to out, and puts it back before it
@@ -232,4 +236,194 @@ pub(crate) fn shown_row(
     // SAFETY: the screen is open and borrowed, and the buffer has this length, of cells that are
     // numbers.
     unsafe { curspan_shown_row(screen, y, cells.as_mut_ptr().cast(), cells.len()) }.check()
+}
+
+/// A terminal of the library: C's `curspan_terminal`, which is open. It stays in the thread that
+/// opened it, as a pointer does.
+#[derive(Debug)]
+#[repr(C)]
+pub(crate) struct Terminal {
+    at: UnsafeCell<*mut c_void>,
+}
+
+/// C's `curspan_key`.
+#[repr(C)]
+struct Key {
+    code: u32,
+    modifiers: u32,
+    text: *const u8,
+    length: usize,
+}
+
+extern "C" {
+    fn curspan_terminal_open(terminal: &Terminal, path: *const c_char, options: u32) -> u32;
+    fn curspan_terminal_use(terminal: &Terminal, input: i32, out: i32, options: u32) -> u32;
+    fn curspan_terminal_close(terminal: &Terminal) -> u32;
+    fn curspan_terminal_size(terminal: &Terminal, lines: &mut i32, columns: &mut i32) -> u32;
+    fn curspan_terminal_draw(terminal: &Terminal, bytes: *const u8, length: usize) -> u32;
+    fn curspan_terminal_write(terminal: &Terminal, bytes: *const c_void, length: usize) -> u32;
+    fn curspan_terminal_init_pair(t: &Terminal, s: &mut Screen, pair: u32, f: i32, b: i32) -> u32;
+    fn curspan_terminal_suspend(terminal: &Terminal) -> u32;
+    fn curspan_terminal_resume(terminal: &Terminal) -> u32;
+    fn curspan_terminal_descriptor(terminal: &Terminal) -> i32;
+    fn curspan_terminal_give_back();
+    fn curspan_terminal_key(terminal: &Terminal, milliseconds: i32, key: &mut Key) -> u32;
+    fn curspan_key_name(key: &Key, out: *mut c_char, room: usize) -> usize;
+    fn curspan_terminal_text(status: u32) -> *const c_char;
+    fn curspan_plain_text(text: *const c_char, length: usize, out: *mut c_char) -> usize;
+}
+
+/// What a call on a terminal was answered.
+fn check_terminal(status: u32) -> io::Result<()> {
+    const FAILED: u32 = 10;
+    const AWAY: u32 = 11;
+    match status {
+        OK => Ok(()),
+        FAILED => Err(io::Error::last_os_error()),
+        AWAY => Err(io::ErrorKind::Interrupted.into()),
+        // SAFETY: each status has words, which stay.
+        _ => Err(io::Error::new(
+            io::ErrorKind::Other,
+            unsafe { CStr::from_ptr(curspan_terminal_text(status)) }.to_string_lossy(),
+        )),
+    }
+}
+
+/// What kind of key came.
+pub(crate) enum Code {
+    Key,
+    None,
+    Eof,
+    Interrupted,
+}
+
+impl Terminal {
+    fn closed() -> Terminal {
+        Terminal {
+            at: UnsafeCell::new(ptr::null_mut()),
+        }
+    }
+
+    pub(crate) fn open(path: &Path, options: u32) -> io::Result<Terminal> {
+        let path = CString::new(path.as_os_str().as_bytes())?;
+        let terminal = Terminal::closed();
+        // SAFETY: the terminal is closed, as `CURSPAN_TERMINAL_INIT` is, and the path ends.
+        check_terminal(unsafe { curspan_terminal_open(&terminal, path.as_ptr(), options) })?;
+        Ok(terminal)
+    }
+
+    pub(crate) fn over(input: i32, output: i32, options: u32) -> io::Result<Terminal> {
+        let terminal = Terminal::closed();
+        // SAFETY: the terminal is closed; of descriptors that aren't open the system says so.
+        check_terminal(unsafe { curspan_terminal_use(&terminal, input, output, options) })?;
+        Ok(terminal)
+    }
+
+    pub(crate) fn size(&self) -> (u32, u32) {
+        let (mut lines, mut columns) = (0, 0);
+        // SAFETY: the terminal is open, as in the functions below, and both are lent.
+        unsafe { curspan_terminal_size(self, &mut lines, &mut columns) };
+        (lines.unsigned_abs(), columns.unsigned_abs())
+    }
+
+    pub(crate) fn draw(&self, bytes: &[u8]) -> io::Result<()> {
+        // SAFETY: the bytes have this length.
+        check_terminal(unsafe { curspan_terminal_draw(self, bytes.as_ptr(), bytes.len()) })
+    }
+
+    pub(crate) fn write(&self, bytes: &[u8]) -> io::Result<()> {
+        // SAFETY: the bytes have this length.
+        check_terminal(unsafe { curspan_terminal_write(self, bytes.as_ptr().cast(), bytes.len()) })
+    }
+
+    pub(crate) fn init_pair(
+        &self,
+        screen: &mut Screen,
+        pair: u32,
+        foreground: Color,
+        background: Color,
+    ) -> io::Result<()> {
+        let number = |color| match color {
+            Color::Default => -1,
+            _ => color as i32,
+        };
+        let (foreground, background) = (number(foreground), number(background));
+        // SAFETY: the screen is open and borrowed.
+        check_terminal(unsafe {
+            curspan_terminal_init_pair(self, screen, pair, foreground, background)
+        })
+    }
+
+    pub(crate) fn suspend(&self) -> io::Result<()> {
+        // SAFETY: the terminal is open.
+        check_terminal(unsafe { curspan_terminal_suspend(self) })
+    }
+
+    pub(crate) fn resume(&self) -> io::Result<()> {
+        // SAFETY: the terminal is open.
+        check_terminal(unsafe { curspan_terminal_resume(self) })
+    }
+
+    pub(crate) fn descriptor(&self) -> i32 {
+        // SAFETY: the terminal is open.
+        unsafe { curspan_terminal_descriptor(self) }
+    }
+
+    /// Waits for a key: its kind, its name, and its text.
+    pub(crate) fn key(&self, time: Option<Duration>) -> io::Result<(Code, String, Vec<u8>)> {
+        const NONE: u32 = 0x11_0000;
+        let milliseconds = time.map_or(-1, |time| {
+            i32::try_from(time.as_micros().saturating_add(999) / 1000).unwrap_or(i32::MAX)
+        });
+        let mut key = Key {
+            code: 0,
+            modifiers: 0,
+            text: ptr::null(),
+            length: 0,
+        };
+        let mut name = [0_u8; 64];
+        // SAFETY: the terminal is open, and the key is lent.
+        check_terminal(unsafe { curspan_terminal_key(self, milliseconds, &mut key) })?;
+        // SAFETY: the name has so much room, and the text so many bytes until the next call.
+        let (length, text) = unsafe {
+            (
+                curspan_key_name(&key, name.as_mut_ptr().cast(), name.len()),
+                std::slice::from_raw_parts(key.text, key.length).to_vec(),
+            )
+        };
+        let code = match key.code.wrapping_sub(NONE) {
+            0 => Code::None,
+            4 => Code::Eof,
+            5 => Code::Interrupted,
+            _ => Code::Key,
+        };
+        Ok((
+            code,
+            String::from_utf8_lossy(&name[..length]).into_owned(),
+            text,
+        ))
+    }
+}
+
+impl Drop for Terminal {
+    fn drop(&mut self) {
+        // SAFETY: nothing calls after this; nothing happens to one that is closed.
+        unsafe { curspan_terminal_close(self) };
+    }
+}
+
+/// Gives each terminal of this process back.
+pub(crate) fn give_back() {
+    // SAFETY: it may be called at any time.
+    unsafe { curspan_terminal_give_back() }
+}
+
+/// A text as a window can have it.
+pub(crate) fn plain(text: &str) -> String {
+    let mut out = vec![0_u8; text.len()];
+    // SAFETY: the text has this length, and there is room for as many bytes.
+    let length =
+        unsafe { curspan_plain_text(text.as_ptr().cast(), text.len(), out.as_mut_ptr().cast()) };
+    out.truncate(length);
+    String::from_utf8(out).unwrap_or_default()
 }

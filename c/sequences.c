@@ -1,13 +1,10 @@
 /* The sequences of the keys of xterm, tmux, screen, the Linux console and rxvt, as their entries of terminfo have them. No two of them have
    one sequence for two keys, but for rxvt, whose Find and Select nobody's keyboard has: these are Home and End here, as elsewhere. */
-#ifndef CURSPAN_SEQUENCES_H
-#define CURSPAN_SEQUENCES_H
+#define _XOPEN_SOURCE 700
+#include "curses.h"
+#include "terminal.h"
 
-struct curspan_sequence {
-    const char *bytes;
-    int key;
-    const char *type; /* with what the types of the terminals begin that have it, or NULL for all */
-};
+#include <string.h>
 
 /* F1 to F12 of xterm and tmux with shift, control and such, whose number begins a row of twelve. */
 #define FIRST_FUNCTION_KEYS(from, modifier)                                                                                \
@@ -26,7 +23,7 @@ struct curspan_sequence {
     {"\033[29" end, KEY_F((from) + 3), NULL}, {"\033[31" end, KEY_F((from) + 4), NULL},                                    \
     {"\033[32" end, KEY_F((from) + 5), NULL}, {"\033[33" end, KEY_F((from) + 6), NULL}, {"\033[34" end, KEY_F((from) + 7), NULL}
 
-static const struct curspan_sequence curspan_sequences[] = {
+const struct curspan_sequence curspan_sequences[CURSPAN_SEQUENCES] = {
     {"\177", KEY_BACKSPACE, NULL},
     /* the keys of the cursor, of an application and normal */
     {"\033OA", KEY_UP, NULL}, {"\033OB", KEY_DOWN, NULL}, {"\033OC", KEY_RIGHT, NULL}, {"\033OD", KEY_LEFT, NULL},
@@ -61,6 +58,6 @@ static const struct curspan_sequence curspan_sequences[] = {
     {"\033[23@", KEY_F(43), NULL}, {"\033[24@", KEY_F(44), NULL},
 };
 
-enum { CURSPAN_SEQUENCES = sizeof curspan_sequences / sizeof curspan_sequences[0] };
-
-#endif
+bool curspan_is_of_type(const struct curspan_sequence *sequence, const char *type) {
+    return !sequence->type || strncmp(type, sequence->type, strlen(sequence->type)) == 0;
+}

@@ -1,0 +1,82 @@
+/* The bytes of a screen on their way to a terminal, in which each pair of curspan.h is known by two colours of its own, and gets others. Nothing
+   here is proved. */
+#include "curspan.h"
+#include "terminal.h"
+
+#include <stdlib.h>
+#include <string.h>
+
+enum { EIGHT = 8, SHORTEST = 9 /* what comes before the end of a selection that has colours */ };
+
+void curspan_number_pairs(curspan *screen) {
+    for (int own = 1; own < OWN_PAIRS; own++) curspan_init_pair(screen, (uint16_t)own, (uint16_t)(own / EIGHT), (uint16_t)(own % EIGHT));
+}
+
+static uint8_t digit_of(int colour) { return (uint8_t)('0' + (colour == OWN_COLOUR ? 9 : colour)); }
+
+static uint8_t *append(uint8_t *out, const void *text, size_t length) {
+    memmove(out, text, length);
+    return out + length;
+}
+
+/* Lets the terminal draw alternate characters from there on, or the others. */
+static uint8_t *switch_to(struct curspan_palette *palette, uint8_t *out, bool flag) {
+    if (flag == palette->is_alternate) return out;
+    palette->is_alternate = flag;
+    return append(out, flag ? "\033(0" : CURSPAN_PLAIN_SET, 3);
+}
+
+/* Appends a selection of a rendition with the colours that its pair has for the program: it ends as 3f;4bm where it has one. */
+static uint8_t *append_selection(struct curspan_palette *palette, uint8_t *out, const uint8_t *bytes, size_t length) {
+    const uint8_t *end = bytes + length - 1;
+    bool has_colours = length > SHORTEST && end[-6] == ';' && end[-5] == '3' && end[-3] == ';' && end[-2] == '4';
+    int own = has_colours ? (end[-4] - '0') * EIGHT + end[-1] - '0' : 0;
+    int foreground = palette->colours[own][0], background = palette->colours[own][1];
+    const uint8_t selected[] = {';', '3', digit_of(foreground), ';', '4', digit_of(background)};
+    if (has_colours) length -= sizeof selected;
+    out = append(switch_to(palette, out, palette->are_alternate[own]), bytes, length - 1);
+    if (foreground != OWN_COLOUR || background != OWN_COLOUR) out = append(out, selected, sizeof selected);
+    return append(out, "m", 1);
+}
+
+/* Where a control sequence ends that begins there. */
+static const uint8_t *end_of(const uint8_t *begin, const uint8_t *last) {
+    const uint8_t *at = begin + 1;
+    while (at < last && (*at < '@' || *at == '[')) at++;
+    return at < last ? at + 1 : last;
+}
+
+size_t curspan_recolour(struct curspan_palette *palette, const uint8_t *bytes, size_t length, uint8_t *out) {
+    const uint8_t *last = bytes + length, *begin, *end;
+    uint8_t *to = out;
+    while (palette->changes && bytes < last && (begin = memchr(bytes, '\033', (size_t)(last - bytes)))) {
+        end = end_of(begin, last);
+        to = append(to, bytes, (size_t)(begin - bytes));
+        to = end[-1] == 'm' ? append_selection(palette, to, begin, (size_t)(end - begin)) : append(to, begin, (size_t)(end - begin));
+        bytes = end;
+    }
+    return (size_t)(append(to, bytes, (size_t)(last - bytes)) - out);
+}
+
+/* Takes what the screen sent. Where there is no memory for it, it stays there for the next time. */
+static bool take(curspan *screen, struct curspan_outgoing *all, size_t *length) {
+    uint8_t none;
+    while ((*length = curspan_take(screen, all->room > 0 ? all->bytes + CURSPAN_RECOLOURED * all->room : &none, all->room)) > all->room) {
+        uint8_t *more = realloc(all->bytes, (CURSPAN_RECOLOURED + 1) * *length);
+        if (!more) return false;
+        all->bytes = more;
+        all->room = *length;
+    }
+    return true;
+}
+
+/* Where the bytes can't be written the terminal may draw with either set, and the next doupdate clears it and sends all. */
+bool curspan_hand_on(const struct curspan_tty *tty, curspan *screen, struct curspan_palette *palette, struct curspan_outgoing *outgoing) {
+    size_t length;
+    if (!take(screen, outgoing, &length)) return false;
+    length = curspan_recolour(palette, outgoing->bytes + CURSPAN_RECOLOURED * outgoing->room, length, outgoing->bytes);
+    if (curspan_put(tty, outgoing->bytes, length)) return true;
+    for (int own = 0; own < OWN_PAIRS; own++) palette->is_alternate |= palette->are_alternate[own];
+    curspan_invalidate(screen);
+    return false;
+}

@@ -1,0 +1,78 @@
+#!/usr/bin/env bash
+# A monitor of the processes of a Linux machine: p, n and m sort by number, name and memory; arrows
+# choose one, k asks before it would end it, and q ends the monitor. It looks again each second,
+# follows the size of the terminal, and ends no process: it says which one it would.
+set -uo pipefail
+. "$(dirname "$(readlink -f "${BASH_SOURCE[0]}")")/screen.bash"
+column=-k3,3nr chosen=0 first=0 ended=0 rows=()
+
+# Reads number, name and memory in KiB of each process, sorted.
+look() {
+    local folder pages name
+    mapfile -t rows < <(for folder in /proc/[0-9]*; do
+        read -r _ pages _ < "$folder/statm" && read -r name < "$folder/comm" || continue
+        printf '%s\t%s\t%s\n' "${folder#/proc/}" "$name" $((pages * 4))
+    done 2> /dev/null | sort -t $'\t' "$column")
+}
+
+# Writes a line of the screen in a pair of colours, from edge to edge.
+write_line() {
+    local text
+    printf -v text '%-*.*s' "$curspan_columns" "$curspan_columns" "$3"
+    curspan_call color_set 0 "$2"
+    curspan_call move 0 "$1" 0
+    curspan_text 0 "$text"
+}
+
+draw() {
+    local y number name memory text room=$((curspan_lines - 2))
+    chosen=$((chosen >= ${#rows[@]} ? ${#rows[@]} - 1 : chosen < 0 ? 0 : chosen))
+    first=$((chosen < first ? chosen : chosen >= first + room ? chosen - room + 1 : first))
+    write_line 0 1 '   NUMBER  NAME                KIB'
+    for ((y = 0; y < room; y++)); do
+        IFS=$'\t' read -r number name memory <<< "${rows[first + y]:-}"
+        printf -v text '%9s  %-15.15s %9s' "$number" "$name" "$memory"
+        write_line $((y + 1)) $((first + y == chosen ? 2 : 0)) "$text"
+    done
+    write_line $((curspan_lines - 1)) 1 " p number  n name  m memory  k end ($ended)  q quit"
+    curspan_show
+}
+
+# Asks in a window over the others.
+ask_to_end() {
+    local number name window panel
+    IFS=$'\t' read -r number name _ <<< "${rows[chosen]}"
+    curspan_ask newwin 3 40 $(((curspan_lines - 3) / 2)) $(((curspan_columns - 40) / 2)) || return
+    window=$curspan_answer
+    curspan_border "$window" 3 40 "End $number, ${name:0:15}? y or n"
+    curspan_ask new_panel "$window"
+    panel=$curspan_answer
+    curspan_show
+    if curspan_read_key && [ "$curspan_key" = y ]; then ended=$number; fi
+    curspan_call del_panel "$panel"
+    curspan_call delwin "$window"
+}
+
+begin() {
+    curspan_call init_pair 1 7 4
+    curspan_call init_pair 2 7 1
+}
+
+curspan_open || exit
+begin
+look
+while draw; do
+    curspan_read_key 1 || { look; continue; }
+    case $curspan_key in
+        up) chosen=$((chosen - 1)) ;;
+        down) chosen=$((chosen + 1)) ;;
+        pageup) chosen=$((chosen - curspan_lines + 2)) ;;
+        pagedown) chosen=$((chosen + curspan_lines - 2)) ;;
+        p) column=-k1,1n; look ;;
+        n) column=-k2,2; look ;;
+        m) column=-k3,3nr; look ;;
+        k) ask_to_end ;;
+        resize) curspan_resize && begin ;;
+        q) break ;;
+    esac
+done

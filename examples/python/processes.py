@@ -1,0 +1,72 @@
+#!/usr/bin/env python3
+"""A monitor of the processes of a Linux machine: p, n and m sort by number, name and memory;
+arrows choose one, k asks before it would end it, and q ends the monitor. It looks again each
+second, follows the size of the terminal, and ends no process: it says which one it would."""
+import os
+from pathlib import Path
+from typing import List, Tuple
+
+import curspan
+from curspan import Attr, Color
+
+Process = Tuple[int, str, int]
+TITLE, CHOSEN = 1, 2
+ORDERS = {'p': lambda it: it[0], 'n': lambda it: it[1], 'm': lambda it: -it[2]}
+
+
+def look(order: str) -> List[Process]:
+    """Number, name and memory in KiB of each process."""
+    found = []
+    for name in filter(str.isdigit, os.listdir('/proc')):
+        try:
+            memory = int(Path(f'/proc/{name}/statm').read_text().split()[1]) * 4
+            command = Path(f'/proc/{name}/comm').read_text(errors='replace').strip()
+            found.append((int(name), command, memory))
+        except OSError:
+            pass    # it has ended
+    return sorted(found, key=ORDERS[order])
+
+
+def draw(screen: curspan.Screen, processes: List[Process], first: int, chosen: int, ended: int):
+    desk, width = screen.stdscr, screen.columns
+    desk.addstr(0, 0, f'{"   NUMBER  NAME                   KIB":{width}.{width}}', pair=TITLE)
+    for y in range(1, screen.lines - 1):
+        row = processes[first + y - 1:first + y]
+        text = ''.join(f'{number:9}  {name:15.15}  {memory:9}' for number, name, memory in row)
+        desk.addstr(y, 0, f'{text:{width}.{width}}', pair=CHOSEN if first + y - 1 == chosen else 0)
+    keys = f' p number  n name  m memory  k end ({ended})  q quit'
+    desk.addstr(screen.lines - 1, 0, f'{keys:{width}.{width}}', pair=TITLE)
+    screen.update_panels()
+    screen.doupdate()
+
+
+def ask_to_end(terminal: curspan.Terminal, screen: curspan.Screen, number: int, name: str) -> bool:
+    y, x = (screen.lines - 3) // 2, (screen.columns - 40) // 2
+    with screen.newwin(3, 40, y, x) as window, window.new_panel():
+        window.background = curspan.Cell(' ', Attr.REVERSE)
+        window.erase()
+        window.addstr(1, 2, f'End {number}, {name:.15}? y or n')
+        screen.update_panels()
+        screen.doupdate()
+        return terminal.key() == 'y'
+
+
+def main(terminal: curspan.Terminal) -> None:
+    order, first, chosen, ended, key = 'm', 0, 0, 0, None
+    screen = terminal.screen(errors='replace')
+    screen.init_pair(TITLE, Color.WHITE, Color.BLUE)
+    screen.init_pair(CHOSEN, Color.RED, Color.DEFAULT)
+    while key != 'q':
+        screen, processes = terminal.screen(), look(order)
+        chosen = max(0, min(chosen, len(processes) - 1))
+        first = max(min(first, chosen), chosen - screen.lines + 3)
+        draw(screen, processes, first, chosen, ended)
+        key = terminal.key(1)
+        order = key if key in ORDERS else order
+        chosen += {'up': -1, 'down': 1}.get(key or '', 0)
+        if key == 'k' and ask_to_end(terminal, screen, *processes[chosen][:2]):
+            ended = processes[chosen][0]
+
+
+if __name__ == '__main__':
+    curspan.wrapper(main)

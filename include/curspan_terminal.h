@@ -1,0 +1,168 @@
+/* curspan_terminal.h: terminals for programs over curspan.h, in C99 or C++: modes, keys, sizes, signals, the other page, and colours of the
+   terminal's own. Nothing of it is proved; it is tested over pseudoterminals.
+
+       curspan_terminal terminal = CURSPAN_TERMINAL_INIT;
+       curspan screen = CURSPAN_INIT;
+       curspan_key key;
+       uint32_t status = curspan_terminal_open(&terminal, NULL, CURSPAN_TERMINAL_USUAL);
+       if (status != CURSPAN_TERMINAL_OK) return fprintf(stderr, "%s\n", curspan_terminal_text(status)), 1;
+       do {
+           int lines, columns;
+           curspan_terminal_size(&terminal, &lines, &columns);
+           curspan_open(&screen, lines, columns);
+           ... draw ...
+           curspan_terminal_show(&terminal, &screen);
+           curspan_terminal_key(&terminal, 1000, &key);
+       } while (key.code != 'q');
+       curspan_close(&screen);
+       curspan_terminal_close(&terminal);
+
+   There may be many at once, each over descriptors of its own. One of them may own the signals. A terminal is used by the thread that opened
+   it. Each call answers a status; where that is not CURSPAN_TERMINAL_OK nothing was sent, and the terminal is as it was. */
+#ifndef CURSPAN_TERMINAL_H
+#define CURSPAN_TERMINAL_H
+
+#include "curspan.h"
+
+#ifdef __cplusplus
+extern "C" {
+#endif
+
+/* A terminal. It begins as CURSPAN_TERMINAL_INIT, or as zeros, and is closed then. Never look inside it. It may be moved. */
+typedef struct curspan_terminal {
+    void *at;
+} curspan_terminal;
+
+#define CURSPAN_TERMINAL_INIT {0}
+
+enum curspan_terminal_status {
+    CURSPAN_TERMINAL_OK = 0,
+    CURSPAN_TERMINAL_NONE = 1,          /* there is no terminal */
+    CURSPAN_TERMINAL_DUMB = 2,          /* TERM is dumb */
+    CURSPAN_TERMINAL_OPEN = 3,          /* it is open already */
+    CURSPAN_TERMINAL_CLOSED = 4,        /* it isn't open */
+    CURSPAN_TERMINAL_SIGNALS_TAKEN = 5, /* another one owns the signals */
+    CURSPAN_TERMINAL_OTHER_THREAD = 6,  /* another thread opened it */
+    CURSPAN_TERMINAL_FORKED = 7,        /* another process opened it, of which this one is a child */
+    CURSPAN_TERMINAL_NO_MEMORY = 8,
+    CURSPAN_TERMINAL_REFUSED = 9,       /* the screen refused it: it is closed, or has no such pair */
+    CURSPAN_TERMINAL_FAILED = 10,       /* the system refused it: errno says why */
+    CURSPAN_TERMINAL_AWAY = 11          /* it was given back meanwhile, so that all is to be drawn: only curspan_terminal_draw answers this */
+};
+
+/* The words of a status. */
+const char *curspan_terminal_text(uint32_t status);
+
+enum curspan_terminal_options {
+    CURSPAN_TERMINAL_RAW = 1,         /* Ctrl-C, Ctrl-Z and Ctrl-\ are keys, and no signals */
+    CURSPAN_TERMINAL_PAGE = 2,        /* the picture is on the terminal's other page */
+    CURSPAN_TERMINAL_HIDE_CURSOR = 4,
+    CURSPAN_TERMINAL_PASTE = 8,       /* a text that is pasted is one key, and not a key for each character */
+    CURSPAN_TERMINAL_SIGNALS = 16,    /* it owns the signals */
+    CURSPAN_TERMINAL_USUAL = 30       /* all but raw */
+};
+
+/* Opens the terminal of a file, or where that is NULL the one that controls the process, /dev/tty. Keys come as they are typed and aren't
+   echoed. One that owns the signals is given back, with those that are open beside it, before SIGINT, SIGTERM, SIGQUIT, SIGHUP, SIGSEGV,
+   SIGBUS, SIGFPE, SIGILL or SIGABRT ends the program; before SIGTSTP stops it; and SIGWINCH tells of a new size. Signals that the program
+   has caught or ignores stay so, but faults, whose handlers come after. At exit each that is open is given back. SIGKILL and _exit
+   give nothing back. */
+uint32_t curspan_terminal_open(curspan_terminal *terminal, const char *path, uint32_t options);
+
+/* The same over descriptors that are open already, and stay so: keys are read from one, and bytes are written to the other. */
+uint32_t curspan_terminal_use(curspan_terminal *terminal, int in, int out, uint32_t options);
+
+/* Gives the terminal back and frees what it has. In a forked child the terminal is left alone. */
+uint32_t curspan_terminal_close(curspan_terminal *terminal);
+
+/* The lines and columns of the terminal. One that doesn't know has 24 by 80, and more than 999 are taken as 999. */
+uint32_t curspan_terminal_size(const curspan_terminal *terminal, int *lines, int *columns);
+
+/* Has the screen make its next update, and writes it, also where the terminal was suspended or the program stopped meanwhile: then all is drawn.
+   Bytes that wait in the screen are written with it. */
+uint32_t curspan_terminal_show(curspan_terminal *terminal, curspan *screen);
+
+/* Writes bytes that were taken of a screen, with its colours. Where the terminal was given back meanwhile it is taken again, and the bytes are
+   not written: the screen is to be invalidated, and to send all. */
+uint32_t curspan_terminal_draw(curspan_terminal *terminal, const uint8_t *bytes, size_t length);
+
+/* Writes all of some bytes, as they are. */
+uint32_t curspan_terminal_write(curspan_terminal *terminal, const void *bytes, size_t length);
+
+/* Gives a pair, 1 to 63, of a screen that this terminal shows its colours: 0 to 7, or -1 for the terminal's own. All pairs of such a screen are
+   set so, and none by curspan_init_pair. What has the pair already is shown in the new colours. */
+uint32_t curspan_terminal_init_pair(curspan_terminal *terminal, curspan *screen, uint32_t pair, int foreground, int background);
+
+/* Gives the terminal back for a while, as for another program. The next resume or show takes it again. */
+uint32_t curspan_terminal_suspend(curspan_terminal *terminal);
+uint32_t curspan_terminal_resume(curspan_terminal *terminal);
+
+/* The descriptor of which keys are read. It is ready to be read where a key comes; or -1 where the terminal isn't open. */
+int curspan_terminal_descriptor(const curspan_terminal *terminal);
+
+/* Gives each terminal of this process back that is open. A handler of signals may call it. */
+void curspan_terminal_give_back(void);
+
+/* ---- keys */
+
+/* A key by its `code`: a character of Unicode, or one of the codes below. */
+typedef struct curspan_key {
+    uint32_t code;
+    uint32_t modifiers; /* where the terminal sends them */
+    const char *text;   /* of CURSPAN_KEY_PASTE the text, and of others what the terminal sent, up to the next call; not ended by a NUL */
+    size_t length;
+} curspan_key;
+
+enum { CURSPAN_SHIFT = 1, CURSPAN_ALT = 2, CURSPAN_CTRL = 4 };
+
+enum curspan_key_code {
+    CURSPAN_KEY_NONE = 0x110000, /* none came in time */
+    CURSPAN_KEY_RESIZE,          /* the size is another, or the terminal was given back meanwhile: show all again */
+    CURSPAN_KEY_PASTE,           /* a text was pasted */
+    CURSPAN_KEY_UNKNOWN,         /* a sequence that is no key's */
+    CURSPAN_KEY_EOF,             /* the input has ended, as where the terminal is gone */
+    CURSPAN_KEY_INTERRUPTED,     /* a signal came which the program has caught */
+    CURSPAN_KEY_ENTER,
+    CURSPAN_KEY_TAB,
+    CURSPAN_KEY_ESCAPE,
+    CURSPAN_KEY_BACKSPACE,
+    CURSPAN_KEY_UP,
+    CURSPAN_KEY_DOWN,
+    CURSPAN_KEY_LEFT,
+    CURSPAN_KEY_RIGHT,
+    CURSPAN_KEY_HOME,
+    CURSPAN_KEY_END,
+    CURSPAN_KEY_PAGE_UP,
+    CURSPAN_KEY_PAGE_DOWN,
+    CURSPAN_KEY_INSERT,
+    CURSPAN_KEY_DELETE,
+    CURSPAN_KEY_BEGIN,           /* of the keypad, and the five that follow */
+    CURSPAN_KEY_A1,
+    CURSPAN_KEY_A3,
+    CURSPAN_KEY_B2,
+    CURSPAN_KEY_C1,
+    CURSPAN_KEY_C3,
+    CURSPAN_KEY_F0
+};
+
+#define CURSPAN_KEY_F(n) (CURSPAN_KEY_F0 + (n))
+
+/* Waits for a key, for some milliseconds, or without end where they are negative. An escape that nothing follows for a tenth of a second, or for
+   ESCDELAY milliseconds where the environment has that, is the key of its name. */
+uint32_t curspan_terminal_key(curspan_terminal *terminal, int milliseconds, curspan_key *key);
+
+/* Puts the name of a key into `out`, with a NUL, where there is room, and answers its length: the character, or a name such as up, page_down, f1,
+   ctrl+left, alt+x, shift+tab, none, resize. */
+size_t curspan_key_name(const curspan_key *key, char *out, size_t room);
+
+/* ---- texts */
+
+/* Puts a text of UTF-8 into `out`, which has room for as many bytes and may be the same, as a window can have it, and answers its length: a
+   letter of Latin script without its mark, and in place of another character a question mark, with a blank where it is wide. */
+size_t curspan_plain_text(const char *text, size_t length, char *out);
+
+#ifdef __cplusplus
+}
+#endif
+
+#endif
