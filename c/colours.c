@@ -18,6 +18,7 @@ static attr_t stands_for[LAST_OWN + 1]; /* and which one that is */
 static bool has_pairs;                 /* some of them may be shown */
 static short defaults[2] = {OWN, OWN}; /* the colours of pair 0, and those that -1 is */
 static bool has_defaults;              /* they are set */
+static bool is_started;                /* start_color was called: before it no pair has colours, and none is given them */
 static bool is_own_colour;             /* -1 is a colour */
 static bool is_alternate;               /* the terminal draws alternate characters now */
 
@@ -26,7 +27,7 @@ void curspan_forget_colours(void) {
     memset(is_given, 0, sizeof is_given);
     memset(owns, 0, sizeof owns);
     memset(stands_for, 0, sizeof stands_for);
-    has_pairs = has_defaults = is_own_colour = is_alternate = false;
+    has_pairs = has_defaults = is_started = is_own_colour = is_alternate = false;
     defaults[0] = defaults[1] = OWN;
 }
 
@@ -63,7 +64,11 @@ static int set_defaults(int foreground, int background) {
     return OK;
 }
 
-int start_color(void) { return has_defaults ? OK : set_defaults(COLOR_WHITE, COLOR_BLACK); }
+int start_color(void) {
+    is_started = stdscr != NULL;
+    return has_defaults ? OK : set_defaults(COLOR_WHITE, COLOR_BLACK);
+}
+
 bool has_colors(void) { return stdscr != NULL; }
 bool can_change_color(void) { return false; }
 
@@ -98,7 +103,7 @@ static bool is_colour(int colour) { return colour < EIGHT && colour >= (is_own_c
 static bool is_shown(int pair) { return owns[0][pair] || owns[1][pair]; }
 
 int init_pair(short pair, short foreground, short background) {
-    if (!stdscr || pair < 1 || pair > LAST_PAIR || !is_colour(foreground) || !is_colour(background)) return ERR;
+    if (!is_started || pair < 1 || pair > LAST_PAIR || !is_colour(foreground) || !is_colour(background)) return ERR;
     bool are_others = colours[pair][0] != foreground || colours[pair][1] != background;
     if (is_given[pair] && is_shown(pair) && are_others) curspan_invalidate(&curspan_the_screen);
     colours[pair][0] = foreground;
@@ -108,7 +113,7 @@ int init_pair(short pair, short foreground, short background) {
 }
 
 int pair_content(short pair, short *foreground, short *background) {
-    if (!stdscr || pair < 0 || pair > LAST_PAIR || !foreground || !background) return ERR;
+    if (!is_started || pair < 0 || pair > LAST_PAIR || !foreground || !background) return ERR;
     *foreground = pair == 0 ? defaults[0] : colours[pair][0];
     *background = pair == 0 ? defaults[1] : colours[pair][1];
     return OK;
@@ -119,7 +124,7 @@ int pair_content(short pair, short *foreground, short *background) {
 /* A colour of a pair: the foreground or the background. */
 static int colour_of(int pair, int which) {
     int colour = is_given[pair] ? colours[pair][which] : OWN;
-    return colour == OWN ? defaults[which] : colour;
+    return colour == OWN && is_started ? defaults[which] : colour;
 }
 
 static uint8_t digit_of(int colour) { return (uint8_t)('0' + (colour == OWN ? 9 : colour)); }

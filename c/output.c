@@ -108,6 +108,8 @@ static int update(void) {
     take_size();
     if (come_back() == ERR) return ERR;
     curspan_answer answer = curspan_doupdate(&curspan_the_screen);
+    curscr->begin_y = curspan_shown_y;
+    curscr->begin_x = curspan_shown_x;
     return hand_on() == OK ? done(answer) : ERR;
 }
 
@@ -127,7 +129,8 @@ bool curspan_redraw_after_stop(void) {
 int curs_set(int visibility) {
     int before = curspan_visibility;
     if (!stdscr || visibility < 0 || visibility > 2) return ERR;
-    if (curspan_terminal.page == PAGE_ENTERED && curspan_put_text(visibility > 0 ? show_cursor : hide_cursor) == ERR) return ERR;
+    bool changes = (visibility > 0) != (before > 0) && curspan_terminal.page == PAGE_ENTERED;
+    if (changes && curspan_put_text(visibility > 0 ? show_cursor : hide_cursor) == ERR) return ERR;
     curspan_visibility = visibility;
     return before;
 }
