@@ -83,9 +83,10 @@ void wbkgdset(WINDOW *win, chtype ch) { (void)curspan_change_background(win, ch)
 
 chtype getbkgd(WINDOW *win) { return is_there(win) == ERR ? (chtype)ERR : win->background; }
 
-/* A cell under another background. One of a pair of its own, that isn't the former background's, keeps it. */
+/* A cell under another background: one that was the former background gets the other character, and one of a pair of its own, that isn't the
+   former background's, keeps it. */
 static chtype on_other(chtype cell, chtype old, chtype new) {
-    chtype text = (cell & A_CHARTEXT) == (old & A_CHARTEXT) ? new & A_CHARTEXT : cell & A_CHARTEXT;
+    chtype text = (cell == old ? new : cell) & A_CHARTEXT;
     bool keeps_pair = cell & A_COLOR && (cell & A_COLOR) != (old & A_COLOR);
     return text | ((keeps_pair ? cell : new) & A_COLOR) | (((cell & ~old) | new) & A_ATTRIBUTES & ~A_COLOR);
 }

@@ -14,6 +14,7 @@ static uint8_t owns[2][LAST_PAIR + 1]; /* the pair of curspan.h that stands for 
 static attr_t stands_for[LAST_OWN + 1]; /* and which one that is */
 static short defaults[2] = {OWN, OWN}; /* the colours of pair 0, and those that -1 is */
 static bool has_defaults;              /* they are set */
+static bool is_started;                /* start_color was called: before it no pair has colours, and none is given them */
 static bool is_own_colour;             /* -1 is a colour */
 static struct curspan_palette palette; /* all this, as it was last asked for */
 static bool is_stale = true;           /* it isn't so any more */
@@ -24,7 +25,7 @@ void curspan_forget_colours(void) {
     memset(owns, 0, sizeof owns);
     memset(stands_for, 0, sizeof stands_for);
     memset(&palette, 0, sizeof palette);
-    has_defaults = is_own_colour = false;
+    has_defaults = is_started = is_own_colour = false;
     defaults[0] = defaults[1] = OWN;
     is_stale = true;
 }
@@ -58,7 +59,11 @@ static int set_defaults(int foreground, int background) {
     return OK;
 }
 
-int start_color(void) { return has_defaults ? OK : set_defaults(COLOR_WHITE, COLOR_BLACK); }
+int start_color(void) {
+    is_started = stdscr != NULL;
+    return has_defaults ? OK : set_defaults(COLOR_WHITE, COLOR_BLACK);
+}
+
 bool has_colors(void) { return stdscr != NULL; }
 bool can_change_color(void) { return false; }
 
@@ -93,7 +98,7 @@ static bool is_colour(int colour) { return colour < EIGHT && colour >= (is_own_c
 static bool is_shown(int pair) { return owns[0][pair] || owns[1][pair]; }
 
 int init_pair(short pair, short foreground, short background) {
-    if (!stdscr || pair < 1 || pair > LAST_PAIR || !is_colour(foreground) || !is_colour(background)) return ERR;
+    if (!is_started || pair < 1 || pair > LAST_PAIR || !is_colour(foreground) || !is_colour(background)) return ERR;
     bool are_others = colours[pair][0] != foreground || colours[pair][1] != background;
     if (is_given[pair] && is_shown(pair) && are_others) curspan_invalidate(&curspan_the_screen);
     colours[pair][0] = foreground;
@@ -103,7 +108,7 @@ int init_pair(short pair, short foreground, short background) {
 }
 
 int pair_content(short pair, short *foreground, short *background) {
-    if (!stdscr || pair < 0 || pair > LAST_PAIR || !foreground || !background) return ERR;
+    if (!is_started || pair < 0 || pair > LAST_PAIR || !foreground || !background) return ERR;
     *foreground = pair == 0 ? defaults[0] : colours[pair][0];
     *background = pair == 0 ? defaults[1] : colours[pair][1];
     return OK;
@@ -114,7 +119,7 @@ int pair_content(short pair, short *foreground, short *background) {
 /* A colour of a pair: the foreground or the background. */
 static signed char colour_of(int pair, int which) {
     int colour = is_given[pair] ? colours[pair][which] : OWN;
-    return (signed char)(colour == OWN ? defaults[which] : colour);
+    return (signed char)(colour == OWN && is_started ? defaults[which] : colour);
 }
 
 struct curspan_palette *curspan_palette_now(void) {

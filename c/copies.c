@@ -54,14 +54,21 @@ int copywin(const WINDOW *from, WINDOW *to, int from_y, int from_x, int to_top, 
 
 static int most(int a, int b) { return a > b ? a : b; }
 
+bool curspan_find_common(const WINDOW *from, const WINDOW *to, curspan_common *common) {
+    if (is_there(from) == ERR || is_there(to) == ERR) return false;
+    int from_y = getbegy(from), from_x = getbegx(from), to_y = getbegy(to), to_x = getbegx(to);
+    int top = most(from_y, to_y), bottom = least(from_y + (int)from->lines, to_y + (int)to->lines);
+    int left = most(from_x, to_x), right = least(from_x + (int)from->columns, to_x + (int)to->columns);
+    const curspan_common found = {top - from_y, left - from_x, top - to_y, left - to_x, bottom - top, right - left};
+    *common = found;
+    return top < bottom && left < right;
+}
+
 /* Copies what both windows have of the screen. */
 static int copy_common(const WINDOW *from, WINDOW *to, bool overlays) {
-    if (is_there(from) == ERR || is_there(to) == ERR) return ERR;
-    int from_y = getbegy(from), from_x = getbegx(from), to_y = getbegy(to), to_x = getbegx(to);
-    int top = most(from_y, to_y), bottom = least(from_y + (int)from->lines, to_y + (int)to->lines) - 1;
-    int left = most(from_x, to_x), right = least(from_x + (int)from->columns, to_x + (int)to->columns) - 1;
-    if (top > bottom || left > right) return ERR;
-    return copywin(from, to, top - from_y, left - from_x, top - to_y, left - to_x, bottom - to_y, right - to_x, overlays);
+    curspan_common of;
+    if (!curspan_find_common(from, to, &of)) return ERR;
+    return copywin(from, to, of.from_y, of.from_x, of.to_y, of.to_x, of.to_y + of.lines - 1, of.to_x + of.columns - 1, overlays);
 }
 
 int overlay(const WINDOW *from, WINDOW *to) { return copy_common(from, to, true); }

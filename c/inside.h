@@ -47,7 +47,7 @@ struct curspan_window {
     curspan_unfinished begun;
     bool idlok, no_idcok, leaveok;   /* the options that are set */
     bool is_immediate, synchronizes; /* each change refreshes it, or touches its ancestors */
-    int begin_y, begin_x; /* of a pad, where on the screen copies take it to be, and of one that outlies, where it is */
+    int begin_y, begin_x; /* of a pad, where on the screen copies take it to be; of one that outlies, where it is; of curscr, its cursor */
     int part[6]; /* of a pad, which part of it was refreshed last, and to where */
 };
 
@@ -201,6 +201,22 @@ int curspan_cut_outside(WINDOW *win);
 extern int curspan_shown_y, curspan_shown_x;
 /* Notes that it is where a window has its own. */
 void curspan_note_cursor(const WINDOW *win);
+
+/* What two windows have of the screen in common: where it begins in each, and how large it is. */
+typedef struct {
+    int from_y, from_x, to_y, to_x, lines, columns;
+} curspan_common;
+
+/* Touches a rectangle of a window of a screen, where it has it. */
+void curspan_touch_cells(curspan *screen, uint16_t win, int y, int x, int lines, int columns);
+
+/* Finds it, and answers whether there is any. */
+bool curspan_find_common(const WINDOW *from, const WINDOW *to, curspan_common *common);
+
+/* A window was refreshed that the picture of panels doesn't have, so that panels go on by what is touched; see panel.c. */
+extern bool curspan_is_mixed;
+/* Notes that a window is refreshed. */
+void curspan_note_refreshed(const WINDOW *win);
 
 /* Makes the panels anew in another screen, with windows of it by their places in curspan_windows. */
 int curspan_make_panels(curspan *screen, const uint16_t windows[MOST]);

@@ -32,6 +32,8 @@ static int update(void) {
     take_size();
     if (come_back() == ERR) return ERR;
     curspan_answer answer = curspan_doupdate(&curspan_the_screen);
+    curscr->begin_y = curspan_shown_y;
+    curscr->begin_x = curspan_shown_x;
     return curspan_hand_on(&curspan_the_tty, &curspan_the_screen, curspan_palette_now(), &outgoing) ? done(answer) : ERR;
 }
 
@@ -53,7 +55,8 @@ int curs_set(int visibility) {
     struct curspan_tty *tty = &curspan_the_tty;
     int before = visibility_now;
     if (!stdscr || visibility < 0 || visibility > 2) return ERR;
-    if (tty->page == PAGE_ENTERED && !curspan_put_text(tty, visibility > 0 ? show : hide)) return ERR;
+    bool changes = (visibility > 0) != (before > 0) && tty->page == PAGE_ENTERED;
+    if (changes && !curspan_put_text(tty, visibility > 0 ? show : hide)) return ERR;
     snprintf(tty->enter, sizeof tty->enter, CURSPAN_ENTER "%s", visibility > 0 ? "" : hide);
     visibility_now = visibility;
     return before;

@@ -10,6 +10,7 @@ struct curspan_panel {
     uint16_t next;   /* its number in the screen that will be */
     WINDOW *win;
     const void *pointer;
+    bool is_left; /* it went from where it was, or came there, since the last update */
 };
 
 static PANEL panels[MOST], *end = panels; /* none is there from the end on */
@@ -43,30 +44,132 @@ PANEL *new_panel(WINDOW *win) {
     give_number(panel, (uint16_t)answer.first);
     panel->win = win;
     panel->pointer = NULL;
+    panel->is_left = false;
     if (panel >= end) end = panel + 1;
     return panel;
 }
 
-int del_panel(PANEL *panel) {
-    if (done(curspan_del_panel(SCREEN_AND_PANEL(panel))) == ERR) return ERR;
-    panel->number = 0;
-    return OK;
+/* ---- panels beside windows that are refreshed
+
+   Where a program refreshes a window that the picture of panels doesn't have, or a pad, panels go on from there by what is touched, as
+   ncurses' do: what it showed stays where nothing of them is touched. */
+
+bool curspan_is_mixed;
+
+/* Until then it is noted what panels left since the last update. */
+enum { MOST_LEFT = 100 };
+
+static struct {
+    int y, x;
+    unsigned lines, columns;
+} left[MOST_LEFT];
+static int count;
+
+/* Whether the picture of panels has a window: one in a visible panel, the standard screen, or one that derives from these. */
+static bool is_in_picture(const WINDOW *win) {
+    while (is_subwin(win)) win = wgetparent(win);
+    uint32_t panel = curspan_window_panel(SCREEN_AND(win)).first;
+    return win == stdscr || (panel > 0 && panel_hidden(numbered[panel]) == FALSE);
 }
 
-int show_panel(PANEL *panel) { return done(curspan_show_panel(SCREEN_AND_PANEL(panel))); }
-int hide_panel(PANEL *panel) { return done(curspan_hide_panel(SCREEN_AND_PANEL(panel))); }
-int top_panel(PANEL *panel) { return done(curspan_top_panel(SCREEN_AND_PANEL(panel))); }
-int bottom_panel(PANEL *panel) { return done(curspan_bottom_panel(SCREEN_AND_PANEL(panel))); }
+/* Touches in one window what it has in common with touched lines of another. */
+static void touch_common(WINDOW *touched, WINDOW *win) {
+    curspan_common of;
+    if (!curspan_find_common(touched, win, &of)) return;
+    for (int from = 0, to; from < of.lines; from = to + 1) {
+        for (to = from; to < of.lines && is_linetouched(touched, of.from_y + to); to++) continue;
+        if (to > from) curspan_touch_cells(&curspan_the_screen, win->number, of.to_y + from, of.to_x, to - from, of.columns);
+    }
+}
+
+/* Touches what a window has in common with the other panels above one, or with all. */
+static void touch_above(WINDOW *win, const PANEL *panel) {
+    while ((panel = panel_above(panel)))
+        if (panel->win != win) touch_common(win, panel->win);
+}
+
+/* Touches what a window covers of the standard screen and of the other panels. */
+static void touch_all(WINDOW *win) {
+    touchwin(win);
+    touch_common(win, stdscr);
+    touch_above(win, NULL);
+}
+
+/* Goes on by what is touched. What panels left is covered by windows for that. */
+static void begin_to_mix(void) {
+    curspan_is_mixed = true;
+    for (PANEL *panel = panels; panel < end; panel++)
+        if (panel->number > 0 && (panel->is_left || panel_hidden(panel))) touchwin(panel->win);
+    while (count-- > 0) {
+        WINDOW *win = newwin((int)left[count].lines, (int)left[count].columns, left[count].y, left[count].x);
+        if (win) touch_all(win);
+        delwin(win);
+    }
+}
+
+void curspan_note_refreshed(const WINDOW *win) {
+    if (is_there(win) == OK && !is_in_picture(win)) begin_to_mix();
+}
+
+static void note_left(PANEL *panel) {
+    curspan_answer begin = curspan_getbegyx(SCREEN_AND(panel->win));
+    panel->is_left = true;
+    if (count == MOST_LEFT) return;
+    left[count].y = (int)begin.first;
+    left[count].x = (int)begin.second;
+    left[count].lines = panel->win->lines;
+    left[count++].columns = panel->win->columns;
+}
+
+/* Touches what a visible panel covers, before it goes from there. It stays where it is first from an end of the order, if it would go there. */
+static void uncover(PANEL *panel, PANEL *(*first)(const PANEL *)) {
+    if (panel_hidden(panel) != FALSE || (first && first(NULL) == panel)) return;
+    if (curspan_is_mixed) touch_all(panel->win);
+    else note_left(panel);
+}
+
+/* Takes what is touched into the virtual screen, from the standard screen upwards. */
+static void update_touched(void) {
+    PANEL *panel = NULL;
+    if (is_wintouched(stdscr)) touch_above(stdscr, NULL);
+    while ((panel = panel_above(panel)))
+        if (is_wintouched(panel->win)) touch_above(panel->win, panel);
+    wnoutrefresh(stdscr);
+    while ((panel = panel_above(panel))) wnoutrefresh(panel->win);
+}
+
+/* ---- the names of panel(3) */
+
+int del_panel(PANEL *panel) {
+    uncover(panel, NULL);
+    if (done(curspan_del_panel(SCREEN_AND_PANEL(panel))) == ERR) return ERR;
+    panel->number = 0;
+    return touchwin(panel->win);
+}
+
+static int reorder(PANEL *panel, PANEL *(*first)(const PANEL *), curspan_answer (*call)(curspan *, uint32_t)) {
+    uncover(panel, first);
+    return done(call(SCREEN_AND_PANEL(panel)));
+}
+
+int show_panel(PANEL *panel) { return reorder(panel, panel_below, curspan_show_panel); }
+int hide_panel(PANEL *panel) { return reorder(panel, NULL, curspan_hide_panel); }
+int top_panel(PANEL *panel) { return reorder(panel, panel_below, curspan_top_panel); }
+int bottom_panel(PANEL *panel) { return reorder(panel, panel_above, curspan_bottom_panel); }
 
 int move_panel(PANEL *panel, int y, int x) {
     if (!is_number(y) || !is_number(x)) return ERR;
-    return done(curspan_move_panel(SCREEN_AND_PANEL(panel), (uint16_t)y, (uint16_t)x));
+    uncover(panel, NULL);
+    if (done(curspan_move_panel(SCREEN_AND_PANEL(panel), (uint16_t)y, (uint16_t)x)) == ERR) return ERR;
+    return curspan_is_mixed ? touchwin(panel->win) : OK;
 }
 
 int panel_hidden(const PANEL *panel) { return first_of(curspan_panel_hidden(SCREEN_AND_PANEL(panel))); }
 
 int replace_panel(PANEL *panel, WINDOW *win) {
+    uncover(panel, NULL);
     if (done(curspan_replace_panel(SCREEN_AND_PANEL(panel), curspan_number(win))) == ERR) return ERR;
+    touchwin(panel->win);
     panel->win = win;
     return OK;
 }
@@ -96,19 +199,31 @@ static void put_standard(void) {
     curspan_copywin(SCREEN_AND(stdscr), 0, 0, 0, 0, 0, lines, columns, false);
 }
 
-void update_panels(void) {
+/* Takes the whole picture of the standard screen and the panels. */
+static void update_all(void) {
     if (stdscr && stdscr->number > 0) put_standard();
     curspan_update_panels(&curspan_the_screen);
     if (stdscr) stdscr->moved = false;
-    for (PANEL *panel = panels; panel < end; panel++)
+    for (PANEL *panel = panels; panel < end; panel++) {
+        panel->is_left = false;
         if (panel->number > 0 && panel->win->moved) panel->win->moved = panel_hidden(panel) == TRUE;
+    }
     PANEL *top = panel_below(NULL);
     if (stdscr) curspan_note_cursor(top ? panel_window(top) : stdscr);
+}
+
+/* Beside windows that are refreshed nothing is taken where there never was a panel. */
+void update_panels(void) {
+    if (!curspan_is_mixed) update_all();
+    else if (end > panels) update_touched();
+    count = 0;
 }
 
 /* ---- windows and screens that are made anew */
 
 void curspan_forget_panels(void) {
+    curspan_is_mixed = false;
+    count = 0;
     while (end > panels) (--end)->number = 0;
 }
 

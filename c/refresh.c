@@ -19,6 +19,13 @@ int touchline(WINDOW *win, int y, int n) { return wtouchln(win, y, n, TRUE); }
 
 bool is_linetouched(WINDOW *win, int y) { return is_number(y) && first_of(curspan_is_linetouched(SCREEN_AND(win), (uint16_t)y)) == 1; }
 bool is_wintouched(WINDOW *win) { return first_of(curspan_is_wintouched(SCREEN_AND(win))) == 1; }
+
+/* A copy of cells to where they are touches them. */
+void curspan_touch_cells(curspan *screen, uint16_t win, int y, int x, int lines, int columns) {
+    uint32_t top = (uint32_t)y, left = (uint32_t)x;
+    curspan_copywin(screen, win, win, top, left, top, left, top + (uint32_t)lines - 1, left + (uint32_t)columns - 1, false);
+}
+
 void wsyncup(WINDOW *win) { curspan_wsyncup(SCREEN_AND(win)); }
 
 /* What is touched of an ancestor is so in those that derive from it in between too. */
@@ -60,6 +67,7 @@ int pnoutrefresh(WINDOW *pad, int pad_y, int pad_x, int top, int left, int botto
     bottom = least(bottom, part[2] + getmaxy(pad) - 1 - part[0]);
     right = least(right, part[3] + getmaxx(pad) - 1 - part[1]);
     if (bottom < 0 || right < 0) return ERR;
+    if (!curspan_is_mixed) curspan_note_refreshed(pad);
     if (done(curspan_pnoutrefresh(SCREEN_AND(pad), (uint16_t)part[0], (uint16_t)part[1], (uint16_t)part[2], (uint16_t)part[3],
                                   (uint16_t)bottom, (uint16_t)right)) == ERR)
         return ERR;
@@ -78,6 +86,7 @@ static int show_again(WINDOW *pad) {
 int wnoutrefresh(WINDOW *win) {
     if (is_terminal(win)) return clearok(curscr, TRUE);
     if (is_pad(win)) return show_again(win);
+    if (!curspan_is_mixed && win != stdscr) curspan_note_refreshed(win);
     wsyncdown(win);
     if ((win && win->outlies ? curspan_show_outlying(win) : done(curspan_wnoutrefresh(SCREEN_AND(win)))) == ERR) return ERR;
     win->moved = false;

@@ -226,11 +226,6 @@ static void bring(const WINDOW *win) {
     curspan_wmove(remake.to, to, (uint16_t)y, (uint16_t)x);
 }
 
-/* Touches the cells of a line from a column on: a copy of them to where they are does that. */
-static void touch_from(uint16_t win, uint16_t y, uint16_t x, uint16_t last) {
-    curspan_copywin(remake.to, win, win, y, x, y, x, y, last, false);
-}
-
 /* Touches what was touched, and what is new, and asks for a clear screen where that was asked for. */
 static void bring_marks(const WINDOW *win) {
     const struct shape *before = &remake.before[place_of(win)], *shape = &remake.shapes[place_of(win)];
@@ -240,7 +235,7 @@ static void bring_marks(const WINDOW *win) {
     for (int y = 0; y < shape->lines; y++) {
         bool touched = shrinks || y >= before->lines || curspan_is_linetouched(remake.from, from, (uint16_t)y).first == 1;
         curspan_wtouchln(remake.to, to, (uint16_t)y, 1, touched);
-        if (grows && !touched) touch_from(to, (uint16_t)y, (uint16_t)before->columns, (uint16_t)(shape->columns - 1));
+        if (grows && !touched) curspan_touch_cells(remake.to, to, y, before->columns, 1, shape->columns - before->columns);
     }
 }
 

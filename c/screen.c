@@ -12,6 +12,16 @@ int LINES, COLS;
 int COLORS = 8, COLOR_PAIRS = LAST_OWN + 1;
 curspan curspan_kept_screen = CURSPAN_INIT;
 
+/* The names as configure scripts look for them, without the header. */
+#ifdef __GNUC__
+#define OF(name) __attribute__((alias("curses_h_is_of_curspan_but_not_the_library_" name)))
+WINDOW *curspan_plain_initscr(void) __asm__("initscr") OF("initscr");
+SCREEN *curspan_plain_newterm(const char *type, FILE *out, FILE *in) __asm__("newterm") OF("newterm");
+#endif
+
+/* Of the system's terminfo library, where the program has it. */
+int setupterm(const char *type, int out, int *error) __attribute__((weak));
+
 static bool ignores_environment;
 
 void use_env(bool flag) { ignores_environment = !flag; }
@@ -47,6 +57,8 @@ SCREEN *newterm(const char *type, FILE *out, FILE *in) {
     curspan_forget_input();
     curspan_attend(&curspan_the_tty, true);
     curspan_begin_modes();
+    int error;
+    if (setupterm) setupterm(type, curspan_terminal.out, &error);
     return (SCREEN *)&curspan_the_screen;
 }
 

@@ -164,20 +164,25 @@ int mvderwin(WINDOW *win, int y, int x) {
     return done(curspan_mvderwin(SCREEN_AND(win), (uint16_t)y, (uint16_t)x));
 }
 
-int getcury(const WINDOW *win) { return first_of(curspan_getyx(SCREEN_AND(win))); }
-int getcurx(const WINDOW *win) { return second_of(curspan_getyx(SCREEN_AND(win))); }
-int getmaxy(const WINDOW *win) { return first_of(curspan_getmaxyx(SCREEN_AND(win))); }
-int getmaxx(const WINDOW *win) { return second_of(curspan_getmaxyx(SCREEN_AND(win))); }
+/* The terminal is as large as window 0 of curspan.h, and its cursor is where the last update left it. */
+static uint16_t number_of(const WINDOW *win) { return is_terminal(win) ? 0 : curspan_number(win); }
+
+#define SCREEN_AND_PLACE(win) &curspan_the_screen, number_of(win)
+
+int getcury(const WINDOW *win) { return is_terminal(win) ? win->begin_y : first_of(curspan_getyx(SCREEN_AND(win))); }
+int getcurx(const WINDOW *win) { return is_terminal(win) ? win->begin_x : second_of(curspan_getyx(SCREEN_AND(win))); }
+int getmaxy(const WINDOW *win) { return first_of(curspan_getmaxyx(SCREEN_AND_PLACE(win))); }
+int getmaxx(const WINDOW *win) { return second_of(curspan_getmaxyx(SCREEN_AND_PLACE(win))); }
 int getpary(const WINDOW *win) { return first_of(curspan_getparyx(SCREEN_AND(win))); }
 int getparx(const WINDOW *win) { return second_of(curspan_getparyx(SCREEN_AND(win))); }
 
 int getbegy(const WINDOW *win) {
-    curspan_answer begin = curspan_getbegyx(SCREEN_AND(win));
+    curspan_answer begin = curspan_getbegyx(SCREEN_AND_PLACE(win));
     return begin.status == CURSPAN_IS_PAD ? win->begin_y : first_of(begin);
 }
 
 int getbegx(const WINDOW *win) {
-    curspan_answer begin = curspan_getbegyx(SCREEN_AND(win));
+    curspan_answer begin = curspan_getbegyx(SCREEN_AND_PLACE(win));
     return begin.status == CURSPAN_IS_PAD ? win->begin_x : second_of(begin);
 }
 

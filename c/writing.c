@@ -31,7 +31,10 @@ int wmove(WINDOW *win, int y, int x) {
 
 /* ---- the end of a window */
 
-enum { MANY = 1 << 20 }; /* more than a text has at once */
+enum {
+    MANY = 1 << 20, /* more than a text has at once */
+    SHORT = 16      /* the longest text that waits */
+};
 
 void curspan_set_limit(WINDOW *win) {
     bool is_plain = !(win->attrs & A_ALTCHARSET) && win->begun.count == 0;
@@ -63,15 +66,16 @@ static int room_of(const WINDOW *win, int y, int x) {
 
 static void set_reach(WINDOW *win, int room) { win->reach = win->end - 1 + (int)win->columns - room; }
 
-/* Writes printable characters, of which one in the last place is written and ends them. */
+/* Writes printable characters, of which one in the last place is written and ends them. Below a scroll region the line begins again then. */
 static int add_run(WINDOW *win, const uint8_t *text, size_t length) {
     while (length > 0) {
         int room = room_of(win, getcury(win), getcurx(win)), count = length > (size_t)room ? room + 1 : (int)length;
         if (done(curspan_waddstr(SCREEN_AND(win), text, (size_t)count)) == ERR) return ERR;
         set_reach(win, room - count);
         if (count > room && room < MANY) {
-            win->reach = ENDED;
-            return ERR;
+            int y = getcury(win);
+            win->reach = y > win->end ? UNKNOWN : ENDED;
+            if (win->reach == ENDED || curspan_put_cursor(win, y, 0) == ERR) return ERR;
         }
         text += count;
         length -= (size_t)count;
@@ -187,7 +191,8 @@ int curspan_add_any(WINDOW *win, chtype ch) {
     uint8_t character = ch & A_CHARTEXT;
     if (curspan_tell(win, curspan_with(win->attrs & ~A_ALTCHARSET, ch)) == ERR) return ERR;
     bool follows = win->is_immediate || win->synchronizes;
-    if (is_printable(character) && character != ' ' && win->begun.count == 0 && win->reach < win->end && !follows) return add_waiting(win, character);
+    bool is_other = character == ' ' && has_attributes && (win->background & A_CHARTEXT) != ' '; /* than the background's blank */
+    if (is_printable(character) && !is_other && win->begun.count == 0 && win->reach < win->end && !follows) return add_waiting(win, character);
     curspan_check_begun(win);
     if (!is_printable(character) || win->begun.count > 0) return curspan_changed(win, add_spelled(win, character, has_attributes));
     return curspan_changed(win, character == ' ' ? add_blanks(win, 1, has_attributes) : add_run(win, &character, 1));
@@ -254,12 +259,25 @@ bool curspan_fits_at_end(const WINDOW *win, size_t length) {
     return length <= (size_t)room_of(win, (int)place.first, (int)place.second);
 }
 
+/* Lets a short text wait to be written, where all its characters are printable. */
+static bool waits(WINDOW *win, const char *text, size_t length) {
+    if (length == 0 || length > SHORT || run_of(text, length) < length) return false;
+    if (curspan_waiting.win != win || curspan_waiting.count + length > LONGEST) {
+        (void)curspan_written_screen();
+        curspan_wait_at(win, ERR, ERR);
+    }
+    memcpy(curspan_waiting.text + curspan_waiting.count, text, length);
+    curspan_waiting.count += (unsigned)length;
+    return true;
+}
+
 /* Writes a text of one line at once, where it fits before the last place of a window that is ready, and all its
    characters are printable. */
 static inline bool is_written(WINDOW *win, const char *text, size_t length) {
     bool surely_fits = win && win->reach < win->limit && length <= win->columns;
     if (!surely_fits && !curspan_fits_at_end(win, length)) return false;
     win->reach += (int)length;
+    if (surely_fits && waits(win, text, length)) return true;
     return curspan_waddstr(SCREEN_AND(win), (const uint8_t *)text, length).status == CURSPAN_OK;
 }
 

@@ -14,16 +14,25 @@
 #include <stdint.h>
 #include <stdio.h>
 
+/* The macros of term.h, which may come before, aren't meant by the names of parameters. */
+#pragma push_macro("lines")
+#pragma push_macro("columns")
+#undef lines
+#undef columns
+
 #include "curspan.h"
 
 #ifdef __cplusplus
 extern "C" {
 #endif
 
+/* By a name of its own initscr tells a program that is linked with another library than this header's. */
 #ifdef __GNUC__
+#define CURSPAN_LINKED(name) __asm__("curses_h_is_of_curspan_but_not_the_library_" #name)
 #define CURSPAN_PRINTS(text, first) __attribute__((format(printf, text, first)))
 #define CURSPAN_SCANS(text, first) __attribute__((format(scanf, text, first)))
 #else
+#define CURSPAN_LINKED(name)
 #define CURSPAN_PRINTS(text, first)
 #define CURSPAN_SCANS(text, first)
 #endif
@@ -38,7 +47,7 @@ extern "C" {
 #define NCURSES_EXT_FUNCS NCURSES_VERSION_PATCH
 
 typedef struct curspan_window WINDOW;
-typedef struct curspan_screen SCREEN;
+typedef struct screen SCREEN; /* by the tag that term.h has too */
 typedef uint32_t chtype; /* a character in the low byte, attributes in the next, a colour pair above */
 typedef chtype attr_t;
 
@@ -244,7 +253,7 @@ typedef chtype attr_t;
 #define KEY_MAX 0777
 
 extern WINDOW *stdscr; /* the standard screen, from initscr on */
-extern WINDOW *curscr; /* what the terminal shows: for refresh, clearok, touchwin and redrawwin alone, which draw all anew */
+extern WINDOW *curscr; /* what the terminal shows: getyx and getmaxyx ask of it, and refresh, clearok, touchwin and redrawwin draw all anew */
 extern int LINES, COLS;
 extern int COLORS, COLOR_PAIRS;
 extern chtype acs_map[]; /* lines and signs, by the letters that VT100 has for them */
@@ -253,8 +262,8 @@ extern int ESCDELAY; /* for how many milliseconds getch waits for the rest of a 
 
 /* ---- the screen */
 
-WINDOW *initscr(void);                                   /* ends the program where there is no screen */
-SCREEN *newterm(const char *type, FILE *out, FILE *in);
+WINDOW *initscr(void) CURSPAN_LINKED(initscr); /* ends the program where there is no screen */
+SCREEN *newterm(const char *type, FILE *out, FILE *in) CURSPAN_LINKED(newterm);
 int endwin(void);                                        /* the next refresh brings the picture back */
 bool isendwin(void);
 void delscreen(SCREEN *screen);
@@ -643,4 +652,7 @@ bool mouse_trafo(int *y, int *x, bool to_screen);
 #ifdef __cplusplus
 }
 #endif
+
+#pragma pop_macro("columns")
+#pragma pop_macro("lines")
 #endif

@@ -1,14 +1,14 @@
 # Completion of the words of curspan in bash.
 _curspan() {
-    local word=$2 before=$3 subcommand='' at
+    local word=$2 before=$3 subcommand='' line=${COMP_LINE:0:COMP_POINT} typed at
     local -a known=()
     COMPREPLY=()
-    # Readline may cut an option at its equals sign.
-    if [[ $word == = ]]; then
-        word=''
-        before=${COMP_WORDS[COMP_CWORD - 1]}
-    elif [[ $before == = ]]; then
-        before=${COMP_WORDS[COMP_CWORD - 2]}
+    # Readline cuts a word at its equals signs and colons.
+    typed=${line##*[[:blank:]]}
+    if [[ $typed == *[=:]* ]]; then
+        read -ra known <<< "${line%"$typed"}"
+        word=$typed before=${known[*]: -1}
+        if [[ $typed == --*=* ]]; then word=${typed#*=} before=${typed%%=*}; fi
     fi
     for ((at = 1; at < COMP_CWORD; at++)); do
         case ${COMP_WORDS[at]} in
@@ -45,7 +45,8 @@ _curspan() {
 _curspan_files() {
     local -a files=()
     mapfile -t files < <(compgen -f -- "$1")
-    COMPREPLY+=("${files[@]}")
+    # What comes before the last cut stays as it was typed.
+    COMPREPLY+=("${files[@]#"${1%"${1##*[=:]}"}"}")
     # Readline then quotes what it takes, and ends a folder with a slash.
     if ((${#files[@]})); then compopt -o filenames 2> /dev/null; fi
 }
