@@ -119,7 +119,7 @@ def parts(path, groups):
     rows = read_rows(path, calls)
     yield 'crates/checks/src/written_names.rt', 'arguments', all_names(groups)
     yield 'crates/checks/src/written_curses.rt', 'curses', table(rows, calls)
-    yield 'docs/curspan.1', 'curses', '\n'.join(entries(rows))
+    yield 'docs/curspan.1', 'curses', '\n'.join(['.nh', *entries(rows), '.hy'])
 
 
 def cases(path, groups):

@@ -10,7 +10,7 @@ def finding(number, line, fault):
     elif fault.kind == BAD_BYTE:
         what = f'bad byte {line[fault.column - 1]:02x}: '
     elif fault.kind == UNKNOWN_CALL:
-        begins = 'the line begins with a space, and not with a call or #; an empty line has no spaces\n'
+        begins = 'the line begins with a space, and not with a call or #\n'
         what = begins if line.startswith(b' ') else 'unknown call "'
     else:
         word = line.split(b' ')[0].decode()

@@ -96,8 +96,8 @@ def pieces_of(line, forms):
 
 
 def is_stray(piece):
-    """Whether an argument is none, or would begin a comment, here or in other languages. A colour as #f00 has a digit, and begins none."""
-    begins = piece.startswith(b'#') and not re.fullmatch(rb'#(?=.*[0-9])[0-9A-Fa-f]+', piece)
+    """Whether an argument is none, or would begin a comment, here or in other languages. One as #f00 has a digit, and begins none."""
+    begins = piece.startswith(b'#') and not re.search(rb'[0-9]', piece)
     return piece in (b'', b'--') or begins or piece.startswith((b'//', b'/*', b'<!--'))
 
 
