@@ -10,7 +10,7 @@ column=-k3,3nr chosen=0 first=0 ended=0 rows=()
 look() {
     local folder pages name
     mapfile -t rows < <(for folder in /proc/[0-9]*; do
-        read -r _ pages _ < "$folder/statm" && read -r name < "$folder/comm" || continue
+        { read -r _ pages _ < "$folder/statm" && read -r name < "$folder/comm"; } || continue
         printf '%s\t%s\t%s\n' "${folder#/proc/}" "$name" $((pages * 4))
     done 2> /dev/null | sort -t $'\t' "$column")
 }

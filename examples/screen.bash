@@ -129,7 +129,7 @@ curspan_stop() {
 } 2> /dev/null
 
 curspan_open() {
-    local IFS=$' \t\n' signal fd lines columns
+    local IFS=$' \t\n' signal fd lines columns told
     if [ -n "$curspan_owner" ]; then curspan_complain 'a screen is open already'; return 1; fi
     for fd in 0 1 2; do [ -e "/proc/$BASHPID/fd/$fd" ] || eval "exec $fd<> /dev/null"; done
     if ! [[ "$*" =~ ^([0-9]{1,3}\ [0-9]{1,3})?$ ]]; then curspan_complain "lines and columns are wanted, or neither, and not: $*"; return 1; fi
@@ -142,10 +142,14 @@ curspan_open() {
         return 1
     fi
     if ! curspan_lock_terminal; then curspan_complain 'another script has this terminal'; return 1; fi
-    curspan_modes=$(stty -g < /dev/tty) && curspan_told=$(mktemp) || { curspan_complain "the terminal's modes can't be kept"; return 1; }
-    fd=$curspan_told
-    exec {curspan_told}>> "$fd" {curspan_told_again}< "$fd"
-    rm -f "$fd"
+    if ! { curspan_modes=$(stty -g < /dev/tty) && told=$(mktemp); }; then
+        curspan_unlock_terminal
+        curspan_complain "the terminal's modes, or what is told, can't be kept"
+        return 1
+    fi
+    exec {curspan_told}>> "$told"
+    exec {curspan_told_again}< "$told"
+    rm -f "$told"
     curspan_enter_page=$(tput smcup; tput civis) curspan_leave_page=$(tput sgr0; tput cnorm; tput rmcup)
     curspan_ended='' curspan_held='' curspan_resized='' curspan_lines=${1:-$lines} curspan_columns=${2:-$columns} curspan_full=$#
     curspan_at_exit_before=$(trap -p EXIT) curspan_traps_before=$(trap -p "${curspan_deadly[@]}" PIPE WINCH)
@@ -295,6 +299,7 @@ curspan_read_rest() {
     done
 }
 
+# shellcheck disable=SC2120 # seconds may be left out
 curspan_read_key() {
     local byte rest left='' part
     curspan_is_here || return 1
@@ -342,6 +347,7 @@ curspan_ask_line() {
         printf -v shown '%-*.*s' "$4" "$4" "${text: -$((${#text} < $4 ? ${#text} : $4 - 1))}_"
         curspan_make move "$1" "$2" "$3" && curspan_text "$1" "$shown" && curspan_show
     do
+        # shellcheck disable=SC2119 # it waits as long as it takes
         curspan_read_key || continue
         case $curspan_key in
             enter) curspan_answer=$text; return 0 ;;

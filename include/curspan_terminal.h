@@ -18,7 +18,8 @@
        curspan_terminal_close(&terminal);
 
    There may be many at once, each over descriptors of its own. One of them may own the signals. A terminal is used by the thread that opened
-   it. Each call answers a status; where that is not CURSPAN_TERMINAL_OK nothing was sent, and the terminal is as it was. */
+   it. Each call answers a status; where that is neither CURSPAN_TERMINAL_OK nor CURSPAN_TERMINAL_FAILED nothing was sent, and the terminal is
+   as it was. */
 #ifndef CURSPAN_TERMINAL_H
 #define CURSPAN_TERMINAL_H
 

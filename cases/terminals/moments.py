@@ -15,15 +15,17 @@ RAISING = """import runpy, signal, sys
 def fail(number, frame): raise RuntimeError('a fault')
 signal.signal(signal.SIGUSR1, fail)
 runpy.run_path(sys.argv[1], run_name='__main__')"""
+again = []
 ENDS = ['Ctrl-C', 'TERM', 'HUP', 'Ctrl-Z', 'fault']
 
 
 def end(terminal, command, how):
     if how == 'Ctrl-C':
-        is_taken = b'\x1b[?1049h' in terminal.bytes
+        may_be_lost = command[0] == 'bash' or b'\x1b[?1049h' not in terminal.bytes
         terminal.type(b'\x03')
-        if not is_taken and not terminal.ends(5):
-            terminal.type(b'\x03')    # while it begins, Python may lose one in a callback of an import, and bash while it waits for a command
+        if may_be_lost and not terminal.ends(5):
+            again.append(command[-1])    # bash loses one at times, and Python in callbacks of the imports that it begins with
+            terminal.type(b'\x03')
     elif how in ('TERM', 'HUP'):
         os.kill(terminal.process, {'TERM': signal.SIGTERM, 'HUP': signal.SIGHUP}[how])
     elif how == 'fault':
@@ -68,5 +70,5 @@ for words in sys.argv[3:]:
     first.ends(10)
     first.close()
     failed += sum(not try_one(command, ENDS[i % len(ENDS)], CHANCE.uniform(0, span)) for i in range(COUNT))
-print(f'moments: {COUNT} in each of {len(sys.argv) - 3} languages, {failed} did not give the terminal back')
+print(f'moments: {COUNT} in each of {len(sys.argv) - 3} languages, {failed} did not give the terminal back; Ctrl-C was typed again {len(again)} times')
 sys.exit(bool(failed))

@@ -27,11 +27,11 @@ def look(order: str) -> List[Process]:
     return sorted(found, key=ORDERS[order])
 
 
-def draw(screen: curspan.Screen, processes: List[Process], first: int, chosen: int, ended: int):
+def draw(screen: curspan.Screen, rows: List[Process], first: int, chosen: int, ended: int) -> None:
     desk, width = screen.stdscr, screen.columns
     desk.addstr(0, 0, f'{"   NUMBER  NAME                   KIB":{width}.{width}}', pair=TITLE)
     for y in range(1, screen.lines - 1):
-        row = processes[first + y - 1:first + y]
+        row = rows[first + y - 1:first + y]
         text = ''.join(f'{number:9}  {name:15.15}  {memory:9}' for number, name, memory in row)
         desk.addstr(y, 0, f'{text:{width}.{width}}', pair=CHOSEN if first + y - 1 == chosen else 0)
     keys = f' p number  n name  m memory  k end ({ended})  q quit'
