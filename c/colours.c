@@ -59,8 +59,11 @@ static int set_defaults(int foreground, int background) {
     return OK;
 }
 
+/* What was shown before is drawn anew, so that blanks get the colours of pair 0 too. */
 int start_color(void) {
-    is_started = stdscr != NULL;
+    if (!stdscr) return ERR;
+    if (!is_started) curspan_invalidate(&curspan_the_screen);
+    is_started = true;
     return has_defaults ? OK : set_defaults(COLOR_WHITE, COLOR_BLACK);
 }
 

@@ -163,8 +163,9 @@ chtype curspan_as_drawn(chtype ch);
    its own, so that waddch keeps no registers for it. */
 int curspan_add_any(WINDOW *win, chtype ch);
 
-/* Whether so many characters fit before the last place of a window that is ready. A function of its own for the same reason. */
-bool curspan_fits_at_end(const WINDOW *win, size_t length);
+/* Whether so many characters fit before the last place of a window that is ready, whose `reach` is told then. A function of its own for the
+   same reason. */
+bool curspan_fits_at_end(WINDOW *win, size_t length);
 
 /* Sets the background, that of the window in `win` or another. */
 int curspan_set_background(WINDOW *win, chtype ch);

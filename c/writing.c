@@ -253,10 +253,12 @@ static int add_pieces(WINDOW *win, const char *text, size_t length) {
     return curspan_changed(win, add_each_piece(win, text, length));
 }
 
-bool curspan_fits_at_end(const WINDOW *win, size_t length) {
+bool curspan_fits_at_end(WINDOW *win, size_t length) {
     if (!win || win->limit == NOT_READY || win->reach == ENDED) return false;
     curspan_answer place = curspan_getyx(SCREEN_AND(win));
-    return length <= (size_t)room_of(win, (int)place.first, (int)place.second);
+    int room = room_of(win, (int)place.first, (int)place.second);
+    set_reach(win, room);
+    return length <= (size_t)room;
 }
 
 /* Lets a short text wait to be written, where all its characters are printable. */
@@ -277,7 +279,7 @@ static inline bool is_written(WINDOW *win, const char *text, size_t length) {
     bool surely_fits = win && win->reach < win->limit && length <= win->columns;
     if (!surely_fits && !curspan_fits_at_end(win, length)) return false;
     win->reach += (int)length;
-    if (surely_fits && waits(win, text, length)) return true;
+    if (waits(win, text, length)) return true;
     return curspan_waddstr(SCREEN_AND(win), (const uint8_t *)text, length).status == CURSPAN_OK;
 }
 

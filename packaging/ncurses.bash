@@ -12,13 +12,13 @@ declare -A lacking=(
 
 # Puts out the linker script of a library, for files of an ending.
 linker_script() {
-    local taken='' terminfo=libtinfo.${2/so/so.6}
+    local taken='' terminfo=libtinfo.so.6
     if [ -n "${lacking[$1]:-}" ]; then
         echo "ASSERT(0, \"Curspan has no ${lacking[$1]}, so that there is no lib$1\")"
         return
     fi
     [ "$1" = tinfo ] || taken="../../libcurspan.$2 "
-    [ ! -f "$("${CC:-cc}" -print-file-name="$terminfo")" ] || taken+="AS_NEEDED($terminfo)"
+    if [ "$2" = so ] && [ -f "$("${CC:-cc}" -print-file-name="$terminfo")" ]; then taken+="AS_NEEDED($terminfo)"; fi
     echo "INPUT($taken)"
 }
 
@@ -52,7 +52,10 @@ CONFIG
 put_names_of_ncurses() {
     local name ending folder=$libdir/curspan/ncurses
     for name in ncurses curses panel tinfo "${!lacking[@]}"; do
-        for ending in so a; do put 644 <(linker_script "$name" "$ending") "$folder/lib$name.$ending"; done
+        for ending in so a; do
+            # -ltinfo of a static program is the system's archive
+            [ "$name.$ending" = tinfo.a ] || put 644 <(linker_script "$name" "$ending") "$folder/lib$name.$ending"
+        done
         put 644 <(pkg_config_of "$name") "$folder/$name.pc"
     done
     put 755 <(config_of_ncurses) "$folder/ncurses6-config"

@@ -34,7 +34,7 @@ make_type() {
         echo "$1-curspan|the keys of $1,"
         infocmp -1 "$1" | grep -E '^[[:space:]]((k[a-zA-Z0-9]+|smkx|rmkx)=)' | grep -v kmous=
         [ "$1" = linux ] || infocmp -1 "$1" | grep -E '^[[:space:]](acsc|smacs|rmacs|enacs)='
-        printf '\tsmcup=\\E[?1049h, rmcup=\\E[?1049l, cnorm=\\E[?25h, civis=\\E[?25l, use=curspan-single,\n'
+        printf '\tsmcup=\\E[?1049h, rmcup=\\E[?1049l, cnorm=\\E[?25h, civis=\\E[?25l, smso=\\E[7m, rmso=\\E[27m, use=curspan-single,\n'
     } > "$work/$1.ti"
     TERMINFO_DIRS="$work/terminfo" tic -o "$work/terminfo" "$work/$1.ti" 2> "$work/log" || { cat "$work/log" >&2; exit 1; }
 }
