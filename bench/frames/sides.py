@@ -36,7 +36,9 @@ def build_reference(work):
 
 class Bench:
     def __init__(self, program, work, entry):
-        self.program, self.work = program, work
+        if not os.access(program, os.X_OK) or os.path.isdir(program):
+            raise Failure(f'there is no program {program}: ./curspan builds it', NO_PROGRAM)
+        self.program, self.work = os.path.realpath(program), work
         self.environment = dict(os.environ, TERMINFO=f'{work}/terminals', TERM=entry)
 
     def curspan(self, job, size, given):
