@@ -34,7 +34,7 @@ static bool sort(const char *method, PyObject *const *given, Py_ssize_t count, P
 typedef struct Stroke {
     curspan_answer (*character)(curspan *, uint32_t, uint32_t);
     uint32_t ch;
-    const uint8_t *text;
+    const char *text;
     size_t length;
 } Stroke;
 
