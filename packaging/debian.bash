@@ -46,7 +46,7 @@ put_pages() {
     copyright > "$pages/copyright"
     filled changelog | gzip -9n > "$pages/changelog.Debian.gz"
     gzip -9n < "$root/CHANGELOG.md" > "$pages/changelog.gz"
-    cp "$root/README.md" "$root/docs/PROOFS.md" "$pages"
+    cp "$root/docs/PROOFS.md" "$pages"
 }
 
 # Moves paths of all that is staged into a package.
