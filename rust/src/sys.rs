@@ -153,7 +153,7 @@ extern "C" {
     fn curspan_take(screen: &mut Screen, out: *mut u8, room: usize) -> usize;
     fn curspan_invalidate(screen: &mut Screen);
     fn curspan_doupdate(screen: &mut Screen) -> Answer;
-    fn curspan_waddstr(screen: &mut Screen, win: u32, text: *const c_char, length: usize) -> Answer;
+    fn curspan_waddstr(screen: &mut Screen, win: u32, text: *const c_char, size: usize) -> Answer;
     fn curspan_row(screen: &Screen, win: u32, y: u32, cells: *mut u32, room: usize) -> Answer;
     fn curspan_shown_row(screen: &Screen, y: u32, cells: *mut u32, room: usize) -> Answer;
 }
