@@ -7,29 +7,29 @@
 
 /* Characters on their way into a line, from the cursor's column on and no further than the line goes. */
 typedef struct {
-    uint8_t text[LONGEST];
+    char text[LONGEST];
     int from, to, columns;
 } row;
 
-static void append(row *row, const uint8_t *text, int count) {
+static void append(row *row, const char *text, int count) {
     for (int i = 0; i < count && row->to < row->columns; i++) row->text[row->to++] = text[i];
 }
 
 static void append_blanks(row *row, int count) {
-    while (count-- > 0) append(row, (const uint8_t *)" ", 1);
+    while (count-- > 0) append(row, " ", 1);
 }
 
 /* Appends a byte as it is spelled: a tab as spaces, another control character as a caret and a letter, and nothing
    of one that breaks off a character. */
 static void append_byte(row *row, curspan_unfinished *begun, uint8_t byte) {
-    const uint8_t control[2] = {'^', byte ^ 64};
+    const char control[2] = {'^', (char)(byte ^ 64)};
     if (begun->count > 0 || byte > 127) {
         curspan_spelling spelling = curspan_spell_part(begun, byte);
         if (byte < ' ' || byte > 126) append(row, spelling.text, spelling.count);
     } else if (byte == '\t') {
         append_blanks(row, TABSIZE - row->to % TABSIZE);
     } else if (byte >= ' ' && byte != 127) {
-        append(row, &byte, 1);
+        append(row, (const char *)&byte, 1);
     } else {
         append(row, control, sizeof control);
     }
@@ -40,7 +40,7 @@ static int insert_row(WINDOW *win, row *row, bool has_attributes) {
     bool is_other = has_attributes && (win->background & A_CHARTEXT) != ' ';
     int answer = OK;
     if (is_other) curspan_set_background(win, (win->background & A_ATTRIBUTES) | ' ');
-    for (int at = row->to; at > row->from && answer == OK;) answer = done(curspan_winsch(SCREEN_AND(win), row->text[--at]));
+    for (int at = row->to; at > row->from && answer == OK;) answer = done(curspan_winsch(SCREEN_AND(win), (uint8_t)row->text[--at]));
     if (is_other) curspan_set_background(win, win->background);
     if (answer == ERR || row->to == row->from) return answer;
     win->reach = UNKNOWN;

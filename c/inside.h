@@ -57,7 +57,7 @@ struct curspan_waiting {
     WINDOW *win; /* where they are to be written, or NULL */
     int y, x;    /* the place to which it moves first; ERR is where the cursor is */
     unsigned count;
-    uint8_t text[LONGEST];
+    char text[LONGEST];
 };
 
 extern struct curspan_waiting curspan_waiting;
@@ -75,7 +75,7 @@ int curspan_move(WINDOW *win, int y, int x);
 /* Lets a move wait where characters do, or something of another window. */
 int curspan_move_on(WINDOW *win, int y, int x);
 /* Lets a character wait that begins at the cursor. */
-int curspan_wait_here(WINDOW *win, uint8_t ch);
+int curspan_wait_here(WINDOW *win, char ch);
 
 /* The screen, in which nothing is left to be written. */
 extern curspan curspan_kept_screen;
@@ -133,7 +133,7 @@ void curspan_measure(WINDOW *win);
 /* What a byte is drawn as, after those before it that begin a character: nothing where that isn't finished or has no width, the character
    in ASCII, or how a byte that belongs to none is spelled. */
 typedef struct {
-    uint8_t text[3];
+    char text[3];
     int count;
     bool is_wide; /* the two stay on one line */
 } curspan_spelling;

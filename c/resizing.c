@@ -163,8 +163,8 @@ static void set_background(curspan *screen, uint16_t number, chtype ch) {
 
 /* Puts cells of a line into a window of the other screen, from its first column on. */
 static void put_line(uint16_t to, uint16_t y, const uint32_t *cells, int n) {
-    uint8_t text[LONGEST];
-    for (int x = 0; x < n; x++) text[x] = CURSPAN_CHARACTER(cells[x]);
+    char text[LONGEST];
+    for (int x = 0; x < n; x++) text[x] = (char)CURSPAN_CHARACTER(cells[x]);
     curspan_wmove(remake.to, to, y, 0);
     for (int start = 0, end; start < n; start = end) {
         for (end = start; end < n && cells[end] >> 8 == cells[start] >> 8; end++) continue;

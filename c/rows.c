@@ -21,11 +21,11 @@ static void write_plainly(WINDOW *win, bool plainly, bool scrolls, chtype backgr
 
 /* Writes cells of one line, those with the same attributes together. */
 static int put_runs(WINDOW *win, const chtype *cells, int n) {
-    uint8_t text[LONGEST];
+    char text[LONGEST];
     for (int from = 0, to; from < n; from = to) {
         attr_t attrs = curspan_as_drawn(cells[from]) & A_ATTRIBUTES;
         for (to = from; to < n && (curspan_as_drawn(cells[to]) & A_ATTRIBUTES) == attrs; to++)
-            text[to] = (uint8_t)(curspan_as_drawn(cells[to]) & A_CHARTEXT);
+            text[to] = (char)(curspan_as_drawn(cells[to]) & A_CHARTEXT);
         if (curspan_tell(win, attrs) == ERR) return ERR;
         if (done(curspan_waddstr(SCREEN_AND(win), text + from, (size_t)(to - from))) == ERR) return ERR;
     }

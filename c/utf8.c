@@ -58,15 +58,15 @@ static curspan_spelling drawn(uint32_t character) {
     curspan_spelling none = {{' '}, 0, false}, one = {{'?'}, 1, false}, two = {{'?', ' '}, 2, true};
     if (IS_IN(without_width, character)) return none;
     if (IS_IN(wide, character)) return two;
-    if (character >= FIRST_LETTER && character - FIRST_LETTER < sizeof letters - 1) one.text[0] = (uint8_t)letters[character - FIRST_LETTER];
+    if (character >= FIRST_LETTER && character - FIRST_LETTER < sizeof letters - 1) one.text[0] = letters[character - FIRST_LETTER];
     return one;
 }
 
 /* A byte that is no part of a character, as ncurses spells it; one that could have been a character by itself is a
    blank. */
 static curspan_spelling spelled(uint8_t byte) {
-    curspan_spelling blank = {{' '}, 1, false}, control = {{'^', byte ^ 64}, 2, false};
-    curspan_spelling high = {{'~', byte == 255 ? '?' : byte - 64}, 2, false}, meta = {{'M', '-', byte & 127}, 3, false};
+    curspan_spelling blank = {{' '}, 1, false}, control = {{'^', (char)(byte ^ 64)}, 2, false};
+    curspan_spelling high = {{'~', byte == 255 ? '?' : (char)(byte - 64)}, 2, false}, meta = {{'M', '-', (char)(byte & 127)}, 3, false};
     if (byte < ' ' || byte == 127) return control;
     if (byte < 128) return blank;
     return byte < 160 || byte == 255 ? high : meta;

@@ -8,7 +8,7 @@ struct curspan_waiting curspan_waiting;
 static void write_text(uint16_t number, unsigned count) {
     const struct curspan_waiting *all = &curspan_waiting;
     if (all->y != ERR) curspan_wmove_end(number, (uint16_t)all->y, (uint16_t)all->x, &curspan_kept_screen);
-    if (count == 1) curspan_waddch_end(number, all->text[0], &curspan_kept_screen);
+    if (count == 1) curspan_waddch_end(number, (uint8_t)all->text[0], &curspan_kept_screen);
     else curspan_waddstr(&curspan_kept_screen, number, all->text, count);
 }
 
@@ -30,7 +30,7 @@ int curspan_move_on(WINDOW *win, int y, int x) {
     return curspan_wait_at(win, y, x);
 }
 
-int curspan_wait_here(WINDOW *win, uint8_t ch) {
+int curspan_wait_here(WINDOW *win, char ch) {
     if (curspan_waiting.win) curspan_write_waiting();
     curspan_waiting.text[curspan_waiting.count++] = ch;
     return curspan_wait_at(win, ERR, ERR);

@@ -67,7 +67,7 @@ static int room_of(const WINDOW *win, int y, int x) {
 static void set_reach(WINDOW *win, int room) { win->reach = win->end - 1 + (int)win->columns - room; }
 
 /* Writes printable characters, of which one in the last place is written and ends them. Below a scroll region the line begins again then. */
-static int add_run(WINDOW *win, const uint8_t *text, size_t length) {
+static int add_run(WINDOW *win, const char *text, size_t length) {
     while (length > 0) {
         int room = room_of(win, getcury(win), getcurx(win)), count = length > (size_t)room ? room + 1 : (int)length;
         if (done(curspan_waddstr(SCREEN_AND(win), text, (size_t)count)) == ERR) return ERR;
@@ -95,7 +95,7 @@ static int add_space(WINDOW *win) {
     bool scrolls = is_scrollok(win) && y == bottom_of(win) && getcurx(win) == (int)win->columns - 1;
     if (scrolls) curspan_scrollok(SCREEN_AND(win), false);
     curspan_set_background(win, (win->background & A_ATTRIBUTES) | ' ');
-    int answer = scrolls ? done(curspan_waddch(SCREEN_AND(win), ' ')) : add_run(win, (const uint8_t *)" ", 1);
+    int answer = scrolls ? done(curspan_waddch(SCREEN_AND(win), ' ')) : add_run(win, " ", 1);
     curspan_set_background(win, win->background);
     if (scrolls) curspan_scrollok(SCREEN_AND(win), true);
     return scrolls && answer == OK ? leave_line(win, y) : answer;
@@ -105,7 +105,7 @@ static int add_space(WINDOW *win) {
 static int add_blanks(WINDOW *win, int n, bool are_spaces) {
     bool are_other = are_spaces && (win->background & A_CHARTEXT) != ' ';
     int answer = OK;
-    while (n-- > 0 && answer == OK) answer = are_other ? add_space(win) : add_run(win, (const uint8_t *)" ", 1);
+    while (n-- > 0 && answer == OK) answer = are_other ? add_space(win) : add_run(win, " ", 1);
     return answer;
 }
 
@@ -132,7 +132,7 @@ static int move_back(WINDOW *win, uint8_t ch) {
 }
 
 /* Writes a character of two columns, on the next line where one is left on this. */
-static int add_wide(WINDOW *win, const uint8_t text[2]) {
+static int add_wide(WINDOW *win, const char text[2]) {
     if (win->columns < 2) return ERR;
     if (getcurx(win) == (int)win->columns - 1 && add_blanks(win, 1, false) == ERR) return ERR;
     return add_run(win, text, 1) == ERR ? ERR : add_blanks(win, 1, text[1] == ' ');
@@ -161,7 +161,7 @@ static int add_part(WINDOW *win, uint8_t byte) {
 /* Writes a character that isn't printable, or one after a part of another, with the attributes that Curspan got
    last. */
 static int add_spelled(WINDOW *win, uint8_t ch, bool has_attributes) {
-    const uint8_t control[2] = {'^', ch ^ 64};
+    const char control[2] = {'^', (char)(ch ^ 64)};
     if (win->begun.count > 0 || ch > 127) return add_part(win, ch);
     switch (ch) {
     case '\n': return end_line(win);
@@ -179,8 +179,8 @@ static bool is_printable(uint8_t ch) { return ch >= ' ' && ch <= '~'; }
 /* Lets a printable character wait to be written, which doesn't come to the window's end. */
 static inline int add_waiting(WINDOW *win, chtype ch) {
     win->reach++;
-    if (curspan_waiting.win != win || curspan_waiting.count == LONGEST) return curspan_wait_here(win, (uint8_t)ch);
-    curspan_waiting.text[curspan_waiting.count++] = (uint8_t)ch;
+    if (curspan_waiting.win != win || curspan_waiting.count == LONGEST) return curspan_wait_here(win, (char)ch);
+    curspan_waiting.text[curspan_waiting.count++] = (char)ch;
     return OK;
 }
 
@@ -195,7 +195,7 @@ int curspan_add_any(WINDOW *win, chtype ch) {
     if (is_printable(character) && !is_other && win->begun.count == 0 && win->reach < win->end && !follows) return add_waiting(win, character);
     curspan_check_begun(win);
     if (!is_printable(character) || win->begun.count > 0) return curspan_changed(win, add_spelled(win, character, has_attributes));
-    return curspan_changed(win, character == ' ' ? add_blanks(win, 1, has_attributes) : add_run(win, &character, 1));
+    return curspan_changed(win, character == ' ' ? add_blanks(win, 1, has_attributes) : add_run(win, (const char *)&character, 1));
 }
 
 int waddch(WINDOW *win, const chtype ch) {
@@ -226,7 +226,7 @@ static bool ends_above(const WINDOW *win, const char *text, size_t length) {
 static int add_each_piece(WINDOW *win, const char *text, size_t length) {
     for (size_t from = 0, run; from < length; from += run) {
         run = win->begun.count > 0 ? 0 : run_of(text + from, length - from);
-        if (run > 0 && add_run(win, (const uint8_t *)text + from, run) == ERR) return ERR;
+        if (run > 0 && add_run(win, text + from, run) == ERR) return ERR;
         if (run == 0 && add_spelled(win, (uint8_t)text[from], false) == ERR) return ERR;
         if (run == 0) run = 1;
     }
@@ -246,7 +246,7 @@ static int add_pieces(WINDOW *win, const char *text, size_t length) {
     if (win->attrs & A_ALTCHARSET) return add_alternates(win, text, length);
     if (curspan_tell(win, win->attrs) == ERR) return ERR;
     curspan_check_begun(win);
-    if (ends_above(win, text, length) && curspan_waddstr(SCREEN_AND(win), (const uint8_t *)text, length).status == CURSPAN_OK) {
+    if (ends_above(win, text, length) && curspan_waddstr(SCREEN_AND(win), text, length).status == CURSPAN_OK) {
         win->reach = UNKNOWN;
         return curspan_changed(win, OK);
     }
@@ -280,7 +280,7 @@ static inline bool is_written(WINDOW *win, const char *text, size_t length) {
     if (!surely_fits && !curspan_fits_at_end(win, length)) return false;
     win->reach += (int)length;
     if (waits(win, text, length)) return true;
-    return curspan_waddstr(SCREEN_AND(win), (const uint8_t *)text, length).status == CURSPAN_OK;
+    return curspan_waddstr(SCREEN_AND(win), text, length).status == CURSPAN_OK;
 }
 
 /* How many bytes the first line of a text has. */

@@ -6,7 +6,7 @@
        curspan screen = CURSPAN_INIT;
        uint8_t bytes[100000];
        curspan_open(&screen, 24, 80);
-       curspan_waddstr(&screen, 0, (const uint8_t *)"hello", 5);
+       curspan_waddstr(&screen, 0, "hello", 5);
        curspan_update_panels(&screen);
        curspan_doupdate(&screen);
        size_t length = curspan_take(&screen, bytes, sizeof bytes);
@@ -220,7 +220,7 @@ curspan_answer curspan_waddch(curspan *screen, uint32_t win, uint32_t ch);
 /* Writes the characters of a text in order, each as `waddch` does. No character of a refused text is written. The text
    has `length` characters, and may be NULL where that is 0. Refused: NO_SUCH_WINDOW; BAD_CHARACTER for a character
    other than 8, 10, 13 and 32 to 126. */
-curspan_answer curspan_waddstr(curspan *screen, uint32_t win, const uint8_t *text, size_t length);
+curspan_answer curspan_waddstr(curspan *screen, uint32_t win, const char *text, size_t length);
 
 /* Inserts a character at the cursor, which stays: the cells from there on go one column right, and the last is lost.
    Refused: NO_SUCH_WINDOW; BAD_CHARACTER for a character outside 32 to 126. */

@@ -1,6 +1,6 @@
 # What ./install puts into a folder for other people's build scripts, which look for ncurses: its libraries' names, as linker scripts that take
 # Curspan, and the system's terminfo library where a program asks for its names; and what else tells of ncurses. It wants put, pkg_config,
-# for_pkg_config and libdir of ./install.
+# for_pkg_config, libdir and target of ./install.
 # shellcheck shell=bash
 
 # What Curspan lacks: a library by this name says so, so that a build script goes on to the next one, and no program gets ncurses' own library
@@ -18,7 +18,7 @@ linker_script() {
         return
     fi
     [ "$1" = tinfo ] || taken="../../libcurspan.$2 "
-    if [ "$2" = so ] && [ -f "$("${CC:-cc}" -print-file-name="$terminfo")" ]; then taken+="AS_NEEDED($terminfo)"; fi
+    if [ "$2" = so ] && [ -f "$("$(tool_for "${target:-$here_target}" cc)" -print-file-name="$terminfo")" ]; then taken+="AS_NEEDED($terminfo)"; fi
     echo "INPUT($taken)"
 }
 

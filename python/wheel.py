@@ -17,7 +17,7 @@ import zipfile
 
 HERE = pathlib.Path(__file__).resolve().parent
 ROOT = HERE.parent
-ARCHIVE, SHARED = ROOT / 'build/libcurspan.a', ROOT / 'build/libcurspan.so'
+THIS = 'x86_64-unknown-linux-gnu'
 HEADERS = pathlib.Path(sysconfig.get_path('include'))
 EXTENSION = 'curspan/_curspan.abi3.so'
 PYTHON = 'cp39-abi3'
@@ -32,6 +32,18 @@ def command(name, default):
     return shlex.split(os.environ.get(name, default))
 
 
+def multiarch(target):
+    """A target as the folders and tools of Debian name it."""
+    return target.replace('unknown-', '')
+
+
+def tool(target, name):
+    """A tool for a target: cc, strip or objdump."""
+    if target == THIS:
+        return command('CC', 'cc') if name == 'cc' else [name]
+    return [f'{multiarch(target)}-{"gcc" if name == "cc" else name}']
+
+
 def run(*words):
     """Runs a command, and ends with what it said where it fails."""
     words = [str(word) for word in words]
@@ -44,26 +56,28 @@ def run(*words):
     return done.stdout
 
 
-def link(to, shared=False):
+def link(to, shared=False, target=THIS):
     """Compiles and links the extension, with the archive, or with the shared library."""
-    library = SHARED if shared else ARCHIVE
+    library = ROOT / 'build' / ('' if target == THIS else target) / ('libcurspan.so' if shared else 'libcurspan.a')
     if not library.exists():
-        sys.exit(f'wheel: there is no {library}: ./curspan-lib builds it')
+        sys.exit(f'wheel: there is no {library}: {"./curspan-lib" if target == THIS else "tools/build_for " + target} builds it')
     if not (HEADERS / 'Python.h').exists():
         sys.exit(f"wheel: {sys.executable} has no headers in {HEADERS}: Debian's are in python3-dev")
     with tempfile.TemporaryDirectory() as work:
+        # Debian has what depends on the processor in a folder for each: with 64 bits it is the same
+        os.symlink(HEADERS.parent / multiarch(THIS), f'{work}/{multiarch(target)}')
         objects = []
         for source in sorted((HERE / 'src').glob('*.c')):
             objects.append(f'{work}/{source.stem}.o')
-            run(*command('CC', 'cc'), *OPTIONS, *command('CFLAGS', ''), f'-ffile-prefix-map={ROOT}=.', '-I', ROOT / 'include', '-I', HEADERS,
-                '-c', source, '-o', objects[-1])
-        run(*command('CC', 'cc'), '-shared', '-Wl,--exclude-libs,ALL', '-Wl,-z,relro,-z,now', *command('LDFLAGS', ''), *objects, library, '-o', to)
-    run('strip', '--strip-unneeded', '--remove-section=.comment', to)
+            run(*tool(target, 'cc'), *OPTIONS, *command('CFLAGS', ''), f'-ffile-prefix-map={ROOT}=.', '-I', ROOT / 'include', '-I', HEADERS,
+                '-I', work, '-c', source, '-o', objects[-1])
+        run(*tool(target, 'cc'), '-shared', '-Wl,--exclude-libs,ALL', '-Wl,-z,relro,-z,now', *command('LDFLAGS', ''), *objects, library, '-o', to)
+    run(*tool(target, 'strip'), '--strip-unneeded', '--remove-section=.comment', to)
 
 
-def oldest_glibc(binary):
+def oldest_glibc(binary, target):
     """The oldest glibc that has all that a binary takes of it, as two numbers."""
-    taken = re.findall(r'GLIBC_(\d+)\.(\d+)', run('objdump', '-T', binary))
+    taken = re.findall(r'GLIBC_(\d+)\.(\d+)', run(*tool(target, 'objdump'), '-T', binary))
     return max((int(major), int(minor)) for major, minor in taken)
 
 
@@ -111,11 +125,20 @@ def write_zip(path, files):
             wheel.writestr(entry, data, zipfile.ZIP_DEFLATED, 9)
 
 
-def pack(folder, extension, added, licences):
+def tag_of(extension, target):
+    """Which Pythons and systems take the extension."""
+    return '{}-manylinux_{}_{}_{}'.format(PYTHON, *oldest_glibc(extension, target), target.partition('-')[0])
+
+
+def name_of(tag):
+    return f'curspan-{version()}-{tag}.whl'
+
+
+def pack(folder, extension, added, licences, target=THIS):
     """Makes the wheel in a folder of an extension, with some files beside what is said of the package, and with licences of what is linked in,
     each named by its folder too, and answers its name."""
-    tag = '{}-manylinux_{}_{}_x86_64'.format(PYTHON, *oldest_glibc(extension))
-    name = f'curspan-{version()}-{tag}.whl'
+    tag = tag_of(extension, target)
+    name = name_of(tag)
     about = {'METADATA': metadata(), 'WHEEL': f'Wheel-Version: 1.0\nGenerator: curspan\nRoot-Is-Purelib: false\nTag: {tag}\n'.encode(),
              **{f'licenses/{path.name}': path.read_bytes() for path in (ROOT / 'LICENSE-APACHE', ROOT / 'LICENSE-MIT')},
              **{f'licenses/linked/{path.parent.name}/{path.name}': path.read_bytes() for path in map(pathlib.Path, licences)},
@@ -149,11 +172,16 @@ def main():
     job = jobs.add_parser('build', help='make the wheel in a folder')
     job.add_argument('folder')
     job = jobs.add_parser('link', help='compile and link the extension alone')
+    job.add_argument('--target', default=THIS)
     job.add_argument('--shared', action='store_true', help='with the shared library, in place of the archive')
     job.add_argument('file')
     job = jobs.add_parser('files', help='write all but the extension below a folder')
     job.add_argument('folder')
+    job = jobs.add_parser('name', help='print the name of the wheel of an extension')
+    job.add_argument('--target', default=THIS)
+    job.add_argument('extension')
     job = jobs.add_parser('pack', help='make the wheel of an extension that was linked')
+    job.add_argument('--target', default=THIS)
     job.add_argument('--add', action='append', default=[], metavar='FILE', help='put a file beside what is said of the package')
     job.add_argument('--licence', action='append', default=[], metavar='FILE', help='put a licence of what is linked in beside the others')
     job.add_argument('extension')
@@ -162,11 +190,13 @@ def main():
     if words.job == 'build':
         print(pathlib.Path(words.folder) / build_wheel(words.folder))
     elif words.job == 'link':
-        link(words.file, words.shared)
+        link(words.file, words.shared, words.target)
     elif words.job == 'files':
         write_files(words.folder)
+    elif words.job == 'name':
+        print(name_of(tag_of(words.extension, words.target)))
     else:
-        print(pathlib.Path(words.folder) / pack(words.folder, words.extension, words.add, words.licence))
+        print(pathlib.Path(words.folder) / pack(words.folder, words.extension, words.add, words.licence, words.target))
 
 
 if __name__ == '__main__':

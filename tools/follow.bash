@@ -94,10 +94,14 @@ provers() {
     awk -v most="$((processors < most ? processors : most))" '/^MemAvailable:/ { n = int($2 / 2000000) } END { print n < 1 ? 1 : n < most ? n : most }' /proc/meminfo
 }
 
-# Ends with status 125 where `rt` is missing.
+# Ends with status 125 where `rt` is missing, or what it is written in.
 want_rt() {
     if ! command -v rt > /dev/null; then
         echo "$1: the command rt of the Rattle kit is not on the path, and nothing is built without it: see README.md" >&2
+        exit 125
+    fi
+    if ! command -v python3 > /dev/null; then
+        echo "$1: python3 is missing, in which rt is written: apt-get install -y python3" >&2
         exit 125
     fi
 }

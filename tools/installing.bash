@@ -29,8 +29,29 @@ linked_libraries() {
 # Puts out the files of the kit with the licences of these, a line each. Some have none of their own.
 linked_licences() {
     local library kit
-    kit=$(dirname "$(readlink -f "$(command -v rt)")")/../rattle
+    kit=$(kit_folder)/rattle
     for library in $(linked_libraries); do
         find "$kit/$library" -maxdepth 1 -type f -name 'LICENSE*' | sort
     done
 }
+
+# Targets, as Rust names them: this machine, and 64-bit ARM.
+here_target=x86_64-unknown-linux-gnu
+arm_target=aarch64-unknown-linux-gnu
+arm_packages='gcc-aarch64-linux-gnu libc6-dev-arm64-cross'
+
+# Puts out a target as the folders and tools of Debian name it.
+multiarch_of() { printf '%s\n' "${1/unknown-/}"; }
+
+# Puts out the name of a tool for a target: cc, ar, strip, objdump.
+tool_for() {
+    case $1:$2 in
+        "$here_target:cc") printf '%s\n' "${CC:-cc}" ;;
+        "$here_target":*) printf '%s\n' "$2" ;;
+        *:cc) printf '%s-gcc\n' "$(multiarch_of "$1")" ;;
+        *) printf '%s-%s\n' "$(multiarch_of "$1")" "$2" ;;
+    esac
+}
+
+# Puts out the folder of the Rattle kit.
+kit_folder() { dirname "$(dirname "$(readlink -f "$(command -v rt)")")"; }

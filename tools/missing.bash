@@ -16,6 +16,8 @@ zsh:zsh:completion
 fish:fish:completion
 tmux:tmux:shell scripts, terminal, C programs, keys of C programs, Python
 tic:ncurses-bin:small frames, C programs, keys of C programs
+aarch64-linux-gnu-gcc:gcc-aarch64-linux-gnu libc6-dev-arm64-cross:64-bit ARM, packages
+qemu-aarch64:qemu-user:64-bit ARM
 <panel.h>:libncurses-dev:small frames, C programs, keys of C programs'
 
 # Puts out the lines of what is missing.

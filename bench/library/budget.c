@@ -12,7 +12,7 @@ static void call(void) {
     static uint32_t cells[80];
     make(curspan_wmove(&screen, 1, 1, 1));
     make(curspan_waddch(&screen, 1, 'x'));
-    make(curspan_waddstr(&screen, 1, (const uint8_t *)"text", 4));
+    make(curspan_waddstr(&screen, 1, "text", 4));
     make(curspan_getyx(&screen, 1));
     make(curspan_winch(&screen, 1));
     make(curspan_is_wintouched(&screen, 1));

@@ -29,13 +29,13 @@ static void open_screen(curspan *screen) {
     need(curspan_open(screen, 24, 80));
     for (uint32_t y = 0; y < 24; y++) {
         need(curspan_wmove(screen, 0, y, 0));
-        need(curspan_waddstr(screen, 0, (const uint8_t *)"what is below all panels", 24));
+        need(curspan_waddstr(screen, 0, "what is below all panels", 24));
     }
     for (uint32_t i = 0; i < 3; i++) {
         uint32_t win = need(curspan_newwin(screen, 8, 30, 3 + 3 * i, 5 + 12 * i));
         for (uint32_t y = 0; y < 8; y++) {
             need(curspan_wmove(screen, win, y, 0));
-            need(curspan_waddstr(screen, win, (const uint8_t *)"a text that fills the panel's", 29));
+            need(curspan_waddstr(screen, win, "a text that fills the panel's", 29));
         }
         need(curspan_new_panel(screen, win));
     }
@@ -52,7 +52,7 @@ static size_t allocated(void) {
 static size_t change_word(curspan *screen, unsigned round) {
     static const char words[][6] = {"tiger", "zebra", "koala", "bison"};
     need(curspan_wmove(screen, 2, 1, 2));
-    need(curspan_waddstr(screen, 2, (const uint8_t *)words[round % 4], 5));
+    need(curspan_waddstr(screen, 2, words[round % 4], 5));
     return show(screen);
 }
 

@@ -16,7 +16,7 @@ static uint32_t need(curspan_answer answer) {
     return answer.first;
 }
 
-static void add(uint32_t win, const char *text) { need(curspan_waddstr(&screen, win, (const uint8_t *)text, strlen(text))); }
+static void add(uint32_t win, const char *text) { need(curspan_waddstr(&screen, win, text, strlen(text))); }
 
 static void moves(uint32_t times) {
     for (uint32_t i = 0; i < times; i++) need(curspan_wmove(&screen, 0, i % 24, i % 80));

@@ -76,7 +76,7 @@ static uint32_t *room_of(long count) {
 }
 
 /* Makes a call of numbers and a text, or asks a question. */
-static void make(const char *word, const long *n, const uint8_t *text, size_t length) {
+static void make(const char *word, const long *n, const char *text, size_t length) {
     /* Written by tools/calls from calls.table: calls */
     CALL(newwin, window, n[0], n[1], n[2], n[3])
     CALL(subwin, window, n[0], n[1], n[2], n[3], n[4])
@@ -157,10 +157,10 @@ static void make(const char *word, const long *n, const uint8_t *text, size_t le
 }
 
 /* Reads the bytes of hexadecimal digits, and answers how many they are. */
-static size_t read_text(const char *digits, uint8_t *text) {
+static size_t read_text(const char *digits, char *text) {
     size_t length = 0;
     unsigned byte;
-    for (; sscanf(digits, "%2x", &byte) == 1; digits += 2) text[length++] = (uint8_t)byte;
+    for (; sscanf(digits, "%2x", &byte) == 1; digits += 2) text[length++] = (char)byte;
     return length;
 }
 
@@ -170,7 +170,7 @@ int main(int count, char **words) {
     while (fgets(line, sizeof line, stdin)) {
         const char *arguments[10];
         long n[10];
-        uint8_t text[1000];
+        char text[1000];
         line[strcspn(line, "\n")] = 0;
         number = strtok(line, " ");
         const char *word = strtok(NULL, " ");

@@ -7,6 +7,7 @@ import tempfile
 import time
 
 from . import of_scripts, of_streams, of_writes
+from .beside import Beside, is_the_same
 from .differing import Differs
 from .of_scripts import Script, reads_few_cells
 from .of_streams import Stream
@@ -27,6 +28,7 @@ def read_words():
     parser.add_argument('--program', required=True, metavar='FILE', help='the program, in place of the one that was built')
     parser.add_argument('--probe', required=True, metavar='FILE', help='the program that counts composed cells, likewise')
     parser.add_argument('--replay', metavar='FILE', action='append', default=[], help='try scripts alone, through programs of other languages')
+    parser.add_argument('--beside', metavar='FILE', help='look alone whether another program gives the same')
     parser.add_argument('--print', action='store_true', help='print the scripts and the streams, and try nothing')
     parser.add_argument('--whole', action='store_true', help='print what fails as it is, and make nothing smaller')
     return parser.parse_args()
@@ -53,10 +55,13 @@ class Trial:
         self.program = Program(words.program, work)
         self.probe = Program(words.probe, work) if os.access(words.probe, os.X_OK) else None
         self.replays = [Replay(path, work, self.program) for path in words.replay]
+        self.beside = Beside(Program(words.beside, work), self.program) if words.beside else None
         self.makes_smaller = not words.whole
 
     def checks(self):
         """Each check of a script, and the program that it is of."""
+        if self.beside:
+            return [(is_the_same, self.beside)]
         if self.replays:
             return [(is_replayed, replay) for replay in self.replays]
         counting = [(reads_few_cells, self.probe)] if self.probe else []
@@ -67,9 +72,10 @@ class Trial:
         script = Script(*script_of(random.Random(f'script {seed}')))
         if self.replays:
             return all(self.holds(check, program, script, seed) for check, program in self.checks())
+        of_stream = [(is_the_same, self.beside)] if self.beside else [(check, self.program) for check in of_streams.CHECKS]
         stream = Stream(*stream_of(random.Random(f'stream {seed}')))
         return (all(self.holds(check, program, script, seed) for check, program in self.checks())
-                and all(self.holds(check, self.program, stream, seed) for check in of_streams.CHECKS))
+                and all(self.holds(check, program, stream, seed) for check, program in of_stream))
 
     def holds(self, check, program, tried, seed):
         """Answers whether a check holds of a script or a stream, and else tells of the smallest of which it doesn't."""
@@ -123,7 +129,7 @@ def try_seeds(words, first):
             if time.monotonic() - told > SECONDS_BETWEEN:
                 told = time.monotonic()
                 print(f'random: {seed - first + 1} of {words.count} passed', file=sys.stderr)
-    counted = '' if trial.probe or trial.replays else ', and no cells were counted: there is no probe'
+    counted = '' if trial.probe or trial.replays or trial.beside else ', and no cells were counted: there is no probe'
     print(f'random: {words.count} passed, from seed {first} on{counted}; go on by cases/random 1000 {first + words.count}')
     return 0
 

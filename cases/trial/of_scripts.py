@@ -20,6 +20,8 @@ MOST_UPDATES = 6
 class Script:
     """A script on a screen of a size, with chance for what a check itself chooses."""
 
+    jobs = ('run', 'paint', 'check')
+
     def __init__(self, lines, columns, text):
         self.lines = lines
         self.columns = columns

@@ -11,13 +11,15 @@ from .program import Came, cut
 class Stream:
     """A stream to a terminal of a size."""
 
+    jobs = ('show',)
+
     def __init__(self, lines, columns, text):
         self.lines = lines
         self.columns = columns
         self.text = text
         self.chance = random.Random(0)
 
-    def words(self):
+    def words(self, _='show'):
         return ['show', '--lines', str(self.lines), '--cols', str(self.columns)]
 
 

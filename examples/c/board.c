@@ -71,11 +71,11 @@ static void draw(struct peer *peer) {
     for (uint32_t y = 0; y < peer->lines; y++) {
         if (changed[y] <= peer->drawn) continue;
         curspan_wmove(screen, peer->page, y, 0);
-        curspan_waddstr(screen, peer->page, (const uint8_t *)page[y], peer->columns);
+        curspan_waddstr(screen, peer->page, page[y], peer->columns);
     }
     int length = snprintf(status, sizeof status, " %d here, you at %u %u", count_of_peers, (unsigned)peer->y, (unsigned)peer->x);
     curspan_werase(screen, peer->status);
-    curspan_waddstr(screen, peer->status, (const uint8_t *)status, (size_t)length);
+    curspan_waddstr(screen, peer->status, status, (size_t)length);
     curspan_wmove(screen, peer->page, peer->y, peer->x);
     curspan_wnoutrefresh(screen, peer->status);
     curspan_wnoutrefresh(screen, peer->page);

@@ -20,7 +20,7 @@ static uint32_t panel(uint32_t y, uint32_t x, uint8_t attrs, const char *text) {
     need(curspan_wbkgdset(&screen, win, attrs, ' '));
     need(curspan_werase(&screen, win));
     need(curspan_wmove(&screen, win, 1, 2));
-    need(curspan_waddstr(&screen, win, (const uint8_t *)text, strlen(text)));
+    need(curspan_waddstr(&screen, win, text, strlen(text)));
     return need(curspan_new_panel(&screen, win));
 }
 

@@ -51,7 +51,7 @@ static void put(uint32_t win, int y, uint32_t pair, const char *text) {
     size_t length = (size_t)snprintf(line, sizeof line, "%-*.*s", width, width, text);
     curspan_wcolor_set(&screen, win, pair);
     curspan_wmove(&screen, win, (uint32_t)y, 0);
-    curspan_waddstr(&screen, win, (uint8_t *)line, curspan_plain_text(line, length, line));
+    curspan_waddstr(&screen, win, line, curspan_plain_text(line, length, line));
 }
 
 static void draw(void) {

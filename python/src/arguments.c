@@ -94,20 +94,20 @@ bool curspan_take_flag(PyObject *object, bool *flag) {
     return is_true >= 0;
 }
 
-bool curspan_take_text(PyObject *object, const uint8_t **text, size_t *length) {
+bool curspan_take_text(PyObject *object, const char **text, size_t *length) {
     Py_ssize_t count;
     char *bytes;
     if (PyUnicode_Check(object)) {
         const char *utf8 = PyUnicode_AsUTF8AndSize(object, &count);
         if (utf8) {
-            *text = (const uint8_t *)utf8;
+            *text = utf8;
             *length = (size_t)count;
             return true;
         }
         if (!PyErr_ExceptionMatches(PyExc_UnicodeEncodeError)) return false;
         /* a surrogate alone is no character that a window can have: a text with the byte 255 is refused */
         PyErr_Clear();
-        *text = (const uint8_t *)"\xff";
+        *text = "\xff";
         *length = 1;
         return true;
     }
@@ -116,7 +116,7 @@ bool curspan_take_text(PyObject *object, const uint8_t **text, size_t *length) {
         return false;
     }
     if (PyBytes_AsStringAndSize(object, &bytes, &count) < 0) return false;
-    *text = (const uint8_t *)bytes;
+    *text = bytes;
     *length = (size_t)count;
     return true;
 }

@@ -91,7 +91,7 @@ bool curspan_take_signed(PyObject *object, int32_t *number);
 bool curspan_take_flag(PyObject *object, bool *flag);
 bool curspan_take_attributes(PyObject *object, uint8_t *bits);
 bool curspan_take_character(PyObject *object, uint32_t *ch);
-bool curspan_take_text(PyObject *object, const uint8_t **text, size_t *length);
+bool curspan_take_text(PyObject *object, const char **text, size_t *length);
 bool curspan_take_window(PyObject *object, const Screen *screen, uint32_t *number);
 
 static inline PyObject *unless_none(PyObject *object) { return object == Py_None ? NULL : object; }

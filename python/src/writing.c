@@ -69,7 +69,7 @@ static bool replace(const Screen *screen, const uint8_t **text, size_t *length, 
 typedef struct Stroke {
     curspan_answer (*character)(curspan *, uint32_t, uint32_t);
     uint32_t ch;
-    const uint8_t *text;
+    const char *text;
     size_t length;
 } Stroke;
 

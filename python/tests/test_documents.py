@@ -55,7 +55,7 @@ class Documents(unittest.TestCase):
         self.shows(re.search(r'```python\n(import curspan\n.*?)```', PAGE.read_text(), re.DOTALL)[1], b'hello from Python')
 
     def test_program_of_the_readme(self):
-        self.shows(re.sub('(?m)^    ', '', re.search(r'(?m)(^    import sys\n(?:    .*\n|\n)*?)\n\S', README.read_text())[1]), b'hello from Python')
+        self.shows(re.sub('(?m)^    ', '', re.search(r'(?m)(^    import shutil, sys, curspan\n(?:    .*\n|\n)*?)\n\S', README.read_text())[1]), b'hello from Python')
 
     def test_each_name_has_a_text(self):
         for name in curspan.__all__:

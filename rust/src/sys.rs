@@ -157,7 +157,7 @@ extern "C" {
     fn curspan_take(screen: &mut Screen, out: *mut u8, room: usize) -> usize;
     fn curspan_invalidate(screen: &mut Screen);
     fn curspan_doupdate(screen: &mut Screen) -> Answer;
-    fn curspan_waddstr(screen: &mut Screen, win: u32, text: *const u8, length: usize) -> Answer;
+    fn curspan_waddstr(screen: &mut Screen, win: u32, text: *const c_char, size: usize) -> Answer;
     fn curspan_row(screen: &Screen, win: u32, y: u32, cells: *mut u32, room: usize) -> Answer;
     fn curspan_shown_row(screen: &Screen, y: u32, cells: *mut u32, room: usize) -> Answer;
 }
@@ -211,7 +211,7 @@ impl Drop for Screen {
 #[inline]
 pub(crate) fn waddstr(screen: &mut Screen, win: u32, text: &[u8]) -> Result<Answer, Refusal> {
     // SAFETY: the screen is open and borrowed, and the text has this length.
-    unsafe { curspan_waddstr(screen, win, text.as_ptr(), text.len()) }.check()
+    unsafe { curspan_waddstr(screen, win, text.as_ptr().cast(), text.len()) }.check()
 }
 
 /// Puts cells of a line into a buffer, and answers how many columns the line has.

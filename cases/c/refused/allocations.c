@@ -60,7 +60,7 @@ static void make_things(void) {
 static void call(void) {
     DO(wmove(&screen, 1, 1, 1));
     DO(waddch(&screen, 1, 'x'));
-    DO(waddstr(&screen, 1, (const uint8_t *)"some text that goes on below", 28));
+    DO(waddstr(&screen, 1, "some text that goes on below", 28));
     DO(winsch(&screen, 2, 'y'));
     DO(wscrl(&screen, 1, 1));
     DO(winsertln(&screen, 1));

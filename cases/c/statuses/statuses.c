@@ -176,7 +176,7 @@ static void see_rows(void) {
     ANSWERS(wattrset(&screen, 2, CURSPAN_UNDERLINE), 0, 0);
     ANSWERS(wcolor_set(&screen, 2, 7), 0, 0);
     ANSWERS(wmove(&screen, 2, 1, 2), 0, 0);
-    ANSWERS(waddstr(&screen, 2, (const uint8_t *)"hi", 2), 0, 0);
+    ANSWERS(waddstr(&screen, 2, "hi", 2), 0, 0);
     for (size_t i = 0; i < 10; i++) cells[i] = OTHER;
     ANSWERS(row(asked, 2, 1, NULL, 0), 8, 0);
     ANSWERS(row(asked, 2, 1, cells, 3), 8, 0);
@@ -260,7 +260,7 @@ static void see_bytes(void) {
     memset(bytes, '.', sizeof bytes);
     ANSWERS(open(&screen, 2, 5), 0, 0);
     ANSWERS(waddstr(&screen, 0, NULL, 0), 0, 0);
-    ANSWERS(waddstr(&screen, 0, (const uint8_t *)"hi", 2), 0, 0);
+    ANSWERS(waddstr(&screen, 0, "hi", 2), 0, 0);
     curspan_update_panels(&screen);
     ANSWERS(doupdate(&screen), 16, 0);
     if (curspan_take(&screen, NULL, 0) != 16) wrong++;

@@ -27,7 +27,7 @@ static void begin_with(uint32_t options) {
     if (curspan_terminal_open(&terminal, NULL, options) != CURSPAN_TERMINAL_OK) _exit(9);
     curspan_terminal_size(&terminal, &lines, &columns);
     curspan_open(&screen, (uint32_t)lines, (uint32_t)columns);
-    curspan_waddstr(&screen, 0, (const uint8_t *)"a picture", 9);
+    curspan_waddstr(&screen, 0, "a picture", 9);
     curspan_wnoutrefresh(&screen, 0);
     if (curspan_terminal_show(&terminal, &screen) != CURSPAN_TERMINAL_OK) _exit(8);
 }
@@ -273,7 +273,7 @@ static void two_at_once(void) {
         curspan_open(&screens[i], (uint32_t)(10 + i), (uint32_t)(40 + i));
         curspan_terminal_init_pair(&both[i], &screens[i], 1, 1 + i, -1);
         curspan_wcolor_set(&screens[i], 0, 1);
-        curspan_waddstr(&screens[i], 0, (const uint8_t *)texts[i], 9);
+        curspan_waddstr(&screens[i], 0, texts[i], 9);
         curspan_wnoutrefresh(&screens[i], 0);
         want(curspan_terminal_show(&both[i], &screens[i]) == CURSPAN_TERMINAL_OK, "two at once", "each is shown");
     }
