@@ -58,7 +58,7 @@ SCREEN *newterm(const char *type, FILE *out, FILE *in) {
     curspan_attend(&curspan_the_tty, true);
     curspan_begin_modes();
     int error;
-    if (setupterm) setupterm(type, curspan_terminal.out, &error);
+    if (setupterm) setupterm(type, curspan_the_tty.out, &error);
     return (SCREEN *)&curspan_the_screen;
 }
 
