@@ -1,24 +1,24 @@
 # What tests use besides the kit, a line each: a command, or a header in angle brackets; the packages of Debian that have
 # it; and the parts of ./test that are skipped without it, wholly or not.
-used_by_tests='gcc:gcc libc6-dev:library for C, budgets, refused allocations, small frames, faulty streams, C programs, keys of C programs, memory of C programs, packages, Python, many screens, other languages, Rust
-ar:binutils:library for C, C programs, keys of C programs, memory of C programs, packages, Python, many screens, other languages, Rust
+used_by_tests='gcc:gcc libc6-dev:library for C, budgets, refused allocations, small frames, faulty streams, C programs, keys of C programs, programs of others, memory of C programs, terminals, packages, Python, many screens, other languages, Rust
+ar:binutils:library for C, C programs, keys of C programs, programs of others, memory of C programs, terminals, packages, Python, many screens, other languages, Rust
 pkg-config:pkg-config:packages
 dpkg-deb:dpkg:packages
 lintian:lintian:packages
 valgrind:valgrind libc6-dbg:budgets, memory, small frames, memory of C programs, Rust
-python3:python3:random, small frames, terminal, interrupted scripts, building, C programs, keys of C programs, packages, Python, many screens, other languages
-python3-config:python3-dev:packages, Python
+python3:python3:random, small frames, terminal, interrupted scripts, building, C programs, keys of C programs, programs of others, terminals, packages, Python, many screens, other languages
+python3-config:python3-dev:packages, terminals, Python
 mypy:mypy:Python
-cargo:cargo:other languages, Rust, packages
+cargo:cargo:terminals, other languages, Rust, packages
 rustfmt:rustfmt:Rust
 clippy-driver:rust-clippy:Rust
 zsh:zsh:completion
 fish:fish:completion
-tmux:tmux:shell scripts, terminal, C programs, keys of C programs, Python
-tic:ncurses-bin:small frames, C programs, keys of C programs
+tmux:tmux:shell scripts, terminal, C programs, keys of C programs, programs of others, Python
+tic:ncurses-bin:small frames, C programs, keys of C programs, programs of others
 aarch64-linux-gnu-gcc:gcc-aarch64-linux-gnu libc6-dev-arm64-cross:64-bit ARM, packages
 qemu-aarch64:qemu-user:64-bit ARM
-<panel.h>:libncurses-dev:small frames, C programs, keys of C programs'
+<panel.h>:libncurses-dev:small frames, C programs, keys of C programs, programs of others'
 
 # Puts out the lines of what is missing.
 missing() {

@@ -56,12 +56,12 @@ static PyObject *refuse(curspan_answer answer, PyObject *what) {
 }
 
 /* Puts other characters in the place of those that a window can't have, in a text that goes when `room` does. */
-static bool replace(const Screen *screen, const uint8_t **text, size_t *length, PyObject **room) {
+static bool replace(const Screen *screen, const char **text, size_t *length, PyObject **room) {
     if (!screen->replaces) return true;
-    *room = PyBytes_FromStringAndSize((const char *)*text, (Py_ssize_t)*length);
+    *room = PyBytes_FromStringAndSize(*text, (Py_ssize_t)*length);
     if (!*room) return false;
-    *length = curspan_plain_text((const char *)*text, *length, PyBytes_AsString(*room));
-    *text = (const uint8_t *)PyBytes_AsString(*room);
+    *length = curspan_plain_text(*text, *length, PyBytes_AsString(*room));
+    *text = PyBytes_AsString(*room);
     return true;
 }
 
@@ -125,12 +125,12 @@ PyObject *curspan_window_addstr(PyObject *self, PyObject *const *given, Py_ssize
 static PyObject *write_character(PyObject *self, const char *method, PyObject *const *given, Py_ssize_t count, PyObject *names, Stroke stroke) {
     Written written;
     PyObject *room = NULL;
-    const uint8_t *text;
+    const char *text;
     size_t length;
     if (!sort(method, given, count, names, &written) || !curspan_take_character(written.what, &stroke.ch)) return NULL;
     if (stroke.ch > 127 && PyUnicode_Check(written.what)) {
         if (!curspan_take_text(written.what, &text, &length) || !replace(NUMBERED(self)->screen, &text, &length, &room)) return NULL;
-        if (room) stroke.ch = length > 0 ? *text : '?';
+        if (room) stroke.ch = length > 0 ? (uint8_t)*text : '?';
         Py_XDECREF(room);
     }
     return write_at(self, &written, &stroke);
