@@ -102,7 +102,7 @@ size_t curspan_plain_text(const char *text, size_t length, char *out) {
         uint32_t character = '?';
         int size = curspan_decode((const uint8_t *)text + at, length - at, &character);
         bool is_plain = size > 0 && ((character >= ' ' && character < 127) || (character && strchr("\b\n\r", (int)character)));
-        curspan_spelling is = size > 0 && character >= 128 ? drawn(character) : (curspan_spelling){{is_plain ? (uint8_t)character : '?'}, 1, false};
+        curspan_spelling is = size > 0 && character >= 128 ? drawn(character) : (curspan_spelling){{is_plain ? (char)character : '?'}, 1, false};
         memmove(out + count, is.text, (size_t)is.count);
         count += (size_t)is.count;
         at += size > 0 ? (size_t)size : 1;
