@@ -64,11 +64,14 @@ class Reading:
         return [self.update.after[start[0]][x].rendition for x in gap], self.terminal.rendition, length
 
     def waste_of_move(self, gap, rendition, length):
-        """A gap is printed again where that takes fewer bytes than a move, or as many and all of it has one of the two renditions."""
+        """A gap is printed again where that takes no more bytes than a move and its first cells have the rendition in force, the others the
+        wanted one; or where it takes fewer and all have none."""
         wanted = self.terminal.rendition
         again = len(gap) + sum(selection_length(old, new) for old, new in zip([rendition, *gap], [*gap, wanted]))
-        is_plain = set(gap) in ({rendition}, {wanted})
-        return 'a move over a gap that is as short' if again < length or (again == length and is_plain) else None
+        first = next((at for at, other in enumerate(gap) if other != rendition), len(gap))
+        is_split = all(other == wanted for other in gap[first:])
+        is_plain = all(other == BLANK_SHOWN.rendition for other in gap)
+        return 'a move over a gap that is as short' if (is_split and again <= length) or (is_plain and again < length) else None
 
     def waste_of_print(self, cursor):
         if not self.is_changed(cursor):

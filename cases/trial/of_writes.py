@@ -10,8 +10,7 @@ from .of_scripts import sent_before
 from .streams import rubbish
 
 OUTPUT_FAILED = b'writing failed\n'
-# The bytes of an update that are handed on at once at most: two for each cell of the screen, within these limits.
-LEAST, MOST = 1024, 65536
+HANDED_ON = 4096    # the most bytes of an update that are handed on at once
 BUFFERED = 1024     # the most bytes that the buffer before standard output keeps
 
 
@@ -42,11 +41,10 @@ def is_failed_run(program, script, came, limit):
     want_that(f'as many bytes of the doupdate were taken as one of {counts}', taken in counts, taken)
 
 
-def places_in(chance, script, text):
+def places_in(chance, text):
     """Where a text breaks off: at a place by chance, and of one that goes out in several pieces at its last byte too."""
-    piece = max(LEAST, min(MOST, 2 * script.lines * script.columns))
-    yield chance.randrange(piece if len(text) > piece and chance.random() < 0.5 else 0, len(text))
-    if len(text) > piece:
+    yield chance.randrange(HANDED_ON if len(text) > HANDED_ON and chance.random() < 0.5 else 0, len(text))
+    if len(text) > HANDED_ON:
         yield len(text) - 1
 
 
@@ -56,7 +54,7 @@ def breaks_off(program, script):
     whole = program.run(words, script.text).out
     if not whole:
         return
-    for limit in places_in(script.chance, script, whole):
+    for limit in places_in(script.chance, whole):
         came = program.run_limited(words, script.text, limit)
         want('the bytes that went out before a write failed', whole[:limit], came.out)
         is_failed_run(program, script, came, limit)

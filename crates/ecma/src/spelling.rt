@@ -10,11 +10,12 @@ ghost use Rattle.ecma.specs.Spelling.{spelling, selection, codes_of_attributes, 
 use crate::token::{Erase, Token};
 use bitflags::Flags;
 use cell::{Attr, Colour, LAST_COLOUR, Rendition};
+use itoa::Buffer;
 
 /// The most bytes that the spelling of a token has.
 pub const LONGEST_SPELLING: usize = 22;
 
-const INTRODUCER: &[u8] = b"\x1b[";
+pub(crate) const INTRODUCER: &[u8] = b"\x1b[";
 
 /// The codes that select black as foreground and as background.
 const FIRST_FOREGROUND: u8 = 30;
@@ -33,7 +34,7 @@ const CODES: [(Attr, u8); 6] = [
 
 /// Writes the piece at a place, and says where it ends. It is inlined, as most pieces are constants of a few bytes.
 #[inline(always)]
-fn append(out: &mut [u8; LONGEST_SPELLING], at: usize, piece: &[u8]) -> usize
+pub(crate) fn append(out: &mut [u8; LONGEST_SPELLING], at: usize, piece: &[u8]) -> usize
     requires { at + length piece.now ≤ LONGEST_SPELLING }
     ensures end { result ≡ at + length piece.now }
     ensures text { take result out.new ≡ take at out.old ++ piece.now }
@@ -43,28 +44,19 @@ fn append(out: &mut [u8; LONGEST_SPELLING], at: usize, piece: &[u8]) -> usize
     end
 }
 
-/// Writes a number below 1,000 at a place, and says where it ends. Its digits are so few that each is computed alone.
-#[inline(always)]
+/// Writes a number below 1,000 at a place, and says where it ends.
 fn append_number(out: &mut [u8; LONGEST_SPELLING], at: usize, number: u16) -> usize
     requires few { number < 1000 }
     requires room { at + length (decimal number) ≤ LONGEST_SPELLING }
     ensures end { result ≡ at + length (decimal number) }
     ensures text { take result out.new ≡ take at out.old ++ decimal number }
 {
-    let ones = b'0' + (number % 10) as u8;
-    if number < 10 {
-        return append(out, at, &[ones]);
-    }
-    let tens = number / 10;
-    if number < 100 {
-        return append(out, at, &[b'0' + tens as u8, ones]);
-    }
-    let (hundreds, tens) = (number / 100, tens % 10);
-    append(out, at, &[b'0' + hundreds as u8, b'0' + tens as u8, ones])
+    let mut buffer = Buffer::new();
+    append(out, at, buffer.format(number).as_bytes())
 }
 
 /// How many digits a number below 1,000 has.
-fn digits(number: u16) -> usize
+pub(crate) fn digits(number: u16) -> usize
     requires { number < 1000 }
     ensures value { result ≡ length (decimal number) }
     ensures short { result ≤ 3 }

@@ -1,13 +1,13 @@
 -- Runs of cells: printed one after another, and drawn in a line.
-use Rattle.std.proofs.Common.{◌≡◌, Bool, ℕ, zero, suc, ◌+◌, ◌-◌, ◌<◌, ◌≤◌, true, false, List, [], ◌∷◌, ◌++◌, length, get_or, set, take, drop}
+use Rattle.std.proofs.Common.{◌≡◌, Bool, ℕ, zero, suc, ◌+◌, ◌-◌, ◌<◌, ◌≤◌, true, false, List, [], ◌∷◌, ◌++◌, length, get_or, take, drop}
 use Rattle.std.proofs.Common.{Some, inl, inr, refl, sym, ap, ◌∙◌, subst, arith, length-append, length-set}
-use Rattle.std.specs.Prelude.{not, ◌⊎◌}
-use Rattle.std.proofs.lemmas.Bool.{and_parts, cases_Bool, cases_lt, lt-ltb}
+use Rattle.std.specs.Prelude.{not}
+use Rattle.std.proofs.lemmas.Bool.{and_parts, cases_lt, lt-ltb}
 use Rattle.std.proofs.Math.Seq.{take-add}
-use Rattle.std.proofs.lemmas.List.{drop-drop, get_or_default, get_or_past, get_or-drop, get_or-set_same, get_or-take, length-map, set-get_or}
+use Rattle.std.proofs.lemmas.List.{drop-drop, get_or_default, get_or_past, get_or-drop, get_or-set_same, get_or-take, length-drop, length-take, length-take-le, set-get_or}
 use Rattle.cell.specs.Shown.{IsRendition, IsShown, Rendition, Shown, shown_blank}
 use Rattle.cell.specs.Pictures.{Picture, line_of, with_shown}
-use Rattle.cell.specs.Differences.{same_rendition, same_shown}
+use Rattle.cell.specs.Differences.{DiffersAt, same_rendition, same_shown}
 use Rattle.cell.specs.EqualityLaws.{same_rendition-equal}
 use Rattle.ecma.proofs.Joining.{Leads-append}
 use Rattle.ecma.proofs.Leading.{Leads-nothing, Leads-token}
@@ -19,11 +19,10 @@ use Rattle.ecma.specs.declared.token.Token.TheVariants.{Print}
 use Rattle.streams.specs.Sinks.{Seen}
 use Rattle.paint.specs.declared.pen.Pen.{Pen}
 use Rattle.paint.specs.steps.Gathering.{Gathers}
-use Rattle.paint.specs.steps.Strokes.{all_have, Draws, ExactStrokes, Strokes, cell_bytes, characters, line_bytes, most_approach, run_bytes, with_cells, within}
-use Rattle.paint.specs.steps.Walks.{cells_between, with_prefix, AreOfRun, IsLinePainted, IsOver, IsRun, is_over}
-use Rattle.paint.proofs.Prefixes.{length-with_prefix, take-with_prefix}
-use Rattle.paint.proofs.PenStrokes.{Draws-then, Strokes-then, spelled-print}
-use Rattle.paint.proofs.Walks.{left, line_bytes-other, one-drawn}
+use Rattle.paint.specs.steps.Runs.{cells_between, AreOfRun, IsRun}
+use Rattle.paint.specs.steps.Pens.{all_have, Draws, DrawsWithin, characters, line_bytes, most_approach, run_bytes, with_cells, within}
+use Rattle.paint.proofs.PenSteps.{DrawsWithin-more, cells-within, spelled-print}
+use Rattle.paint.proofs.Costs.{left, line_bytes-other}
 
 -- ---- what a terminal shows after a run
 
@@ -65,16 +64,6 @@ prints-run old new line column cells picture sound same some room known wide gat
     let leads = run-leads old.columns line column (column + length cells) picture old.rendition cells sound same wide refl room in
     record { gathers = gathers; leads = rw (start, cursor, rendition) leads }
 
--- ---- a run after an approach
-
-pub run-strokes : {a b c : Seen} {x y z : Pen} {picture drawn : Picture} {n : ℕ} (cells : List Shown) → ExactStrokes n a b x y picture picture
-    → Draws (characters cells) b c y z picture drawn → ExactStrokes (n + length cells) a c x z picture drawn
-run-strokes cells h k = record {
-  piece = h.piece ++ characters cells;
-  draws = Draws-then h.draws k;
-  long = omega (arith, h.long, length-append h.piece (characters cells), length-map cells (λ (cell : Shown). cell.character));
-}
-
 -- which is no more than it may have
 pub drawn-short : (n : ℕ) (cells : List Shown) → IsRendition (get_or cells 0 shown_blank).rendition → 0 < length cells → n ≤ most_approach (get_or cells 0 shown_blank).rendition
     → n + length cells ≤ run_bytes cells
@@ -115,36 +104,32 @@ with_cells-append picture line x (cell ∷ some) more =
     with_cells-append (with_shown picture (line, x) cell) line (x + 1) some more
     ∙ ap (λ n. with_cells (with_cells (with_shown picture (line, x) cell) (line, x + 1) some) (line, n) more) (omega arith)
 
+-- they are printed with the cells after them
 pub run-after : {a b : Seen} {x y : Pen} {picture : Picture} (line column : ℕ) (gap cells all : List Shown) → all ≡ gap ++ cells
     → column + length gap ≤ length (line_of picture line)
     → ((k : ℕ) → k < length gap → get_or gap k shown_blank ≡ get_or (line_of picture line) (column + k) shown_blank)
     → Draws (characters all) a b x y picture (with_cells picture (line, column) all)
-    → ExactStrokes (length gap + length cells) a b x y picture (with_cells picture (line, column + length gap) cells)
-run-after {a} {b} {x} {y} {picture} line column gap cells all is room are h = record {
-  piece = characters all;
-  draws = subst (Draws (characters all) a b x y picture) shows h;
-  long = omega (arith, length-map all (λ (cell : Shown). cell.character), ap (length {A = Shown}) is, length-append gap cells);
-} where
-  shows : with_cells picture (line, column) all ≡ with_cells picture (line, column + length gap) cells
-  shows =
-      ap (with_cells picture (line, column)) is ∙ with_cells-append picture line column gap cells
-      ∙ ap (λ p. with_cells p (line, column + length gap) cells) (cells-there picture line column gap room are)
+    → DrawsWithin (length gap + length cells) a b x y picture (with_cells picture (line, column + length gap) cells)
+run-after {a} {b} {x} {y} {picture} line column gap cells all is room are h =
+    DrawsWithin-more (cells-within all (subst (Draws (characters all) a b x y picture) shows h)) (omega (arith, ap (length {A = Shown}) is, length-append gap cells)) where
+      shows : with_cells picture (line, column) all ≡ with_cells picture (line, column + length gap) cells
+      shows =
+          ap (with_cells picture (line, column)) is ∙ with_cells-append picture line column gap cells
+          ∙ ap (λ p. with_cells p (line, column + length gap) cells) (cells-there picture line column gap room are)
 
--- ---- a run in a line
+-- cells of a gap are shown
+pub gap-at : (row gap : List Shown) (column k : ℕ) → take (length gap) (drop column row) ≡ gap → k < length gap → get_or gap k shown_blank ≡ get_or row (column + k) shown_blank
+gap-at row gap column k are few =
+    ap (λ (l : List Shown). get_or l k shown_blank) (sym are) ∙ get_or-take (length gap) (drop column row) k shown_blank few ∙ get_or-drop column row k shown_blank
 
--- the cells of a run are those of the wanted line
-run-with_prefix : (picture : Picture) (line x : ℕ) (shown wanted cells : List Shown) → line < length picture → length shown ≡ length wanted → x + length cells ≤ length shown
-    → ((k : ℕ) → k < length cells → get_or cells k shown_blank ≡ get_or wanted (x + k) shown_blank)
-    → with_cells (set picture line (with_prefix x wanted shown)) (line, x) cells ≡ set picture line (with_prefix (x + length cells) wanted shown)
-run-with_prefix picture line x shown wanted [] high same room are = grind arith
-run-with_prefix picture line x shown wanted (cell ∷ cells) high same room are =
-    let here : x + 0 ≡ x = omega arith in
-    let is : cell ≡ get_or wanted x shown_blank = are 0 (omega arith) ∙ ap (λ n. get_or wanted n shown_blank) here in
-    let next : x + 1 + length cells ≡ x + suc (length cells) = omega arith in
-    ap (λ p. with_cells p (line, x + 1) cells) (one-drawn picture line x shown wanted cell high same (omega arith) is)
-    ∙ run-with_prefix picture line (x + 1) shown wanted cells high same (omega arith)
-    (λ k few. let later : x + suc k ≡ x + 1 + k = omega arith in are (suc k) (omega arith) ∙ ap (λ n. get_or wanted n shown_blank) later)
-    ∙ ap (λ n. set picture line (with_prefix n wanted shown)) next
+-- or alone, so many
+pub gap-within : {a b : Seen} {x y : Pen} {picture : Picture} (line column : ℕ) (gap : List Shown) → column + length gap ≤ length (line_of picture line)
+    → ((k : ℕ) → k < length gap → get_or gap k shown_blank ≡ get_or (line_of picture line) (column + k) shown_blank)
+    → Draws (characters gap) a b x y picture (with_cells picture (line, column) gap) → DrawsWithin (length gap) a b x y picture picture
+gap-within {a} {b} {x} {y} {picture} line column gap room are h =
+    cells-within gap (subst (Draws (characters gap) a b x y picture) (cells-there picture line column gap room are) h)
+
+-- ---- what it may cost
 
 -- each may cost a byte at least
 run-cost : (x n : ℕ) (shown wanted : List Shown) → length shown ≡ length wanted → x + n ≤ length shown
@@ -162,50 +147,20 @@ run-short x stop shown wanted same some inside differs =
     subst (λ n. stop - (x + 1) + line_bytes (drop n shown) (drop n wanted) ≤ line_bytes (drop (x + 1) shown) (drop (x + 1) wanted)) all
     (run-cost (x + 1) (stop - (x + 1)) shown wanted same (omega (arith, some, inside)) (λ v from to. differs v (omega arith) (omega (arith, to, some))))
 
-pub line-stretch : {before mid now : Seen} {old pen next : Pen} {line x stop : ℕ} {shown wanted : List Shown} (cells : List Shown)
-    → length shown ≡ length wanted → x < stop → x + length cells ≡ stop → stop ≤ length shown
-    → IsLinePainted before mid old pen line x shown wanted → length shown ≡ old.columns
-    → ((k : ℕ) → k < length cells → get_or cells k shown_blank ≡ get_or wanted (x + k) shown_blank)
-    → same_shown (get_or shown x shown_blank) (get_or wanted x shown_blank) ≡ false
-    → stop - (x + 1) + line_bytes (drop stop shown) (drop stop wanted) ≤ line_bytes (drop (x + 1) shown) (drop (x + 1) wanted)
-    → ((picture : Picture) → length (line_of picture line) ≡ pen.columns → take x (line_of picture line) ≡ take x wanted
-    → Strokes (run_bytes cells) mid now pen next picture (with_cells picture (line, x) cells))
-    → next.columns ≡ pen.columns → IsLinePainted before now old next line stop shown wanted
-line-stretch {mid} {now} {pen} {next} {line} {x} {stop} {shown} {wanted} cells same some end room h wide are differs short strokes columns = record {
-  spent = h.spent + run_bytes cells;
-  within =
-      let here : x + 0 ≡ x = omega arith in
-      let first : get_or cells 0 shown_blank ≡ get_or wanted x shown_blank = are 0 (omega arith) ∙ ap (λ n. get_or wanted n shown_blank) here in
-      omega (
-        arith,
-        h.within,
-        left x shown wanted same (omega arith),
-        line_bytes-other (get_or shown x shown_blank) (get_or wanted x shown_blank) (drop (x + 1) shown) (drop (x + 1) wanted) differs,
-        short,
-        some,
-        end,
-        ap cell_bytes first,
-      );
-  strokes = λ picture high at.
-      let row = with_prefix x wanted shown in
-      let here : line_of (set picture line row) line ≡ row = get_or-set_same picture line row [] high in
-      let long : length (line_of (set picture line row) line) ≡ pen.columns = ap length here ∙ length-with_prefix x wanted shown same ∙ wide ∙ sym h.columns in
-      let drawn = run-with_prefix picture line x shown wanted cells high same (omega (arith, end, room)) are ∙ ap (λ n. set picture line (with_prefix n wanted shown)) end in
-      Strokes-then (h.strokes picture high at) (subst (Strokes (run_bytes cells) mid now pen next (set picture line row)) drawn
-      (strokes (set picture line row) long (ap (take x) here ∙ take-with_prefix x wanted shown (omega arith))));
-  columns = columns ∙ h.columns;
-}
+-- ---- parts of a line
 
-pub line-run : {before mid now : Seen} {old pen next : Pen} {line x stop : ℕ} {shown wanted : List Shown} (cells : List Shown)
-    → length shown ≡ length wanted → x < stop → x + length cells ≡ stop → stop ≤ length shown
-    → IsLinePainted before mid old pen line x shown wanted → length shown ≡ old.columns
-    → ((k : ℕ) → k < length cells → get_or cells k shown_blank ≡ get_or wanted (x + k) shown_blank)
-    → ((v : ℕ) → x ≤ v → v < stop → same_shown (get_or shown v shown_blank) (get_or wanted v shown_blank) ≡ false)
-    → ((picture : Picture) → length (line_of picture line) ≡ pen.columns → take x (line_of picture line) ≡ take x wanted
-    → Strokes (run_bytes cells) mid now pen next picture (with_cells picture (line, x) cells))
-    → next.columns ≡ pen.columns → IsLinePainted before now old next line stop shown wanted
-line-run {x = x} {stop = stop} {shown = shown} {wanted = wanted} cells same some end room h wide are differs strokes columns =
-    line-stretch cells same some end room h wide are (differs x (omega arith) some) (run-short x stop shown wanted same some room differs) strokes columns
+pub length-between : (start x : ℕ) (cells : List Shown) → start ≤ x → x ≤ length cells → length (cells_between start x cells) ≡ x - start
+length-between start x cells ordered inside = grind (arith, length-take-le, length-drop)
+
+-- the first of the cells from a column on
+-- the gap before a column ends there
+pub gap-ends : (start x : ℕ) (wanted : List Shown) → start ≤ x → x ≤ length wanted → start + length (cells_between start x wanted) ≡ x
+gap-ends start x wanted ordered inside = grind (arith, length-between)
+
+-- and is shown, where its cells are those of the wanted line
+pub gap-shown : (start x : ℕ) (wanted row : List Shown) → start ≤ x → x ≤ length wanted → cells_between start x row ≡ cells_between start x wanted
+    → take (length (cells_between start x wanted)) (drop start row) ≡ cells_between start x wanted
+gap-shown start x wanted row ordered inside are = grind (arith, length-between)
 
 -- a part of the wanted line as a run
 pub part-of : (x stop k : ℕ) (wanted : List Shown) → k < stop - x → get_or (cells_between x stop wanted) k shown_blank ≡ get_or wanted (x + k) shown_blank
@@ -218,13 +173,6 @@ same_shown-at shown wanted x old new inside high is = grind (arith, get_or_defau
 
 pub not-other : (same : Bool) → not same ≡ false → same ≡ true
 not-other same h = grind arith
-
-pub not-same : (same : Bool) → not same ≡ true → same ≡ false
-not-same same h = grind arith
-
--- a run before an end is one before a later end
-pub run-longer : {shown wanted : List Shown} {start end stop later : ℕ} → IsRun shown wanted start end stop → end ≤ later → IsRun shown wanted start later stop
-run-longer h few = record { some = h.some; within = omega (arith, h.within, few); changed = h.changed; rendition = h.rendition }
 
 -- the first cell of one
 pub run-begun : (shown wanted : List Shown) (start end : ℕ) → start < end → same_shown (get_or shown start shown_blank) (get_or wanted start shown_blank) ≡ false
@@ -256,12 +204,27 @@ run-further n w few {shown} {wanted} {x} h is more inside =
       ];
     }
 
--- where one ends among the next cells
-pub over-at : (n w start x : ℕ) (shown wanted : List Shown) (rendition : Rendition) → n < w → rendition ≡ (get_or wanted start shown_blank).rendition
-    → is_over (get_or (take w (drop x shown)) n shown_blank) (get_or (take w (drop x wanted)) n shown_blank) rendition ≡ true → IsOver shown wanted start (x + n)
-over-at n w start x shown wanted rendition few is over =
-    let at = λ (l : List Shown). get_or-take w (drop x l) n shown_blank few ∙ get_or-drop x l n shown_blank in
-    over-parts (get_or shown (x + n) shown_blank) (get_or wanted (x + n) shown_blank) (get_or wanted start shown_blank).rendition
-    ((λ i. is_over (sym (at shown) i) (sym (at wanted) i) (sym is i)) ∙ over) where
-      over-parts : (a b : Shown) (r : Rendition) → is_over a b r ≡ true → (same_shown a b ≡ true) ⊎ (same_rendition b.rendition r ≡ false)
-      over-parts a b r h = grind (arith, cases_Bool)
+-- the first cells of a part of two lines
+pub part-same : (start n m v : ℕ) (a b : List Shown) → m ≤ n → take m (take n (drop start a)) ≡ take m (take n (drop start b)) → start ≤ v → v < start + m
+    → get_or a v shown_blank ≡ get_or b v shown_blank
+part-same start n m v a b few e from to =
+    let split : start + (v - start) ≡ v = omega arith in
+    let at = λ (l : List Shown). get_or-take m (take n (drop start l)) (v - start) shown_blank (omega arith) ∙ get_or-take n (drop start l) (v - start) shown_blank (omega arith)
+    ∙ get_or-drop start l (v - start) shown_blank ∙ ap (λ k. get_or l k shown_blank) split in
+    sym (at a) ∙ ap (λ (l : List Shown). get_or l (v - start) shown_blank) e ∙ at b
+
+-- and the cells after one of them
+pub part-later : (start end k v : ℕ) (a b : List Shown) → drop (k + 1) (cells_between start end a) ≡ drop (k + 1) (cells_between start end b) → start + k < v → v < end
+    → get_or a v shown_blank ≡ get_or b v shown_blank
+part-later start end k v a b e from to =
+    let j = v - (start + k + 1) in
+    let split : start + (k + 1 + j) ≡ v = omega arith in
+    let at = λ (l : List Shown). get_or-drop (k + 1) (cells_between start end l) j shown_blank ∙ part-of start end (k + 1 + j) l (omega arith) ∙ ap (λ n. get_or l n shown_blank) split in
+    sym (at a) ∙ ap (λ (l : List Shown). get_or l j shown_blank) e ∙ at b
+
+-- one in which they differ
+pub part-differs : (start end k : ℕ) (a b : List Shown) → DiffersAt (cells_between start end a) (cells_between start end b) k → end ≤ length a
+    → (start + k < end) × (get_or a (start + k) shown_blank ≡ get_or b (start + k) shown_blank → ⊥)
+part-differs start end k a b h inside =
+    let few : k < end - start = omega (arith, h.inside, length-take (end - start) (drop start a)) in
+    (omega (arith, few), λ same. h.differs (part-of start end k a few ∙ same ∙ sym (part-of start end k b few)))

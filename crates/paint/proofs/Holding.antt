@@ -16,10 +16,12 @@ use Rattle.streams.specs.Sinks.{Seen}
 use Rattle.paint.specs.declared.pen.Pen.{Pen}
 use Rattle.paint.specs.Updates.{PainterState, ShownPicture, IsUpdateText, MayRead, known_picture, move, opening, opening_from, start_from, start_of_update}
 use Rattle.paint.specs.steps.Gathering.{IsGathered}
-use Rattle.paint.specs.steps.Holding.{HoldsUpdate}
-use Rattle.paint.specs.steps.Strokes.{change, move_from, under, Draws, IsPlainAt, Strokes, picture_bytes}
+use Rattle.paint.specs.Changes.{IsFrame}
+use Rattle.paint.specs.steps.Holding.{CanDraw, HoldsUpdate, IsStart}
+use Rattle.world.specs.declared.settings.Columns.{Columns}
+use Rattle.paint.specs.steps.Pens.{change, move_from, under, Draws, IsPlainAt, DrawsWithin, picture_bytes}
 use Rattle.paint.proofs.Shows.{opening-leads}
-use Rattle.paint.proofs.PenStrokes.{length-ended, length-move}
+use Rattle.paint.proofs.PenSteps.{length-ended, length-move}
 use Rattle.cell.specs.declared.limits.TheConstants.{LARGEST_SCREEN}
 
 -- ---- an empty text
@@ -74,7 +76,7 @@ module _ (painter : PainterState) (clear : Bool) (wanted : ShownPicture) {a b c 
   -- a pen at the start drew the wanted picture, and went to its end
   pub is_update : 0 < painter.lines → 0 < painter.columns → wanted.cursor.0 < LARGEST_SCREEN → wanted.cursor.1 < LARGEST_SCREEN
       → IsPlainAt first (start_of_update painter clear).cursor
-      → (strokes : Strokes (picture_bytes (start_of_update painter clear).picture wanted.picture) a b first drawn (start_of_update painter clear).picture wanted.picture)
+      → (strokes : DrawsWithin (picture_bytes (start_of_update painter clear).picture wanted.picture) a b first drawn (start_of_update painter clear).picture wanted.picture)
       → Draws (change drawn.rendition no_rendition ++ move_from drawn.cursor wanted.cursor) b c drawn last wanted.picture wanted.picture
       → IsPlainAt last wanted.cursor
       → IsUpdateText painter clear wanted (opening_from (known_picture painter clear) ++ (strokes.piece ++ (change drawn.rendition no_rendition ++ move_from drawn.cursor wanted.cursor)))
@@ -113,7 +115,7 @@ module _ (painter : PainterState) (clear : Bool) (wanted : ShownPicture) {a b c 
   pub holds : painter.lines ≤ LARGEST_SCREEN → painter.columns ≤ LARGEST_SCREEN → 0 < painter.lines → 0 < painter.columns → wanted.cursor.0 < LARGEST_SCREEN → wanted.cursor.1 < LARGEST_SCREEN
       → HasSize painter.lines painter.columns (start_of_update painter clear).picture → {seen : Seen} → IsGathered seen a first.outbox (opening_from (known_picture painter clear))
       → IsPlainAt first (start_of_update painter clear).cursor
-      → Strokes (picture_bytes (start_of_update painter clear).picture wanted.picture) a b first drawn (start_of_update painter clear).picture wanted.picture
+      → DrawsWithin (picture_bytes (start_of_update painter clear).picture wanted.picture) a b first drawn (start_of_update painter clear).picture wanted.picture
       → Draws (change drawn.rendition no_rendition ++ move_from drawn.cursor wanted.cursor) b c drawn last wanted.picture wanted.picture
       → IsPlainAt last wanted.cursor
       → HoldsUpdate painter clear wanted seen c last.outbox
@@ -135,20 +137,17 @@ module _ (painter : PainterState) (clear : Bool) (wanted : ShownPicture) {a b c 
         );
       }
 
-  -- the pen was taken up at what is known
-  pub holds-from : painter.lines ≤ LARGEST_SCREEN → painter.columns ≤ LARGEST_SCREEN → HasSize painter.lines painter.columns wanted.picture → wanted.cursor.0 < painter.lines
-      → wanted.cursor.1 < painter.columns
-      → {shown : Picture} {from : Option ShownPicture} → from ≡ known_picture painter clear → shown ≡ (start_from painter from).picture → HasSize painter.lines painter.columns shown
-      → {seen : Seen} → IsGathered seen a first.outbox (opening_from from) → IsPlainAt first (start_from painter from).cursor
-      → Strokes (picture_bytes shown wanted.picture) a b first drawn shown wanted.picture
+  -- of a frame, from where the text begins
+  pub holds-start : {lines columns : ℕ} {changes : List (Option Columns)} {shown : Picture} → painter.lines ≡ lines → painter.columns ≡ columns
+      → IsFrame lines columns changes shown wanted.picture → CanDraw first lines columns wanted.cursor
+      → {seen : Seen} → IsGathered seen a first.outbox (opening_from (known_picture painter clear)) → IsStart painter (known_picture painter clear) first shown
+      → DrawsWithin (picture_bytes shown wanted.picture) a b first drawn shown wanted.picture
       → ((picture : Picture) → wanted.cursor.1 < length (line_of picture wanted.cursor.0) → Draws (change drawn.rendition no_rendition ++ move_from drawn.cursor wanted.cursor) b c drawn last
       picture picture)
       → IsPlainAt last wanted.cursor
       → HoldsUpdate painter clear wanted seen c last.outbox
-  holds-from most_lines most_columns wanted_size line column {shown} {from} is_known is_shown size {seen} gathered begin strokes ending end =
-      let start : shown ≡ (start_of_update painter clear).picture = is_shown ∙ ap (λ last. (start_from painter last).picture) is_known in
-      holds most_lines most_columns (omega arith) (omega arith) (omega arith) (omega arith) (subst (HasSize painter.lines painter.columns) start size)
-      (subst (λ last. IsGathered seen a first.outbox (opening_from last)) is_known gathered)
-      (subst (λ last. IsPlainAt first (start_from painter last).cursor) is_known begin)
-      (subst (λ picture. Strokes (picture_bytes picture wanted.picture) a b first drawn picture wanted.picture) start strokes)
-      (ending wanted.picture (omega (arith, length-line wanted.cursor.0 wanted_size line))) end
+  holds-start is_lines is_columns frame can gathered begun strokes ending end =
+      holds (omega (arith, is_lines, frame.few_lines)) (omega (arith, is_columns, frame.few_columns)) (omega (arith, is_lines, can.line)) (omega (arith, is_columns, can.column))
+      (omega (arith, frame.few_lines, can.line)) (omega (arith, frame.few_columns, can.column)) (subst (HasSize painter.lines painter.columns) begun.picture begun.size) gathered begun.plain
+      (subst (λ picture. DrawsWithin (picture_bytes picture wanted.picture) a b first drawn picture wanted.picture) begun.picture strokes)
+      (ending wanted.picture (omega (arith, length-line wanted.cursor.0 frame.wanted can.line, can.column))) end

@@ -1,9 +1,20 @@
 -- The characters of cells, gathered piece by piece.
-use Rattle.std.proofs.Common.{◌≡◌, ℕ, ◌+◌, ◌-◌, ◌<◌, ◌≤◌, List, ◌++◌, get_or, length, take, drop, subst, sym, ap, ◌∙◌, inl, inr, arith}
-use Rattle.std.proofs.Math.Seq.{take-append-add}
+use Rattle.std.proofs.Common.{◌≡◌, ℕ, ◌+◌, ◌-◌, ◌<◌, ◌≤◌, List, ◌++◌, get_or, take, drop, subst, sym, ap, ◌∙◌, inl, inr, arith, append_assoc}
+use Rattle.std.proofs.Math.Seq.{take-add}
 use Rattle.std.proofs.lemmas.Bool.{cases_lt}
-use Rattle.std.proofs.lemmas.List.{get_or-drop, get_or-take, length-take-le, take-append-le}
+use Rattle.std.proofs.lemmas.List.{get_or-drop, get_or-take, map-append}
 use Rattle.cell.specs.Shown.{IsShown, Shown, shown_blank}
+use Rattle.paint.specs.steps.Pens.{characters}
+
+-- the bytes of a piece after those before it
+pub characters-further : (items now more : List ℕ) (cells : List Shown) (start end : ℕ) → start ≤ end → now ≡ items ++ characters (take start cells)
+    → more ≡ now ++ characters (take (end - start) (drop start cells)) → more ≡ items ++ characters (take end cells)
+characters-further items now more cells start end ordered before piece =
+    let whole : start + (end - start) ≡ end = omega arith in
+    piece ∙ ap (λ l. l ++ characters (take (end - start) (drop start cells))) before
+    ∙ append_assoc items (characters (take start cells)) (characters (take (end - start) (drop start cells)))
+    ∙ ap (λ l. items ++ l) (sym (map-append (λ (cell : Shown). cell.character) (take start cells) (take (end - start) (drop start cells)))
+    ∙ ap characters (sym (take-add start (end - start) cells)) ∙ ap (λ n. characters (take n cells)) whole)
 
 -- what is known of the cells of a piece, and of those before it
 pub sound-further : (cells : List Shown) (start end : ℕ) → start ≤ end → ((k : ℕ) → k < start → IsShown (get_or cells k shown_blank))
@@ -16,10 +27,3 @@ sound-further cells start end ordered before piece k below = elim (cases_lt k st
       get_or-take (end - start) (drop start cells) (k - start) shown_blank (omega arith) ∙ get_or-drop start cells (k - start) shown_blank ∙ ap (λ n. get_or cells n shown_blank) here in
       subst IsShown is (piece (k - start) (omega arith))
 ]
-
--- the first of the bytes that were written after those that count
-pub taken-further : (bytes places after : List ℕ) (count n : ℕ) → count ≤ length bytes → n ≤ length places
-    → take (count + n) (take count bytes ++ (places ++ after)) ≡ take count bytes ++ take n places
-taken-further bytes places after count n inside few =
-    ap (λ m. take (m + n) (take count bytes ++ (places ++ after))) (sym (length-take-le count bytes inside))
-    ∙ take-append-add (take count bytes) (places ++ after) n ∙ ap (λ l. take count bytes ++ l) (take-append-le n places after few)

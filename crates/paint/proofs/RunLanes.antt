@@ -10,7 +10,7 @@ use Rattle.std.proofs.lemmas.Simd.{bitmask_splat, first_set_mask_l}
 use Rattle.cell.specs.Differences.{same_rendition, same_shown}
 use Rattle.cell.specs.EqualityLaws.{same_rendition-equal}
 use Rattle.cell.specs.Shown.{Rendition, Shown, shown_blank}
-use Rattle.paint.specs.steps.Walks.{AreEnds, AreOfRun, is_over}
+use Rattle.paint.specs.steps.Runs.{AreEnds, AreOfRun, is_over}
 
 -- ---- the first items, as far as they pass a test
 
@@ -23,10 +23,6 @@ prefix-passes p other [] k few = absurd (omega arith)
 prefix-passes p other (x ∷ xs) zero few = grind (arith, cases_Bool)
 prefix-passes p other (x ∷ xs) (suc k) few = grind (arith, cases_Bool, prefix-passes p other xs k)
 
-prefix-stops : {X : Type 0} (p : X → Bool) (other : X) (xs : List X) → prefix_len p xs < length xs → p (get_or xs (prefix_len p xs) other) ≡ false
-prefix-stops p other [] few = absurd (omega arith)
-prefix-stops p other (x ∷ xs) few = grind (arith, cases_Bool, prefix-stops p other xs)
-
 -- ---- a number for each cell
 
 abbrev is_none : ℕ → Bool
@@ -34,9 +30,6 @@ is_none x = not (not (eqb x 0))
 
 not-over : (b : Bool) → is_none (if b then 1 else 0) ≡ true → b ≡ false
 not-over b h = grind (arith, cases_Bool)
-
-over : (b : Bool) → is_none (if b then 1 else 0) ≡ false → b ≡ true
-over b h = grind (arith, cases_Bool)
 
 changed-there : (a b : Shown) (rendition : Rendition) → is_over a b rendition ≡ false → same_shown a b ≡ false
 changed-there a b rendition h = grind (arith, cases_Bool)
@@ -80,10 +73,3 @@ module _ (shown wanted : List Shown) (rendition : Rendition) (ends : List ℕ) (
 
   pub some-within : (marks ≡ 0 → ⊥) → count_trailing_zeros 64 marks ≤ 16
   some-within some = omega (arith, where-some some, long, prefix-within is_none ends)
-
-  pub over-there : (marks ≡ 0 → ⊥) → count_trailing_zeros 64 marks < 16
-      → is_over (get_or shown (count_trailing_zeros 64 marks) shown_blank) (get_or wanted (count_trailing_zeros 64 marks) shown_blank) rendition ≡ true
-  over-there some few =
-      subst (λ n. is_over (get_or shown n shown_blank) (get_or wanted n shown_blank) rendition ≡ true) (sym (where-some some))
-      (over (is_over (get_or shown count shown_blank) (get_or wanted count shown_blank) rendition)
-      (ap is_none (sym (are count (omega (arith, few, where-some some)))) ∙ prefix-stops is_none 0 ends (omega (arith, few, where-some some, long))))

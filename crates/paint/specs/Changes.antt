@@ -1,10 +1,9 @@
 -- In which columns of each line a picture may differ from the one that was shown last.
-use Rattle.std.specs.Prelude.{◌≡◌, ℕ, ◌≤◌, ⊤, MatchOption, Option, List, length}
-use Rattle.cell.specs.Differences.{DiffersAt}
-use Rattle.cell.specs.Pictures.{HasSize, Picture, line_of}
+use Rattle.std.specs.Prelude.{◌≡◌, ℕ, ◌≤◌, Option, List, length}
+use Rattle.cell.specs.Pictures.{HasSize, Picture}
 use Rattle.cell.specs.declared.limits.TheConstants.{LARGEST_SCREEN}
 use Rattle.world.specs.declared.settings.Columns.{Columns}
-use Rattle.extents.specs.Extents.{DifferOnly, columns_of}
+use Rattle.extents.specs.Extents.{DifferOnly}
 
 -- a picture that is shown and one that is wanted, of one size, no larger than a screen, differ at no other place
 pub record IsFrame (lines columns : ℕ) (extents : List (Option Columns)) (old new : Picture) : Type 0 where
@@ -14,8 +13,3 @@ pub record IsFrame (lines columns : ℕ) (extents : List (Option Columns)) (old 
   pub shown : HasSize lines columns old
   pub wanted : HasSize lines columns new
   pub changes : DifferOnly extents old new
-
--- a line's columns begin and end where two pictures differ
-pub record HaveEnds (extents : List (Option Columns)) (old new : Picture) : Type 0 where
-  pub ends : (y : ℕ) → MatchOption (columns_of extents y) ⊤ (λ columns.
-      DiffersAt (line_of old y) (line_of new y) columns.first × DiffersAt (line_of old y) (line_of new y) columns.last)

@@ -1,10 +1,5 @@
 pub mod Gathering
-pub mod Strokes
-pub mod Walks
+pub mod Pens
+pub mod Runs
 pub mod Holding
-pub mod Passes
-pub mod Listing
-pub mod Counting
-pub mod Linking
-pub mod Walking
-pub mod Comparing
+pub mod Strokes

@@ -1,39 +1,27 @@
 //! The `Painter`, which sends pictures to a terminal; the crate is named for what it does.
 //!
+//! - `blanks`: where a line, and a page, are blank up to their end
 //! - `changes`: a picture that is wanted over the one that is shown, and where they may differ
-//! - `counting`: how many bytes passes take, and a walk that erases nothing
-//! - `differences`: the columns in which a picture differs from the one that is shown
-//! - `frame`: a frame, in one walk or in passes
-//! - `gap`: what is printed again between changed cells
+//! - `drawing`: strokes drawn, one after another or rendition by rendition
 //! - `laws`: laws of agreement
-//! - `line`: the walk over cells
-//! - `links`: the runs of a frame linked by pass
+//! - `line`: the changed cells of a line, and runs of them
 //! - `outbox`: the bytes that are gathered on their way to the sink
-//! - `page`: the walk over lines
 //! - `painter`: the `Painter`
-//! - `passes`: drawing rendition by rendition
-//! - `pen`: strokes: move, select, print, erase
-//! - `room`: a buffer whose memory is allocated once
-//! - `runs`: the runs of changed cells of a frame
-//! - `tail`: what is erased at the end of a line
+//! - `pen`: move, select, print, erase
+//! - `strokes`: the strokes of a frame, found line by line
+//! - `tally`: how many bytes strokes take, in either order
 #![tactic(auto)]
 
+mod blanks;
 mod changes;
-mod counting;
-mod differences;
-mod frame;
-mod gap;
+mod drawing;
 pub mod laws;
 mod line;
-mod links;
 mod outbox;
-mod page;
 mod painter;
-mod passes;
 mod pen;
-mod room;
-mod runs;
-mod tail;
+mod strokes;
+mod tally;
 
 pub use painter::Painter;
 pub use streams::{Counted, Sent, Sink, WriteFault};

@@ -1,25 +1,29 @@
 //! Gathers a text in a buffer of fixed size, from which it goes out in pieces.
 
-ghost use Rattle.std.specs.Prelude.{◌≡◌, ◌≤◌, ◌<◌, ◌+◌, ◌++◌, ◌^◌, ℕ, IfOk, List, [], false, length, slice_index_or, take};
+ghost use Rattle.std.specs.Prelude.{◌≡◌, ◌≤◌, ◌<◌, ◌+◌, ◌++◌, ◌^◌, ℕ, IfOk, List, [], length, slice_index_or};
+ghost use Rattle.arrayvec.specs.ArrayVec.{array_vec_len};
 ghost use Rattle.cell.specs.Shown.{IsShown, shown_blank};
-ghost use Rattle.ecma.specs.declared.spelling.TheConstants.{LONGEST_SPELLING};
+ghost use Rattle.cell.specs.declared.lanes.TheConstants.{LANES};
 ghost use Rattle.streams.specs.Sending.{Sends};
 ghost use Rattle.streams.specs.Sinks.{Seen};
-ghost use Rattle.paint.specs.declared.room.TheConstants.{MOST, ROOM};
-ghost use Rattle.paint.specs.steps.Gathering.{Gathers, GoesOut, IsGathered, empty_outbox, gathered_bytes, holds_all, saturating_u32};
-ghost use Rattle.paint.specs.steps.Strokes.{characters};
+ghost use Rattle.paint.specs.declared.outbox.TheConstants.{ROOM};
+ghost use Rattle.paint.specs.steps.Gathering.{Gathers, GoesOut, IsGathered, empty_outbox};
+ghost use Rattle.paint.specs.steps.Pens.{characters};
 
-use crate::room::{MOST, ROOM, Room};
-use cell::Shown;
-use ecma::LONGEST_SPELLING;
+use arrayvec::ArrayVec;
+use cell::{LANES, Shown};
 use std::alloc::{AllocError, Global};
 use std::marker::Model;
 use streams::{Sink, WriteFault, send};
 
-/// The next piece of a text, and how many bytes went out before it. Once a write failed nothing more is sent.
+/// How many bytes are gathered before they are sent.
+pub const ROOM: usize = 4_096;
+
+/// The next piece of a text, and how many bytes went out before it. Once a write failed nothing more is sent. The piece
+/// is in a box, so that an outbox is moved in a few words.
 #[derive(Drop)]
 pub struct Outbox {
-    room: Room,
+    room: Box<ArrayVec<u8, ROOM>>,
     sent: u32,
     failed: bool,
 }
@@ -29,17 +33,16 @@ impl Model for Outbox {
 
     ghost Value = { Outbox };
 
-    ghost view = { λ outbox. record { room = outbox.room; sent = outbox.sent; failed = outbox.failed } };
+    ghost view = { λ outbox. record { room = outbox.room.value.items; sent = outbox.sent; failed = outbox.failed } };
 }
 
 impl Outbox {
-    /// An outbox in which nothing was gathered, and from which nothing was sent. It has room for so many bytes, within
-    /// the limits of `Room`.
-    pub fn new(alloc: Global, bytes: usize) -> Result<Outbox, AllocError>
+    /// An outbox in which nothing was gathered, and from which nothing was sent.
+    pub fn new(alloc: Global) -> Result<Outbox, AllocError>
         ensures { IfOk result (λ outbox. outbox ≡ empty_outbox) }
     {
         Ok(Outbox {
-            room: Room::new(alloc, bytes)?,
+            room: Box::new(alloc, ArrayVec::new())?,
             sent: 0,
             failed: false,
         })
@@ -54,55 +57,39 @@ impl Outbox {
         self.failed = false;
     }
 
-    /// How many bytes were gathered, of a text whose bytes all go out.
-    pub fn bytes(&self) -> u32
-        ensures value { result ≡ gathered_bytes self.now }
-        ensures text { (start now : Seen) (text : List ℕ) → self.now.failed ≡ false → IsGathered start now self.now text
-            → result ≡ saturating_u32 (length text) }
-    {
-        self.sent.saturating_add(self.room.as_slice().len() as u32)
-    }
-
-    /// Whether nothing of what was gathered went out, so that all of it may still go to any sink.
-    pub fn holds_all(&self) -> bool
-        ensures { result ≡ holds_all self.now }
-    {
-        !self.failed && self.sent == 0
-    }
-
-    /// Puts the first bytes of a text after what was gathered. Nothing is sent where there is room for them.
-    pub fn put<W: Sink>(&mut self, sink: &mut W, text: &[u8; LONGEST_SPELLING], count: usize)
-        requires { count ≤ LONGEST_SPELLING }
-        ensures gathers { Gathers (W.seen sink.old) (W.seen sink.new) self.old self.new (take count text.now) }
-        ensures quiet { length self.old.room + count ≤ ROOM → W.seen sink.new ≡ W.seen sink.old }
+    /// Puts a piece after what was gathered. Nothing is sent where there is room for it.
+    pub fn put<W: Sink>(&mut self, sink: &mut W, piece: &[u8])
+        requires { length piece.now ≤ ROOM }
+        ensures gathers { Gathers (W.seen sink.old) (W.seen sink.new) self.old self.new piece.now }
+        ensures quiet { length self.old.room + length piece.now ≤ ROOM → W.seen sink.new ≡ W.seen sink.old }
         ensures same { W.name sink.new ≡ W.name sink.old }
     {
-        if self.room.append(text, count) {
-            return;
-        }
-        self.hand_on(sink);
-        if !self.room.append(text, count) {
-            unreachable!();
-        }
+        self.make_room(sink, piece.len());
+        append(&mut self.room, piece);
     }
 
-    /// Puts the characters of the first cells of some after what was gathered. Nothing is sent where there is room for
-    /// them.
-    #[inline(always)]
-    pub fn put_characters<W: Sink>(&mut self, sink: &mut W, cells: &[Shown], count: usize)
-        requires cells { count ≤ length cells.now }
-        requires few { count ≤ ROOM }
-        ensures gathers { Gathers (W.seen sink.old) (W.seen sink.new) self.old self.new (characters (take count cells.now)) }
-        ensures quiet { length self.old.room + count ≤ ROOM → W.seen sink.new ≡ W.seen sink.old }
-        ensures sound { (k : ℕ) → k < count → IsShown (slice_index_or cells.now k shown_blank) }
+    /// Puts the characters of cells after what was gathered. Nothing is sent where there is room for them.
+    pub fn put_characters<W: Sink>(&mut self, sink: &mut W, cells: &[Shown])
+        requires { length cells.now ≤ ROOM }
+        ensures gathers { Gathers (W.seen sink.old) (W.seen sink.new) self.old self.new (characters cells.now) }
+        ensures quiet { length self.old.room + length cells.now ≤ ROOM → W.seen sink.new ≡ W.seen sink.old }
+        ensures sound { (k : ℕ) → k < length cells.now → IsShown (slice_index_or cells.now k shown_blank) }
         ensures same { W.name sink.new ≡ W.name sink.old }
     {
-        if self.room.append_characters(cells, count) {
-            return;
-        }
-        self.hand_on(sink);
-        if !self.room.append_characters(cells, count) {
-            unreachable!();
+        self.make_room(sink, cells.len());
+        append_characters(&mut self.room, cells);
+    }
+
+    /// Sends what was gathered, unless so many more bytes fit.
+    fn make_room<W: Sink>(&mut self, sink: &mut W, more: usize)
+        requires { more ≤ ROOM }
+        ensures gathers { Gathers (W.seen sink.old) (W.seen sink.new) self.old self.new [] }
+        ensures room { length self.new.room + more ≤ ROOM }
+        ensures quiet { length self.old.room + more ≤ ROOM → W.seen sink.new ≡ W.seen sink.old }
+        ensures same { W.name sink.new ≡ W.name sink.old }
+    {
+        if self.room.remaining_capacity() < more {
+            self.hand_on(sink);
         }
     }
 
@@ -134,7 +121,7 @@ impl Outbox {
 /// Sends the next piece of a text, of which so many bytes went out, unless a write failed before. It answers how many
 /// bytes went out then, and whether a write failed.
 fn send_on<W: Sink>(sink: &mut W, piece: &[u8], sent: u32, failed: bool) -> (u32, bool)
-    requires { length piece.now ≤ MOST }
+    requires { length piece.now ≤ ROOM }
     ensures goes_out { (start : Seen) (text : List ℕ) → GoesOut failed start (W.seen sink.old) piece.now sent text
         → GoesOut result.1 start (W.seen sink.new) [] result.0 (text ++ []) }
     ensures same { W.name sink.new ≡ W.name sink.old }
@@ -145,5 +132,53 @@ fn send_on<W: Sink>(sink: &mut W, piece: &[u8], sent: u32, failed: bool) -> (u32
     match send(sink, 0, piece) {
         Ok(more) => (sent.saturating_add(more), false),
         Err(fault) => (sent.saturating_add(fault.sent), true),
+    }
+}
+
+/// Appends a piece.
+fn append(bytes: &mut ArrayVec<u8, ROOM>, piece: &[u8])
+    requires { array_vec_len bytes.old + length piece.now ≤ ROOM }
+    ensures { bytes.new.items ≡ bytes.old.items ++ piece.now }
+{
+    if bytes.try_extend_from_slice(piece).is_err() {
+        unreachable!();
+    }
+}
+
+/// Appends the characters of cells, of many at once.
+fn append_characters(bytes: &mut ArrayVec<u8, ROOM>, cells: &[Shown])
+    requires { array_vec_len bytes.old + length cells.now ≤ ROOM }
+    ensures appended { bytes.new.items ≡ bytes.old.items ++ characters cells.now }
+    ensures sound { (k : ℕ) → k < length cells.now → IsShown (slice_index_or cells.now k shown_blank) }
+{
+    let mut start = 0;
+    while cells.len() - start >= LANES {
+        append(bytes, &characters_of(&cells[start..start + LANES]));
+        start += LANES;
+    }
+    append_few(bytes, &cells[start..]);
+}
+
+/// The characters of so many cells, by a loop with one exit, which the compiler vectorizes.
+fn characters_of(cells: &[Shown]) -> [u8; LANES]
+    requires { length cells.now ≡ LANES }
+    ensures characters { result ≡ characters cells.now }
+    ensures sound { (k : ℕ) → k < length cells.now → IsShown (slice_index_or cells.now k shown_blank) }
+{
+    let mut characters = [0; LANES];
+    for x in 0..LANES {
+        characters[x] = cells[x].ch();
+    }
+    characters
+}
+
+/// Appends the characters of cells, one after another.
+fn append_few(bytes: &mut ArrayVec<u8, ROOM>, cells: &[Shown])
+    requires { array_vec_len bytes.old + length cells.now ≤ ROOM }
+    ensures appended { bytes.new.items ≡ bytes.old.items ++ characters cells.now }
+    ensures sound { (k : ℕ) → k < length cells.now → IsShown (slice_index_or cells.now k shown_blank) }
+{
+    for cell in cells {
+        bytes.push(cell.ch());
     }
 }

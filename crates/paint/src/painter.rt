@@ -1,34 +1,27 @@
 //! A painter: it sends pictures to terminals of one size.
 
-ghost use Rattle.std.specs.Prelude.{◌≡◌, ℕ, ◌<◌, ◌≤◌, ◌↔◌, ⊤, MatchOption, length, ◌⊎◌, ◌||◌, Bool, IfOk, IfErr, IsErrOf, IsTrue, None, if◌then◌else◌};
-ghost use Rattle.cell.specs.Pictures.{HasSize, blank_picture, origin};
+ghost use Rattle.std.specs.Prelude.{◌≡◌, ℕ, ◌<◌, ◌≤◌, ◌↔◌, ⊤, MatchOption, length, ◌⊎◌, ◌||◌, Bool, IfNone, IfOk, IfErr, IsErrOf, IsTrue, None, if◌then◌else◌};
+ghost use Rattle.std.specs.Option.{option_map_or};
+ghost use Rattle.cell.specs.Pictures.{HasSize, Picture, Place, blank_picture, origin};
 ghost use Rattle.cell.specs.Limits.{is_no_size};
 ghost use Rattle.cell.specs.declared.limits.TheConstants.{LARGEST_SCREEN};
 ghost use Rattle.streams.specs.Sinks.{Seen};
 ghost use Rattle.extents.specs.Extents.{DifferOnly};
-ghost use Rattle.paint.specs.Updates.{CanShow, PainterState, ShownPicture, UpdateEnds, UpdateMade, first_painter, known_picture, opening, start_from};
+ghost use Rattle.paint.specs.Updates.{CanShow, PainterState, ShownPicture, UpdateEnds, UpdateMade, first_painter, known_picture, opening_from, start_from};
 ghost use Rattle.paint.specs.steps.Gathering.{IsGathered};
-ghost use Rattle.paint.specs.steps.Holding.{CanDraw, HoldsUpdate, last_shown};
-ghost use Rattle.paint.specs.steps.Strokes.{IsPlainAt, SameTerminals};
+ghost use Rattle.paint.specs.steps.Holding.{CanDraw, HoldsUpdate, IsStart, last_shown};
+ghost use Rattle.paint.specs.steps.Pens.{SameTerminals};
 
 use crate::changes::Frame;
-use crate::differences::find_differences;
-use crate::frame::draw_frame;
-use crate::page::paint_picture;
+use crate::drawing::paint;
 use crate::pen::Pen;
-use crate::runs::Runs;
+use crate::strokes::Plan;
 use cell::{Grid, LARGEST_SCREEN, Refusal, Shown, VirtualScreen, is_no_size};
+use ecma::Positions;
 use extents::Extents;
 use std::alloc::Global;
 use std::marker::Model;
 use streams::{Sent, Sink, WriteFault};
-
-/// For how many runs there is room, a line of the screen. A frame of more is drawn in one walk.
-const RUNS_OF_LINE: usize = 16;
-
-/// For how many bytes of a text there is room, a cell of the screen: a text of more is sent in pieces, and may have to
-/// be drawn twice.
-const BYTES_OF_CELL: usize = 2;
 
 /// Sends pictures to terminals of one size, and knows which picture and cursor it showed there last.
 #[derive(Drop)]
@@ -40,9 +33,9 @@ pub struct Painter {
     cursor: Option<(u16, u16)>,
     // Where a picture may differ from what was shown last.
     changes: Extents,
+    positions: Positions,
     pen: Pen,
-    // Room for the runs of a frame.
-    runs: Runs,
+    plan: Plan,
 }
 
 impl Model for Painter {
@@ -61,7 +54,8 @@ impl Model for Painter {
     } };
 
     ghost invariant = { λ p. (p.lines ≤ LARGEST_SCREEN) × (p.columns ≤ LARGEST_SCREEN) × HasSize p.lines p.columns p.picture
-        × (length p.changes ≡ p.lines) × (p.pen.columns ≡ p.columns) };
+        × (length p.changes ≡ p.lines) × (p.pen.columns ≡ p.columns) × (p.lines ≤ p.positions) × (p.columns ≤ p.positions)
+        × (p.positions ≤ LARGEST_SCREEN) };
 }
 
 impl Painter {
@@ -77,17 +71,18 @@ impl Painter {
         }
         let picture = Grid::new(alloc, lines, columns)?;
         let changes = Extents::none(alloc, lines)?;
-        let cells = usize::from(lines) * usize::from(columns);
-        let pen = Pen::new(alloc, columns, cells * BYTES_OF_CELL)?;
-        let runs = Runs::new(alloc, usize::from(lines) * RUNS_OF_LINE)?;
+        let positions = Positions::new(alloc, lines.max(columns))?;
+        let pen = Pen::new(alloc, columns)?;
+        let plan = Plan::new(alloc)?;
         Ok(Painter {
             lines,
             columns,
             picture,
             cursor: None,
             changes,
+            positions,
             pen,
-            runs,
+            plan,
         })
     }
 
@@ -115,10 +110,10 @@ impl Painter {
 
     /// The same, of a virtual screen that differs from what was shown last in some columns only, where that is known.
     /// It looks at these columns alone, unless it clears.
-    pub fn doupdate_changes<V: VirtualScreen, W: Sink>(
+    pub fn doupdate_changes<'a, V: VirtualScreen, W: Sink>(
         &mut self,
-        screen: &V,
-        changes: Option<&Extents>,
+        screen: &'a V,
+        changes: Option<&'a Extents>,
         sink: &mut W,
     ) -> Result<Sent, WriteFault>
         requires can { CanShow self.old (V.shown screen.now) }
@@ -132,139 +127,84 @@ impl Painter {
         let known = known_cursor(self.cursor, screen.clear_wanted());
         self.cursor = None;
         let size = (self.lines, self.columns);
-        let (pen, runs, shown) = (&mut self.pen, &mut self.runs, &mut self.picture);
-        let given = if known.is_some() && !runs.order().is_empty() {
-            changes
-        } else {
-            None
-        };
-        if given.is_none() {
-            find_changes(&mut self.changes, changes, size.1, known, shown, picture);
-        }
+        let given = given_where_known(known, changes);
+        fill_unless(&mut self.changes, given, size.1);
+        begin(&mut self.pen, sink, &mut self.picture, known);
         let changes = given.unwrap_or(&self.changes);
-        let sent = show(
-            pen, runs, sink, size, known, shown, picture, cursor, changes,
-        )?;
+        let frame = Frame {
+            lines: size.0,
+            columns: size.1,
+            shown: &self.picture,
+            wanted: picture,
+            changes,
+            positions: &self.positions,
+        };
+        let sent = send_frame(&mut self.pen, &mut self.plan, sink, &frame, cursor)?;
+        copy_changes(&mut self.picture, picture, size.1, changes);
         self.cursor = Some(cursor);
         Ok(sent)
     }
 }
 
-/// The columns in which a picture differs from the one that is known to be shown, where it may differ in some columns
-/// only, and all columns where that isn't known.
-fn find_changes(
-    found: &mut Extents,
-    changes: Option<&Extents>,
-    columns: u16,
+/// The changes that are given, where it is known what is shown.
+fn given_where_known<'a>(
     known: Option<(u16, u16)>,
-    shown: &Grid<Shown>,
-    wanted: &Grid<Shown>,
-)
-    requires lines { 0 < length found.old }
+    changes: Option<&'a Extents>,
+) -> Option<&'a Extents>
+    ensures { result ≡ option_map_or (λ _. changes.entry) known None }
+{
+    if known.is_some() { changes } else { None }
+}
+
+/// Unless changes are given, all columns, of lines of so many: two pictures of that size differ in no others.
+fn fill_unless(own: &mut Extents, given: Option<&Extents>, columns: u16)
+    requires lines { 0 < length own.old }
     requires some { 0 < columns }
-    requires columns { columns ≤ LARGEST_SCREEN }
-    requires height { MatchOption changes ⊤ (λ changes. length changes.now ≡ length found.old) }
-    requires shown { HasSize (length found.old) columns shown.now }
-    requires wanted { HasSize (length found.old) columns wanted.now }
-    requires changes { MatchOption changes ⊤ (λ changes. MatchOption known ⊤ (λ _. DifferOnly changes.now shown.now wanted.now)) }
-    ensures height { length found.new ≡ length found.old }
-    ensures only { DifferOnly found.new (start_from (first_painter (length found.old) columns) (last_shown shown.now known)).picture wanted.now }
+    ensures height { length own.new ≡ length own.old }
+    ensures only { IfNone given.entry ((shown wanted : Picture) → HasSize (length own.old) columns shown → HasSize (length own.old) columns wanted
+        → DifferOnly own.new shown wanted) }
 {
-    match changes {
-        Some(changes) if known.is_some() => {
-            find_differences(found, changes, columns, shown, wanted);
-        }
-        _ => found.fill(columns),
+    if given.is_none() {
+        own.fill(columns);
     }
 }
 
-/// Shows a picture over what is known to be shown, and takes it over where that succeeds.
-fn show<W: Sink>(
-    pen: &mut Pen,
-    runs: &mut Runs,
-    sink: &mut W,
-    size: (u16, u16),
-    known: Option<(u16, u16)>,
-    shown: &mut Grid<Shown>,
-    picture: &Grid<Shown>,
-    cursor: (u16, u16),
-    changes: &Extents,
-) -> Result<Sent, WriteFault>
-    requires can { CanDraw pen.old size.0 size.1 cursor }
-    requires lines { size.0 ≤ LARGEST_SCREEN }
-    requires columns { size.1 ≤ LARGEST_SCREEN }
-    requires shown { HasSize size.0 size.1 shown.old }
-    requires wanted { HasSize size.0 size.1 picture.now }
-    requires height { length changes.now ≡ size.0 }
-    requires changes { DifferOnly changes.now (start_from (first_painter size.0 size.1) (last_shown shown.old known)).picture picture.now }
-    ensures text { (painter : PainterState) (clear : Bool) → painter.lines ≡ size.0 → painter.columns ≡ size.1
-        → last_shown shown.old known ≡ known_picture painter clear
-        → UpdateEnds painter clear (W.seen sink.old) (W.seen sink.new) (record { picture = picture.now; cursor = cursor }) result }
-    ensures shown { IfOk result (λ _. shown.new ≡ picture.now) }
-    ensures size { HasSize size.0 size.1 shown.new }
+/// Begins a text at the cursor that is known. Where none is, the text clears the terminal first, which then shows a blank
+/// picture.
+fn begin<W: Sink>(pen: &mut Pen, sink: &mut W, shown: &mut Grid<Shown>, known: Option<(u16, u16)>)
+    ensures gathered { IsGathered (W.seen sink.old) (W.seen sink.new) pen.new.outbox (opening_from (last_shown shown.old known)) }
+    ensures start { (painter : PainterState) → HasSize painter.lines painter.columns shown.old
+        → IsStart painter (last_shown shown.old known) pen.new shown.new }
     ensures same { SameTerminals (W.name sink.old) (W.name sink.new) pen.old pen.new }
 {
-    let sent = send_changes(
-        pen, runs, sink, size, known, shown, picture, cursor, changes,
-    )?;
-    copy_changes(shown, picture, size.1, changes);
-    Ok(sent)
-}
-
-/// Sends what differs from what is known to be shown, or the opening and what differs from a blank picture. It may
-/// differ in some columns only.
-fn send_changes<W: Sink>(
-    pen: &mut Pen,
-    runs: &mut Runs,
-    sink: &mut W,
-    size: (u16, u16),
-    known: Option<(u16, u16)>,
-    shown: &mut Grid<Shown>,
-    picture: &Grid<Shown>,
-    cursor: (u16, u16),
-    changes: &Extents,
-) -> Result<Sent, WriteFault>
-    requires can { CanDraw pen.old size.0 size.1 cursor }
-    requires lines { size.0 ≤ LARGEST_SCREEN }
-    requires columns { size.1 ≤ LARGEST_SCREEN }
-    requires shown { HasSize size.0 size.1 shown.old }
-    requires wanted { HasSize size.0 size.1 picture.now }
-    requires height { length changes.now ≡ size.0 }
-    requires changes { DifferOnly changes.now (start_from (first_painter size.0 size.1) (last_shown shown.old known)).picture picture.now }
-    ensures text { (painter : PainterState) (clear : Bool) → painter.lines ≡ size.0 → painter.columns ≡ size.1
-        → last_shown shown.old known ≡ known_picture painter clear
-        → UpdateEnds painter clear (W.seen sink.old) (W.seen sink.new) (record { picture = picture.now; cursor = cursor }) result }
-    ensures shown { shown.new ≡ (start_from (first_painter size.0 size.1) (last_shown shown.old known)).picture }
-    ensures size { HasSize size.0 size.1 shown.new }
-    ensures same { SameTerminals (W.name sink.old) (W.name sink.new) pen.old pen.new }
-{
-    let (lines, columns) = size;
     match known {
-        Some(from) => {
-            let frame = Frame {
-                lines,
-                columns,
-                shown,
-                wanted: picture,
-                changes,
-            };
-            draw_frame(pen, runs, sink, &frame, from, cursor);
-            send_text(pen, sink)
-        }
+        Some(cursor) => pen.begin(cursor),
         None => {
-            open(pen, sink, shown);
-            let frame = Frame {
-                lines,
-                columns,
-                shown,
-                wanted: picture,
-                changes,
-            };
-            paint_picture(pen, sink, &frame);
-            pen.end(sink, cursor);
-            send_text(pen, sink)
+            shown.clear();
+            pen.begin((0, 0));
+            pen.open(sink);
         }
     }
+}
+
+/// Sends what differs in a frame, after what begins the text, then the cursor, and flushes.
+fn send_frame<W: Sink>(
+    pen: &mut Pen,
+    plan: &mut Plan,
+    sink: &mut W,
+    frame: &Frame<'_>,
+    cursor: (u16, u16),
+) -> Result<Sent, WriteFault>
+    requires { CanDraw pen.old frame.now.lines frame.now.columns cursor }
+    ensures text { (painter : PainterState) (clear : Bool) (start : Seen) → painter.lines ≡ frame.now.lines → painter.columns ≡ frame.now.columns
+        → IsGathered start (W.seen sink.old) pen.old.outbox (opening_from (known_picture painter clear))
+        → IsStart painter (known_picture painter clear) pen.old frame.now.shown.now
+        → UpdateEnds painter clear start (W.seen sink.new) (record { picture = frame.now.wanted.now; cursor = cursor }) result }
+    ensures same { SameTerminals (W.name sink.old) (W.name sink.new) pen.old pen.new }
+{
+    paint(pen, plan, sink, frame);
+    pen.end(sink, frame.positions, cursor);
+    send_text(pen, sink)
 }
 
 /// Takes over the columns of a picture, of lines of so many, in which it may differ from another.
@@ -289,19 +229,6 @@ fn known_cursor(cursor: Option<(u16, u16)>, clear: bool) -> Option<(u16, u16)>
     ensures { result ≡ (if clear then None else cursor) }
 {
     if clear { None } else { cursor }
-}
-
-/// Begins a text that clears the terminal, which shows a blank picture then.
-fn open<W: Sink>(pen: &mut Pen, sink: &mut W, shown: &mut Grid<Shown>)
-    ensures gathered { IsGathered (W.seen sink.old) (W.seen sink.new) pen.new.outbox opening }
-    ensures plain { IsPlainAt pen.new origin }
-    ensures picture { (lines columns : ℕ) → HasSize lines columns shown.old → shown.new ≡ blank_picture lines columns }
-    ensures size { (lines columns : ℕ) → HasSize lines columns shown.old → HasSize lines columns shown.new }
-    ensures same { SameTerminals (W.name sink.old) (W.name sink.new) pen.old pen.new }
-{
-    shown.clear();
-    pen.begin((0, 0));
-    pen.open(sink);
 }
 
 /// Sends what is left of a text, and flushes.

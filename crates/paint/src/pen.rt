@@ -1,9 +1,9 @@
 //! A pen: it knows where a terminal's cursor is and how the terminal prints, and draws there by strokes.
 
-ghost use Rattle.std.specs.Prelude.{◌≡◌, ◌+◌, ◌<◌, ◌≤◌, ⊤, MatchOption, ◌++◌, ◌∷◌, [], ℕ, IfOk, List, length, slice_index_or, Some, take, ◌^◌};
-ghost use Rattle.std.specs.Option.{option_map};
+ghost use Rattle.std.specs.Prelude.{◌≡◌, ◌+◌, ◌<◌, ◌≤◌, ◌++◌, [], ℕ, IfOk, List, length, slice_index_or, Some, ◌^◌};
+ghost use Rattle.cell.specs.declared.limits.TheConstants.{LARGEST_SCREEN};
 ghost use Rattle.cell.specs.Shown.{no_rendition, shown_blank};
-ghost use Rattle.cell.specs.Pictures.{Picture, line_of, origin, with_shown};
+ghost use Rattle.cell.specs.Pictures.{Picture, line_of, origin};
 ghost use Rattle.ecma.specs.Spelling.{spelling, IsToken};
 ghost use Rattle.ecma.specs.Terminals.{erased_at, erased_page};
 ghost use Rattle.ecma.specs.declared.token.Erase.TheVariants.{ToEnd};
@@ -11,32 +11,15 @@ ghost use Rattle.ecma.specs.declared.token.Token.TheVariants.{Ed, El};
 ghost use Rattle.streams.specs.Sending.{Sends};
 ghost use Rattle.streams.specs.Sinks.{Seen};
 ghost use Rattle.paint.specs.Updates.{opening};
-ghost use Rattle.paint.specs.steps.Gathering.{Gathers, IsGathered, empty_outbox, gathered_bytes, holds_all};
-ghost use Rattle.paint.specs.steps.Strokes.{cursor_after, change, characters, first_pen, is_at, move_from, with_cells, within, ArePrinted, Draws, Erases, IsPlainAt, SameTerminals};
+ghost use Rattle.paint.specs.steps.Gathering.{Gathers, IsGathered, empty_outbox};
+ghost use Rattle.paint.specs.steps.Pens.{change, characters, first_pen, is_at, move_from, with_cells, within, Draws, Erases, IsPlainAt, SameTerminals};
 
 use crate::outbox::Outbox;
 use bitflags::Flags;
 use cell::{LARGEST_SCREEN, Rendition, Shown};
-use ecma::{Erase, LONGEST_SPELLING, Token, spell};
+use ecma::{Erase, LONGEST_SPELLING, Positions, Token, spell};
 use std::alloc::{AllocError, Global};
 use streams::{Sink, WriteFault};
-
-/// Where the cursor is, and how characters are printed there.
-#[derive(Drop)]
-pub struct PenState {
-    /// The line and column of the cursor, and none where it is unknown.
-    pub cursor: Option<(u16, u16)>,
-    pub rendition: Rendition,
-}
-
-impl PenState {
-    /// Whether the cursor is known to be at a place.
-    pub fn is_at(&self, line: u16, column: u16) -> bool
-        ensures { result ≡ is_at self.now.cursor (line, column) }
-    {
-        is_at(self.cursor, line, column)
-    }
-}
 
 /// Whether a cursor is known to be at a place.
 fn is_at(cursor: Option<(u16, u16)>, line: u16, column: u16) -> bool
@@ -46,19 +29,6 @@ fn is_at(cursor: Option<(u16, u16)>, line: u16, column: u16) -> bool
         Some((y, x)) => y == line && x == column,
         None => false,
     }
-}
-
-/// Where the cursor is when a line was printed up to a column, and in which rendition.
-pub fn state_after(columns: u16, line: u16, column: u16, rendition: Rendition) -> PenState
-    ensures cursor { result.cursor ≡ within columns (line, column) }
-    ensures rendition { result.rendition ≡ rendition }
-{
-    let cursor = if column < columns {
-        Some((line, column))
-    } else {
-        None
-    };
-    PenState { cursor, rendition }
 }
 
 /// Draws on terminals of some columns.
@@ -72,12 +42,12 @@ pub struct Pen {
 }
 
 impl Pen {
-    /// A pen that gathered nothing, with room for so many bytes.
-    pub fn new(alloc: Global, columns: u16, bytes: usize) -> Result<Pen, AllocError>
+    /// A pen that gathered nothing.
+    pub fn new(alloc: Global, columns: u16) -> Result<Pen, AllocError>
         ensures { IfOk result (λ pen. pen ≡ first_pen columns) }
     {
         Ok(Pen {
-            outbox: Outbox::new(alloc, bytes)?,
+            outbox: Outbox::new(alloc)?,
             columns,
             cursor: None,
             rendition: Rendition::NONE,
@@ -96,20 +66,6 @@ impl Pen {
         self.rendition = Rendition::NONE;
     }
 
-    /// How many bytes its text has, where no write failed.
-    pub fn bytes(&self) -> u32
-        ensures { result ≡ gathered_bytes self.now.outbox }
-    {
-        self.outbox.bytes()
-    }
-
-    /// Whether nothing of its text went out, so that all of it may still go to any sink.
-    pub fn holds_all(&self) -> bool
-        ensures { result ≡ holds_all self.now.outbox }
-    {
-        self.outbox.holds_all()
-    }
-
     /// Puts a token after what was gathered.
     fn put<W: Sink>(&mut self, sink: &mut W, token: Token)
         requires { IsToken token }
@@ -119,7 +75,20 @@ impl Pen {
     {
         let mut text = [0; LONGEST_SPELLING];
         let length = spell(&token, &mut text);
-        self.outbox.put(sink, &text, length);
+        self.outbox.put(sink, &text[..length]);
+    }
+
+    /// Puts the position of a place after what was gathered.
+    fn put_position<W: Sink>(&mut self, sink: &mut W, positions: &Positions, line: u16, column: u16)
+        requires line { line < positions.now }
+        requires column { column < positions.now }
+        ensures gathers { Gathers (W.seen sink.old) (W.seen sink.new) self.old.outbox self.new.outbox (spelling (Token.Cup line column)) }
+        ensures rest { self.new ≡ record self.old { outbox = self.new.outbox } }
+        ensures same { SameTerminals (W.name sink.old) (W.name sink.new) self.old self.new }
+    {
+        let mut text = [0; LONGEST_SPELLING];
+        let length = positions.spell(line, column, &mut text);
+        self.outbox.put(sink, &text[..length]);
     }
 
     /// Clears the terminal, whatever it shows: no rendition, the page erased, the cursor at the origin.
@@ -158,50 +127,23 @@ impl Pen {
         self.rendition = rendition;
     }
 
-    /// How many columns its terminals have.
-    pub fn columns(&self) -> usize
-        ensures { result ≡ self.now.columns }
-    {
-        usize::from(self.columns)
+    /// Where the cursor is, and none where that is unknown.
+    pub fn cursor(&self) -> Option<(u16, u16)> {
+        self.cursor
     }
 
-    /// The line of the cursor, where that is known.
-    pub fn line(&self) -> Option<u16>
-        ensures { result ≡ option_map (λ place. place.0) self.now.cursor }
+    /// Whether the cursor is known to be at a place.
+    pub fn is_at(&self, line: u16, column: u16) -> bool
+        ensures { result ≡ is_at self.now.cursor (line, column) }
     {
-        let (line, _) = self.cursor?;
-        Some(line)
-    }
-
-    /// Where the cursor is, and the rendition in which it prints.
-    pub fn state(&self) -> PenState
-        ensures cursor { result.cursor ≡ self.now.cursor }
-        ensures rendition { result.rendition ≡ self.now.rendition }
-    {
-        PenState {
-            cursor: self.cursor,
-            rendition: self.rendition,
-        }
-    }
-
-    /// The column of the cursor, where it is known to be in a line, between two columns.
-    pub fn column_between(&self, line: u16, from: usize, to: usize) -> Option<usize>
-        ensures column { MatchOption result ⊤ (λ column. (self.now.cursor ≡ Some (line, column)) × (from ≤ column) × (column ≤ to)) }
-        ensures none { result ≡ None → (column : ℕ) → self.now.cursor ≡ Some (line, column) → from ≤ column → column ≤ to → ⊥ }
-    {
-        let (y, x) = self.cursor?;
-        let column = usize::from(x);
-        if y == line && from <= column && column <= to {
-            Some(column)
-        } else {
-            None
-        }
+        is_at(self.cursor, line, column)
     }
 
     /// Goes to a place.
-    pub fn go<W: Sink>(&mut self, sink: &mut W, line: u16, column: u16)
-        requires line { line < LARGEST_SCREEN }
-        requires column { column < LARGEST_SCREEN }
+    pub fn go<W: Sink>(&mut self, sink: &mut W, positions: &Positions, line: u16, column: u16)
+        requires line { line < positions.now }
+        requires column { column < positions.now }
+        requires few { positions.now ≤ LARGEST_SCREEN }
         ensures draws { (picture : Picture) → column < length (line_of picture line)
             → Draws (move_from self.old.cursor (line, column)) (W.seen sink.old) (W.seen sink.new) self.old self.new picture picture }
         ensures rendition { self.new.rendition ≡ self.old.rendition }
@@ -211,63 +153,27 @@ impl Pen {
         if is_at(self.cursor, line, column) {
             return;
         }
-        self.put(sink, Token::Cup(line, column));
+        self.put_position(sink, positions, line, column);
         self.cursor = Some((line, column));
     }
 
-    /// Prints a character at the cursor, which is at this place.
-    pub fn print<W: Sink>(&mut self, sink: &mut W, line: u16, column: u16, cell: Shown)
-        requires cursor { self.old.cursor ≡ Some (line, column) }
-        requires rendition { self.old.rendition ≡ cell.rendition }
-        requires inside { column < self.old.columns }
-        requires columns { self.old.columns ≤ LARGEST_SCREEN }
-        ensures draws { (picture : Picture) → length (line_of picture line) ≡ self.old.columns
-            → Draws (cell.character ∷ []) (W.seen sink.old) (W.seen sink.new) self.old self.new picture (with_shown picture (line, column) cell) }
-        ensures rendition { self.new.rendition ≡ self.old.rendition }
-        ensures cursor { self.new.cursor ≡ cursor_after self.old.columns (line, column) }
-        ensures same { SameTerminals (W.name sink.old) (W.name sink.new) self.old self.new }
-    {
-        self.outbox.put_characters(sink, &[cell], 1);
-        self.cursor = self.cursor_after(line, column);
-    }
-
-    /// Where the cursor is when a character was printed at a place.
-    fn cursor_after(&self, line: u16, column: u16) -> Option<(u16, u16)>
-        requires { column < LARGEST_SCREEN }
-        ensures { result ≡ cursor_after self.now.columns (line, column) }
-    {
-        if column + 1 < self.columns {
-            Some((line, column + 1))
-        } else {
-            None
-        }
-    }
-
-    /// Prints the first cells of some from the cursor on, which is at this place. They have the rendition in force.
+    /// Prints cells from the cursor on, which is at this place. They have the rendition in force.
     #[inline(always)]
-    pub fn print_run<W: Sink>(
-        &mut self,
-        sink: &mut W,
-        line: u16,
-        column: u16,
-        cells: &[Shown],
-        count: usize,
-    )
+    pub fn print_run<W: Sink>(&mut self, sink: &mut W, line: u16, column: u16, cells: &[Shown])
         requires cursor { self.old.cursor ≡ Some (line, column) }
-        requires rendition { (k : ℕ) → k < count → (slice_index_or cells.now k shown_blank).rendition ≡ self.old.rendition }
-        requires some { 0 < count }
-        requires cells { count ≤ length cells.now }
-        requires inside { column + count ≤ self.old.columns }
+        requires rendition { (k : ℕ) → k < length cells.now → (slice_index_or cells.now k shown_blank).rendition ≡ self.old.rendition }
+        requires some { 0 < length cells.now }
+        requires inside { column + length cells.now ≤ self.old.columns }
         requires columns { self.old.columns ≤ LARGEST_SCREEN }
         ensures draws { (picture : Picture) → length (line_of picture line) ≡ self.old.columns
-            → Draws (characters (take count cells.now)) (W.seen sink.old) (W.seen sink.new) self.old self.new picture
-            (with_cells picture (line, column) (take count cells.now)) }
-        ensures cursor { self.new.cursor ≡ within self.old.columns (line, column + count) }
+            → Draws (characters cells.now) (W.seen sink.old) (W.seen sink.new) self.old self.new picture
+            (with_cells picture (line, column) cells.now) }
+        ensures cursor { self.new.cursor ≡ within self.old.columns (line, column + length cells.now) }
         ensures rendition { self.new.rendition ≡ self.old.rendition }
         ensures same { SameTerminals (W.name sink.old) (W.name sink.new) self.old self.new }
     {
-        self.outbox.put_characters(sink, cells, count);
-        self.cursor = self.within(line, column + count as u16);
+        self.outbox.put_characters(sink, cells);
+        self.cursor = self.within(line, column + cells.len() as u16);
     }
 
     /// A place of a line, if it has the column.
@@ -278,23 +184,6 @@ impl Pen {
             Some((line, column))
         } else {
             None
-        }
-    }
-
-    /// Prints cells that the terminal shows already, each in its rendition. The cursor is at the first of them, and
-    /// there is a place after the last.
-    #[inline(always)]
-    pub fn print_again<W: Sink>(&mut self, sink: &mut W, line: u16, column: u16, cells: &[Shown])
-        requires cursor { self.old.cursor ≡ Some (line, column) }
-        requires inside { column + length cells.now < self.old.columns }
-        requires columns { self.old.columns ≤ LARGEST_SCREEN }
-        ensures printed { ArePrinted (W.seen sink.old) (W.seen sink.new) self.old self.new line column (length cells.now) cells.now }
-        ensures same { W.name sink.new ≡ W.name sink.old }
-    {
-        for i in 0..cells.len() {
-            let cell = cells[i];
-            self.select(sink, cell.rendition());
-            self.print(sink, line, column + i as u16, cell);
         }
     }
 
@@ -315,9 +204,10 @@ impl Pen {
     }
 
     /// Ends the rendition, and goes to where the cursor is wanted.
-    pub fn end<W: Sink>(&mut self, sink: &mut W, cursor: (u16, u16))
-        requires line { cursor.0 < LARGEST_SCREEN }
-        requires column { cursor.1 < LARGEST_SCREEN }
+    pub fn end<W: Sink>(&mut self, sink: &mut W, positions: &Positions, cursor: (u16, u16))
+        requires line { cursor.0 < positions.now }
+        requires column { cursor.1 < positions.now }
+        requires few { positions.now ≤ LARGEST_SCREEN }
         ensures draws { (picture : Picture) → cursor.1 < length (line_of picture cursor.0)
             → Draws (change self.old.rendition no_rendition ++ move_from self.old.cursor cursor) (W.seen sink.old) (W.seen sink.new)
             self.old self.new picture picture }
@@ -325,7 +215,7 @@ impl Pen {
         ensures same { SameTerminals (W.name sink.old) (W.name sink.new) self.old self.new }
     {
         self.select(sink, Rendition::NONE);
-        self.go(sink, cursor.0, cursor.1);
+        self.go(sink, positions, cursor.0, cursor.1);
     }
 
     /// Sends what is left of the text, and says how many bytes went out.

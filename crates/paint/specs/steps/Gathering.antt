@@ -1,5 +1,5 @@
 -- A text that is gathered in an outbox and goes out in pieces, until a write fails.
-use Rattle.std.specs.Prelude.{◌≡◌, ℕ, ◌+◌, ◌-◌, ◌≤◌, ◌^◌, ◌==◌, ◌&&◌, min, not, Bool, true, false, List, [], ◌++◌, length, Ok, Err}
+use Rattle.std.specs.Prelude.{◌≡◌, ℕ, ◌-◌, ◌^◌, min, Bool, true, false, List, [], ◌++◌, length, Ok, Err}
 use Rattle.streams.specs.Sinks.{Seen}
 use Rattle.streams.specs.Sending.{Sends}
 
@@ -27,26 +27,6 @@ pub record IsGathered (start now : Seen) (outbox : Outbox) (text : List ℕ) : T
 abbrev pub empty_outbox : Outbox
 empty_outbox = record { room = []; sent = 0; failed = false }
 
--- how many bytes were gathered, of a text of which no write failed
-abbrev pub gathered_bytes : Outbox → ℕ
-gathered_bytes outbox = saturating_u32 (outbox.sent + length outbox.room)
-
--- nothing of what was gathered went out
-abbrev pub holds_all : Outbox → Bool
-holds_all outbox = not outbox.failed && outbox.sent == 0
-
 -- the piece was put after what was gathered
 abbrev pub Gathers : Seen → Seen → Outbox → Outbox → List ℕ → Type 0
 Gathers before after old new piece = (start : Seen) (text : List ℕ) → IsGathered start before old text → IsGathered start after new (text ++ piece)
-
--- some piece of at most so many bytes was
-pub record GathersAtMost (most : ℕ) (before after : Seen) (old new : Outbox) : Type 0 where
-  pub piece : List ℕ
-  pub gathers : Gathers before after old new piece
-  pub short : length piece ≤ most
-
--- some piece of just so many was
-pub record GathersExactly (count : ℕ) (before after : Seen) (old new : Outbox) : Type 0 where
-  pub piece : List ℕ
-  pub gathers : Gathers before after old new piece
-  pub long : length piece ≡ count

@@ -1,163 +1,161 @@
--- What the strokes of a pen send, what a terminal shows after them, and how many bytes they have.
-use Rattle.std.specs.Prelude.{◌≡◌, ℕ, ◌+◌, ◌-◌, ◌*◌, ◌≤◌, ◌==◌, ◌&&◌, ◌||◌, min, if◌then◌else◌, List, [], ◌∷◌, length, map, take, drop, Option, Some, None, Bool, false, nat_lt, slice_index_or}
-use Rattle.std.specs.List.{list_all}
-use Rattle.cell.specs.Shown.{Rendition, Shown, has_colour, no_rendition, shown_blank}
-use Rattle.cell.specs.Pictures.{Picture, Place, line_of, with_shown}
-use Rattle.cell.specs.Differences.{same_rendition, line_difference, difference}
-use Rattle.ecma.specs.Difference.{line_colour_difference, colour_difference}
-use Rattle.ecma.specs.Spelling.{colour_bytes, position_bytes, spelling}
-use Rattle.ecma.specs.Streams.{Leads}
-use Rattle.ecma.specs.Terminals.{Terminal}
-use Rattle.ecma.specs.declared.token.Token.{Token}
-use Rattle.ecma.specs.declared.token.Token.TheVariants.{Cup, Sgr}
+-- What strokes draw, in any order. A stroke writes what is wanted where it is: so each place shows what was shown or what
+-- is wanted, and of what was drawn no more matters than which strokes were.
+use Rattle.std.specs.Prelude.{⊤, Some, slice_index_or, All, ◌≡◌, ℕ, ◌+◌, ◌<◌, ◌≤◌, ◌==◌, ◌&&◌, ◌||◌, not, nat_lt, Bool, true, false, List, [], ◌++◌, drop, filter, length, sum_by, count_by, zero, suc}
+use Rattle.cell.specs.Pictures.{Picture, Place, line_of, shown_at}
+use Rattle.cell.specs.Shown.{Rendition, Shown, no_rendition, shown_blank}
+use Rattle.ecma.specs.Spelling.{none_bytes, position_bytes}
 use Rattle.streams.specs.Sinks.{Seen}
+use Rattle.paint.specs.declared.drawing.Way.{Way}
+use Rattle.paint.specs.declared.drawing.Way.TheVariants.{Moved, Plain, Printed}
 use Rattle.paint.specs.declared.pen.Pen.{Pen}
-use Rattle.paint.specs.Updates.{place_bytes, same_place}
-use Rattle.paint.specs.steps.Gathering.{Gathers, empty_outbox}
+use Rattle.paint.specs.declared.strokes.Ink.{Ink}
+use Rattle.paint.specs.declared.strokes.Ink.TheVariants.{EraseLine, ErasePage, Print}
+use Rattle.paint.specs.declared.strokes.Stroke.{Stroke}
+use Rattle.paint.specs.declared.blanks.PageEnd.{PageEnd}
+use Rattle.paint.specs.Updates.{place_bytes}
+use Rattle.paint.specs.steps.Pens.{DrawsWithin, all_have, line_bytes, picture_bytes, run_bytes}
+use Rattle.paint.specs.steps.Runs.{HaveOneRendition, cells_between}
 
--- ---- their bytes
+-- ---- places
 
--- from one rendition to another
-unfoldable pub change : Rendition → Rendition → List ℕ
-change old new = if same_rendition new old then [] else spelling (Sgr new)
+-- a place comes before another one, line by line
+abbrev pub is_before : Place → Place → Bool
+is_before place other = nat_lt place.0 other.0 || (place.0 == other.0 && nat_lt place.1 other.1)
 
--- the cursor is known, and at the place
-abbrev pub is_at : Option Place → Place → Bool
-is_at None place = false
-is_at (Some cursor) place = same_place cursor place
+-- two pictures show the same from a place up to another, which isn't one of these
+pub record AreSameBetween (shown wanted : Picture) (from to : Place) : Type 0 where
+  pub ordered : is_before to from ≡ false
+  pub same : (place : Place) → is_before place from ≡ false → is_before place to ≡ true → shown_at shown place ≡ shown_at wanted place
 
--- from a cursor, which may be unknown, to a place
-unfoldable pub move_from : Option Place → Place → List ℕ
-move_from cursor place = if is_at cursor place then [] else spelling (Cup place.0 place.1)
+-- and in a line from a column up to another
+abbrev pub AreAlike : Picture → Picture → ℕ → ℕ → ℕ → Type 0
+AreAlike shown wanted line from to = (x : ℕ) → from ≤ x → x < to → shown_at shown (line, x) ≡ shown_at wanted (line, x)
 
--- one column to the right; after the last column the cursor is unknown
-abbrev pub cursor_after : ℕ → Place → Option Place
-cursor_after columns place = if nat_lt (place.1 + 1) columns then Some (place.0, place.1 + 1) else None
+-- A place is changed, and none in a later line is.
+pub record IsLastChange (shown wanted : Picture) (place : Place) : Type 0 where
+  pub line : place.0 < length wanted
+  pub column : place.1 < length (line_of wanted place.0)
+  pub changed : shown_at shown place ≡ shown_at wanted place → ⊥
+  pub later : (y x : ℕ) → place.0 < y → shown_at shown (y, x) ≡ shown_at wanted (y, x)
 
--- a place of a line, if it has the column
-abbrev pub within : ℕ → Place → Option Place
-within columns place = if nat_lt place.1 columns then Some place else None
+-- After a line all is blank, and after that a place is changed.
+pub record IsPageEnd (shown wanted : Picture) (end : PageEnd) : Type 0 where
+  pub blank : (y x : ℕ) → end.first < y → shown_at wanted (y, x) ≡ shown_blank
+  pub after : end.first < end.line
+  pub line : end.line < length wanted
+  pub column : end.column < length (line_of wanted end.line)
+  pub changed : shown_at shown (end.line, end.column) ≡ shown_at wanted (end.line, end.column) → ⊥
 
--- ---- what they do
+-- ---- one stroke
 
--- cells in a line, one after another from a place on
-abbrev pub with_cells : Picture → Place → List Shown → Picture
-with_cells picture place [] = picture
-with_cells picture place (cell ∷ cells) = with_cells (with_shown picture place cell) (place.0, place.1 + 1) cells
+-- a place comes before the end of a stroke: its last column, that of its line, or that of the page
+abbrev pub is_before_end : Ink → Place → Stroke → Bool
+is_before_end Print place stroke = is_before place (stroke.line, stroke.end)
+is_before_end EraseLine place stroke = is_before place (stroke.line + 1, 0)
+is_before_end ErasePage place stroke = true
 
--- what is sent for them
-abbrev pub characters : List Shown → List ℕ
-characters cells = map (λ cell. cell.character) cells
+-- a stroke writes a place
+abbrev pub writes : Place → Stroke → Bool
+writes place stroke = not (is_before place (stroke.line, stroke.start)) && is_before_end stroke.ink place stroke
 
--- all cells have a rendition
-abbrev pub all_have : Rendition → List Shown → Bool
-all_have rendition cells = list_all (λ cell. same_rendition cell.rendition rendition) cells
+-- The most bytes of it. An erasure has no more than a changed cell may have.
+abbrev pub ink_bytes : Ink → Picture → Stroke → ℕ
+ink_bytes Print wanted stroke = run_bytes (cells_between stroke.start stroke.end (line_of wanted stroke.line))
+ink_bytes EraseLine wanted stroke = place_bytes
+ink_bytes ErasePage wanted stroke = place_bytes
 
--- a pen that gathered nothing, and does not know where the cursor is
-abbrev pub first_pen : ℕ → Pen
-first_pen columns = record { outbox = empty_outbox; columns = columns; cursor = None; rendition = no_rendition }
+abbrev pub stroke_bytes : Picture → Stroke → ℕ
+stroke_bytes wanted stroke = ink_bytes stroke.ink wanted stroke
 
--- the terminal that shows this picture, with the pen's cursor and rendition
-abbrev pub under : Pen → Picture → Terminal
-under pen picture = record { picture = picture; cursor = pen.cursor; rendition = pen.rendition }
+-- an erasure begins in its line, and all that it writes is blank
+pub record IsErasure (wanted : Picture) (stroke : Stroke) : Type 0 where
+  pub start : stroke.start < length (line_of wanted stroke.line)
+  pub blank : (place : Place) → writes place stroke ≡ true → shown_at wanted place ≡ shown_blank
 
--- it is at a place, and prints with no rendition
-pub record IsPlainAt (pen : Pen) (place : Place) : Type 0 where
+abbrev pub HasInk : Ink → Picture → Stroke → Type 0
+HasInk Print wanted stroke = HaveOneRendition (line_of wanted stroke.line) stroke.start stroke.end
+HasInk EraseLine wanted stroke = IsErasure wanted stroke
+HasInk ErasePage wanted stroke = IsErasure wanted stroke
+
+-- It is in the picture, what it writes may be drawn with its ink, and the gap before it is shown already.
+pub record IsStroke (shown wanted : Picture) (stroke : Stroke) : Type 0 where
+  pub line : stroke.line < length wanted
+  pub ink : HasInk stroke.ink wanted stroke
+  pub gap : stroke.gap ≤ stroke.start
+  pub kept : AreAlike shown wanted stroke.line stroke.gap stroke.start
+
+-- The cells of a gap, which begins at a pen, are no more than the bytes of a move. So many of the first have the
+-- rendition in force, and the others another one.
+pub record IsSplit (pen : Pen) (place : Place) (gap : List Shown) (rendition : Rendition) (count : ℕ) : Type 0 where
   pub cursor : pen.cursor ≡ Some place
-  pub rendition : pen.rendition ≡ no_rendition
+  pub few : length gap ≤ position_bytes
+  pub within : count ≤ length gap
+  pub first : (k : ℕ) → k < count → (slice_index_or gap k shown_blank).rendition ≡ pen.rendition
+  pub rest : all_have rendition (drop count gap) ≡ true
 
--- What a step of drawing keeps: which sink it is, by its name, and how many columns the pen's terminals have.
-pub record SameTerminals (before after : ℕ) (old new : Pen) : Type 0 where
-  pub sink : after ≡ before
-  pub columns : new.columns ≡ old.columns
+-- They have no rendition, and with the selection of none they are no more than the bytes of a move.
+pub record IsPlain (pen : Pen) (place : Place) (gap : List Shown) : Type 0 where
+  pub cursor : pen.cursor ≡ Some place
+  pub some : 0 < length gap
+  pub few : length gap + none_bytes ≤ position_bytes
+  pub all : all_have no_rendition gap ≡ true
 
--- The piece was put after what was gathered, and leads from the one picture to the other.
-pub record Draws (piece : List ℕ) (before after : Seen) (old new : Pen) (picture drawn : Picture) : Type 0 where
-  pub gathers : Gathers before after old.outbox new.outbox piece
-  pub leads : Leads piece (under old picture) (under new drawn)
+-- a way over a gap may be taken
+abbrev pub IsWay : Way → Pen → Place → List Shown → Rendition → Type 0
+IsWay (Printed count) pen place gap rendition = IsSplit pen place gap rendition count
+IsWay Plain pen place gap rendition = IsPlain pen place gap
+IsWay Moved pen place gap rendition = ⊤
 
--- some piece of just so many bytes did
-pub record ExactStrokes (count : ℕ) (before after : Seen) (old new : Pen) (picture drawn : Picture) : Type 0 where
-  pub piece : List ℕ
-  pub draws : Draws piece before after old new picture drawn
-  pub long : length piece ≡ count
+-- no stroke
+abbrev pub no_stroke : Stroke
+no_stroke = record { ink = Print; line = 0; gap = 0; start = 0; end = 0; pass = 0 }
 
--- some piece of at most so many bytes did
-pub record Strokes (most : ℕ) (before after : Seen) (old new : Pen) (picture drawn : Picture) : Type 0 where
-  pub piece : List ℕ
-  pub draws : Draws piece before after old new picture drawn
-  pub short : length piece ≤ most
+-- ---- strokes that were drawn, in any order
 
-module _ {W : Type 0} (seen : W → Seen) (name : W → ℕ) where
-  -- An erasure was put after what was gathered, and changes every picture so. Nothing else of the pen changed, and the
-  -- sink is the same.
-  pub record Erases (erasure : Token) (erased : Picture → Picture) (old : Pen) (before : W) (new : Pen) (after : W) : Type 0 where
-    pub draws : (picture : Picture) → Draws (spelling erasure) (seen before) (seen after) old new picture (erased picture)
-    pub rest : new ≡ record old { outbox = new.outbox }
-    pub same : name after ≡ name before
+-- how often they write a place, and how many bytes they may have
+abbrev pub layers : Place → List Stroke → ℕ
+layers place strokes = count_by (writes place) strokes
 
--- ---- how many bytes they have
+abbrev pub strokes_bytes : Picture → List Stroke → ℕ
+strokes_bytes wanted strokes = sum_by (stroke_bytes wanted) strokes
 
--- to go to a place and to select a rendition
-abbrev pub moved_bytes : Option Place → Rendition → Place → Rendition → ℕ
-moved_bytes cursor rendition place wanted = length (move_from cursor place) + length (change rendition wanted)
-
--- to print cells again, each in its rendition, and to select one after them
-abbrev pub again_bytes : Rendition → List Shown → Rendition → ℕ
-again_bytes rendition [] wanted = length (change rendition wanted)
-again_bytes rendition (cell ∷ gap) wanted = length (change rendition cell.rendition) + 1 + again_bytes cell.rendition gap wanted
-
--- To come to the place after a gap, which begins at a place, with a rendition. Where the cursor is there, the gap may
--- be printed again.
-abbrev pub approach_bytes : Option Place → Rendition → Place → List Shown → Rendition → ℕ
-approach_bytes cursor rendition start gap wanted =
-    let moved = moved_bytes cursor rendition (start.0, start.1 + length gap) wanted in
-    if is_at cursor start then min (again_bytes rendition gap wanted) moved else moved
-
--- to draw cells after a gap: the approach, and a byte for each
-abbrev pub drawn_bytes : Option Place → Rendition → Place → List Shown → List Shown → ℕ
-drawn_bytes cursor rendition start gap cells = approach_bytes cursor rendition start gap (slice_index_or cells 0 shown_blank).rendition + length cells
-
--- Whether the gap is printed again: where that takes fewer bytes than a move, or as many, if all its cells have the
--- rendition in force, or all the wanted one.
-abbrev pub is_printed_again : Option Place → Rendition → Place → List Shown → Rendition → Bool
-is_printed_again cursor rendition start gap wanted =
-    let again = again_bytes rendition gap wanted in
-    let moved = moved_bytes cursor rendition (start.0, start.1 + length gap) wanted in
-    nat_lt 0 (length gap) && (is_at cursor start && (nat_lt again moved || (again == moved && (all_have rendition gap || all_have wanted gap))))
-
--- to come to a column of a line with the empty rendition, over the gap that begins at another, or that has no cell
-abbrev pub reach_bytes : Option Place → Rendition → ℕ → List Shown → ℕ → ℕ → ℕ
-reach_bytes cursor rendition line cells gap column =
-    let start = min gap column in
-    approach_bytes cursor rendition (line, start) (take (column - start) (drop start cells)) no_rendition
-
--- Cells that are shown already were printed again, the first of them. What the others and a selection after them take
--- is left.
-pub record ArePrinted (before now : Seen) (old pen : Pen) (line column i : ℕ) (cells : List Shown) : Type 0 where
-  pub spent : ℕ
-  pub left : (wanted : Rendition) → spent + again_bytes pen.rendition (drop i cells) wanted ≡ again_bytes old.rendition cells wanted
-  pub strokes : (picture : Picture) → length (line_of picture line) ≡ old.columns → take (length cells) (drop column (line_of picture line)) ≡ cells
-      → ExactStrokes spent before now old pen picture picture
-  pub cursor : pen.cursor ≡ Some (line, column + i)
+-- They were drawn over what was shown: what they write is what is wanted, and what was shown as wanted still is.
+pub record AreDrawn (before now : Seen) (old pen : Pen) (shown wanted : Picture) (strokes : List Stroke) : Type 0 where
+  pub drawn : Picture
+  pub piece : DrawsWithin (strokes_bytes wanted strokes) before now old pen shown drawn
+  pub kept : (place : Place) → shown_at shown place ≡ shown_at wanted place → shown_at drawn place ≡ shown_at wanted place
+  pub written : (place : Place) → 0 < layers place strokes → shown_at drawn place ≡ shown_at wanted place
   pub columns : pen.columns ≡ old.columns
 
--- ---- how many bytes they may have
+-- ---- strokes that were found, line by line
 
--- an approach: a position, or a gap in its place, and a selection
-abbrev pub most_approach : Rendition → ℕ
-most_approach rendition = position_bytes + length (spelling (Sgr rendition))
+-- what the places from one on may cost
+abbrev pub bytes_from : Picture → Picture → Place → ℕ
+bytes_from shown wanted place =
+    line_bytes (drop place.1 (line_of shown place.0)) (drop place.1 (line_of wanted place.0)) + picture_bytes (drop (place.0 + 1) shown) (drop (place.0 + 1) wanted)
 
--- these and a character
-abbrev pub cell_bytes : Shown → ℕ
-cell_bytes cell = place_bytes + (if has_colour cell.rendition then colour_bytes else 0)
+-- Before a place they write all that isn't shown as wanted, and what the places from it on may cost is left.
+pub record AreFound (shown wanted : Picture) (to : Place) (strokes : List Stroke) : Type 0 where
+  pub others : (place : Place) → is_before place to ≡ true → layers place strokes ≡ 0 → shown_at shown place ≡ shown_at wanted place
+  pub short : strokes_bytes wanted strokes + bytes_from shown wanted to ≤ picture_bytes shown wanted
 
--- these of the first of some cells, and the characters of the others
-abbrev pub run_bytes : List Shown → ℕ
-run_bytes cells = cell_bytes (slice_index_or cells 0 shown_blank) + (length cells - 1)
+-- others were drawn, and these are to be
+pub record ArePlanned (shown wanted : Picture) (to : Place) (others strokes : List Stroke) : Type 0 where
+  pub found : AreFound shown wanted to (others ++ strokes)
+  pub are : All (IsStroke shown wanted) strokes
 
-abbrev pub line_bytes : List Shown → List Shown → ℕ
-line_bytes old new = place_bytes * line_difference old new + colour_bytes * line_colour_difference old new
+-- Some strokes were drawn, and others are planned: together they write all before a place.
+pub record IsUnderWay (before now : Seen) (old pen : Pen) (shown wanted : Picture) (to : Place) (strokes : List Stroke) : Type 0 where
+  pub others : List Stroke
+  pub drawn : AreDrawn before now old pen shown wanted others
+  pub planned : ArePlanned shown wanted to others strokes
 
-abbrev pub picture_bytes : Picture → Picture → ℕ
-picture_bytes old new = place_bytes * difference old new + colour_bytes * colour_difference old new
+-- ---- passes
+
+abbrev pub is_of : ℕ → Stroke → Bool
+is_of pass stroke = stroke.pass == pass
+
+-- those of the first passes, so many, one pass after another
+abbrev pub in_passes : ℕ → List Stroke → List Stroke
+in_passes zero strokes = []
+in_passes (suc passes) strokes = in_passes passes strokes ++ filter (is_of passes) strokes

@@ -2,7 +2,7 @@
 use Rattle.std.proofs.Common.{◌-◌, ◌≤◌, drop, inl, inr, take, ap, arith}
 use Rattle.std.proofs.lemmas.Bool.{cases_lt}
 use Rattle.std.proofs.lemmas.List.{length-take}
-use Rattle.paint.proofs.Listing.{part-same}
+use Rattle.paint.proofs.CellRuns.{part-same}
 use Rattle.paint.proofs.line.next_changed.Goals as goal
 
 pub returns-in-Some-clause-alike : goal.returns-in-Some-clause-alike

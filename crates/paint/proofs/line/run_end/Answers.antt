@@ -2,29 +2,25 @@
 use Rattle.std.proofs.Common.{◌≡◌, ◌+◌, ◌-◌, ◌∙◌, ap, arith}
 use Rattle.std.proofs.lemmas.List.{get_or_default}
 use Rattle.cell.specs.Shown.{Shown, shown_blank}
-use Rattle.paint.proofs.CellRuns.{over-at, run-begun, run-further}
+use Rattle.paint.proofs.CellRuns.{run-begun, run-further}
 use Rattle.paint.proofs.line.run_end.Goals as goal
 
 pub loop-x-init : goal.loop-x-init
 loop-x-init c = run-begun _ _ _ _ (omega (arith, c.requires.begun)) c.requires.differs
 
-pub returns-then-more-lt-LANES-clause-run : goal.returns-then-more-lt-LANES-clause-run
-returns-then-more-lt-LANES-clause-run c =
+pub returns-then-is_over : goal.returns-then-is_over
+returns-then-is_over c = record { run = run-begun _ _ _ _ (omega (arith, c.requires.begun)) c.requires.differs }
+
+pub returns-then-more-lt-LANES : goal.returns-then-more-lt-LANES
+returns-then-more-lt-LANES c =
     let wanted = c.args.wanted.now in
     let first = c.index-wanted-start.is ∙ get_or_default wanted c.args.start c.index-wanted-start.result shown_blank (omega (arith, c.requires.begun, c.requires.inside)) in
     let piece : c.loop-x.x + 16 - c.loop-x.x ≡ 16 = omega arith in
     let more = rw piece at c.run_before-more.ensures.run in
-    run-further c.run_before-more.result 16 c.run_before-more.ensures.within c.loop-x.invariant (c.rendition-rendition.ensures.value ∙ ap (λ (cell : Shown). cell.rendition) first) more
-    (omega (arith, c.run_before-more.ensures.within, c.loop-x-test.true))
-
-pub returns-then-more-lt-LANES-clause-longest : goal.returns-then-more-lt-LANES-clause-longest
-returns-then-more-lt-LANES-clause-longest c = λ _.
-    let wanted = c.args.wanted.now in
-    let first = c.index-wanted-start.is ∙ get_or_default wanted c.args.start c.index-wanted-start.result shown_blank (omega (arith, c.requires.begun, c.requires.inside)) in
-    let piece : c.loop-x.x + 16 - c.loop-x.x ≡ 16 = omega arith in
-    let over = rw piece at (c.run_before-more.ensures.longest c.if-more-lt-LANES.true) in
-    over-at c.run_before-more.result 16 c.args.start c.loop-x.x c.args.shown.now wanted c.rendition-rendition.result c.if-more-lt-LANES.true
-    (c.rendition-rendition.ensures.value ∙ ap (λ (cell : Shown). cell.rendition) first) over
+    record {
+      run = run-further c.run_before-more.result 16 c.run_before-more.ensures.within c.loop-x.invariant (c.rendition-rendition.ensures.value ∙ ap (λ (cell : Shown). cell.rendition) first) more
+          (omega (arith, c.run_before-more.ensures.within, c.loop-x-test.true));
+    }
 
 pub loop-x-preserved : goal.loop-x-preserved
 loop-x-preserved c =

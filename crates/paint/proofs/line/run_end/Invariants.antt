@@ -1,5 +1,5 @@
 use Rattle.std.proofs.Common.{◌-◌}
-use Rattle.paint.specs.steps.Walks.{IsRun}
+use Rattle.paint.specs.steps.Runs.{IsRun}
 use Rattle.paint.proofs.line.run_end.Given as goal
 
 abbrev pub invariant-loop-x : goal.invariant-loop-x

@@ -1,5 +1,5 @@
 -- `new`: a picture, changes and a pen of one size.
-use Rattle.std.proofs.Common.{None, length, ap, rules, subst, sym, ◌∙◌}
+use Rattle.std.proofs.Common.{None, length, ap, arith, rules, subst, sym, ◌∙◌}
 use Rattle.std.proofs.lemmas.Simd.{length-replicate}
 use Rattle.cell.specs.Shown.{Shown, shown_blank}
 use Rattle.cell.specs.Pictures.{HasSize}
@@ -14,4 +14,7 @@ invariant_of-result c = (
   subst (HasSize {A = Shown} c.args.lines c.args.columns) (sym c.in_ok-picture.ensures) (HasSize-all_of shown_blank c.args.lines c.args.columns),
   ap length c.in_ok-changes.ensures ∙ length-replicate c.args.lines None,
   ap (λ (pen : Pen). pen.columns) c.in_ok-pen.ensures,
+  omega (arith, c.in_ok-positions.ensures),
+  omega (arith, c.in_ok-positions.ensures),
+  omega (arith, c.in_ok-positions.ensures),
 )

@@ -1,4 +1,4 @@
-use Rattle.paint.proofs.PenStrokes.{ends}
+use Rattle.paint.proofs.PenSteps.{ends}
 use Rattle.paint.proofs.pen.Pen.end.Goals as goal
 
 pub returns-clause-draws : goal.returns-clause-draws

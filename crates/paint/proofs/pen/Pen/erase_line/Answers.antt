@@ -1,9 +1,9 @@
--- `erase_line`: what the erasure draws, from what an erasure draws (`PenStrokes`).
+-- `erase_line`: what the erasure draws, from what an erasure draws (`PenSteps`).
 use Rattle.std.proofs.Common.{refl}
 use Rattle.ecma.specs.Terminals.{erased_at}
 use Rattle.ecma.specs.declared.token.Erase.TheVariants.{ToEnd}
 use Rattle.ecma.specs.declared.token.Token.TheVariants.{El}
-use Rattle.paint.proofs.PenStrokes.{erases}
+use Rattle.paint.proofs.PenSteps.{erases}
 use Rattle.paint.proofs.pen.Pen.erase_line.Goals as goal
 
 pub returns : goal.returns

@@ -1,6 +1,6 @@
--- `go`: the strokes of a pen, one after another, and what each shows (`PenStrokes`).
-use Rattle.std.proofs.Common.{sym, ◌∙◌}
-use Rattle.paint.proofs.PenStrokes.{goes, goes-nowhere, is_at-known}
+-- `go`: the strokes of a pen, one after another, and what each shows (`PenSteps`).
+use Rattle.std.proofs.Common.{sym, ◌∙◌, arith}
+use Rattle.paint.proofs.PenSteps.{goes, goes-nowhere, is_at-known}
 use Rattle.paint.proofs.pen.Pen.go.Goals as goal
 
 pub returns-then-is_at-clause-draws : goal.returns-then-is_at-clause-draws
@@ -11,4 +11,5 @@ returns-then-is_at-clause-cursor g c = is_at-known c.args.self.now.cursor (c.arg
 
 pub returns-clause-draws : goal.returns-clause-draws
 returns-clause-draws g c = λ picture inside.
-    goes c.args.self.now c.put.new.self (c.args.line, c.args.column) picture (sym c.is_at.ensures ∙ c.if-is_at.false) c.requires.line c.requires.column inside c.put.ensures.gathers c.put.ensures.rest
+    goes c.args.self.now c.put_position.new.self (c.args.line, c.args.column) picture (sym c.is_at.ensures ∙ c.if-is_at.false) (omega (arith, c.requires.line, c.requires.few))
+    (omega (arith, c.requires.column, c.requires.few)) inside c.put_position.ensures.gathers c.put_position.ensures.rest

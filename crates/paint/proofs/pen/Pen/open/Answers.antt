@@ -1,7 +1,7 @@
 use Rattle.std.proofs.Common.{sym, subst}
 use Rattle.paint.specs.steps.Gathering.{Gathers}
 use Rattle.paint.proofs.Shows.{opening-spelled}
-use Rattle.paint.proofs.PenStrokes.{Gathers-then}
+use Rattle.paint.proofs.PenSteps.{Gathers-then}
 use Rattle.paint.proofs.pen.Pen.open.Goals as goal
 
 pub returns-clause-gathers : goal.returns-clause-gathers

@@ -1,5 +1,5 @@
 use Rattle.std.proofs.Common.{sym}
-use Rattle.paint.proofs.PenStrokes.{selects, selects-nothing}
+use Rattle.paint.proofs.PenSteps.{selects, selects-nothing}
 use Rattle.paint.proofs.pen.Pen.select.Goals as goal
 
 pub returns-then-eq-clause-draws : goal.returns-then-eq-clause-draws

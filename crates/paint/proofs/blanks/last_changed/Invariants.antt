@@ -1,0 +1,12 @@
+use Rattle.std.proofs.Common.{◌≡◌, ◌≤◌, ℕ, length}
+use Rattle.cell.specs.Pictures.{shown_at}
+use Rattle.paint.proofs.blanks.last_changed.Given as goal
+
+abbrev pub invariant-loop-end : goal.invariant-loop-end
+invariant-loop-end l = record {
+  within : l.end ≤ length l.frame.changes.now;
+  later : (y x : ℕ) → l.end ≤ y → shown_at l.frame.shown.now (y, x) ≡ shown_at l.frame.wanted.now (y, x);
+}
+
+abbrev pub decreases-loop-end : goal.decreases-loop-end
+decreases-loop-end l = l.end

@@ -1,0 +1,14 @@
+use Rattle.std.proofs.Common.{List, ◌++◌, take}
+use Rattle.streams.specs.Sinks.{Seen}
+use Rattle.paint.specs.declared.pen.Pen.{Pen}
+use Rattle.paint.specs.declared.strokes.Stroke.{Stroke}
+use Rattle.paint.specs.steps.Strokes.{AreDrawn}
+use Rattle.paint.specs.steps.Pens.{SameTerminals}
+use Rattle.paint.proofs.drawing.draw_strokes.Given as goal
+
+abbrev pub invariant-loop-i : goal.invariant-loop-i
+invariant-loop-i g l = record {
+  drawn : (before : Seen) (begun : Pen) (others : List Stroke) → AreDrawn before (g.W.Sink.seen l.fn.sink) begun l.fn.pen l.frame.shown.now l.frame.wanted.now others
+      → AreDrawn before (g.W.Sink.seen l.sink) begun l.pen l.frame.shown.now l.frame.wanted.now (others ++ take l.i l.strokes);
+  same : SameTerminals (g.W.Sink.name l.fn.sink) (g.W.Sink.name l.sink) l.fn.pen l.pen;
+}

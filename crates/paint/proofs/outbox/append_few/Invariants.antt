@@ -1,0 +1,10 @@
+use Rattle.std.proofs.Common.{◌≡◌, ℕ, ◌<◌, ◌++◌, get_or, take}
+use Rattle.cell.specs.Shown.{IsShown, shown_blank}
+use Rattle.paint.specs.steps.Pens.{characters}
+use Rattle.paint.proofs.outbox.append_few.Given as goal
+
+abbrev pub invariant-loop-cell : goal.invariant-loop-cell
+invariant-loop-cell l = record {
+  appended : l.bytes.items ≡ l.fn.bytes.items ++ characters (take l.cell-index l.cells);
+  sound : (k : ℕ) → k < l.cell-index → IsShown (get_or l.cells k shown_blank);
+}

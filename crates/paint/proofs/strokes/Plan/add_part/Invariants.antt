@@ -1,0 +1,19 @@
+use Rattle.std.proofs.Common.{◌-◌, ◌≡◌, ◌+◌, ◌<◌, ◌≤◌, List, get_or, length}
+use Rattle.cell.specs.Shown.{shown_blank}
+use Rattle.paint.specs.declared.strokes.Stroke.{Stroke}
+use Rattle.paint.specs.steps.Strokes.{AreAlike, ArePlanned}
+use Rattle.paint.proofs.strokes.Plan.add_part.Given as goal
+
+abbrev pub invariant-loop-x : goal.invariant-loop-x
+invariant-loop-x l = record {
+  gap : l.gap ≤ l.x;
+  within : l.x ≤ l.end;
+  room : length l.self + (l.end - l.x) ≤ length l.fn.self + (l.end - l.start);
+  alike : AreAlike l.frame.shown.now l.frame.wanted.now l.line l.gap l.x;
+  changed : l.x < l.end → get_or l.shown l.x shown_blank ≡ get_or l.wanted l.x shown_blank → ⊥;
+  planned : (others : List Stroke) → ArePlanned l.frame.shown.now l.frame.wanted.now (l.line, l.start) others l.fn.self
+      → ArePlanned l.frame.shown.now l.frame.wanted.now (l.line, l.x) others l.self;
+}
+
+abbrev pub decreases-loop-x : goal.decreases-loop-x
+decreases-loop-x l = l.end - l.x
