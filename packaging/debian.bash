@@ -118,8 +118,8 @@ make_debs() {
     [ "$target" = "$here_target" ] || architecture=arm64
     stage "$room/staged" "${libdir#usr/}" /usr
     rm -r "$room/staged/usr/share/doc/curspan"/{LICENSE-*,linked}
-    mkdir -p "$room/libcurspan0/DEBIAN" "$room/libcurspan-dev/usr/share/doc/libcurspan-dev/examples" "$room/curspan/usr/share/lintian/overrides"
-    cp "$root/packaging/curspan.lintian-overrides" "$room/curspan/usr/share/lintian/overrides/curspan"
+    mkdir -p "$room/libcurspan0/DEBIAN" "$room/libcurspan-dev/usr/share/doc/libcurspan-dev/examples"
+    for name in curspan libcurspan-dev; do install -D -m 644 "$root/packaging/$name.lintian-overrides" "$room/$name/usr/share/lintian/overrides/$name"; done
     cp "$room/staged/usr/share/doc/curspan/examples/c"/* "$room/libcurspan-dev/usr/share/doc/libcurspan-dev/examples"
     cp "$root/packaging/libcurspan0.triggers" "$room/libcurspan0/DEBIAN/triggers"
     echo "libcurspan 0 libcurspan0 (>= $debian)" > "$room/libcurspan0/DEBIAN/shlibs"
