@@ -26,9 +26,7 @@ mod words;
 pub use arguments::Arguments;
 pub use bytes::{LineEnd, Lines};
 pub use fault::{ScriptEnd, ScriptFault, TextFault};
-pub use limits::{
-    ALL_ATTRIBUTES, GREATEST_NUMBER, GREATEST_SIGNED, LONGEST_LINE, MOST_ARGUMENTS,
-};
+pub use limits::{ALL_ATTRIBUTES, GREATEST_NUMBER, GREATEST_SIGNED, LONGEST_LINE, MOST_ARGUMENTS};
 pub use line::{next_argument, read_line, split_at_space};
 pub use log::{LogLine, last_line, log_answer};
 pub use numbers::has_digits_alone;
