@@ -203,7 +203,7 @@ fn writes_of(alloc: Global, lines: u16) -> Result<u32, Refusal> {
 }
 
 #[test]
-fn a_doupdate_writes_once_up_to_65536_bytes(rt: HostRuntime) {
-    let writes = [writes_of(rt.alloc(), 150), writes_of(rt.alloc(), 170)];
+fn a_doupdate_writes_once_up_to_4096_bytes(rt: HostRuntime) {
+    let writes = [writes_of(rt.alloc(), 9), writes_of(rt.alloc(), 15)];
     assert_eq!(rt; writes, [Ok(1), Ok(2)]);
 }
