@@ -110,10 +110,10 @@ def has_form(form, piece):
 
 
 def word_between(line, forms, pieces, starts):
-    """The column of a word between numbers, in a line that has numbers: the first argument without its form, where that is a number's."""
+    """The column of a word in place of digits, in a line that has some: the first argument without its form, where a form has digits."""
     for form, piece, start in zip(forms, pieces, starts):
         if not has_form(form, piece):
-            is_word = form in ('number', 'number_or_none', 'signed') and not re.search(rb'[0-9]', piece) and re.search(rb'[0-9]', line)
+            is_word = form in ('number', 'number_or_none', 'signed', 'attributes') and not re.search(rb'[0-9]', piece) and re.search(rb'[0-9]', line)
             return start if is_word else None
     return None
 
