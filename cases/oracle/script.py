@@ -109,13 +109,19 @@ def has_form(form, piece):
     return True
 
 
-def word_between(line, forms, pieces, starts):
-    """The column of a word between numbers, in a line that has numbers: the first argument without its form, where that is a number's."""
+def misplaced(line, forms, pieces, starts):
+    """The column of the first argument without its form, if arguments are missing, or if it is a word in place of digits, in a line that has
+    some."""
     for form, piece, start in zip(forms, pieces, starts):
         if not has_form(form, piece):
-            is_word = form in ('number', 'number_or_none', 'signed') and not re.search(rb'[0-9]', piece) and re.search(rb'[0-9]', line)
-            return start if is_word else None
+            is_word = form not in ('flag', 'text', 'character') and not re.search(rb'[0-9]', piece) and re.search(rb'[0-9]', line)
+            return start if is_word or len(pieces) < len(forms) else None
     return None
+
+
+def bytes_before(form, piece):
+    """How many bytes of an argument without its form are before its fault: those of a text before the backslash that begins no escape."""
+    return re.match(rb'(?:\\x[0-9a-f]{2}|\\[nrb\\]|[^\\])*', piece).end() if form == 'text' else 0
 
 
 def read_line(line):
@@ -137,14 +143,14 @@ def read_line(line):
         starts.append(starts[-1] + len(piece) + 1)
     if len(pieces) != len(forms):
         strays = [start for piece, start in zip(pieces, starts) if is_stray(piece)]
-        between = word_between(line, forms, pieces, starts) if len(forms) < len(pieces) else None
-        return Fault(WRONG_COUNT, strays[0] if strays else between or starts[min(len(forms), len(pieces))])
+        misplaced_at = misplaced(line, forms, pieces, starts)
+        return Fault(WRONG_COUNT, strays[0] if strays else misplaced_at or starts[min(len(forms), len(pieces))])
     said = []
     for form, piece, start in zip(forms, pieces, starts):
         try:
             said.append(READERS[form](piece))
         except IllFormed:
-            return Fault(BAD_ARGUMENT, start)
+            return Fault(BAD_ARGUMENT, start + bytes_before(form, piece))
     return Call(word.decode(), said)
 
 

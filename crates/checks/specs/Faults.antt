@@ -10,7 +10,7 @@ use Rattle.script.specs.Texts.{parse_argument}
 use Rattle.script.specs.Words.{entry_of, no_arguments, word_of}
 use Rattle.script.specs.declared.limits.TheConstants.{LONGEST_LINE}
 use Rattle.script.specs.declared.words.Form.{Form}
-use Rattle.script.specs.declared.words.Form.TheVariants.{Number, NumberOrNone, Signed, Text}
+use Rattle.script.specs.declared.words.Form.TheVariants.{Character, Flag, Text}
 use Rattle.script.specs.declared.fault.TextFault.{TextFault}
 use Rattle.script.specs.declared.fault.TextFault.TheVariants.{LineTooLong, BadByte, UnknownCall, WrongNumberOfArguments, BadArgument}
 
@@ -89,15 +89,15 @@ find_stray column (argument ∷ others) = if is_stray argument then Some (column
 abbrev pub find_stray_in : List (List ℕ) → Option (ℕ × List ℕ)
 find_stray_in pieces = find_stray (first_column (word_in pieces)) (arguments_in pieces)
 
-abbrev pub is_of_number : Form → Bool
-is_of_number Number = true
-is_of_number NumberOrNone = true
-is_of_number Signed = true
-is_of_number form = false
+abbrev pub is_of_digits : Form → Bool
+is_of_digits Flag = false
+is_of_digits Character = false
+is_of_digits Text = false
+is_of_digits form = true
 
--- A word in place of a number, in a line that has numbers: it has no digit.
+-- A word in place of digits, in a line that has some: it has none.
 abbrev pub is_word : List ℕ → Form → List ℕ → Bool
-is_word line form argument = is_of_number form && list_any is_ascii_digit line && not (list_any is_ascii_digit argument)
+is_word line form argument = is_of_digits form && list_any is_ascii_digit line && not (list_any is_ascii_digit argument)
 
 -- the first argument without its form, if there are too few, or if it is such a word
 unfoldable pub misplaced : List ℕ → List (List ℕ) → Option IllFormed → Option IllFormed

@@ -86,11 +86,11 @@ fn has_digit(text: &[u8]) -> bool
     text.iter().any(u8::is_ascii_digit)
 }
 
-/// Whether an argument without its form is a word in place of a number, in a line that has numbers.
+/// Whether an argument without its form is a word in place of digits, in a line that has some.
 pub fn is_word(line: &[u8], ill: IllFormed<'_>) -> bool
     ensures { result ≡ is_word line.now ill.entry.form ill.entry.argument.now }
 {
-    matches!(ill.form, Form::Number | Form::NumberOrNone | Form::Signed)
+    !matches!(ill.form, Form::Flag | Form::Character | Form::Text)
         && has_digit(line)
         && !has_digit(ill.argument)
 }

@@ -17,13 +17,15 @@ use cell::{
     hex_digits,
 };
 use script::{
-    ALL_ATTRIBUTES, Form, GREATEST_NUMBER, GREATEST_SIGNED, LONGEST_LINE, TextFault, Word,
-    has_digits_alone, split_at_space,
+    ALL_ATTRIBUTES, Form, GREATEST_NUMBER, GREATEST_SIGNED, LONGEST_LINE, MakingWord, TextFault,
+    Word, WritingWord, has_digits_alone, split_at_space,
 };
 use streams::{append, append_decimal};
 
 /// Room for a line: what is said, and where.
 pub const FINDING_ROOM: usize = ROOM + 256;
+
+const SPACES: &[u8] = b"; one space separates words, and none ends a line without a text";
 
 /// The line about a fault.
 pub type Finding = ArrayVec<u8, FINDING_ROOM>;
@@ -121,20 +123,17 @@ fn say_number(said: &mut Said, line: &[u8], word: &[u8], text: Option<&[u8]>)
 {
     say_taken(said, word, count(forms_of(word), text));
     if let Some((_, stray)) = find_stray(word.len() + 2, forms_of(word), text) {
-        said.text(if stray.is_empty() {
-            b"; single spaces separate words, and none ends a line".as_slice()
-        } else {
-            b"; a comment has a line of its own"
-        });
+        let comment = b"; a comment has a line of its own, which begins with #".as_slice();
+        said.text(if stray.is_empty() { SPACES } else { comment });
     } else if let Some(ill) = misplaced(line, word, text) {
         said.text(b"; here it wants ");
-        say_wanted(said, ill);
+        say_wanted(said, word, ill);
     }
 }
 
-/// Says what an argument of a form has to be.
+/// Says what an argument of a form has to be, for a call.
 #[rattlefmt::skip]
-fn say_form(said: &mut Said, form: Form) {
+fn say_form(said: &mut Said, word: &[u8], form: Form) {
     match form {
         Form::Number => say_limit(said, b"a number from 0 to ", GREATEST_NUMBER, b""),
         Form::NumberOrNone => say_limit(said, b"a number from 0 to ", GREATEST_NUMBER, b", or none"),
@@ -147,14 +146,15 @@ fn say_form(said: &mut Said, form: Form) {
             said.text(&hex_digits(ALL_ATTRIBUTES));
         }
         Form::Flag => said.text(b"on or off"),
-        Form::Character => said.text(b"one character, or one of the escapes \\n, \\r, \\b, \\\\ and \\xhh in lower case"),
-        Form::Text => said.text(b"a text with no escapes but \\n, \\r, \\b, \\\\ and \\xhh in lower case"),
+        Form::Character if word == b"addch".as_slice() => said.text(b"one character, or one of the escapes \\\\, \\n, \\r, \\b and \\xhh, where hh is 08, 0a, 0d or from 20 to 7e, in lower case"),
+        Form::Character => said.text(b"one character, or one of the escapes \\\\ and \\xhh, where hh is from 20 to 7e, in lower case"),
+        Form::Text => said.text(b"a text with no escapes but \\\\, \\n, \\r, \\b and \\xhh, where hh is 08, 0a, 0d or from 20 to 7e, in lower case"),
     }
 }
 
 /// Says what is wanted in place of an argument, what is there, and why digits there are no number.
-fn say_wanted(said: &mut Said, ill: IllFormed<'_>) {
-    say_form(said, ill.form);
+fn say_wanted(said: &mut Said, word: &[u8], ill: IllFormed<'_>) {
+    say_form(said, word, ill.form);
     said.text(b", not ");
     quote(said, ill.argument);
     let digits = match ill.form {
@@ -166,9 +166,7 @@ fn say_wanted(said: &mut Said, ill: IllFormed<'_>) {
         [b'0'] => b": 0 has no minus".as_slice(),
         [b'0', ..] if has_digits_alone(digits) => b": a number has no leading 0",
         [_, ..] if has_digits_alone(digits) => b": it is past that range",
-        _ if ill.argument.is_empty() && !matches!(ill.form, Form::Character) => {
-            b": single spaces separate words, and none ends a line"
-        }
+        _ if ill.argument.is_empty() && !matches!(ill.form, Form::Character) => SPACES,
         _ => b"",
     });
 }
@@ -179,7 +177,7 @@ fn say_bad_byte(said: &mut Said, byte: u8) {
     said.text(&hex_digits(byte));
     said.text(match byte {
         b'\r' => b": a line ends with a newline alone".as_slice(),
-        b'\t' => b": single spaces separate words, and no line has tabs",
+        b'\t' => b": one space separates words, and no line has tabs",
         8 => b": a text has a backspace as \\b",
         128.. => b": characters are those of ASCII, from the space to the tilde",
         _ => b": no line has control characters, and a text only \\n, \\r and \\b",
@@ -187,17 +185,13 @@ fn say_bad_byte(said: &mut Said, byte: u8) {
 }
 
 /// Says what is wrong with a line.
+#[rattlefmt::skip]
 fn say_fault(said: &mut Said, fault: TextFault, line: &[u8])
     requires { length line.now ≤ LONGEST_LINE }
 {
     let (word, text) = split_at_space(line);
     match fault {
-        TextFault::LineTooLong => say_limit(
-            said,
-            b"the line is longer than ",
-            LONGEST_LINE as u16,
-            b" bytes",
-        ),
+        TextFault::LineTooLong => say_limit(said, b"the line is longer than ", LONGEST_LINE as u16, b" bytes"),
         TextFault::BadByte => say_bad_byte(said, bad_byte(line)),
         TextFault::UnknownCall => say_unknown(said, word),
         TextFault::WrongNumberOfArguments => say_number(said, line, word, text),
@@ -205,7 +199,7 @@ fn say_fault(said: &mut Said, fault: TextFault, line: &[u8])
             if let Some(ill) = find_ill_formed(word.len() + 2, forms_of(word), text) {
                 said.text(word);
                 said.text(b" wants ");
-                say_wanted(said, ill);
+                say_wanted(said, word, ill);
             }
         }
     }
@@ -230,37 +224,41 @@ fn say_sizes(said: &mut Said, before: &[u8]) {
     said.text(b", counted from 0");
 }
 
-/// Says what a refusal by the arguments alone means.
+/// Says what a refusal of a call by its arguments alone means.
 #[rattlefmt::skip]
-fn say_meaning(said: &mut Said, why: Refusal) {
-    match why {
-        Refusal::NoSuchWindow => say_limit(said, b": windows and pads have numbers from 0 to ", MOST_WINDOWS, b""),
-        Refusal::NoSuchPanel => say_limit(said, b": panels have numbers from 1 to ", MOST_PANELS, b""),
-        Refusal::OffScreen => say_limit(said, b": a screen has at most ", LARGEST_SCREEN, b" lines and columns, counted from 0"),
-        Refusal::OutsideParent => say_sizes(said, b": no parent has this part; a window has at most "),
-        Refusal::OutsideWindow => say_sizes(said, b": no window has this place; a window has at most "),
-        Refusal::NotPad => said.text(b": window 0 is the standard screen, and no pad"),
-        Refusal::NotDerived => said.text(b": window 0 is the standard screen, and derives from no window"),
-        Refusal::BadSize => say_limit(said, b": a pad has from 1 to ", LARGEST_PAD, b" lines and columns"),
-        Refusal::BadRegion => said.text(b": the first line is after the last, or no window has the last"),
-        Refusal::BadCharacter => said.text(b": characters are those from the space to the tilde, and for addch and addstr \\n, \\r and \\b"),
-        Refusal::BadRectangle => said.text(b": a last line or column is before the first"),
-        Refusal::StandardScreen => said.text(b": window 0 is the standard screen, which stays, and is in no panel"),
-        Refusal::BadPair => {
-            say_limit(said, b": pairs are 0 to ", u16::from(LAST_PAIR), b", of which 0 is not set; colours are 0 to ");
+fn say_meaning(said: &mut Said, word: Word, why: Refusal) {
+    match (why, word) {
+        (Refusal::NoSuchWindow, _) => say_limit(said, b": windows and pads have numbers from 0 to ", MOST_WINDOWS, b""),
+        (Refusal::NoSuchPanel, _) => say_limit(said, b": panels have numbers from 1 to ", MOST_PANELS, b""),
+        (Refusal::OffScreen, _) => say_limit(said, b": a screen has at most ", LARGEST_SCREEN, b" lines and columns, counted from 0"),
+        (Refusal::OutsideParent, Word::Making(MakingWord::Subwin | MakingWord::Derwin)) =>
+            say_limit(said, b": no window has this part; a window has at most ", LARGEST_SCREEN, b" lines and columns, counted from 0"),
+        (Refusal::OutsideParent, _) => say_sizes(said, b": no parent has this part; a window has at most "),
+        (Refusal::OutsideWindow, _) => say_sizes(said, b": no window has this place; a window has at most "),
+        (Refusal::NotPad, _) => said.text(b": window 0 is the standard screen, and no pad"),
+        (Refusal::NotDerived, _) => said.text(b": window 0 is the standard screen, and derives from no window"),
+        (Refusal::BadSize, _) => say_limit(said, b": a pad has from 1 to ", LARGEST_PAD, b" lines and columns"),
+        (Refusal::BadRegion, _) => said.text(b": the first line is after the last, or no window has the last"),
+        (Refusal::BadCharacter, Word::Writing(WritingWord::Insch | WritingWord::Bkgdset)) => said.text(b": characters are those from the space to the tilde"),
+        (Refusal::BadCharacter, _) => said.text(b": characters are those from the space to the tilde, \\n, \\r and \\b"),
+        (Refusal::BadRectangle, _) => said.text(b": a last line or column is before the first"),
+        (Refusal::StandardScreen, _) => said.text(b": window 0 is the standard screen, which stays, and is in no panel"),
+        (Refusal::BadPair, Word::Refresh(_)) => {
+            say_limit(said, b": pairs from 1 to ", u16::from(LAST_PAIR), b" are set, to colours from 0 to ");
             said.number(usize::from(LAST_COLOUR));
         }
+        (Refusal::BadPair, _) => say_limit(said, b": pairs have numbers from 0 to ", u16::from(LAST_PAIR), b""),
         _ => {}
     }
 }
 
 /// The line about a call that every screen refuses, in a script's line with its number.
-pub fn refused(number: u64, why: Refusal) -> Finding
+pub fn refused(number: u64, word: Word, why: Refusal) -> Finding
     ensures { Says number 1 result.items }
 {
     let mut said = Said::new();
     said.text(b"every screen refuses this call: ");
     said.text(why.text().as_bytes());
-    say_meaning(&mut said, why);
+    say_meaning(&mut said, word, why);
     line_about(number, 1, &said)
 }

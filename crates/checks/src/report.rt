@@ -62,7 +62,7 @@ fn report_call<O: Sink>(
     ensures { ReportsSome (ReportsCall number ((entry_of word).call taken.now)) (O.seen out.old) (O.seen out.new) report result }
 {
     match refusal_everywhere(&word.call(taken)) {
-        Some(why) => report_text(out, report, refused(number, why).as_slice()),
+        Some(why) => report_text(out, report, refused(number, word, why).as_slice()),
         None => report,
     }
 }
