@@ -77,18 +77,6 @@ def table(parts, calls):
     return '\n'.join([f'#[rattlefmt::skip]\npub const CURSES: [&[Row]; {len(groups)}] = [', *(f'    &[{group}],' for group in groups), '];'])
 
 
-def entries(parts):
-    """The rows of the first part as the manual has them."""
-    for row in parts[0][1]:
-        said = row.note.replace('\\', '\\e').replace('-', '\\-')
-        see = f'see {bold(row.see)}' if row.see else ''
-        yield '.IP \\(bu 2\n' + fill(f'{bold(row.names)}: {"; ".join(it for it in [said, see] if it)}', '')
-
-
-def bold(names):
-    return ', '.join(f'\\fB{name}\\fR' for name in names)
-
-
 def case(parts):
     """A case that has each name as a line."""
     said = [(name, row.said()) for _, rows in parts for row in rows for name in row.names]
@@ -119,7 +107,6 @@ def parts(path, groups):
     rows = read_rows(path, calls)
     yield 'crates/checks/src/written_names.rt', 'arguments', all_names(groups)
     yield 'crates/checks/src/written_curses.rt', 'curses', table(rows, calls)
-    yield 'docs/curspan.1', 'curses', '\n'.join(['.nh', *entries(rows), '.hy'])
 
 
 def cases(path, groups):
