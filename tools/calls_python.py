@@ -92,13 +92,10 @@ class Method:
         return f'{self.name}({", ".join(words)})\n--\n'
 
     def entry(self):
-        """Its entry in the page, with what it answers."""
+        """The method in the page, with what it answers."""
         head = self.heads().replace('($self, ', '(').replace('($self', '(').split('\n')[0]
         hint = ANSWERS[self.answer][1]
-        answer = '' if hint == 'None' else f' -> {hint}'
-        refusals = f' *{self.call.refusals}.*' if self.call.refusals else ''
-        text = f'- `{self.type.capitalize()}.{head}{answer}`: {self.sentence}{refusals}'
-        return textwrap.fill(text, 120, subsequent_indent='  ', break_on_hyphens=False, break_long_words=False)
+        return f'`{head}`' if hint == 'None' else f'`{head} -> {hint}`'
 
     def about(self):
         """Its docstring."""
@@ -116,6 +113,12 @@ class Method:
                     for line in ('@overload', f'def {self.name}({", ".join(["self", *before, *what, *more, *after])}) -> {hint}: ...')]
         words = ['self', *(f'{name}: {self.hint(name, kind)}' for name, kind in self.parameters)]
         return [f'def {self.name}({", ".join(words)}) -> {hint}: ...']
+
+
+def entries(name, methods):
+    """The methods of a type in the page. A line breaks between two of them."""
+    text = ', '.join(it.entry().replace(' ', '\xa0') for it in methods if it.type == name)
+    return textwrap.fill(f'- `{name.capitalize()}`: {text}', 120, subsequent_indent='  ', break_on_hyphens=False, break_long_words=False).replace('\xa0', ' ')
 
 
 def wrapped(text, indent):
@@ -171,8 +174,7 @@ def parts(refusals, groups):
             own = [it for it in methods if it.type == name]
             yield file, f'{name} rows', '\n'.join(map(row, own))
             yield 'python/curspan/_curspan.pyi', f'{name} stubs', '\n'.join('    ' + line for it in own for line in it.stubs())
-    for group, (what, its) in groups.items():
-        yield 'docs/python.md', group, f'### {what[0].upper()}{what[1:]}\n\n' + '\n'.join(it.entry() for it in methods if it.call in its)
+    yield 'docs/python.md', 'methods', '\n'.join(entries(name, methods) for name in ('screen', 'window', 'pad', 'panel'))
     named = '\n'.join(textwrap.fill(f'- `{name}`: {words}', 120, subsequent_indent='  ', break_on_hyphens=False) for name, words in refusals)
     yield 'docs/python.md', 'refusals', named
     yield 'python/curspan/_errors.py', 'errors', '\n\n\n'.join(error(number, *it) for number, it in enumerate(refusals, 1))
