@@ -77,6 +77,14 @@ def table(parts, calls):
     return '\n'.join([f'#[rattlefmt::skip]\npub const CURSES: [&[Row]; {len(groups)}] = [', *(f'    &[{group}],' for group in groups), '];'])
 
 
+def entries(parts):
+    """The rows of the first part as the manual has them, each in lines of its own: a space at a line's start begins one."""
+    for row in parts[0][1]:
+        said = row.note.replace('\\', '\\e').replace('-', '\\-')
+        see = 'see ' + ', '.join(f'\\fB{name}\\fR' for name in row.see) if row.see else ''
+        yield fill(f'{", ".join(row.names)}: {"; ".join(it for it in [said, see] if it)}', '', first=' ')
+
+
 def case(parts):
     """A case that has each name as a line."""
     said = [(name, row.said()) for _, rows in parts for row in rows for name in row.names]
@@ -107,6 +115,7 @@ def parts(path, groups):
     rows = read_rows(path, calls)
     yield 'crates/checks/src/written_names.rt', 'arguments', all_names(groups)
     yield 'crates/checks/src/written_curses.rt', 'curses', table(rows, calls)
+    yield 'docs/curspan.1', 'curses', '\n'.join(entries(rows))
 
 
 def cases(path, groups):
