@@ -70,9 +70,11 @@ pub fn stretch(shown: &[Shown], wanted: &[Shown], start: usize, end: usize) -> (
     let mut x = stop;
     while goes_on(wanted, stop, x, end, rendition) {
         if shown[x] != wanted[x] {
-            stop = x + 1;
+            stop = run_end(shown, wanted, x, end);
+            x = stop;
+        } else {
+            x += 1;
         }
-        x += 1;
     }
     (stop, changed_after(shown, wanted, stop, x, end))
 }
