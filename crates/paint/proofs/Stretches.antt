@@ -5,7 +5,7 @@ use Rattle.cell.specs.Differences.{same_shown}
 use Rattle.cell.specs.Shown.{Rendition, Shown, shown_blank}
 use Rattle.paint.specs.steps.Pens.{line_bytes}
 use Rattle.paint.specs.steps.Runs.{IsRun, IsStretch}
-use Rattle.paint.proofs.CellRuns.{run-begun, run-short}
+use Rattle.paint.proofs.CellRuns.{run-short}
 use Rattle.paint.proofs.Costs.{left, line_bytes-later, line_bytes-other}
 
 pub run-stretch : {shown wanted : List Shown} {start end stop : ℕ} → length shown ≡ length wanted → end ≤ length wanted → IsRun shown wanted start end stop → IsStretch shown wanted start end stop
@@ -58,11 +58,3 @@ stretch-further {shown} {wanted} {start} {end} {stop} {next} {later} {rendition}
     run-pays next later shown wanted same run.some (omega (arith, run.within, inside, same)) run.changed,
   );
 }
-
--- a further cell that is changed, after a few others of the rendition
-pub stretch-cell : {shown wanted : List Shown} {start end stop x : ℕ} {rendition : Rendition} → length shown ≡ length wanted → end ≤ length wanted
-    → IsStretch shown wanted start end stop → rendition ≡ (get_or wanted start shown_blank).rendition → stop ≤ x → x - stop ≤ 6
-    → ((v : ℕ) → stop ≤ v → v < x + 1 → (get_or wanted v shown_blank).rendition ≡ rendition) → x < end
-    → same_shown (get_or shown x shown_blank) (get_or wanted x shown_blank) ≡ false → IsStretch shown wanted start end (x + 1)
-stretch-cell {shown} {wanted} {end = end} {x = x} same inside h is ordered few all within differs =
-    stretch-further same inside h is ordered few (λ v from to. all v from (omega arith)) (run-begun shown wanted x end within differs)

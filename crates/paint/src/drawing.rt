@@ -19,6 +19,7 @@ use crate::changes::Frame;
 use crate::line::leading;
 use crate::pen::Pen;
 use crate::strokes::{Ink, Plan, Stroke};
+use crate::tally::NOWHERE;
 use cell::{LARGEST_SCREEN, Rendition, Shown, have_rendition};
 use ecma::{Positions, position_length};
 use streams::Sink;
@@ -64,10 +65,7 @@ pub fn paint<W: Sink>(pen: &mut Pen, plan: &mut Plan, sink: &mut W, frame: &Fram
 fn begin_plan(pen: &Pen, plan: &mut Plan)
     ensures { plan.new ≡ [] }
 {
-    plan.clear(
-        pen.cursor().unwrap_or((u16::MAX, u16::MAX)),
-        pen.rendition(),
-    );
+    plan.clear(pen.cursor().unwrap_or(NOWHERE), pen.rendition());
 }
 
 /// The next line to look at, from one on: the first that may differ, or that of the cursor, where it comes before and is
@@ -165,8 +163,8 @@ fn draw_strokes<W: Sink>(pen: &mut Pen, sink: &mut W, frame: &Frame<'_>, strokes
         → AreDrawn before (W.seen sink.new) begun pen.new frame.now.shown.now frame.now.wanted.now (others ++ strokes.now) }
     ensures same { SameTerminals (W.name sink.old) (W.name sink.new) pen.old pen.new }
 {
-    for i in 0..strokes.len() {
-        draw_stroke(pen, sink, frame, strokes[i]);
+    for stroke in strokes {
+        draw_stroke(pen, sink, frame, *stroke);
     }
 }
 
@@ -189,8 +187,8 @@ fn passes_of(strokes: &[Stroke]) -> usize
     ensures { (k : ℕ) → k < length strokes.now → (slice_index_or strokes.now k no_stroke).pass < result }
 {
     let mut most = 0;
-    for i in 0..strokes.len() {
-        most = strokes[i].pass.max(most);
+    for stroke in strokes {
+        most = stroke.pass.max(most);
     }
     usize::from(most) + 1
 }
@@ -210,9 +208,9 @@ fn draw_pass<W: Sink>(
         → AreDrawn before (W.seen sink.new) begun pen.new frame.now.shown.now frame.now.wanted.now (others ++ filter (is_of pass) strokes.now) }
     ensures same { SameTerminals (W.name sink.old) (W.name sink.new) pen.old pen.new }
 {
-    for i in 0..strokes.len() {
-        if usize::from(strokes[i].pass) == pass {
-            draw_stroke(pen, sink, frame, strokes[i]);
+    for stroke in strokes {
+        if usize::from(stroke.pass) == pass {
+            draw_stroke(pen, sink, frame, *stroke);
         }
     }
 }

@@ -33,8 +33,21 @@ pub fn next_changed(shown: &[Shown], wanted: &[Shown], from: usize, end: usize) 
             return x;
         }
     }
-    match first_diff(&shown[near..end], &wanted[near..end]) {
-        Some(skipped) => near + skipped,
+    far_changed(shown, wanted, near, end)
+}
+
+/// The same, where it is expected after many cells: these are looked at together.
+fn far_changed(shown: &[Shown], wanted: &[Shown], from: usize, end: usize) -> usize
+    requires same { length shown.now ≡ length wanted.now }
+    requires ordered { from ≤ end }
+    requires inside { end ≤ length wanted.now }
+    ensures ordered { from ≤ result }
+    ensures within { result ≤ end }
+    ensures alike { (v : ℕ) → from ≤ v → v < result → slice_index_or shown.now v shown_blank ≡ slice_index_or wanted.now v shown_blank }
+    ensures changed { result < end → slice_index_or shown.now result shown_blank ≡ slice_index_or wanted.now result shown_blank → ⊥ }
+{
+    match first_diff(&shown[from..end], &wanted[from..end]) {
+        Some(skipped) => from + skipped,
         None => end,
     }
 }
@@ -57,11 +70,33 @@ pub fn stretch(shown: &[Shown], wanted: &[Shown], start: usize, end: usize) -> (
     let mut x = stop;
     while goes_on(wanted, stop, x, end, rendition) {
         if shown[x] != wanted[x] {
-            stop = x + 1;
+            stop = run_end(shown, wanted, x, end);
+            x = stop;
+        } else {
+            x += 1;
         }
-        x += 1;
     }
-    (stop, next_changed(shown, wanted, x, end))
+    (stop, changed_after(shown, wanted, stop, x, end))
+}
+
+/// The first changed cell from a column on, where those from a stretch's end up to it were looked at: it is expected near
+/// that, or else after many cells.
+#[inline(always)]
+fn changed_after(shown: &[Shown], wanted: &[Shown], stop: usize, from: usize, end: usize) -> usize
+    requires same { length shown.now ≡ length wanted.now }
+    requires before { stop ≤ from }
+    requires ordered { from ≤ end }
+    requires inside { end ≤ length wanted.now }
+    ensures ordered { from ≤ result }
+    ensures within { result ≤ end }
+    ensures alike { (v : ℕ) → from ≤ v → v < result → slice_index_or shown.now v shown_blank ≡ slice_index_or wanted.now v shown_blank }
+    ensures changed { result < end → slice_index_or shown.now result shown_blank ≡ slice_index_or wanted.now result shown_blank → ⊥ }
+{
+    if from - stop > FEW {
+        far_changed(shown, wanted, from, end)
+    } else {
+        next_changed(shown, wanted, from, end)
+    }
 }
 
 /// Whether, before an end, a cell has a rendition, and no more than a few are between it and those of it. To print these

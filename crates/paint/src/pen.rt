@@ -128,7 +128,9 @@ impl Pen {
     }
 
     /// Where the cursor is, and none where that is unknown.
-    pub fn cursor(&self) -> Option<(u16, u16)> {
+    pub fn cursor(&self) -> Option<(u16, u16)>
+        ensures { result ≡ self.now.cursor }
+    {
         self.cursor
     }
 

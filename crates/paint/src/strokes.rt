@@ -45,11 +45,11 @@ pub struct Stroke {
     /// The column after the last, where they are printed.
     pub end: u16,
     /// The pass in which they are drawn.
-    pub pass: u16,
+    pub pass: u8,
 }
 
 impl Default for Stroke {
-    /// One of no cells, in no pass.
+    /// One of no cells. Its bytes are all zero, so that a room for many is made where it will be, and not on the stack.
     fn default() -> Stroke {
         Stroke {
             ink: Ink::Print,
@@ -57,7 +57,7 @@ impl Default for Stroke {
             gap: 0,
             start: 0,
             end: 0,
-            pass: u16::MAX,
+            pass: 0,
         }
     }
 }
@@ -132,7 +132,7 @@ impl Plan {
 
     /// Takes note of one that begins after a gap of cells, and answers its pass.
     #[inline(always)]
-    fn note(&mut self, line: u16, gap: usize, cells: &[Shown], rendition: Rendition) -> u16
+    fn note(&mut self, line: u16, gap: usize, cells: &[Shown], rendition: Rendition) -> u8
         requires line { line < LARGEST_SCREEN }
         requires inside { gap + length cells.now < LARGEST_SCREEN }
         ensures { self.new ≡ self.old }

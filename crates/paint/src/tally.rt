@@ -16,10 +16,13 @@ const PLAIN: usize = 4;
 const MOST: usize = 8;
 
 /// How many passes there are at most.
-pub const PASSES: u16 = 9;
+pub const PASSES: u8 = 9;
 
-/// By how many bytes passes may be behind before no more is counted: so far behind they hardly ever come ahead again.
-const MOST_BEHIND: usize = 256;
+/// A place on no screen.
+pub const NOWHERE: (u16, u16) = (u16::MAX, u16::MAX);
+
+/// How many bytes either order is ahead at most before no more is counted: it is hardly ever behind again.
+const FAR: usize = 256;
 
 /// A tally of strokes.
 #[derive(Drop)]
@@ -31,8 +34,8 @@ pub struct Tally {
     // Where the last stroke ended, its rendition, and its pass.
     at: (u16, u16),
     last: Rendition,
-    pass: u16,
-    // Where the last stroke of each other pass ended.
+    pass: u8,
+    // Where the last stroke of each other pass ended: nowhere that is known, before it begins.
     ends: [(u16, u16); MOST + 1],
     // Bytes.
     as_found: usize,
@@ -49,7 +52,7 @@ impl Tally {
             at,
             last: rendition,
             pass: 0,
-            ends: [at; MOST + 1],
+            ends: [NOWHERE; MOST + 1],
             as_found: 0,
             by_pass: 0,
         }
@@ -78,22 +81,21 @@ impl Tally {
 
     /// Takes note of a stroke that begins after a gap of cells, and answers its pass.
     #[inline(always)]
-    pub fn note(&mut self, line: u16, gap: u16, cells: &[Shown], rendition: Rendition) -> u16
+    pub fn note(&mut self, line: u16, gap: u16, cells: &[Shown], rendition: Rendition) -> u8
         requires line { line < LARGEST_SCREEN }
         requires inside { gap + length cells.now < LARGEST_SCREEN }
         ensures { result < PASSES }
     {
         if rendition != self.last {
-            if self.by_pass > self.as_found.saturating_add(MOST_BEHIND) {
-                self.last = rendition;
-            } else {
+            if self.by_pass <= self.as_found.saturating_add(FAR) {
                 self.switch(line, gap, cells, rendition);
             }
+            self.last = rendition;
         }
         self.pass.min(PASSES - 1)
     }
 
-    /// Takes note of one of another rendition.
+    /// Finds the pass of one of another rendition, and counts it.
     #[inline(never)]
     fn switch(&mut self, line: u16, gap: u16, cells: &[Shown], rendition: Rendition)
         requires line { line < LARGEST_SCREEN }
@@ -101,14 +103,22 @@ impl Tally {
     {
         let pass = self.pass_of(rendition);
         let (selection, selected) = self.select(pass, rendition);
-        let moved = position_length(line, gap + cells.len() as u16);
-        let from_last = self.approach_length(self.at, line, gap, cells, rendition, moved);
-        self.as_found = self.as_found.saturating_add(selection + from_last);
-        self.ends[usize::from(self.pass).min(MOST)] = self.at;
-        let from_pass = self.approach_length(self.ends[pass], line, gap, cells, rendition, moved);
-        self.by_pass = self.by_pass.saturating_add(selected + from_pass);
-        self.pass = pass as u16;
-        self.last = rendition;
+        if self.as_found <= self.by_pass.saturating_add(FAR) {
+            let moved = position_length(line, gap + cells.len() as u16);
+            let from_last = self.approach_length(self.at, line, gap, cells, rendition, moved);
+            self.as_found = self.as_found.saturating_add(selection + from_last);
+            self.ends[usize::from(self.pass).min(MOST)] = self.at;
+            let from_pass = self.approach_length(
+                self.ends[pass],
+                line,
+                gap,
+                cells,
+                rendition,
+                moved,
+            );
+            self.by_pass = self.by_pass.saturating_add(selected + from_pass);
+        }
+        self.pass = pass as u8;
     }
 
     /// How many bytes it takes to select a rendition, and how many in its pass: none where that was begun.

@@ -1,25 +1,10 @@
--- What is looked at together is the same up to the first difference (`Listing`).
-use Rattle.std.proofs.Common.{◌-◌, ◌≤◌, drop, inl, inr, take, ap, arith}
+-- Near cells are looked at one after another, then many together.
+use Rattle.std.proofs.Common.{inl, inr, arith}
 use Rattle.std.proofs.lemmas.Bool.{cases_lt}
-use Rattle.std.proofs.lemmas.List.{length-take}
-use Rattle.paint.proofs.CellRuns.{part-same}
 use Rattle.paint.proofs.line.next_changed.Goals as goal
 
-pub returns-in-Some-clause-alike : goal.returns-in-Some-clause-alike
-returns-in-Some-clause-alike c =
-    let near = c.min-near.result in
-    let n = c.args.end - near in
-    let few : c.in-Some.skipped ≤ n = omega (arith, c.in-Some.ensures.0.inside, length-take n (drop near c.args.shown.now)) in
-    λ v from to. elim (cases_lt v near) [
-      | inl h ↦ c.loop-x.invariant.alike v from (omega arith)
-      | inr h ↦ part-same near n c.in-Some.skipped v c.args.shown.now c.args.wanted.now few c.in-Some.ensures.1 (omega arith) to
-    ]
-
-pub returns-in-None-clause-alike : goal.returns-in-None-clause-alike
-returns-in-None-clause-alike c =
-    let near = c.min-near.result in
-    let n = c.args.end - near in
-    λ v from to. elim (cases_lt v near) [
-      | inl h ↦ c.loop-x.invariant.alike v from (omega arith)
-      | inr h ↦ part-same near n n v c.args.shown.now c.args.wanted.now (omega arith) (ap (take n) c.in-None.ensures) (omega arith) (omega arith)
-    ]
+pub returns-clause-alike : goal.returns-clause-alike
+returns-clause-alike c = λ v from to. elim (cases_lt v c.min-near.result) [
+  | inl h ↦ c.loop-x.invariant.alike v from (omega arith)
+  | inr h ↦ c.far_changed.ensures.alike v h to
+]

@@ -1,15 +1,13 @@
 -- `stretch`: a run, and each further changed cell after a few of its rendition (`Stretches`).
 use Rattle.std.specs.Prelude.{not}
-use Rattle.std.proofs.Common.{◌≡◌, Bool, true, false, ℕ, ◌+◌, ◌<◌, ◌≤◌, ◌∙◌, get_or, length, inl, inr, ap, subst, sym, arith}
+use Rattle.std.proofs.Common.{◌≡◌, Bool, true, false, ℕ, ◌<◌, ◌≤◌, ◌∙◌, get_or, length, inl, inr, ap, subst, sym, arith}
 use Rattle.std.proofs.lemmas.Bool.{cases_lt}
 use Rattle.std.proofs.lemmas.List.{get_or_default}
 use Rattle.cell.specs.Shown.{Shown, shown_blank}
 use Rattle.cell.specs.EqualityLaws.{same_shown-equal}
-use Rattle.paint.specs.steps.Runs.{IsStretch}
-use Rattle.paint.proofs.CellRuns.{not-other, same_shown-at}
-use Rattle.paint.proofs.Stretches.{run-stretch, stretch-cell}
+use Rattle.paint.proofs.CellRuns.{not-other}
+use Rattle.paint.proofs.Stretches.{run-stretch, stretch-further}
 use Rattle.paint.proofs.line.stretch.Goals as goal
-use Rattle.paint.proofs.line.stretch.Goals.{then-ne, else-ne}
 
 not-same : (same : Bool) → not same ≡ true → false ≡ same
 not-same same h = grind arith
@@ -23,6 +21,27 @@ loop-rendition-init c = record {
   all = λ v from to. absurd (omega arith);
 }
 
+pub loop-rendition-preserved-then-ne : goal.loop-rendition-preserved-then-ne
+loop-rendition-preserved-then-ne c =
+    let wanted = c.args.wanted.now in
+    let x = c.loop-rendition.x in
+    let h = c.loop-rendition.invariant in
+    let on = c.goes_on.ensures in
+    let run = c.run_end-stop-then-ne.ensures.run in
+    let first = c.index-wanted-start.is ∙ get_or_default wanted c.args.start c.index-wanted-start.result shown_blank (omega (arith, c.requires.begun, c.requires.inside)) in
+    let all : (v : ℕ) → c.loop-rendition.stop ≤ v → v ≤ x → (get_or wanted v shown_blank).rendition ≡ c.rendition-rendition.result = λ v from to. elim (cases_lt v x) [
+      | inl below ↦ h.all v from below
+      | inr past ↦ let is : v ≡ x = omega arith in ap (λ n. (get_or wanted n shown_blank).rendition) is ∙ on.rendition c.loop-rendition-test.true
+    ] in
+    record {
+      cells = stretch-further c.requires.same c.requires.inside h.cells (c.rendition-rendition.ensures.value ∙ ap (λ (cell : Shown). cell.rendition) first) h.ordered
+          (on.few c.loop-rendition-test.true) all run;
+      ordered = omega arith;
+      within = run.within;
+      alike = λ v from to. absurd (omega (arith, from, to));
+      all = λ v from to. absurd (omega (arith, from, to));
+    }
+
 pub loop-rendition-preserved : goal.loop-rendition-preserved
 loop-rendition-preserved c =
     let shown = c.args.shown.now in
@@ -31,42 +50,25 @@ loop-rendition-preserved c =
     let h = c.loop-rendition.invariant in
     let on = c.goes_on.ensures in
     let inside : x < length wanted = omega (arith, on.before c.loop-rendition-test.true, c.requires.inside) in
-    let first = c.index-wanted-start.is ∙ get_or_default wanted c.args.start c.index-wanted-start.result shown_blank (omega (arith, c.requires.begun, c.requires.inside)) in
-    let all : (v : ℕ) → c.loop-rendition.stop ≤ v → v < x + 1 → (get_or wanted v shown_blank).rendition ≡ c.rendition-rendition.result = λ v from to. elim (cases_lt v x) [
-      | inl below ↦ h.all v from below
-      | inr past ↦ let is : v ≡ x = omega arith in ap (λ n. (get_or wanted n shown_blank).rendition) is ∙ on.rendition c.loop-rendition-test.true
-    ] in
-    elim c.if-ne.branch [
-      | then-ne w ↦
-          let is : c.if-ne.stop ≡ x + 1 = w.stop-is in
-          let differs = same_shown-at shown wanted x c.index-shown-x.is c.index-wanted-x.is (omega (arith, inside, c.requires.same)) inside (not-same _ (sym c.ne.ensures ∙ w.if-ne.true)) in
-          record {
-            cells = subst (IsStretch shown wanted c.args.start c.args.end) (sym is) (stretch-cell c.requires.same c.requires.inside h.cells
-                (c.rendition-rendition.ensures.value ∙ ap (λ (cell : Shown). cell.rendition) first) h.ordered (on.few c.loop-rendition-test.true) all (on.before c.loop-rendition-test.true) differs);
-            ordered = omega (arith, is);
-            within = omega (arith, on.before c.loop-rendition-test.true);
-            alike = λ v from to. absurd (omega (arith, is, from, to));
-            all = λ v from to. absurd (omega (arith, is, from, to));
-          }
-      | else-ne w ↦
-          let is : c.if-ne.stop ≡ c.loop-rendition.stop = w.stop-is in
-          let here = same_shown-equal c.index-shown-x.result c.index-wanted-x.result (not-other _ (sym c.ne.ensures ∙ w.if-ne.false)) in
-          let same = sym (c.index-shown-x.is ∙ get_or_default shown x c.index-shown-x.result shown_blank (omega (arith, inside, c.requires.same))) ∙ here
-          ∙ c.index-wanted-x.is ∙ get_or_default wanted x c.index-wanted-x.result shown_blank inside in
-          record {
-            cells = subst (IsStretch shown wanted c.args.start c.args.end) (sym is) h.cells;
-            ordered = omega (arith, is, h.ordered);
-            within = omega (arith, on.before c.loop-rendition-test.true);
-            alike = λ v from to. elim (cases_lt v x) [
-              | inl below ↦ h.alike v (omega (arith, is, from)) below
-              | inr past ↦ let at : v ≡ x = omega arith in subst (λ n. get_or shown n shown_blank ≡ get_or wanted n shown_blank) (sym at) same
-            ];
-            all = λ v from to. all v (omega (arith, is, from)) to;
-          }
-    ]
+    let here = same_shown-equal c.index-shown-x.result c.index-wanted-x.result (not-other _ (sym c.ne.ensures ∙ c.if-ne.false)) in
+    let same = sym (c.index-shown-x.is ∙ get_or_default shown x c.index-shown-x.result shown_blank (omega (arith, inside, c.requires.same))) ∙ here
+    ∙ c.index-wanted-x.is ∙ get_or_default wanted x c.index-wanted-x.result shown_blank inside in
+    record {
+      cells = h.cells;
+      ordered = omega (arith, h.ordered);
+      within = omega (arith, on.before c.loop-rendition-test.true);
+      alike = λ v from to. elim (cases_lt v x) [
+        | inl below ↦ h.alike v from below
+        | inr past ↦ let at : v ≡ x = omega arith in subst (λ n. get_or shown n shown_blank ≡ get_or wanted n shown_blank) (sym at) same
+      ];
+      all = λ v from to. elim (cases_lt v x) [
+        | inl below ↦ h.all v from below
+        | inr past ↦ let is : v ≡ x = omega arith in ap (λ n. (get_or wanted n shown_blank).rendition) is ∙ on.rendition c.loop-rendition-test.true
+      ];
+    }
 
 pub returns-clause-alike : goal.returns-clause-alike
 returns-clause-alike c = λ v from to. elim (cases_lt v c.loop-rendition.x) [
   | inl below ↦ c.loop-rendition.invariant.alike v from below
-  | inr past ↦ c.next_changed.ensures.alike v past to
+  | inr past ↦ c.changed_after.ensures.alike v past to
 ]
