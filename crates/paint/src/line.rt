@@ -112,8 +112,8 @@ fn goes_on(wanted: &[Shown], stop: usize, x: usize, end: usize, rendition: Rendi
     x < end && x - stop <= FEW && wanted[x].rendition() == rendition
 }
 
-/// Where the run of changed cells of one rendition ends that begins at a column, before an end. Many cells are looked at
-/// together.
+/// Where the run of changed cells of one rendition ends that begins at a column, before an end.
+#[inline(always)]
 pub fn run_end(shown: &[Shown], wanted: &[Shown], start: usize, end: usize) -> usize
     requires same { length shown.now ≡ length wanted.now }
     requires begun { start < end }
@@ -121,11 +121,23 @@ pub fn run_end(shown: &[Shown], wanted: &[Shown], start: usize, end: usize) -> u
     requires differs { same_shown (slice_index_or shown.now start shown_blank) (slice_index_or wanted.now start shown_blank) ≡ false }
     ensures run { IsRun shown.now wanted.now start end result }
 {
-    let rendition = wanted[start].rendition();
-    let mut x = start + 1;
-    if x < end && is_over(shown[x], wanted[x], rendition) {
-        return x;
+    let from = start + 1;
+    if from < end && is_over(shown[from], wanted[from], wanted[start].rendition()) {
+        return from;
     }
+    run_end_after(shown, wanted, start, from, end)
+}
+
+/// Where a run ends, before an end, whose cells up to a column are known. Many cells are looked at together.
+#[inline(never)]
+fn run_end_after(shown: &[Shown], wanted: &[Shown], start: usize, from: usize, end: usize) -> usize
+    requires same { length shown.now ≡ length wanted.now }
+    requires inside { end ≤ length wanted.now }
+    requires run { IsRun shown.now wanted.now start end from }
+    ensures run { IsRun shown.now wanted.now start end result }
+{
+    let rendition = wanted[start].rendition();
+    let mut x = from;
     while end - x >= LANES {
         let more = run_before(&shown[x..x + LANES], &wanted[x..x + LANES], rendition);
         x += more;
@@ -136,7 +148,7 @@ pub fn run_end(shown: &[Shown], wanted: &[Shown], start: usize, end: usize) -> u
     run_end_from(shown, wanted, start, x, end)
 }
 
-/// Where a run ends, before an end, whose cells up to a column are known.
+/// The same, cell by cell.
 fn run_end_from(shown: &[Shown], wanted: &[Shown], start: usize, from: usize, end: usize) -> usize
     requires same { length shown.now ≡ length wanted.now }
     requires inside { end ≤ length wanted.now }

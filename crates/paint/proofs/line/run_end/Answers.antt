@@ -1,32 +1,10 @@
--- `run_end`: runs of cells: printed one after another, and drawn in a line (`CellRuns`).
-use Rattle.std.proofs.Common.{◌≡◌, ◌+◌, ◌-◌, ◌∙◌, ap, arith}
-use Rattle.std.proofs.lemmas.List.{get_or_default}
-use Rattle.cell.specs.Shown.{Shown, shown_blank}
-use Rattle.paint.proofs.CellRuns.{run-begun, run-further}
+-- `run_end`: a run of one cell, and more of them (`CellRuns`).
+use Rattle.std.proofs.Common.{arith}
+use Rattle.paint.proofs.CellRuns.{run-begun}
 use Rattle.paint.proofs.line.run_end.Goals as goal
-
-pub loop-x-init : goal.loop-x-init
-loop-x-init c = run-begun _ _ _ _ (omega (arith, c.requires.begun)) c.requires.differs
 
 pub returns-then-is_over : goal.returns-then-is_over
 returns-then-is_over c = record { run = run-begun _ _ _ _ (omega (arith, c.requires.begun)) c.requires.differs }
 
-pub returns-then-more-lt-LANES : goal.returns-then-more-lt-LANES
-returns-then-more-lt-LANES c =
-    let wanted = c.args.wanted.now in
-    let first = c.index-wanted-start.is ∙ get_or_default wanted c.args.start c.index-wanted-start.result shown_blank (omega (arith, c.requires.begun, c.requires.inside)) in
-    let piece : c.loop-x.x + 16 - c.loop-x.x ≡ 16 = omega arith in
-    let more = rw piece at c.run_before-more.ensures.run in
-    record {
-      run = run-further c.run_before-more.result 16 c.run_before-more.ensures.within c.loop-x.invariant (c.rendition-rendition.ensures.value ∙ ap (λ (cell : Shown). cell.rendition) first) more
-          (omega (arith, c.run_before-more.ensures.within, c.loop-x-test.true));
-    }
-
-pub loop-x-preserved : goal.loop-x-preserved
-loop-x-preserved c =
-    let wanted = c.args.wanted.now in
-    let first = c.index-wanted-start.is ∙ get_or_default wanted c.args.start c.index-wanted-start.result shown_blank (omega (arith, c.requires.begun, c.requires.inside)) in
-    let piece : c.loop-x.x + 16 - c.loop-x.x ≡ 16 = omega arith in
-    let more = rw piece at c.run_before-more.ensures.run in
-    run-further c.run_before-more.result 16 c.run_before-more.ensures.within c.loop-x.invariant (c.rendition-rendition.ensures.value ∙ ap (λ (cell : Shown). cell.rendition) first) more
-    (omega (arith, c.run_before-more.ensures.within, c.loop-x-test.true))
+pub run_end_after-requires-clause-run : goal.run_end_after-requires-clause-run
+run_end_after-requires-clause-run c = run-begun _ _ _ _ (omega (arith, c.requires.begun)) c.requires.differs

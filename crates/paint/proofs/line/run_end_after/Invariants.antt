@@ -1,6 +1,6 @@
 use Rattle.std.proofs.Common.{◌-◌}
 use Rattle.paint.specs.steps.Runs.{IsRun}
-use Rattle.paint.proofs.line.run_end.Given as goal
+use Rattle.paint.proofs.line.run_end_after.Given as goal
 
 abbrev pub invariant-loop-x : goal.invariant-loop-x
 invariant-loop-x l = IsRun l.shown l.wanted l.start l.end l.x
