@@ -1,25 +1,25 @@
-"""The wrong bodies that tools/calls writes: an edit for each constructor and each method that it writes, which the prover must refuse."""
+"""The wrong bodies that tools/calls writes: one of each constructor and of each method that it writes."""
 import sys
 
-# Where they are, by the folder of their crate.
-FOLDER = 'wrong/written'
+from wrong_bodies import WrongBody, text_of
 
 
 def neighbour(call, calls, is_like):
-    """The next call of the group, after the last the first, with the same arguments; or nothing, if there is none that is like it."""
+    """The next call of the group, after the last the first, with the same arguments; or nothing, if none is like it."""
     at = calls.index(call)
-    return next((it for it in [*calls[at + 1:], *calls[:at]] if it.arguments == call.arguments and is_like(it)), None)
+    return next((it for it in calls[at + 1:] + calls[:at] if it.arguments == call.arguments and is_like(it)), None)
 
 
 def first_pair(call):
     """The first two arguments of one type, if there are two."""
-    arguments = call.arguments
-    return next(((one, other) for at, (one, kind) in enumerate(arguments) for other, like in arguments[at + 1:] if like == kind), None)
+    later = [(one, call.arguments[at + 1:]) for at, one in enumerate(call.arguments)]
+    return next(((one, other) for (one, kind), others in later for other, like in others if like == kind), None)
 
 
 def wrong_body(call, calls):
-    """A wrong body: its name, what it does first, and the call that it makes. That is another one, which takes and answers the same; or else two
-    arguments change places; or else the window is the standard screen; or else it is another one, which takes the same."""
+    """A wrong body: its name, what it does first, and the call that it makes. That is another one, which takes and
+    answers the same; or else two arguments change places; or else the window is the standard screen; or else it is
+    another one, which takes the same."""
     other = neighbour(call, calls, lambda it: (it.answer, it.asks) == (call.answer, call.asks))
     pair, window = first_pair(call), next((name for name, kind in call.arguments if kind == 'window'), None)
     if not other and pair:
@@ -43,13 +43,14 @@ def asked_for(call):
     return f'self.{"find" if call.asks else "make"}(&constructors::{call.name}('
 
 
-def edits(groups, has_method):
-    """The text of each edit, by its file."""
+def files(groups, has_method):
+    """The text of each file of wrong bodies, by its path."""
     of_all = [calls for _, calls in groups.values()]
     of_methods = [[it for it in calls if has_method(it)] for calls in of_all]
     for crate, of_groups, begun in (('constructors', of_all, constructed), ('methods', of_methods, asked_for)):
+        path, bodies = f'crates/{crate}/wrong/lib.written.edits', []
         for calls in of_groups:
             for call in calls:
                 name, first, made = wrong_body(call, calls)
-                text = f'file: src/lib.rt\nold: {begun(call)}\nnew: {first}{begun(made)}\n'
-                yield f'crates/{crate}/{FOLDER}/{call.name}_{name}.edit', text
+                bodies.append(WrongBody(path, f'{call.name}_{name}', False, [(begun(call), first + begun(made))]))
+        yield path, text_of(bodies)
