@@ -29,9 +29,13 @@ in_words() {
     if [ "$1" -ge 90 ]; then echo "about $((($1 + 30) / 60)) minutes"; else echo 'a minute or two'; fi
 }
 
-# left_of SECONDS DONE WHOLE: puts out about how long the rest of a whole takes, of which so much was done in so many
-# seconds.
-left_of() { echo "$(in_words "$(($1 * ($3 - $2) / ($2 > 0 ? $2 : 1)))") left"; }
+# left_of SECONDS DONE WHOLE [SUPPOSED]: puts out about how long the rest of a whole takes, of which so much was done in
+# so many seconds. Where the whole is supposed to take some, they count as if they had been seen for a quarter of it.
+left_of() {
+    local supposed=${4:-0} seen
+    seen=$(($2 + (supposed > 0 ? $3 / 4 : 0)))
+    echo "$(in_words "$((($1 + supposed / 4) * ($3 - $2) / (seen > 0 ? seen : 1)))") left"
+}
 
 # Tells, of what `rt` says, which crate is being proved, its place among some crates, how many of its functions have been
 # looked at, and about how long the rest of them takes, as `proving grids (6 of 12): 40 of 83, a minute or two left`.
