@@ -29,12 +29,13 @@ in_words() {
     if [ "$1" -ge 90 ]; then echo "about $((($1 + 30) / 60)) minutes"; else echo 'a minute or two'; fi
 }
 
-# left_of SECONDS DONE WHOLE [SUPPOSED]: puts out about how long the rest of a whole takes, of which so much was done in
-# so many seconds. Where the whole is supposed to take some, they count as if they had been seen for a quarter of it.
+# left_of SECONDS DONE WHOLE [SUPPOSED]: puts out after a comma about how long the rest of a whole takes, of which so much
+# was done in so many seconds, or nothing where that was nothing. Where the whole is supposed to take some, they count as
+# if they had been seen for a quarter of it.
 left_of() {
     local supposed=${4:-0} seen
     seen=$(($2 + (supposed > 0 ? $3 / 4 : 0)))
-    echo "$(in_words "$((($1 + supposed / 4) * ($3 - $2) / (seen > 0 ? seen : 1)))") left"
+    [ "$seen" = 0 ] || echo ", $(in_words "$((($1 + supposed / 4) * ($3 - $2) / seen))") left"
 }
 
 # Tells, of what `rt` says, which crate is being proved, its place among some crates, how many of its functions have been
@@ -48,7 +49,7 @@ tell_progress() {
             crate=$(placed "${BASH_REMATCH[1]}" "${among[@]}")
             tell "$name: proving $crate"
         elif [[ $line =~ ^'so far: '([0-9]+)' of '([0-9]+) ]]; then
-            tell "$name: proving ${crate:-a crate}: ${BASH_REMATCH[1]} of ${BASH_REMATCH[2]}, $(
+            tell "$name: proving ${crate:-a crate}: ${BASH_REMATCH[1]} of ${BASH_REMATCH[2]}$(
                 left_of "$((SECONDS - began))" "${BASH_REMATCH[1]}" "${BASH_REMATCH[2]}")"
         elif [[ -z $crate && $line =~ ^[a-z]+' '([a-z_]+)::.*': proved'$ ]]; then
             crate=$(placed "${BASH_REMATCH[1]}" "${among[@]}")
