@@ -46,7 +46,7 @@ put_pages() {
     copyright > "$pages/copyright"
     filled changelog | gzip -9n > "$pages/changelog.Debian.gz"
     gzip -9n < "$root/CHANGELOG.md" > "$pages/changelog.gz"
-    cp "$root/docs/PROOFS.md" "$pages"
+    as_installed < "$root/docs/PROOFS.md" > "$pages/PROOFS.md"
 }
 
 # Moves paths of all that is staged into a package.

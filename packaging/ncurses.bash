@@ -18,6 +18,8 @@ linker_script() {
         return
     fi
     [ "$1" = tinfo ] || taken="../../libcurspan.$2 "
+    # which an older glibc has beside its archive
+    [ "$2" = so ] || taken+=-lpthread
     if [ "$2" = so ] && [ -f "$("$(tool_for "${target:-$here_target}" cc)" -print-file-name="$terminfo")" ]; then taken+="AS_NEEDED($terminfo)"; fi
     echo "INPUT($taken)"
 }

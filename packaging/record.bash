@@ -16,8 +16,8 @@ glibc_of() { printf '%s or later\n' "$(needed_glibc "$1")"; }
 glibc_of_program() { echo 'none for the program, which has it inside'; }
 
 # What of each binary is C, by its names in the sources and in the kit, which has no objects of its own for ARM.
-c_of_program() { if [ "$target" = "$here_target" ]; then echo "the kit's heap.c, args.c, env.c and errno.c"; else echo 'c/kit'; fi; }
-c_of_library() { if [ "$target" = "$here_target" ]; then echo "c, and the kit's heap.c"; else echo 'c, and c/kit/heap.c'; fi; }
+c_of_program() { if [ "$target" = "$here_target" ]; then echo "the kit's heap.c, args.c, env.c and errno.c"; else echo 'c/kit/*.c'; fi; }
+c_of_library() { if [ "$target" = "$here_target" ]; then echo "c/*.c, and the kit's heap.c"; else echo 'c/*.c, and c/kit/heap.c'; fi; }
 
 # Puts out the sums of binaries, each by its path from a folder.
 sums() {
@@ -39,7 +39,7 @@ record() {
 }
 
 # record_extension PACKAGE FILE BINARY: that of Python's extension.
-record_extension() { record "$1" "$target" "python/src, and $(c_of_library)" "$(glibc_of "$3") for the extension" "$2" "$3"; }
+record_extension() { record "$1" "$target" "python/src/*.c, $(c_of_library)" "$(glibc_of "$3") for the extension" "$2" "$3"; }
 
 # Puts out the text of a record.
 tell_proof() {
@@ -49,7 +49,8 @@ Curspan $(version) for $targets: what was proved of this package, and how to che
 
 Proved: each function of the Rattle sources, of which the binaries below were made, meets its contract, does nothing
 that is undefined, and returns. The kit proved all that before it compiled them. PROOFS.md says what follows from it.
-Not proved: the kit, the back end that compiled what it proved (LLVM), the linker, the C library, and C: $parts.
+Not proved: the kit, the back end that compiled what it proved (LLVM), the linker, the C library, and what is C:
+$parts.
 
 commit:   $commit
 kit:      $(rt version)

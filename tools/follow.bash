@@ -24,18 +24,33 @@ end_telling() {
     if [ -t 2 ]; then printf '\r\033[K' >&2; fi
 }
 
-# Tells, of what `rt` says, which crate is being proved, its place among some crates, and how many of its functions have been looked at,
-# as `proving grids (6 of 12): 40 of 83`. Where `rt` was given how many provers to take it names a crate only with the first item that is
-# proved.
+# Puts out about how long so many seconds are.
+in_words() {
+    if [ "$1" -ge 90 ]; then echo "about $((($1 + 30) / 60)) minutes"; else echo 'a minute or two'; fi
+}
+
+# left_of SECONDS DONE WHOLE [SUPPOSED]: puts out after a comma about how long the rest of a whole takes, of which so much
+# was done in so many seconds, or nothing where that was nothing. Where the whole is supposed to take some, they count as
+# if they had been seen for a quarter of it.
+left_of() {
+    local supposed=${4:-0} seen
+    seen=$(($2 + (supposed > 0 ? $3 / 4 : 0)))
+    [ "$seen" = 0 ] || echo ", $(in_words "$((($1 + supposed / 4) * ($3 - $2) / seen))") left"
+}
+
+# Tells, of what `rt` says, which crate is being proved, its place among some crates, how many of its functions have been
+# looked at, and about how long the rest of them takes, as `proving grids (6 of 12): 40 of 83, a minute or two left`.
+# Where `rt` was given how many provers to take it names a crate only with the first item that is proved.
 tell_progress() {
-    local name=$1 among crate='' line
+    local name=$1 among crate='' line began=$SECONDS
     read -ra among <<< "$2"
     while IFS= read -r line; do
         if [[ $line =~ ^'rt: chose --jobs '[0-9]+' for '(.+) ]]; then
             crate=$(placed "${BASH_REMATCH[1]}" "${among[@]}")
             tell "$name: proving $crate"
         elif [[ $line =~ ^'so far: '([0-9]+)' of '([0-9]+) ]]; then
-            tell "$name: proving ${crate:-a crate}: ${BASH_REMATCH[1]} of ${BASH_REMATCH[2]}"
+            tell "$name: proving ${crate:-a crate}: ${BASH_REMATCH[1]} of ${BASH_REMATCH[2]}$(
+                left_of "$((SECONDS - began))" "${BASH_REMATCH[1]}" "${BASH_REMATCH[2]}")"
         elif [[ -z $crate && $line =~ ^[a-z]+' '([a-z_]+)::.*': proved'$ ]]; then
             crate=$(placed "${BASH_REMATCH[1]}" "${among[@]}")
             tell "$name: proving $crate"
@@ -43,7 +58,7 @@ tell_progress() {
             end_telling
             echo "$name: not proved: ${crate:-}" >&2
         elif [[ $line == 'logic=proved'* ]]; then
-            crate=
+            crate='' began=$SECONDS
         fi
     done
     end_telling

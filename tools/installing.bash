@@ -13,6 +13,15 @@ commit_here() {
     printf '%s\n' "$commit"
 }
 
+# The pages that are installed.
+pages=(SCRIPTS DEFINITIONS PERFORMANCE PROGRAMS PROOFS TERMINALS python shell)
+
+# Passes on a page with the names that other pages have where it is installed.
+as_installed() {
+    local IFS='|'
+    sed -E "s#\`docs/curspan\.([13])\`#\`man \1 curspan\`#g; s#docs/(${pages[*]})\.md#\1.md#g"
+}
+
 # Puts out the libraries of the kit that the program and the library for C are linked with, a line each.
 linked_libraries() {
     awk -v crates=" $(crates_up_to curspan) $(crates_up_to capi) " '

@@ -20,7 +20,15 @@ aarch64-linux-gnu-gcc:gcc-aarch64-linux-gnu libc6-dev-arm64-cross:64-bit ARM, pa
 qemu-aarch64:qemu-user:64-bit ARM
 <panel.h>:libncurses-dev:small frames, C programs, keys of C programs, programs of others'
 
-# Puts out the lines of what is missing.
+# Puts out the lines of what some parts use, which are named with commas between them, or of what all use.
+used_by() {
+    awk -F : -v parts="$1" 'parts == "" { print; next } {
+        n = split($3, part, ", "); used = ""
+        for (i = 1; i <= n; i++) if (index(", " parts ", ", ", " part[i] ", ")) used = used ", " part[i]
+        if (used != "") print $1 ":" $2 ":" substr(used, 3) }' <<< "$used_by_tests"
+}
+
+# missing [PARTS]: puts out the lines of what is missing.
 missing() {
     local line what
     while IFS= read -r line; do
@@ -29,17 +37,17 @@ missing() {
             '<'*) [ -e "/usr/include/${what//[<>]/}" ] || printf '%s\n' "$line" ;;
             *) command -v "$what" > /dev/null || printf '%s\n' "$line" ;;
         esac
-    done <<< "$used_by_tests"
+    done < <(used_by "${1:-}")
 }
 
 # Puts out the packages of what is missing, in a line.
-missing_packages() { missing | cut -d : -f 2 | paste -sd ' '; }
+missing_packages() { missing "${1:-}" | cut -d : -f 2 | paste -sd ' '; }
 
-# Tells on standard error, after a name, what is missing and skipped, and what installs it.
+# tell_missing NAME [PARTS]: tells on standard error, after a name, what is missing and skipped, and what installs it.
 tell_missing() {
     local packages
-    packages=$(missing_packages)
+    packages=$(missing_packages "${2:-}")
     if [ -z "$packages" ]; then return; fi
-    missing | sed -E "s/^([^:]*):[^:]*:(.*)/$1: \1 is missing, without which is skipped, wholly or not: \2/" >&2
+    missing "${2:-}" | sed -E "s/^([^:]*):[^:]*:(.*)/$1: \1 is missing, without which is skipped, wholly or not: \2/" >&2
     printf '%s: to install what is missing: apt-get install -y %s\n' "$1" "$packages" >&2
 }
