@@ -15,5 +15,8 @@ complete -c curspan -n "__fish_seen_subcommand_from help" -a "run paint show che
 complete -c curspan -n "__fish_seen_subcommand_from $screen" -l lines -x -d 'Lines of the screen, 1 to 999'
 complete -c curspan -n "__fish_seen_subcommand_from $screen" -l cols -x -d 'Columns of the screen, 1 to 999'
 complete -c curspan -n "__fish_seen_subcommand_from $files" -F
-complete -c curspan -n "__fish_seen_subcommand_from $files" -l log -r -F -d 'File that gets the log, in place of standard error'
+# After an equals sign fish itself offers nothing for a name with a colon or an equals sign.
+complete -c curspan -n "__fish_seen_subcommand_from $files" -l log -r -F \
+    -a '(__fish_complete_path (string replace -r "^--log=" "" -- (commandline -ct)))' \
+    -d 'File that gets the log, in place of standard error'
 complete -c curspan -n "__fish_seen_subcommand_from run paint" -l quiet -d 'Log faults alone, and not what calls answer'

@@ -1,5 +1,6 @@
-/* A terminal that takes nothing, one that takes little at a time, and a screen that is not there: refreshes answer ERR, the next one that
-   works draws all anew, and no call without a screen does anything. It looks at all of it itself, and tells what is wrong. */
+/* A terminal that takes nothing, one that takes little at a time, one that has what it is asked for, and a screen that is not there: refreshes
+   answer ERR, the next one that works draws all anew, and no call without a screen does anything. It looks at all of it itself, and tells
+   what is wrong. */
 #include <curses.h>
 #include <fcntl.h>
 #include <panel.h>
@@ -78,6 +79,18 @@ static void write_slowly(void) {
     want(WEXITSTATUS(status) == 1, "the last byte that endwin sends comes through");
 }
 
+/* A cursor that is hidden, and is to be hidden. */
+static void hide_once(void) {
+    FILE *out = tmpfile();
+    SCREEN *screen = newterm(NULL, out, stdin);
+    want(refresh() == OK && curs_set(0) == 1, "the cursor was shown");
+    off_t length = lseek(fileno(out), 0, SEEK_CUR);
+    want(curs_set(0) == 0 && refresh() == OK && lseek(fileno(out), 0, SEEK_CUR) == length, "hiding it again sends nothing");
+    want(curs_set(1) == 0 && lseek(fileno(out), 0, SEEK_CUR) == length + 6, "showing it sends 6 bytes");
+    delscreen(screen);
+    fclose(out);
+}
+
 /* Calls without a screen, a window or a panel. */
 static void without(void) {
     chtype row[2];
@@ -99,6 +112,7 @@ int main(void) {
     without();
     fail_and_mend();
     without();
+    hide_once();
     write_slowly();
     want(newterm(NULL, NULL, NULL) == NULL, "no terminal is none");
     printf("failing: %d times wrong\n", wrong);
