@@ -48,6 +48,7 @@ def name_of(key):
 
 def sequences():
     """The sequences of all terminals, and what they are named."""
+    yield b'\x7f', 'backspace'
     table, _, _ = (CASES.parent / 'c/sequences.c').read_text().partition('/* of the Linux console alone */')
     for text, key in re.findall(r'S\("([^"]*)", (\w+(?:\(\d+\))?)\)', table):
         if name_of(key):
