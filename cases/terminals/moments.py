@@ -46,7 +46,7 @@ def end(terminal, command, how):
 
 
 def try_one(command, how, moment):
-    terminal = Terminal(command)
+    terminal = Terminal(command, environment={'RUST_BACKTRACE': '0'})    # a backtrace takes long
     limit = time.monotonic() + moment
     while time.monotonic() < limit:
         terminal.read(0.001)
