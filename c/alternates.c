@@ -1,5 +1,4 @@
-/* The terminal's alternate characters, by which lines are drawn. A window keeps such a character as the letter that VT100 has for it, of a
-   pair of curspan.h that stands for alternate ones; see colours.c. Nothing here is proved. */
+/* Alternate characters, which draw lines: VT100's letters, of pairs that stand for such. Nothing here is proved. */
 #include "inside.h"
 #include "terminal.h"
 
@@ -12,8 +11,7 @@ bool curspan_has_alternates;
 #define OF_VT100 OF_RXVT "i"
 #define OF_SCREENS OF_VT100 "+,-.0h"
 
-/* The letters that have an alternate character on the terminals whose types begin so. On the Linux console none has one, since it draws letters
-   in their place where it reads UTF-8. */
+/* The letters that are so where the type begins so: on the Linux console none, which draws letters in UTF-8. */
 static const struct {
     const char *type, *letters;
 } sets[] = {
@@ -22,16 +20,8 @@ static const struct {
     {"putty", OF_VT100},    {"st-", OF_VT100},    {"Eterm", OF_VT100}, {"alacritty", OF_VT100},
 };
 
-static const char *letters_of(const char *type) {
-    for (size_t i = 0; i < sizeof sets / sizeof sets[0]; i++)
-        if (strncmp(type, sets[i].type, strlen(sets[i].type)) == 0) return sets[i].letters;
-    return "";
-}
-
-/* X/Open's character for a letter where the terminal has none, and for a capital what ncurses has for its thick and
-   double lines. */
+/* X/Open's character for a letter that is none, and for capitals those of ncurses' thick and double lines. */
 static chtype plain_of(chtype letter) {
-    /* pairs of a letter and its character */
     static const char plain[] = "`+a:f'g#h#i#j+k+l+m+n+o~p-q-r-s_t+u+v+w+x|y<z>{*|!}f~o,<+>.v-^0#"
                                 "A+B+C+D+E+F+G+H+I+J+K+L+M+N+Q-R-T+U+V+W+X|Y|";
     for (size_t i = 0; plain[i]; i += 2)
@@ -40,7 +30,9 @@ static chtype plain_of(chtype letter) {
 }
 
 void curspan_begin_map(void) {
-    const char *letters = letters_of(termname());
+    const char *letters = "";
+    for (size_t i = 0; i < sizeof sets / sizeof sets[0]; i++)
+        if (strncmp(termname(), sets[i].type, strlen(sets[i].type)) == 0) letters = sets[i].letters;
     curspan_has_alternates = *letters != 0;
     for (chtype ch = 0; ch < 128; ch++) acs_map[ch] = plain_of(ch);
     for (; *letters; letters++) acs_map[(unsigned char)*letters] = (unsigned char)*letters | A_ALTCHARSET;

@@ -16,7 +16,6 @@ bool is_pad(const WINDOW *win) { return is_so(curspan_is_pad(SCREEN_AND(win))) &
 bool is_scrollok(const WINDOW *win) { return is_so(curspan_is_scrollok(SCREEN_AND(win))); }
 bool is_subwin(const WINDOW *win) { return wgetparent(win) != NULL; }
 bool is_syncok(const WINDOW *win) { return win && has(win, win->synchronizes); }
-
 WINDOW *wgetparent(const WINDOW *win) { return curspan_window_of(curspan_wgetparent(SCREEN_AND(win))); }
 
 int wgetscrreg(const WINDOW *win, int *top, int *bottom) {
@@ -28,7 +27,6 @@ int wgetscrreg(const WINDOW *win, int *top, int *bottom) {
 }
 
 attr_t getattrs(const WINDOW *win) { return is_there(win) == OK ? win->attrs : A_NORMAL; }
-
 int use_window(WINDOW *win, NCURSES_WINDOW_CB call, void *argument) { return is_there(win) == OK && call ? call(win, argument) : ERR; }
 
 /* ---- the terminal */
@@ -49,25 +47,15 @@ int use_screen(SCREEN *screen, NCURSES_SCREEN_CB call, void *argument) {
 bool has_mouse(void) { return false; }
 
 mmask_t mousemask(mmask_t wanted, mmask_t *before) {
-    (void)wanted;
     if (before) *before = 0;
-    return 0;
+    return (void)wanted, 0;
 }
 
-int mouseinterval(int milliseconds) {
-    (void)milliseconds;
-    return 0;
-}
-
-int getmouse(MEVENT *event) {
-    (void)event;
-    return ERR;
-}
-
-int ungetmouse(MEVENT *event) {
-    (void)event;
-    return ERR;
-}
+#define WITHOUT_MOUSE(name, type, answer) \
+    int name(type ignored) { return (void)ignored, answer; }
+WITHOUT_MOUSE(mouseinterval, int, 0)
+WITHOUT_MOUSE(getmouse, MEVENT *, ERR)
+WITHOUT_MOUSE(ungetmouse, MEVENT *, ERR)
 
 bool wenclose(const WINDOW *win, int y, int x) {
     int top = getbegy(win), left = getbegx(win);

@@ -3,8 +3,6 @@
 
 #include <stddef.h>
 
-static uint8_t bits_of(chtype ch) { return (uint8_t)(ch >> 8 & 0xff); }
-
 int wattrset(WINDOW *win, int attrs) {
     attr_t wanted = (attr_t)attrs & A_ATTRIBUTES;
     if (!curspan_has_alternates) wanted &= ~A_ALTCHARSET;
@@ -47,7 +45,8 @@ static int set_pair(WINDOW *win, attr_t attrs) {
 
 int curspan_tell_other(WINDOW *win, attr_t attrs) {
     attr_t changed = win->given ^ attrs;
-    if (bits_of(changed) && done(curspan_wattrset(SCREEN_AND(win), bits_of(attrs))) == ERR) return ERR;
+    uint8_t bits = CURSPAN_ATTRIBUTES(attrs);
+    if (CURSPAN_ATTRIBUTES(changed) && done(curspan_wattrset(SCREEN_AND(win), bits)) == ERR) return ERR;
     if (changed & (A_COLOR | A_ALTCHARSET) && set_pair(win, attrs) == ERR) return ERR;
     win->given = attrs;
     curspan_set_limit(win);
@@ -57,12 +56,11 @@ int curspan_tell_other(WINDOW *win, attr_t attrs) {
 /* ---- backgrounds */
 
 int curspan_set_background(WINDOW *win, chtype ch) {
-    if (done(curspan_wbkgdset(SCREEN_AND(win), bits_of(ch), (uint8_t)(ch & A_CHARTEXT))) == ERR) return ERR;
+    if (done(curspan_wbkgdset(SCREEN_AND(win), CURSPAN_ATTRIBUTES(ch), CURSPAN_CHARACTER(ch))) == ERR) return ERR;
     if (done(curspan_wbkgdpair(SCREEN_AND(win), (uint16_t)curspan_use_pair(ch))) == ERR) return ERR;
     return win->given & A_ALTCHARSET ? set_pair(win, win->given) : OK;
 }
 
-/* A background's character, where it has one, and else the space. */
 static chtype with_character(chtype ch) { return ch & A_CHARTEXT ? ch : ch | ' '; }
 
 int curspan_change_background(WINDOW *win, chtype ch) {
@@ -80,11 +78,9 @@ int curspan_change_background(WINDOW *win, chtype ch) {
 }
 
 void wbkgdset(WINDOW *win, chtype ch) { (void)curspan_change_background(win, ch); }
-
 chtype getbkgd(WINDOW *win) { return is_there(win) == ERR ? (chtype)ERR : win->background; }
 
-/* A cell under another background: one that was the former background gets the other character, and one of a pair of its own, that isn't the
-   former background's, keeps it. */
+/* A cell under another background: what was background gets the other character, and a pair of its own is kept. */
 static chtype on_other(chtype cell, chtype old, chtype new) {
     chtype text = (cell == old ? new : cell) & A_CHARTEXT;
     bool keeps_pair = cell & A_COLOR && (cell & A_COLOR) != (old & A_COLOR);

@@ -1,16 +1,13 @@
 /* Copies from window to window. Nothing here is proved. */
 #include "inside.h"
 
-static chtype colour_of(chtype ch) { return ch & A_COLOR; }
-
 /* A cell that is laid over a window, in its background's attributes, and its pair if it has one. */
 static chtype laid_over(chtype cell, chtype background) {
-    chtype pair = colour_of(background) ? background : cell;
-    return (cell & A_CHARTEXT) | colour_of(pair) | ((cell | background) & A_ATTRIBUTES & ~A_COLOR);
+    chtype pair = background & A_COLOR ? background : cell;
+    return (cell & A_CHARTEXT) | (pair & A_COLOR) | ((cell | background) & A_ATTRIBUTES & ~A_COLOR);
 }
 
-/* Lays the cells of one line of a window that aren't spaces over one of another: n of them, and each where it is
-   another one. */
+/* Lays n cells of a line over those of another window: each that is no space, and another one. */
 static int lay_line(WINDOW *from, int from_y, int from_x, WINDOW *to, int to_y, int to_x, int n) {
     chtype over[LONGEST], under[LONGEST];
     curspan_read_cells(from, from_y, from_x, over, n);
@@ -52,19 +49,15 @@ int copywin(const WINDOW *from, WINDOW *to, int from_y, int from_x, int to_top, 
     return touchline(to, to_top, to_bottom - to_top + 1);
 }
 
-static int most(int a, int b) { return a > b ? a : b; }
-
 bool curspan_find_common(const WINDOW *from, const WINDOW *to, curspan_common *common) {
     if (is_there(from) == ERR || is_there(to) == ERR) return false;
     int from_y = getbegy(from), from_x = getbegx(from), to_y = getbegy(to), to_x = getbegx(to);
     int top = most(from_y, to_y), bottom = least(from_y + (int)from->lines, to_y + (int)to->lines);
     int left = most(from_x, to_x), right = least(from_x + (int)from->columns, to_x + (int)to->columns);
-    const curspan_common found = {top - from_y, left - from_x, top - to_y, left - to_x, bottom - top, right - left};
-    *common = found;
+    *common = (curspan_common){top - from_y, left - from_x, top - to_y, left - to_x, bottom - top, right - left};
     return top < bottom && left < right;
 }
 
-/* Copies what both windows have of the screen. */
 static int copy_common(const WINDOW *from, WINDOW *to, bool overlays) {
     curspan_common of;
     if (!curspan_find_common(from, to, &of)) return ERR;

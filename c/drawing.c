@@ -3,8 +3,7 @@
 
 #include <stddef.h>
 
-/* What a character is in a window: with the window's attributes and those of its background, which a blank one takes
-   whole. */
+/* A character with the attributes of its window and those of the background, which a blank takes whole. */
 static chtype rendered(const WINDOW *win, chtype ch) {
     ch = curspan_as_drawn(ch | (win->attrs & A_ALTCHARSET));
     chtype text = ch == ' ' ? win->background & A_CHARTEXT : ch & A_CHARTEXT;
@@ -12,7 +11,6 @@ static chtype rendered(const WINDOW *win, chtype ch) {
     return text | (pair & A_COLOR) | ((ch | (win->attrs & ~A_ALTCHARSET) | win->background) & A_ATTRIBUTES & ~A_COLOR);
 }
 
-/* A character of a border or a line, or the usual one where it has none. */
 static chtype drawn(chtype ch, chtype usual) { return ch & A_CHARTEXT ? ch : ch | usual; }
 
 /* Draws n cells of a window, of one character each in its rendition, from a place on to the right or downwards. */

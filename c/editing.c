@@ -1,4 +1,5 @@
 /* Characters and lines inserted and deleted, and parts cleared. Nothing here is proved. */
+#define _XOPEN_SOURCE 700
 #include "inside.h"
 
 #include <string.h>
@@ -15,19 +16,14 @@ static void append(row *row, const char *text, int count) {
     for (int i = 0; i < count && row->to < row->columns; i++) row->text[row->to++] = text[i];
 }
 
-static void append_blanks(row *row, int count) {
-    while (count-- > 0) append(row, " ", 1);
-}
-
-/* Appends a byte as it is spelled: a tab as spaces, another control character as a caret and a letter, and nothing
-   of one that breaks off a character. */
+/* Appends a byte as it is spelled: a tab as spaces, another control character as ^ and a letter. */
 static void append_byte(row *row, curspan_unfinished *begun, uint8_t byte) {
     const char control[2] = {'^', (char)(byte ^ 64)};
     if (begun->count > 0 || byte > 127) {
         curspan_spelling spelling = curspan_spell_part(begun, byte);
         if (byte < ' ' || byte > 126) append(row, spelling.text, spelling.count);
     } else if (byte == '\t') {
-        append_blanks(row, TABSIZE - row->to % TABSIZE);
+        for (int count = TABSIZE - row->to % TABSIZE; count > 0; count--) append(row, " ", 1);
     } else if (byte >= ' ' && byte != 127) {
         append(row, (const char *)&byte, 1);
     } else {
@@ -49,8 +45,7 @@ static int insert_row(WINDOW *win, row *row, bool has_attributes) {
 
 static bool moves_cursor(uint8_t byte) { return byte == '\n' || byte == '\r' || byte == '\b'; }
 
-/* Moves the cursor as in a written text, from behind the line where the row has filled it. It answers whether it is
-   still there. */
+/* Moves the cursor as a written text does, and answers whether it is still behind a line that the row has filled. */
 static bool stays_behind(WINDOW *win, const row *row, uint8_t byte) {
     bool is_behind = row->to == row->columns;
     if (is_behind) win->reach = byte == '\b' ? UNKNOWN : ENDED;
@@ -88,8 +83,7 @@ int winsch(WINDOW *win, chtype ch) {
 
 int winsnstr(WINDOW *win, const char *text, int n) {
     if (!text || is_there(win) == ERR || curspan_tell(win, win->attrs) == ERR) return ERR;
-    const char *end = n > 0 ? memchr(text, 0, (size_t)n) : NULL;
-    size_t length = n <= 0 ? strlen(text) : end ? (size_t)(end - text) : (size_t)n;
+    size_t length = n <= 0 ? strlen(text) : strnlen(text, (size_t)n);
     win->begun.count = 0;
     int answer = insert(win, (const uint8_t *)text, length, false);
     win->begun.count = 0;
@@ -116,14 +110,12 @@ int werase(WINDOW *win) {
 }
 
 int wclear(WINDOW *win) {
-    if (done(curspan_wclear(SCREEN_AND(win))) == ERR) return ERR;
-    win->reach = 0;
-    return curspan_changed(win, OK);
+    if (win) win->reach = 0;
+    return curspan_changed(win, done(curspan_wclear(SCREEN_AND(win))));
 }
 
 /* A character that was just written in the last place isn't to the right of the cursor, which stayed on it. */
 int wclrtoeol(WINDOW *win) { return win && win->reach == ENDED ? ERR : curspan_changed(win, done(curspan_wclrtoeol(SCREEN_AND(win)))); }
-
 int wclrtobot(WINDOW *win) { return curspan_changed(win, done(curspan_wclrtobot(SCREEN_AND(win)))); }
 
 int wscrl(WINDOW *win, int n) {

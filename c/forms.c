@@ -1,10 +1,25 @@
 /* The forms of the calls of curses.h that mean the standard screen, or that move first. Nothing here is proved. */
 #include "inside.h"
 
-#include <stddef.h>
-
 #define AT(win, y, x, call) (curspan_move(win, y, x) == ERR ? ERR : (call))
-#define CELL_AT(win, y, x) (curspan_move(win, y, x) == ERR ? (chtype)ERR : winch(win))
+
+/* The other forms of a call for windows, by its count of arguments: for the standard screen, after a move, and both. */
+#define FORMS(name) \
+    int name(void) { return w##name(stdscr); } \
+    int mvw##name(WINDOW *win, int y, int x) { return AT(win, y, x, w##name(win)); } \
+    int mv##name(int y, int x) { return mvw##name(stdscr, y, x); }
+#define FORMS_1(name, A) \
+    int name(A a) { return w##name(stdscr, a); } \
+    int mvw##name(WINDOW *win, int y, int x, A a) { return AT(win, y, x, w##name(win, a)); } \
+    int mv##name(int y, int x, A a) { return mvw##name(stdscr, y, x, a); }
+#define FORMS_2(name, A, B) \
+    int name(A a, B b) { return w##name(stdscr, a, b); } \
+    int mvw##name(WINDOW *win, int y, int x, A a, B b) { return AT(win, y, x, w##name(win, a, b)); } \
+    int mv##name(int y, int x, A a, B b) { return mvw##name(stdscr, y, x, a, b); }
+#define FORMS_4(name, A, B, C, D) \
+    int name(A a, B b, C c, D d) { return w##name(stdscr, a, b, c, d); } \
+    int mvw##name(WINDOW *win, int y, int x, A a, B b, C c, D d) { return AT(win, y, x, w##name(win, a, b, c, d)); } \
+    int mv##name(int y, int x, A a, B b, C c, D d) { return mvw##name(stdscr, y, x, a, b, c, d); }
 
 /* ---- attributes, colours and backgrounds */
 
@@ -22,21 +37,12 @@ int wstandout(WINDOW *win) { return wattron(win, (int)A_STANDOUT); }
 int wstandend(WINDOW *win) { return wattrset(win, (int)A_NORMAL); }
 int standout(void) { return wstandout(stdscr); }
 int standend(void) { return wstandend(stdscr); }
-int chgat(int n, attr_t attrs, short pair, const void *none) { return wchgat(stdscr, n, attrs, pair, none); }
-
-int mvwchgat(WINDOW *win, int y, int x, int n, attr_t attrs, short pair, const void *none) {
-    return AT(win, y, x, wchgat(win, n, attrs, pair, none));
-}
-
-int mvchgat(int y, int x, int n, attr_t attrs, short pair, const void *none) {
-    return mvwchgat(stdscr, y, x, n, attrs, pair, none);
-}
-
+FORMS_4(chgat, int, attr_t, short, const void *)
 void bkgdset(chtype ch) { wbkgdset(stdscr, ch); }
 int bkgd(chtype ch) { return wbkgd(stdscr, ch); }
 int setscrreg(int top, int bottom) { return wsetscrreg(stdscr, top, bottom); }
 
-/* ---- characters */
+/* ---- characters, texts and rows of cells */
 
 int move(int y, int x) { return wmove(stdscr, y, x); }
 int addch(const chtype ch) { return waddch(stdscr, ch); }
@@ -44,57 +50,16 @@ int mvwaddch(WINDOW *win, int y, int x, const chtype ch) { return wmove(win, y, 
 int mvaddch(int y, int x, const chtype ch) { return mvwaddch(stdscr, y, x, ch); }
 int wechochar(WINDOW *win, const chtype ch) { return waddch(win, ch) == ERR ? ERR : wrefresh(win); }
 int echochar(const chtype ch) { return wechochar(stdscr, ch); }
-int insch(chtype ch) { return winsch(stdscr, ch); }
-int mvwinsch(WINDOW *win, int y, int x, chtype ch) { return AT(win, y, x, winsch(win, ch)); }
-int mvinsch(int y, int x, chtype ch) { return mvwinsch(stdscr, y, x, ch); }
-int delch(void) { return wdelch(stdscr); }
-int mvwdelch(WINDOW *win, int y, int x) { return AT(win, y, x, wdelch(win)); }
-int mvdelch(int y, int x) { return mvwdelch(stdscr, y, x); }
-
-/* ---- texts and rows of cells */
-
-int addnstr(const char *text, int n) { return waddnstr(stdscr, text, n); }
-int addstr(const char *text) { return waddnstr(stdscr, text, -1); }
-int mvwaddnstr(WINDOW *win, int y, int x, const char *text, int n) { return AT(win, y, x, waddnstr(win, text, n)); }
-int mvwaddstr(WINDOW *win, int y, int x, const char *text) { return mvwaddnstr(win, y, x, text, -1); }
-int mvaddnstr(int y, int x, const char *text, int n) { return mvwaddnstr(stdscr, y, x, text, n); }
-int mvaddstr(int y, int x, const char *text) { return mvwaddnstr(stdscr, y, x, text, -1); }
+FORMS_1(insch, chtype)
+FORMS(delch)
+FORMS_1(addstr, const char *)
+FORMS_2(addnstr, const char *, int)
 int waddchstr(WINDOW *win, const chtype *row) { return waddchnstr(win, row, -1); }
-int addchnstr(const chtype *row, int n) { return waddchnstr(stdscr, row, n); }
-int addchstr(const chtype *row) { return waddchnstr(stdscr, row, -1); }
-int mvwaddchnstr(WINDOW *win, int y, int x, const chtype *row, int n) { return AT(win, y, x, waddchnstr(win, row, n)); }
-int mvwaddchstr(WINDOW *win, int y, int x, const chtype *row) { return mvwaddchnstr(win, y, x, row, -1); }
-int mvaddchnstr(int y, int x, const chtype *row, int n) { return mvwaddchnstr(stdscr, y, x, row, n); }
-int mvaddchstr(int y, int x, const chtype *row) { return mvwaddchnstr(stdscr, y, x, row, -1); }
+FORMS_1(addchstr, const chtype *)
+FORMS_2(addchnstr, const chtype *, int)
 int winsstr(WINDOW *win, const char *text) { return winsnstr(win, text, -1); }
-int insnstr(const char *text, int n) { return winsnstr(stdscr, text, n); }
-int insstr(const char *text) { return winsnstr(stdscr, text, -1); }
-int mvwinsnstr(WINDOW *win, int y, int x, const char *text, int n) { return AT(win, y, x, winsnstr(win, text, n)); }
-int mvwinsstr(WINDOW *win, int y, int x, const char *text) { return mvwinsnstr(win, y, x, text, -1); }
-int mvinsnstr(int y, int x, const char *text, int n) { return mvwinsnstr(stdscr, y, x, text, n); }
-int mvinsstr(int y, int x, const char *text) { return mvwinsnstr(stdscr, y, x, text, -1); }
-
-int vwprintw(WINDOW *win, const char *format, va_list arguments) { return vw_printw(win, format, arguments); }
-
-#define PRINT(win)                                         \
-    va_list arguments;                                     \
-    va_start(arguments, format);                           \
-    int answer = vw_printw(win, format, arguments);        \
-    va_end(arguments);                                     \
-    return answer
-
-int printw(const char *format, ...) { PRINT(stdscr); }
-int wprintw(WINDOW *win, const char *format, ...) { PRINT(win); }
-
-int mvprintw(int y, int x, const char *format, ...) {
-    if (curspan_move(stdscr, y, x) == ERR) return ERR;
-    PRINT(stdscr);
-}
-
-int mvwprintw(WINDOW *win, int y, int x, const char *format, ...) {
-    if (curspan_move(win, y, x) == ERR) return ERR;
-    PRINT(win);
-}
+FORMS_1(insstr, const char *)
+FORMS_2(insnstr, const char *, int)
 
 /* ---- lines, scrolling and drawn lines */
 
@@ -114,65 +79,51 @@ int border(chtype left, chtype right, chtype top, chtype bottom, chtype top_left
 }
 
 int box(WINDOW *win, chtype sides, chtype ends) { return wborder(win, sides, sides, ends, ends, 0, 0, 0, 0); }
-int hline(chtype ch, int n) { return whline(stdscr, ch, n); }
-int mvwhline(WINDOW *win, int y, int x, chtype ch, int n) { return AT(win, y, x, whline(win, ch, n)); }
-int mvhline(int y, int x, chtype ch, int n) { return mvwhline(stdscr, y, x, ch, n); }
-int vline(chtype ch, int n) { return wvline(stdscr, ch, n); }
-int mvwvline(WINDOW *win, int y, int x, chtype ch, int n) { return AT(win, y, x, wvline(win, ch, n)); }
-int mvvline(int y, int x, chtype ch, int n) { return mvwvline(stdscr, y, x, ch, n); }
+FORMS_2(hline, chtype, int)
+FORMS_2(vline, chtype, int)
 
 /* ---- reading back */
 
 chtype inch(void) { return winch(stdscr); }
-chtype mvwinch(WINDOW *win, int y, int x) { return CELL_AT(win, y, x); }
-chtype mvinch(int y, int x) { return CELL_AT(stdscr, y, x); }
-int innstr(char *text, int n) { return winnstr(stdscr, text, n); }
-int instr(char *text) { return winstr(stdscr, text); }
-int mvwinnstr(WINDOW *win, int y, int x, char *text, int n) { return AT(win, y, x, winnstr(win, text, n)); }
-int mvwinstr(WINDOW *win, int y, int x, char *text) { return AT(win, y, x, winstr(win, text)); }
-int mvinnstr(int y, int x, char *text, int n) { return mvwinnstr(stdscr, y, x, text, n); }
-int mvinstr(int y, int x, char *text) { return mvwinstr(stdscr, y, x, text); }
+chtype mvwinch(WINDOW *win, int y, int x) { return curspan_move(win, y, x) == ERR ? (chtype)ERR : winch(win); }
+chtype mvinch(int y, int x) { return mvwinch(stdscr, y, x); }
+FORMS_1(instr, char *)
+FORMS_2(innstr, char *, int)
 int winchstr(WINDOW *win, chtype *row) { return winchnstr(win, row, -1); }
-int inchnstr(chtype *row, int n) { return winchnstr(stdscr, row, n); }
-int inchstr(chtype *row) { return winchnstr(stdscr, row, -1); }
-int mvwinchnstr(WINDOW *win, int y, int x, chtype *row, int n) { return AT(win, y, x, winchnstr(win, row, n)); }
-int mvwinchstr(WINDOW *win, int y, int x, chtype *row) { return mvwinchnstr(win, y, x, row, -1); }
-int mvinchnstr(int y, int x, chtype *row, int n) { return mvwinchnstr(stdscr, y, x, row, n); }
-int mvinchstr(int y, int x, chtype *row) { return mvwinchnstr(stdscr, y, x, row, -1); }
+FORMS_1(inchstr, chtype *)
+FORMS_2(inchnstr, chtype *, int)
 
 int refresh(void) { return wrefresh(stdscr); }
 
 /* ---- keys */
 
-int getch(void) { return wgetch(stdscr); }
-int mvwgetch(WINDOW *win, int y, int x) { return AT(win, y, x, wgetch(win)); }
-int mvgetch(int y, int x) { return mvwgetch(stdscr, y, x); }
+FORMS(getch)
 int wgetstr(WINDOW *win, char *text) { return wgetnstr(win, text, -1); }
-int getstr(char *text) { return wgetnstr(stdscr, text, -1); }
-int getnstr(char *text, int n) { return wgetnstr(stdscr, text, n); }
-int mvwgetnstr(WINDOW *win, int y, int x, char *text, int n) { return AT(win, y, x, wgetnstr(win, text, n)); }
-int mvwgetstr(WINDOW *win, int y, int x, char *text) { return mvwgetnstr(win, y, x, text, -1); }
-int mvgetnstr(int y, int x, char *text, int n) { return mvwgetnstr(stdscr, y, x, text, n); }
-int mvgetstr(int y, int x, char *text) { return mvwgetnstr(stdscr, y, x, text, -1); }
+FORMS_1(getstr, char *)
+FORMS_2(getnstr, char *, int)
 
+/* ---- formats */
+
+int vwprintw(WINDOW *win, const char *format, va_list arguments) { return vw_printw(win, format, arguments); }
 int vwscanw(WINDOW *win, const char *format, va_list arguments) { return vw_scanw(win, format, arguments); }
 
-#define SCAN(win)                                  \
-    va_list arguments;                             \
-    va_start(arguments, format);                   \
-    int answer = vw_scanw(win, format, arguments); \
-    va_end(arguments);                             \
+#define PASS_ON(call, win) \
+    va_list arguments; \
+    va_start(arguments, format); \
+    int answer = call(win, format, arguments); \
+    va_end(arguments); \
     return answer
+#define FORMATTED(name) \
+    int name(const char *format, ...) { PASS_ON(vw_##name, stdscr); } \
+    int w##name(WINDOW *win, const char *format, ...) { PASS_ON(vw_##name, win); } \
+    int mv##name(int y, int x, const char *format, ...) { \
+        if (curspan_move(stdscr, y, x) == ERR) return ERR; \
+        PASS_ON(vw_##name, stdscr); \
+    } \
+    int mvw##name(WINDOW *win, int y, int x, const char *format, ...) { \
+        if (curspan_move(win, y, x) == ERR) return ERR; \
+        PASS_ON(vw_##name, win); \
+    }
 
-int scanw(const char *format, ...) { SCAN(stdscr); }
-int wscanw(WINDOW *win, const char *format, ...) { SCAN(win); }
-
-int mvscanw(int y, int x, const char *format, ...) {
-    if (wmove(stdscr, y, x) == ERR) return ERR;
-    SCAN(stdscr);
-}
-
-int mvwscanw(WINDOW *win, int y, int x, const char *format, ...) {
-    if (wmove(win, y, x) == ERR) return ERR;
-    SCAN(win);
-}
+FORMATTED(printw)
+FORMATTED(scanw)

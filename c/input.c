@@ -22,7 +22,6 @@ static struct {
 
 static int item(size_t i) { return queue.items[(queue.first + i) % ROOM]; }
 
-/* Takes the first item. */
 static int pull(void) {
     if (queue.count == 0) return ERR;
     int key = item(0);
@@ -76,7 +75,6 @@ static bool wait_for_input(int milliseconds) {
     return found;
 }
 
-/* Whether reading waits for a byte: not from a descriptor that the program has so. */
 static bool is_blocking(void) {
     int flags = fcntl(curspan_the_tty.in, F_GETFL);
     return flags >= 0 && !(flags & O_NONBLOCK);
@@ -90,7 +88,6 @@ static int read_byte(void) {
     return count == 1 ? byte : ERR;
 }
 
-/* Reads a byte behind all that waits. */
 static bool push_byte(void) {
     int byte = queue.count < ROOM ? read_byte() : ERR;
     if (byte == ERR) return false;
@@ -118,11 +115,6 @@ static int pull_key(bool is_patient) {
     return key;
 }
 
-/* Shows a window that was changed or whose cursor was moved since it was last shown. */
-static void show(WINDOW *win) {
-    if (!is_pad(win) && (win->moved || is_wintouched(win))) wrefresh(win);
-}
-
 /* Reads a whole line, as it is edited, and answers its first key: the others wait. */
 static int key_of_line(WINDOW *win) {
     char text[LINE_ROOM + 1] = "";
@@ -134,12 +126,9 @@ static int key_of_line(WINDOW *win) {
     return pull();
 }
 
-/* Whether getch waits for a whole line, which is edited meanwhile. */
-static bool wants_line(void) {
-    return queue.count == 0 && curspan_the_tty.line >= 0 && !curspan_modes.raw && !curspan_modes.cbreak && !queue.is_reading_line;
-}
+/* Whether whole lines are read, which are edited meanwhile. */
+static bool reads_lines(void) { return curspan_the_tty.line >= 0 && !curspan_modes.raw && !curspan_modes.cbreak; }
 
-/* The key that comes next, or ERR where none comes in time. */
 static int next_key(const WINDOW *win) {
     int delay = curspan_modes.half_delay > 0 ? curspan_modes.half_delay * 100 : win->delay;
     bool waits = delay >= 0 || is_blocking();
@@ -149,67 +138,41 @@ static int next_key(const WINDOW *win) {
     return pull();
 }
 
-/* Takes a new size of the terminal over. */
-static void look_at_size(void) {
-    if (curspan_was_resized()) curspan_resize_to_terminal(true);
-}
-
-/* Writes a key into the window that reads it, where keys are echoed. */
 static void echo_key(WINDOW *win, int key) {
     int shown = key == KEY_BACKSPACE ? '\b' : key;
     if (curspan_modes.echo && !is_pad(win) && shown < KEY_MIN) wechochar(win, (chtype)shown);
 }
 
-/* A byte as the program gets it. */
-static int translated(int key) {
-    if (key == '\r' && curspan_modes.newline) return '\n';
-    return !curspan_modes.meta && key < KEY_MIN ? key & 0x7f : key;
-}
-
 int wgetch(WINDOW *win) {
     if (is_there(win) == ERR) return ERR;
     curspan_redraw_after_stop();
-    look_at_size();
-    if (queue.keys == 0 && wants_line()) return key_of_line(win);
+    if (curspan_was_resized()) curspan_resize_to_terminal(true);
+    if (queue.count == 0 && reads_lines() && !queue.is_reading_line) return key_of_line(win);
     if (queue.keys == 0 && win->keypad != (curspan_the_tty.is_keypad != 0)) curspan_switch_keypad(&curspan_the_tty, win->keypad);
-    show(win);
+    if (!is_pad(win) && (win->moved || is_wintouched(win))) wrefresh(win);
     if (queue.keys > 0) return pull();
     int key = next_key(win);
     if (key == ERR) {
-        look_at_size();
+        if (curspan_was_resized()) curspan_resize_to_terminal(true);
         return queue.keys > 0 ? pull() : ERR;
     }
     echo_key(win, key);
-    return translated(key);
+    if (key == '\r' && curspan_modes.newline) return '\n';
+    return !curspan_modes.meta && key < KEY_MIN ? key & 0x7f : key;
 }
 
 /* ---- how a window reads */
 
 int keypad(WINDOW *win, bool flag) {
-    if (is_there(win) == ERR) return ERR;
-    win->keypad = flag;
+    if (SET_OF(win, keypad, flag) == ERR) return ERR;
     curspan_switch_keypad(&curspan_the_tty, flag);
     return OK;
 }
 
-int nodelay(WINDOW *win, bool flag) {
-    if (is_there(win) == ERR) return ERR;
-    win->delay = flag ? 0 : -1;
-    return OK;
-}
-
-int notimeout(WINDOW *win, bool flag) {
-    if (is_there(win) == ERR) return ERR;
-    win->no_timeout = flag;
-    return OK;
-}
-
-void wtimeout(WINDOW *win, int milliseconds) {
-    if (is_there(win) == OK) win->delay = milliseconds;
-}
-
+int nodelay(WINDOW *win, bool flag) { return SET_OF(win, delay, flag ? 0 : -1); }
+int notimeout(WINDOW *win, bool flag) { return SET_OF(win, no_timeout, flag); }
+void wtimeout(WINDOW *win, int milliseconds) { (void)SET_OF(win, delay, milliseconds); }
 void timeout(int milliseconds) { wtimeout(stdscr, milliseconds); }
-
 bool is_keypad(const WINDOW *win) { return is_there(win) == OK && win->keypad; }
 bool is_nodelay(const WINDOW *win) { return is_there(win) == OK && win->delay == 0; }
 bool is_notimeout(const WINDOW *win) { return is_there(win) == OK && win->no_timeout; }

@@ -28,31 +28,31 @@ typedef struct {
     int count, y, x;
 } curspan_unfinished;
 
-/* What curspan.h doesn't tell back of a window. Its size and `end` are kept so that a move and a character ask for nothing. */
+/* What curspan.h doesn't tell of a window, and its size and `end`, so that moves and characters ask for nothing. */
 struct curspan_window {
-    uint16_t number; /* its own, and NUMBER where it isn't there */
+    uint16_t number;         /* NUMBER where it isn't there */
     bool outlies;            /* it isn't wholly on the screen: a pad of curspan.h stands for it */
     bool moved;              /* the cursor was moved since the last refresh, as getch wants to know */
     bool keypad, no_timeout; /* how getch reads */
     int delay;               /* for how many milliseconds it waits, without end where that is negative */
-    attr_t attrs; /* the attributes and the pair that the window has: curspan.h has no pairs past LAST_OWN, and no A_ALTCHARSET */
+    attr_t attrs; /* the window's, with its pair: curspan.h has no pairs past LAST_OWN, and no A_ALTCHARSET */
     attr_t given; /* those that Curspan got last */
     chtype background;       /* which has such pairs too */
     unsigned lines, columns; /* 0 where it isn't there */
-    /* While `reach` is under `limit`, what is written next has the window's attributes, and at least a line less one of characters, and
-       `limit - reach` more, fit before the last place of a window that doesn't scroll. So a character adds one to it, and a move sets it to
-       the cursor's line. */
+    /* While `reach` is under `limit`, what is written next has the window's attributes, and a line less one of
+       characters and `limit - reach` more fit before the last place of a window that doesn't scroll. A character adds
+       one to it, and a move sets it to the cursor's line. */
     int reach, limit;
     int end; /* the limit of a window that is ready: the last line of the scroll region, or ENDLESS */
     curspan_unfinished begun;
-    bool idlok, no_idcok, leaveok;   /* the options that are set */
+    bool idlok, no_idcok, leaveok;
     bool is_immediate, synchronizes; /* each change refreshes it, or touches its ancestors */
-    int begin_y, begin_x; /* of a pad, where on the screen copies take it to be; of one that outlies, where it is; of curscr, its cursor */
-    int part[6]; /* of a pad, which part of it was refreshed last, and to where */
+    int begin_y, begin_x; /* of a pad where copies take it to be, of one that outlies its place, of curscr its cursor */
+    int part[6];          /* of a pad, which part of it was refreshed last, and to where */
 };
 
-/* A move, and plain characters after it, which wait until Curspan is asked for something else: one call of it writes many characters. None
-   of them can be refused. */
+/* A move, and plain characters after it, which wait until Curspan is asked for something else, so that one call of it
+   writes many. None of them can be refused. */
 struct curspan_waiting {
     WINDOW *win; /* where they are to be written, or NULL */
     int y, x;    /* the place to which it moves first; ERR is where the cursor is */
@@ -61,7 +61,6 @@ struct curspan_waiting {
 };
 
 extern struct curspan_waiting curspan_waiting;
-/* Writes what waits. */
 void curspan_write_waiting(void);
 /* Lets a move wait, where nothing else does. */
 static inline int curspan_wait_at(WINDOW *win, int y, int x) {
@@ -92,46 +91,41 @@ static inline uint16_t curspan_number(const WINDOW *win) { return win ? win->num
 
 /* The window of an answer that is its number, and NULL of a refusal. */
 WINDOW *curspan_window_of(curspan_answer answer);
-/* Gives a window another number. */
 void curspan_renumber(WINDOW *win, uint16_t number);
 /* Makes the standard screen of an answer that is its number. */
 void curspan_begin(curspan_answer answer);
-/* Forgets all windows. */
 void curspan_forget_all(void);
 
 /* The screen, and a window of it, as arguments. */
 #define SCREEN_AND(win) &curspan_the_screen, curspan_number(win)
 
-/* The two calls that programs make most, proved as those of curspan.h: each answers OK or ERR, and is compiled to less than the call of its
-   name with what turns an answer into that. */
+/* The two calls that programs make most, proved as those of curspan.h. Each answers OK or ERR, and costs less than the
+   call of its name with what turns an answer into that. */
 int32_t curspan_wmove_end(uint16_t win, uint16_t y, uint16_t x, curspan *screen);
 int32_t curspan_waddch_end(uint16_t win, uint8_t ch, curspan *screen);
 
-/* Says to Curspan that a window writes with other attributes than before. */
+/* Says to Curspan with which attributes a window writes next, and where they are other ones. */
 int curspan_tell_other(WINDOW *win, attr_t attrs);
-
-/* Says to Curspan with which attributes a window writes next. */
-static inline int curspan_tell(WINDOW *win, attr_t attrs) { return win->given == attrs ? OK : curspan_tell_other(win, attrs); }
+static inline int curspan_tell(WINDOW *win, attr_t attrs) {
+    return win->given == attrs ? OK : curspan_tell_other(win, attrs);
+}
 
 /* Sets the limit, after what it comes from has changed. */
 void curspan_set_limit(WINDOW *win);
 /* The same where the size, the scroll region or whether the window scrolls has changed: `reach` is known no more. */
 void curspan_set_end(WINDOW *win);
 
-/* Refreshes a window that was changed, or touches its ancestors, where that is to be. */
+/* Answers for a call that has changed a window: refreshes it, or touches its ancestors, where that is to be. */
 void curspan_follow(WINDOW *win);
-
-/* Answers for a call that has changed a window. */
 static inline int curspan_changed(WINDOW *win, int answer) {
     if (win && (win->is_immediate || win->synchronizes)) curspan_follow(win);
     return answer;
 }
 
-/* Notes the size that a window has. */
 void curspan_measure(WINDOW *win);
 
-/* What a byte is drawn as, after those before it that begin a character: nothing where that isn't finished or has no width, the character
-   in ASCII, or how a byte that belongs to none is spelled. */
+/* What a byte is drawn as, after those that begin a character: nothing where that isn't finished or has no width, the
+   character in ASCII, or how a byte that belongs to none is spelled. */
 typedef struct {
     char text[3];
     int count;
@@ -154,17 +148,14 @@ static inline attr_t curspan_with(attr_t attrs, attr_t more) {
 
 /* Fills acs_map by the terminal's type. */
 void curspan_begin_map(void);
-/* The terminal has alternate characters. */
 extern bool curspan_has_alternates;
 /* A character as it is drawn: an alternate one where the terminal has none is another. */
 chtype curspan_as_drawn(chtype ch);
 
-/* Writes a character as waddch does, whatever attributes it has, however it is spelled, and wherever the window ends. It is a function of
-   its own, so that waddch keeps no registers for it. */
+/* Writes a character as waddch does, whatever it is, and wherever the window ends; and whether so many characters fit
+   before the last place of a window that is ready, whose `reach` is told then. These are functions of their own, so
+   that waddch and waddstr keep no registers for them. */
 int curspan_add_any(WINDOW *win, chtype ch);
-
-/* Whether so many characters fit before the last place of a window that is ready, whose `reach` is told then. A function of its own for the
-   same reason. */
 bool curspan_fits_at_end(WINDOW *win, size_t length);
 
 /* Sets the background, that of the window in `win` or another. */
@@ -172,26 +163,23 @@ int curspan_set_background(WINDOW *win, chtype ch);
 /* Sets the background and what the window's attributes have of it. */
 int curspan_change_background(WINDOW *win, chtype ch);
 
-/* Sets cells of a line of a window to some cells, as they are: the cursor, the background and scrolling have no part in it. */
+/* Sets cells of a line or a column as they are: the cursor, the background and scrolling have no part in it. */
 int curspan_put_cells(WINDOW *win, int y, int x, const chtype *cells, int n);
-/* Sets a column of cells of a window to one cell. */
 int curspan_put_column(WINDOW *win, int y, int x, int n, chtype cell);
-/* Reads up to n cells from a place on, or all where n is negative, and leaves the cursor where it is. It answers how many they are. */
+/* Reads up to n cells from a place on, or all where n is negative, and answers how many they are. */
 int curspan_read_cells(WINDOW *win, int y, int x, chtype *cells, int n);
 /* Moves the cursor without a look at where it comes to. */
 static inline int curspan_put_cursor(const WINDOW *win, int y, int x) {
     return curspan_wmove_end(win->number, (uint16_t)y, (uint16_t)x, &curspan_the_screen);
 }
 
-
-/* The lines and the columns of the screen, which wresize may give the standard screen no more. */
+/* The size of the screen, which wresize may give the standard screen no more. */
 static inline int curspan_lines(void) { return (int)curspan_getmaxyx(&curspan_the_screen, 0).first; }
 static inline int curspan_columns(void) { return (int)curspan_getmaxyx(&curspan_the_screen, 0).second; }
 /* Whether so many lines and columns from a place on are on the screen. */
 bool curspan_fits(int lines, int columns, int y, int x);
 /* Takes what is touched of a window that outlies, and its cursor, into the virtual screen. */
 int curspan_show_outlying(WINDOW *win);
-/* Takes a cursor into the virtual screen. */
 int curspan_show_cursor(int y, int x);
 /* Moves a window that outlies to a place where it fits. */
 int curspan_move_inside(WINDOW *win, int y, int x);
@@ -200,7 +188,6 @@ int curspan_cut_outside(WINDOW *win);
 
 /* Where the virtual screen has its cursor. */
 extern int curspan_shown_y, curspan_shown_x;
-/* Notes that it is where a window has its own. */
 void curspan_note_cursor(const WINDOW *win);
 
 /* What two windows have of the screen in common: where it begins in each, and how large it is. */
@@ -208,42 +195,40 @@ typedef struct {
     int from_y, from_x, to_y, to_x, lines, columns;
 } curspan_common;
 
+/* Finds it, and answers whether there is any. */
+bool curspan_find_common(const WINDOW *from, const WINDOW *to, curspan_common *common);
 /* Touches a rectangle of a window of a screen, where it has it. */
 void curspan_touch_cells(curspan *screen, uint16_t win, int y, int x, int lines, int columns);
 
-/* Finds it, and answers whether there is any. */
-bool curspan_find_common(const WINDOW *from, const WINDOW *to, curspan_common *common);
-
 /* A window was refreshed that the picture of panels doesn't have, so that panels go on by what is touched; see panel.c. */
 extern bool curspan_is_mixed;
-/* Notes that a window is refreshed. */
 void curspan_note_refreshed(const WINDOW *win);
 
 /* Makes the panels anew in another screen, with windows of it by their places in curspan_windows. */
 int curspan_make_panels(curspan *screen, const uint16_t windows[MOST]);
 /* Takes those of that screen. */
 void curspan_take_panels(void);
-/* Forgets all panels. */
 void curspan_forget_panels(void);
 
-/* Forgets the colours of pairs. */
 void curspan_forget_colours(void);
-/* The pair of curspan.h that stands for the program's in some attributes, and for A_ALTCHARSET in them, from then on. There are 63: where all
-   stand for others it is 0, or that of alternate characters of pair 0. */
+/* The pair of curspan.h that stands for the program's in some attributes, and for A_ALTCHARSET in them, from then on.
+   There are 63: where all stand for others it is 0, or that of alternate characters of pair 0. */
 int curspan_use_pair(attr_t attrs);
-/* What a pair of curspan.h stands for. */
 attr_t curspan_attributes_of(int own);
 /* What the pairs of curspan.h are now, in the bytes on their way. */
 struct curspan_palette *curspan_palette_now(void);
 
 static inline bool is_number(int n) { return n >= 0 && n <= NUMBER; }
-
 static inline bool are_numbers(int a, int b, int c, int d) {
     return is_number(a) && is_number(b) && is_number(c) && is_number(d);
 }
 
 static inline int is_there(const WINDOW *win) { return curspan_number(win) == NUMBER ? ERR : OK; }
+/* Sets what is kept of a window. */
+#define SET_OF(win, member, value) (is_there(win) == ERR ? ERR : ((win)->member = (value), OK))
+static inline bool is_printable(uint32_t ch) { return ch >= ' ' && ch <= '~'; }
 static inline int least(int a, int b) { return a < b ? a : b; }
+static inline int most(int a, int b) { return a > b ? a : b; }
 static inline bool is_terminal(const WINDOW *win) { return win && win == curscr; }
 static inline int done(curspan_answer answer) { return answer.status == CURSPAN_OK ? OK : ERR; }
 static inline int first_of(curspan_answer answer) { return answer.status == CURSPAN_OK ? (int)answer.first : ERR; }

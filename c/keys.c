@@ -18,7 +18,6 @@ struct key {
 static struct key *keys, table[CURSPAN_SEQUENCES];
 static char type_of_terminal[128];
 
-/* Takes a key out of the list. */
 static void take_out(struct key **at) {
     struct key *key = *at;
     *at = key->next;
@@ -29,28 +28,20 @@ void curspan_forget_keys(const char *type) {
     while (keys) take_out(&keys);
     if (!type) type = getenv("TERM");
     snprintf(type_of_terminal, sizeof type_of_terminal, "%s", type ? type : "unknown");
-    for (size_t i = CURSPAN_SEQUENCES; i-- > 0;) {
-        const struct key key = {keys, curspan_sequences[i].bytes, curspan_sequences[i].key, false, false};
-        if (!curspan_is_of_type(&curspan_sequences[i], type_of_terminal)) continue;
-        table[i] = key;
+    for (int i = CURSPAN_SEQUENCES; i-- > 0;) {
+        if (!curspan_is_of_type(i, type_of_terminal)) continue;
+        table[i] = (struct key){keys, curspan_sequences[i].bytes, curspan_sequences[i].key, false, false};
         keys = &table[i];
     }
 }
 
 char *termname(void) { return stdscr ? type_of_terminal : NULL; }
-
-/* There is no database of types: the long name is the short one. */
 char *longname(void) { return termname(); }
-
-/* Whether a sequence begins with some bytes. */
-static bool begins_with(const char *sequence, const unsigned char *bytes, size_t length) {
-    return strlen(sequence) >= length && memcmp(sequence, bytes, length) == 0;
-}
 
 int curspan_key_of(const unsigned char *bytes, size_t length) {
     int number = 0;
     for (const struct key *it = keys; it; it = it->next) {
-        if (it->is_off || !begins_with(it->bytes, bytes, length)) continue;
+        if (it->is_off || strlen(it->bytes) < length || memcmp(it->bytes, bytes, length) != 0) continue;
         if (it->bytes[length] == 0) return it->number;
         number = ERR;
     }
@@ -92,12 +83,10 @@ int key_defined(const char *sequence) {
 static bool take_away(const char *sequence, int number) {
     bool was = false;
     for (struct key **at = &keys; *at;) {
-        if ((*at)->is_off || (sequence ? strcmp((*at)->bytes, sequence) != 0 : (*at)->number != number)) {
-            at = &(*at)->next;
-        } else {
-            take_out(at);
-            was = true;
-        }
+        bool is_it = !(*at)->is_off && (sequence ? strcmp((*at)->bytes, sequence) == 0 : (*at)->number == number);
+        if (is_it) take_out(at);
+        else at = &(*at)->next;
+        was |= is_it;
     }
     return was;
 }
@@ -107,8 +96,7 @@ static int define(const char *sequence, int number) {
     if (size == 1 || key_defined(sequence) != 0) return ERR;
     struct key *key = malloc(sizeof *key + size);
     if (!key) return ERR;
-    const struct key made = {keys, memcpy(key + 1, sequence, size), number, false, true};
-    *key = made;
+    *key = (struct key){keys, memcpy(key + 1, sequence, size), number, false, true};
     keys = key;
     return OK;
 }

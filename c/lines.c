@@ -7,7 +7,6 @@
 
 enum { LONGEST_LINE = 2047 };
 
-/* A line that is edited in a window. */
 struct line {
     WINDOW *win;
     char *text;
@@ -16,13 +15,10 @@ struct line {
     bool echo;
 };
 
-/* Whether a byte of UTF-8 goes on with a character. */
-static bool goes_on(char byte) { return (byte & 0xc0) == 0x80; }
-
 /* Takes the last character away, all its bytes, and writes spaces over it, however many columns it has. */
 static void rub_out(struct line *line) {
     if (line->length == 0) return;
-    while (--line->length > 0 && goes_on(line->text[line->length])) continue;
+    while (--line->length > 0 && (line->text[line->length] & 0xc0) == 0x80) continue;
     line->text[line->length] = 0;
     if (!line->echo) return;
     int y = getcury(line->win), x = getcurx(line->win);
@@ -51,7 +47,6 @@ static void show_last(struct line *line) {
 
 static bool ends_line(int key) { return key == '\n' || key == '\r' || key == KEY_DOWN || key == KEY_ENTER; }
 
-/* Edits the line by a key. */
 static void edit(struct line *line, int key) {
     if (key == (signed char)erasechar() || key == KEY_LEFT || key == KEY_BACKSPACE) {
         rub_out(line);
@@ -63,12 +58,6 @@ static void edit(struct line *line, int key) {
         line->text[line->length++] = (char)key;
         if (line->echo) show_last(line);
     }
-}
-
-/* Moves the cursor to the next line, if there is one. */
-static void end_line(WINDOW *win) {
-    wmove(win, least(getcury(win) + 1, getmaxy(win) - 1), 0);
-    wrefresh(win);
 }
 
 int wgetnstr(WINDOW *win, char *text, int n) {
@@ -84,7 +73,8 @@ int wgetnstr(WINDOW *win, char *text, int n) {
         key = wgetch(win);
     }
     if (ends_line(key) && line.echo && is_scrollok(win) && getcury(win) == getmaxy(win) - 1) wechochar(win, '\n');
-    end_line(win);
+    wmove(win, least(getcury(win) + 1, getmaxy(win) - 1), 0);
+    wrefresh(win);
     curspan_end_raw(&modes, &before);
     text[line.length] = 0;
     return key == ERR || key == KEY_RESIZE ? key : OK;

@@ -1,4 +1,4 @@
-/* The modes of the terminal's line, and how keys are read. Each call leaves the flags of termios as ncurses does. Nothing here is proved. */
+/* The modes of the terminal's line, with flags as ncurses has them, and how keys are read. Nothing here is proved. */
 #define _XOPEN_SOURCE 700
 #define _DEFAULT_SOURCE
 #include "inside.h"
@@ -13,13 +13,11 @@ struct curspan_modes curspan_modes;
 static struct termios saved; /* what savetty kept */
 
 static int get(struct termios *modes) {
-    if (curspan_the_tty.line >= 0 && tcgetattr(curspan_the_tty.line, modes) == 0) return OK;
-    return ERR;
+    return curspan_the_tty.line >= 0 && tcgetattr(curspan_the_tty.line, modes) == 0 ? OK : ERR;
 }
 
 static int set(const struct termios *modes) { return curspan_set_modes(&curspan_the_tty, modes) ? OK : ERR; }
 
-/* Makes modes those of the program. */
 static int change(const struct termios *modes) {
     if (set(modes) == ERR) return ERR;
     curspan_the_tty.program = *modes;
@@ -27,13 +25,10 @@ static int change(const struct termios *modes) {
 }
 
 /* Of both descriptors the input's terminal is taken. */
-static int line_of(int in, int out) { return in >= 0 && isatty(in) ? in : isatty(out) ? out : -1; }
-
 void curspan_begin_modes(void) {
-    const struct curspan_modes first = {.echo = true, .newline = true, .meta = true};
     struct curspan_tty *terminal = &curspan_the_tty;
-    int line = line_of(terminal->in, terminal->out);
-    curspan_modes = first;
+    int in = terminal->in, out = terminal->out, line = in >= 0 && isatty(in) ? in : isatty(out) ? out : -1;
+    curspan_modes = (struct curspan_modes){.echo = true, .newline = true, .meta = true};
     if (line < 0 || tcgetattr(line, &terminal->shell) != 0) return;
     terminal->program = terminal->shell;
     terminal->line = line; /* from now on a handler of signals sets the modes */
@@ -64,47 +59,41 @@ void curspan_end_raw(const struct curspan_modes *modes, const struct termios *li
 
 /* ---- the modes of X/Open */
 
-/* Makes other modes those of the program, and notes how keys are read then. */
-static int change_reading(const struct termios *modes, bool is_raw, bool is_cbreak) {
-    if (change(modes) == ERR) return ERR;
+/* Makes the program's modes others by their flags, and notes how keys are read then. */
+static int read_by(tcflag_t local, tcflag_t input, bool is_raw, bool is_cbreak) {
+    struct termios modes = curspan_the_tty.program;
+    modes.c_lflag = local;
+    modes.c_iflag = input;
+    if (is_cbreak) curspan_read_at_once(&modes);
+    if (change(&modes) == ERR) return ERR;
     curspan_modes.raw = is_raw;
     curspan_modes.cbreak = is_cbreak;
     curspan_modes.half_delay = 0;
     return OK;
 }
 
+#define LOCAL curspan_the_tty.program.c_lflag
+#define INPUT curspan_the_tty.program.c_iflag
 int cbreak(void) {
-    struct termios modes = curspan_the_tty.program;
-    modes.c_lflag = (modes.c_lflag & ~(tcflag_t)ICANON) | ISIG;
-    modes.c_iflag &= ~(tcflag_t)ICRNL;
-    curspan_read_at_once(&modes);
-    return change_reading(&modes, curspan_modes.raw, true);
+    return read_by((LOCAL | ISIG) & ~(tcflag_t)ICANON, INPUT & ~(tcflag_t)ICRNL, curspan_modes.raw, true);
 }
-
-int nocbreak(void) {
-    struct termios modes = curspan_the_tty.program;
-    modes.c_lflag |= ICANON;
-    modes.c_iflag |= ICRNL;
-    return change_reading(&modes, curspan_modes.raw, false);
-}
+int nocbreak(void) { return read_by(LOCAL | ICANON, INPUT | ICRNL, curspan_modes.raw, false); }
 
 int raw(void) {
     struct termios modes = curspan_the_tty.program;
     curspan_make_raw(&modes);
-    return change_reading(&modes, true, true);
+    return read_by(modes.c_lflag, modes.c_iflag, true, true);
 }
 
 int noraw(void) {
-    struct termios modes = curspan_the_tty.program;
-    modes.c_lflag |= ISIG | ICANON | (curspan_the_tty.shell.c_lflag & IEXTEN);
-    modes.c_iflag |= CURSPAN_INPUT_FLAGS;
-    return change_reading(&modes, false, false);
+    tcflag_t extended = curspan_the_tty.shell.c_lflag & IEXTEN;
+    return read_by(LOCAL | ISIG | ICANON | extended, INPUT | CURSPAN_INPUT_FLAGS, false, false);
 }
 
 int halfdelay(int tenths) {
     if (tenths < 1 || tenths > 255 || !stdscr) return ERR;
     cbreak();
-    curspan_modes.cbreak = true;
+    curspan_modes.cbreak = true; /* also where there is no terminal */
     curspan_modes.half_delay = tenths;
     return OK;
 }
@@ -119,11 +108,7 @@ int echo(void) { return set_mode(&curspan_modes.echo, true); }
 int noecho(void) { return set_mode(&curspan_modes.echo, false); }
 int nl(void) { return set_mode(&curspan_modes.newline, true); }
 int nonl(void) { return set_mode(&curspan_modes.newline, false); }
-
-int meta(WINDOW *win, bool flag) {
-    (void)win;
-    return set_mode(&curspan_modes.meta, flag);
-}
+int meta(WINDOW *win, bool flag) { return (void)win, set_mode(&curspan_modes.meta, flag); }
 
 int intrflush(WINDOW *win, bool flag) {
     struct termios modes = curspan_the_tty.program;
@@ -134,11 +119,7 @@ int intrflush(WINDOW *win, bool flag) {
 
 void qiflush(void) { (void)intrflush(NULL, true); }
 void noqiflush(void) { (void)intrflush(NULL, false); }
-
-int typeahead(int descriptor) {
-    (void)descriptor;
-    return stdscr ? OK : ERR;
-}
+int typeahead(int descriptor) { return (void)descriptor, stdscr ? OK : ERR; }
 
 /* ---- modes of the program and of the shell */
 
@@ -160,7 +141,6 @@ int resetty(void) { return set(&saved); }
 
 /* ---- what the line has */
 
-/* A character of the line that edits it, or ERR where that is off. */
 static char editing_character(int which) {
     cc_t off = (cc_t)fpathconf(curspan_the_tty.line, _PC_VDISABLE), character = curspan_the_tty.shell.c_cc[which];
     return curspan_the_tty.line < 0 || character == off ? (char)ERR : (char)character;

@@ -1,5 +1,4 @@
-/* Windows that aren't wholly on the screen, which curspan.h doesn't have: a pad stands for each, and what of it is on the screen is shown.
-   And the cursor of a pad. Nothing here is proved. */
+/* Windows that aren't wholly on the screen: pads of curspan.h stand for them. And cursors. Nothing here is proved. */
 #include "inside.h"
 
 #include <stddef.h>

@@ -11,26 +11,16 @@ FILE *curspan_stream;
 static int visibility_now = 1;
 static struct curspan_outgoing outgoing;
 
-/* Comes to the picture's page where it isn't there. */
-static int come_back(void) {
+/* Takes the terminal's size over where it may be another, comes to the picture's page, and writes what has changed. */
+static int update(void) {
+    if (!stdscr) return ERR;
+    bool is_told = curspan_was_resized(), was_away = curspan_the_tty.was_away;
+    curspan_the_tty.was_away = false;
+    if (is_told || was_away) curspan_resize_to_terminal(is_told);
     bool is_there = curspan_the_tty.page == PAGE_ENTERED;
     if (!is_there) curspan_palette_now()->is_alternate = false;
     if (!curspan_come_back(&curspan_the_tty)) return ERR;
     if (!is_there) curspan_invalidate(&curspan_the_screen);
-    return OK;
-}
-
-/* Takes the terminal's size over where it may be another. */
-static void take_size(void) {
-    bool is_told = curspan_was_resized(), was_away = curspan_the_tty.was_away;
-    curspan_the_tty.was_away = false;
-    if (is_told || was_away) curspan_resize_to_terminal(is_told);
-}
-
-static int update(void) {
-    if (!stdscr) return ERR;
-    take_size();
-    if (come_back() == ERR) return ERR;
     curspan_answer answer = curspan_doupdate(&curspan_the_screen);
     curscr->begin_y = curspan_shown_y;
     curscr->begin_x = curspan_shown_x;
@@ -45,9 +35,9 @@ int doupdate(void) {
 }
 
 bool curspan_redraw_after_stop(void) {
-    if (!curspan_was_stopped()) return false;
-    doupdate();
-    return true;
+    bool was_stopped = curspan_was_stopped();
+    if (was_stopped) doupdate();
+    return was_stopped;
 }
 
 int curs_set(int visibility) {
@@ -62,8 +52,8 @@ int curs_set(int visibility) {
     return before;
 }
 
-/* The cursor comes elsewhere than Curspan knows, so that the next refresh draws all. As over ncurses the stream may keep the bytes until it is
-   flushed, as at the program's end. */
+/* The cursor comes elsewhere than Curspan knows, so that the next refresh draws all. As over ncurses the stream may
+   keep the bytes until it is flushed, as at the program's end. */
 int mvcur(int old_y, int old_x, int y, int x) {
     (void)old_y;
     (void)old_x;
@@ -73,12 +63,10 @@ int mvcur(int old_y, int old_x, int y, int x) {
 }
 
 int beep(void) { return stdscr && curspan_put_text(&curspan_the_tty, "\a") ? OK : ERR; }
-
 int flash(void) { return beep(); }
 
 void curspan_forget_output(void) {
-    const struct curspan_outgoing none = {NULL, 0};
     free(outgoing.bytes);
-    outgoing = none;
+    outgoing = (struct curspan_outgoing){NULL, 0};
     visibility_now = 1;
 }

@@ -1,5 +1,4 @@
-/* The bytes of a screen on their way to a terminal, in which each pair of curspan.h is known by two colours of its own, and gets others. Nothing
-   here is proved. */
+/* The bytes of a screen on their way to a terminal: pairs get the program's colours. Nothing here is proved. */
 #include "curspan.h"
 #include "terminal.h"
 
@@ -39,7 +38,6 @@ static uint8_t *append_selection(struct curspan_palette *palette, uint8_t *out, 
     return append(out, "m", 1);
 }
 
-/* Where a control sequence ends that begins there. */
 static const uint8_t *end_of(const uint8_t *begin, const uint8_t *last) {
     const uint8_t *at = begin + 1;
     while (at < last && (*at < '@' || *at == '[')) at++;

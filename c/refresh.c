@@ -16,7 +16,6 @@ int wtouchln(WINDOW *win, int y, int n, int changed) {
 }
 
 int touchline(WINDOW *win, int y, int n) { return wtouchln(win, y, n, TRUE); }
-
 bool is_linetouched(WINDOW *win, int y) { return is_number(y) && first_of(curspan_is_linetouched(SCREEN_AND(win), (uint16_t)y)) == 1; }
 bool is_wintouched(WINDOW *win) { return first_of(curspan_is_wintouched(SCREEN_AND(win))) == 1; }
 
@@ -45,13 +44,9 @@ void wcursyncup(WINDOW *win) {
 int curspan_shown_y, curspan_shown_x;
 
 void curspan_note_cursor(const WINDOW *win) {
-    curspan_answer begin = curspan_getbegyx(SCREEN_AND(win)), cursor = curspan_getyx(SCREEN_AND(win));
-    bool is_nowhere = begin.status == CURSPAN_IS_PAD;
-    curspan_shown_y = (is_nowhere ? win->begin_y : (int)begin.first) + (int)cursor.first;
-    curspan_shown_x = (is_nowhere ? win->begin_x : (int)begin.second) + (int)cursor.second;
+    curspan_shown_y = getbegy(win) + getcury(win);
+    curspan_shown_x = getbegx(win) + getcurx(win);
 }
-
-static int not_negative(int n) { return n < 0 ? 0 : n; }
 
 /* The cursor of a pad is taken where it is in the part that is shown. */
 static int show_cursor_of(const WINDOW *pad) {
@@ -62,7 +57,7 @@ static int show_cursor_of(const WINDOW *pad) {
 
 /* The part of the screen ends where the pad does, as over ncurses. */
 int pnoutrefresh(WINDOW *pad, int pad_y, int pad_x, int top, int left, int bottom, int right) {
-    int part[6] = {not_negative(pad_y), not_negative(pad_x), not_negative(top), not_negative(left), bottom, right};
+    int part[6] = {most(pad_y, 0), most(pad_x, 0), most(top, 0), most(left, 0), bottom, right};
     if (!is_pad(pad) || !are_numbers(part[0], part[1], part[2], part[3]) || !are_numbers(bottom, right, 0, 0)) return ERR;
     bottom = least(bottom, part[2] + getmaxy(pad) - 1 - part[0]);
     right = least(right, part[3] + getmaxx(pad) - 1 - part[1]);
@@ -77,15 +72,11 @@ int pnoutrefresh(WINDOW *pad, int pad_y, int pad_x, int top, int left, int botto
     return show_cursor_of(pad);
 }
 
-static int show_again(WINDOW *pad) {
-    const int *part = pad->part;
-    return pnoutrefresh(pad, part[0], part[1], part[2], part[3], part[4], part[5]);
-}
-
 /* Of a pad the part is taken that was refreshed last, as over ncurses. */
 int wnoutrefresh(WINDOW *win) {
     if (is_terminal(win)) return clearok(curscr, TRUE);
-    if (is_pad(win)) return show_again(win);
+    const int *part = win ? win->part : NULL;
+    if (is_pad(win)) return pnoutrefresh(win, part[0], part[1], part[2], part[3], part[4], part[5]);
     if (!curspan_is_mixed && win != stdscr) curspan_note_refreshed(win);
     wsyncdown(win);
     if ((win && win->outlies ? curspan_show_outlying(win) : done(curspan_wnoutrefresh(SCREEN_AND(win)))) == ERR) return ERR;
@@ -114,4 +105,4 @@ int wredrawln(WINDOW *win, int y, int n) {
     return OK;
 }
 
-int redrawwin(WINDOW *win) { return wredrawln(win, 0, not_negative(getmaxy(win))); }
+int redrawwin(WINDOW *win) { return wredrawln(win, 0, most(getmaxy(win), 0)); }

@@ -1,6 +1,6 @@
-/* Sizes that change, of the screen and of windows. A screen of curspan.h and each of its windows have one size. So windows are made anew, in
-   a second screen where the screen's size changes, and take the place of the old ones when all are there: where one is refused, nothing
-   has changed. Nothing here is proved. */
+/* Sizes that change, of the screen and of windows. In curspan.h each keeps its own. So windows are made anew, in a
+   second screen where the screen's size changes, and take the place of the old ones when all are there: where one is
+   refused, nothing has changed. Nothing here is proved. */
 #define _XOPEN_SOURCE 700
 #include "inside.h"
 #include "panel.h"
@@ -34,16 +34,11 @@ static ptrdiff_t place_of(const WINDOW *win) { return win - curspan_windows; }
 /* ---- which windows, and how large */
 
 static struct shape shape_of(const WINDOW *win) {
-    struct shape shape = {.lines = getmaxy(win), .columns = getmaxx(win), .parent = wgetparent(win), .is_pad = is_pad(win), .outlies = win->outlies};
-    if (!shape.is_pad) {
-        shape.begin_y = shape.y = getbegy(win);
-        shape.begin_x = shape.x = getbegx(win);
-    }
-    if (shape.parent) {
-        shape.y = getpary(win);
-        shape.x = getparx(win);
-    }
-    return shape;
+    WINDOW *parent = wgetparent(win);
+    bool pad = is_pad(win);
+    int begin_y = pad ? 0 : getbegy(win), begin_x = pad ? 0 : getbegx(win);
+    int y = parent ? getpary(win) : begin_y, x = parent ? getparx(win) : begin_x;
+    return (struct shape){getmaxy(win), getmaxx(win), y, x, begin_y, begin_x, parent, pad, win->outlies, false};
 }
 
 /* Adds the windows that derive from those that are listed. Each comes after the one that it derives from. */
@@ -51,13 +46,6 @@ static void add_derived(void) {
     for (int i = 0; i < remake.count; i++)
         for (WINDOW *win = curspan_windows; win < curspan_windows + MOST; win++)
             if (wgetparent(win) == remake.family[i]) remake.family[remake.count++] = win;
-}
-
-static void list_all(void) {
-    remake.count = 0;
-    for (WINDOW *win = curspan_windows; win < curspan_windows + MOST; win++)
-        if (is_there(win) == OK && !is_subwin(win)) remake.family[remake.count++] = win;
-    add_derived();
 }
 
 static void note_shapes(void) {
@@ -69,7 +57,6 @@ static void note_shapes(void) {
     }
 }
 
-/* Cuts off what of a shape lies outside of some lines and columns. */
 static void cut(struct shape *shape, int lines, int columns) {
     shape->y = least(shape->y, lines - 1);
     shape->x = least(shape->x, columns - 1);
@@ -128,25 +115,21 @@ static uint16_t parent_of(const struct shape *shape) {
 }
 
 static curspan_answer make(const WINDOW *win) {
-    const curspan_answer standard = {CURSPAN_OK, 0, 0};
     const struct shape *shape = &remake.shapes[place_of(win)];
     uint16_t lines = (uint16_t)shape->lines, columns = (uint16_t)shape->columns, y = (uint16_t)shape->y, x = (uint16_t)shape->x;
     bool as_pad = shape->is_pad || shape->outlies;
-    if (win == stdscr && shape->lines == remake.lines && shape->columns == remake.columns) return standard;
+    bool is_standard = win == stdscr && shape->lines == remake.lines && shape->columns == remake.columns;
+    if (is_standard) return (curspan_answer){CURSPAN_OK, 0, 0};
     if (!shape->parent) return as_pad ? curspan_newpad(remake.to, lines, columns) : curspan_newwin(remake.to, lines, columns, y, x);
     return as_pad ? curspan_subpad(remake.to, parent_of(shape), lines, columns, y, x)
                   : curspan_derwin(remake.to, parent_of(shape), lines, columns, y, x);
-}
-
-static void unmake(int count) {
-    while (count-- > 0) curspan_delwin(remake.to, remake.numbers[place_of(remake.family[count])]);
 }
 
 static int make_all(void) {
     for (int i = 0; i < remake.count; i++) {
         curspan_answer answer = make(remake.family[i]);
         if (answer.status != CURSPAN_OK) {
-            unmake(i);
+            while (i-- > 0) curspan_delwin(remake.to, remake.numbers[place_of(remake.family[i])]);
             return ERR;
         }
         remake.numbers[place_of(remake.family[i])] = (uint16_t)answer.first;
@@ -156,9 +139,9 @@ static int make_all(void) {
 
 /* ---- what they have */
 
-static void set_background(curspan *screen, uint16_t number, chtype ch) {
-    curspan_wbkgdset(screen, number, CURSPAN_ATTRIBUTES(ch), CURSPAN_CHARACTER(ch));
-    curspan_wbkgdpair(screen, number, (uint16_t)curspan_use_pair(ch));
+static void set_background(uint16_t to, chtype ch) {
+    curspan_wbkgdset(remake.to, to, CURSPAN_ATTRIBUTES(ch), CURSPAN_CHARACTER(ch));
+    curspan_wbkgdpair(remake.to, to, (uint16_t)curspan_use_pair(ch));
 }
 
 /* Puts cells of a line into a window of the other screen, from its first column on. */
@@ -172,57 +155,45 @@ static void put_line(uint16_t to, uint16_t y, const uint32_t *cells, int n) {
         curspan_wcolor_set(remake.to, to, CURSPAN_PAIR(cells[start]));
         curspan_waddstr(remake.to, to, text + start, (size_t)(end - start));
     }
-}
-
-/* Brings n cells of a line to a window of another screen. */
-static void bring_line(uint16_t from, uint16_t to, uint16_t y, int n) {
-    uint32_t cells[LONGEST];
-    curspan_row(remake.from, from, y, cells, (size_t)n);
-    put_line(to, y, cells, n);
+    curspan_wattrset(remake.to, to, 0);
+    curspan_wcolor_set(remake.to, to, 0);
 }
 
 /* Brings the cells of a window to the new one, as far as they fit. What is new has the background. */
 static void bring_cells(const WINDOW *win, uint16_t from, uint16_t to) {
     const struct shape *before = &remake.before[place_of(win)], *shape = &remake.shapes[place_of(win)];
     int lines = least(before->lines, shape->lines), columns = least(before->columns, shape->columns);
-    set_background(remake.to, to, win->background);
+    uint32_t cells[LONGEST];
+    set_background(to, win->background);
     if (shape->parent) return;
     curspan_werase(remake.to, to);
     if (remake.from == remake.to) {
         curspan_copywin(remake.to, from, to, 0, 0, 0, 0, (uint16_t)(lines - 1), (uint16_t)(columns - 1), false);
         return;
     }
-    set_background(remake.to, to, ' ');
-    for (int y = 0; y < lines; y++) bring_line(from, to, (uint16_t)y, columns);
-    curspan_wattrset(remake.to, to, 0);
-    curspan_wcolor_set(remake.to, to, 0);
-    set_background(remake.to, to, win->background);
+    set_background(to, ' ');
+    for (uint16_t y = 0; y < lines; y++) {
+        curspan_row(remake.from, from, y, cells, (size_t)columns);
+        put_line(to, y, cells, columns);
+    }
+    set_background(to, win->background);
 }
 
-/* A derived window that isn't where its parent shows it comes to where it was. A pad is nowhere. */
-static void bring_place(const WINDOW *win, uint16_t to) {
-    const struct shape *shape = &remake.shapes[place_of(win)];
-    int y = least(shape->begin_y, remake.lines - shape->lines), x = least(shape->begin_x, remake.columns - shape->columns);
-    if (shape->parent) curspan_mvwin(remake.to, to, (uint16_t)y, (uint16_t)x);
-}
-
-/* The scroll region ends with the window where it did before. */
-static void bring_region(const WINDOW *win, uint16_t from, uint16_t to) {
-    int last = remake.shapes[place_of(win)].lines - 1, last_before = remake.before[place_of(win)].lines - 1;
-    curspan_answer region = curspan_wgetscrreg(remake.from, from);
-    int top = least((int)region.first, last), bottom = (int)region.second == last_before ? last : least((int)region.second, last);
-    curspan_scrollok(remake.to, to, is_so(curspan_is_scrollok(remake.from, from)));
-    curspan_wsetscrreg(remake.to, to, (uint32_t)top, (uint32_t)bottom);
-}
-
+/* Brings what a window has. A derived one that isn't where its parent shows it comes to where it was, and a scroll
+   region ends with the window where it did before. */
 static void bring(const WINDOW *win) {
     const struct shape *shape = &remake.shapes[place_of(win)];
     uint16_t from = remake.old[place_of(win)], to = remake.numbers[place_of(win)];
-    curspan_answer cursor = curspan_getyx(remake.from, from);
-    int y = least((int)cursor.first, shape->lines - 1), x = least((int)cursor.second, shape->columns - 1);
+    curspan_answer cursor = curspan_getyx(remake.from, from), region = curspan_wgetscrreg(remake.from, from);
+    int y = least(shape->begin_y, remake.lines - shape->lines), x = least(shape->begin_x, remake.columns - shape->columns);
+    int last = shape->lines - 1, top = least((int)region.first, last), bottom = least((int)region.second, last);
+    if ((int)region.second == remake.before[place_of(win)].lines - 1) bottom = last;
     bring_cells(win, from, to);
-    bring_place(win, to);
-    bring_region(win, from, to);
+    if (shape->parent) curspan_mvwin(remake.to, to, (uint16_t)y, (uint16_t)x);
+    curspan_scrollok(remake.to, to, is_so(curspan_is_scrollok(remake.from, from)));
+    curspan_wsetscrreg(remake.to, to, (uint32_t)top, (uint32_t)bottom);
+    y = least((int)cursor.first, last);
+    x = least((int)cursor.second, shape->columns - 1);
     curspan_wmove(remake.to, to, (uint16_t)y, (uint16_t)x);
 }
 
@@ -256,7 +227,6 @@ static void renumber_all(void) {
 
 /* ---- one window */
 
-/* Makes a window anew with those that derive from it, as it is planned. */
 static int remake_family(void) {
     cut_derived();
     if (make_all() == ERR) return ERR;
@@ -326,8 +296,7 @@ static uint32_t cell_of_shown(uint32_t shown) {
     return (shown & 0xffff) | (foreground > 7 ? 0 : pair << 16);
 }
 
-/* Brings the virtual screen, as far as it fits, by the standard screen of the new one. As over ncurses nothing else
-   comes into it before a refresh. */
+/* Brings the virtual screen, as far as it fits. As over ncurses nothing else comes into it before a refresh. */
 static void bring_picture(void) {
     uint32_t cells[LONGEST];
     int lines = least(curspan_lines(), remake.lines), columns = least(curspan_columns(), remake.columns);
@@ -336,8 +305,6 @@ static void bring_picture(void) {
         for (int x = 0; x < columns; x++) cells[x] = cell_of_shown(cells[x]);
         put_line(0, (uint16_t)y, cells, columns);
     }
-    curspan_wattrset(remake.to, 0, 0);
-    curspan_wcolor_set(remake.to, 0, 0);
     int cursor_y = least(curspan_shown_y, remake.lines - 1), cursor_x = least(curspan_shown_x, remake.columns - 1);
     curspan_wmove(remake.to, 0, (uint16_t)cursor_y, (uint16_t)cursor_x);
     curspan_wnoutrefresh(remake.to, 0);
@@ -345,7 +312,10 @@ static void bring_picture(void) {
 }
 
 static int make_screen(void) {
-    list_all();
+    remake.count = 0;
+    for (WINDOW *win = curspan_windows; win < curspan_windows + MOST; win++)
+        if (is_there(win) == OK && !is_subwin(win)) remake.family[remake.count++] = win;
+    add_derived();
     note_shapes();
     plan_all();
     if (curspan_open(remake.to, (uint16_t)remake.lines, (uint16_t)remake.columns).status != CURSPAN_OK) return ERR;
@@ -354,7 +324,6 @@ static int make_screen(void) {
     return ERR;
 }
 
-/* Goes over to the new screen. */
 static void take_screen(void) {
     curspan old = curspan_the_screen;
     curspan_number_pairs(remake.to);

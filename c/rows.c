@@ -3,12 +3,9 @@
 
 #include <stddef.h>
 
-static bool is_printable(chtype ch) { return (ch & A_CHARTEXT) >= ' ' && (ch & A_CHARTEXT) <= '~'; }
-
 static bool are_cells(const chtype *cells, int n) {
-    for (int i = 0; i < n; i++)
-        if (!is_printable(cells[i]) || PAIR_NUMBER(cells[i]) > LAST_PAIR) return false;
-    return true;
+    while (n > 0 && is_printable(CURSPAN_CHARACTER(cells[n - 1])) && PAIR_NUMBER(cells[n - 1]) <= LAST_PAIR) n--;
+    return n <= 0;
 }
 
 /* Takes away what else than its attributes has a part in how a window writes, or gives it back: that it scrolls, and its background. */
@@ -19,7 +16,6 @@ static void write_plainly(WINDOW *win, bool plainly, bool scrolls, chtype backgr
     curspan_set_background(win, win->background);
 }
 
-/* Writes cells of one line, those with the same attributes together. */
 static int put_runs(WINDOW *win, const chtype *cells, int n) {
     char text[LONGEST];
     for (int from = 0, to; from < n; from = to) {
@@ -32,7 +28,6 @@ static int put_runs(WINDOW *win, const chtype *cells, int n) {
     return OK;
 }
 
-/* Sets n cells of each of some lines. */
 static int put_rows(WINDOW *win, int y, int x, int lines, const chtype *cells, int n) {
     int old_y = getcury(win), old_x = getcurx(win), answer = OK;
     if (old_y == ERR || !are_cells(cells, n)) return ERR;
@@ -48,10 +43,8 @@ static int put_rows(WINDOW *win, int y, int x, int lines, const chtype *cells, i
 }
 
 int curspan_put_cells(WINDOW *win, int y, int x, const chtype *cells, int n) { return put_rows(win, y, x, 1, cells, n); }
-
 int curspan_put_column(WINDOW *win, int y, int x, int n, chtype cell) { return put_rows(win, y, x, n, &cell, 1); }
 
-/* A cell of curspan.h with the program's pair. */
 static chtype cell_of(uint32_t cell) { return (cell & ~A_COLOR) | curspan_attributes_of(CURSPAN_PAIR(cell)); }
 
 int curspan_read_cells(WINDOW *win, int y, int x, chtype *cells, int n) {

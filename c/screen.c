@@ -26,7 +26,6 @@ static bool ignores_environment;
 
 void use_env(bool flag) { ignores_environment = !flag; }
 
-/* The size in a variable of the environment, or 0 where that is none. */
 static int size_in(const char *variable) {
     int size = ignores_environment ? ERR : curspan_number_in(variable);
     return size == ERR || size > CURSPAN_LARGEST_SCREEN ? 0 : size;

@@ -1,63 +1,59 @@
-/* The sequences of the keys of xterm, tmux, screen, the Linux console and rxvt, as their entries of terminfo have them. No two of them have
-   one sequence for two keys, but for rxvt, whose Find and Select nobody's keyboard has: these are Home and End here, as elsewhere. */
+/* The sequences of the keys of xterm, tmux, screen, the Linux console and rxvt, as terminfo has them. No sequence is
+   that of two keys, but for rxvt's Find and Select, which no keyboard has: these are Home and End here. */
 #define _XOPEN_SOURCE 700
 #include "curses.h"
 #include "terminal.h"
 
 #include <string.h>
 
+enum { OF_LINUX = 3 };
+
+/* The key of an escape sequence. */
+#define S(bytes, key) {"\033" bytes, KEY_##key}
+
 /* F1 to F12 of xterm and tmux with shift, control and such, whose number begins a row of twelve. */
-#define FIRST_FUNCTION_KEYS(from, modifier)                                                                                \
-    {"\033[1;" modifier "P", KEY_F((from) + 1), NULL}, {"\033[1;" modifier "Q", KEY_F((from) + 2), NULL},                  \
-    {"\033[1;" modifier "R", KEY_F((from) + 3), NULL}
-#define FUNCTION_KEYS(from, modifier)                                                                                      \
-    FIRST_FUNCTION_KEYS(from, modifier), {"\033[1;" modifier "S", KEY_F((from) + 4), NULL},                                \
-    {"\033[15;" modifier "~", KEY_F((from) + 5), NULL}, {"\033[17;" modifier "~", KEY_F((from) + 6), NULL},                \
-    {"\033[18;" modifier "~", KEY_F((from) + 7), NULL}, {"\033[19;" modifier "~", KEY_F((from) + 8), NULL},                \
-    {"\033[20;" modifier "~", KEY_F((from) + 9), NULL}, {"\033[21;" modifier "~", KEY_F((from) + 10), NULL},               \
-    {"\033[23;" modifier "~", KEY_F((from) + 11), NULL}, {"\033[24;" modifier "~", KEY_F((from) + 12), NULL}
+#define FIRST_FUNCTION_KEYS(from, with) \
+    S("[1;" with "P", F((from) + 1)), S("[1;" with "Q", F((from) + 2)), S("[1;" with "R", F((from) + 3))
+#define FUNCTION_KEYS(from, with) \
+    FIRST_FUNCTION_KEYS(from, with), S("[1;" with "S", F((from) + 4)), S("[15;" with "~", F((from) + 5)), \
+    S("[17;" with "~", F((from) + 6)), S("[18;" with "~", F((from) + 7)), S("[19;" with "~", F((from) + 8)), \
+    S("[20;" with "~", F((from) + 9)), S("[21;" with "~", F((from) + 10)), S("[23;" with "~", F((from) + 11)), \
+    S("[24;" with "~", F((from) + 12))
 
 /* The keys of rxvt's upper function row, by how their sequence ends. */
-#define UPPER_FUNCTION_KEYS(from, end)                                                                                     \
-    {"\033[25" end, KEY_F(from), NULL}, {"\033[26" end, KEY_F((from) + 1), NULL}, {"\033[28" end, KEY_F((from) + 2), NULL}, \
-    {"\033[29" end, KEY_F((from) + 3), NULL}, {"\033[31" end, KEY_F((from) + 4), NULL},                                    \
-    {"\033[32" end, KEY_F((from) + 5), NULL}, {"\033[33" end, KEY_F((from) + 6), NULL}, {"\033[34" end, KEY_F((from) + 7), NULL}
+#define UPPER_FUNCTION_KEYS(from, end) \
+    S("[25" end, F(from)), S("[26" end, F((from) + 1)), S("[28" end, F((from) + 2)), S("[29" end, F((from) + 3)), \
+    S("[31" end, F((from) + 4)), S("[32" end, F((from) + 5)), S("[33" end, F((from) + 6)), S("[34" end, F((from) + 7))
 
 const struct curspan_sequence curspan_sequences[CURSPAN_SEQUENCES] = {
-    {"\177", KEY_BACKSPACE, NULL},
+    {"\177", KEY_BACKSPACE},
     /* the keys of the cursor, of an application and normal */
-    {"\033OA", KEY_UP, NULL}, {"\033OB", KEY_DOWN, NULL}, {"\033OC", KEY_RIGHT, NULL}, {"\033OD", KEY_LEFT, NULL},
-    {"\033[A", KEY_UP, NULL}, {"\033[B", KEY_DOWN, NULL}, {"\033[C", KEY_RIGHT, NULL}, {"\033[D", KEY_LEFT, NULL},
-    {"\033OH", KEY_HOME, NULL}, {"\033[H", KEY_HOME, NULL}, {"\033[1~", KEY_HOME, NULL}, {"\033[7~", KEY_HOME, NULL},
-    {"\033OF", KEY_END, NULL}, {"\033[F", KEY_END, NULL}, {"\033[4~", KEY_END, NULL}, {"\033[8~", KEY_END, NULL},
-    {"\033[2~", KEY_IC, NULL}, {"\033[3~", KEY_DC, NULL}, {"\033[5~", KEY_PPAGE, NULL}, {"\033[6~", KEY_NPAGE, NULL},
-    {"\033[Z", KEY_BTAB, NULL}, {"\033\t", KEY_BTAB, "linux"}, {"\032", KEY_SUSPEND, "linux"},
+    S("OA", UP), S("OB", DOWN), S("OC", RIGHT), S("OD", LEFT), S("[A", UP), S("[B", DOWN), S("[C", RIGHT),
+    S("[D", LEFT), S("OH", HOME), S("[H", HOME), S("[1~", HOME), S("[7~", HOME), S("OF", END), S("[F", END),
+    S("[4~", END), S("[8~", END), S("[2~", IC), S("[3~", DC), S("[5~", PPAGE), S("[6~", NPAGE), S("[Z", BTAB),
     /* the keypad */
-    {"\033OM", KEY_ENTER, NULL}, {"\033OE", KEY_BEG, NULL}, {"\033Ow", KEY_A1, NULL}, {"\033Oy", KEY_A3, NULL},
-    {"\033Ou", KEY_B2, NULL}, {"\033[G", KEY_B2, "linux"}, {"\033Oq", KEY_C1, NULL}, {"\033Os", KEY_C3, NULL},
+    S("OM", ENTER), S("OE", BEG), S("Ow", A1), S("Oy", A3), S("Ou", B2), S("Oq", C1), S("Os", C3),
     /* with shift: of xterm and tmux, and of rxvt */
-    {"\033[1;2A", KEY_SR, NULL}, {"\033[1;2B", KEY_SF, NULL}, {"\033[1;2C", KEY_SRIGHT, NULL}, {"\033[1;2D", KEY_SLEFT, NULL},
-    {"\033[1;2H", KEY_SHOME, NULL}, {"\033[1;2F", KEY_SEND, NULL}, {"\033[2;2~", KEY_SIC, NULL}, {"\033[3;2~", KEY_SDC, NULL},
-    {"\033[5;2~", KEY_SPREVIOUS, NULL}, {"\033[6;2~", KEY_SNEXT, NULL},
-    {"\033[c", KEY_SRIGHT, NULL}, {"\033[d", KEY_SLEFT, NULL}, {"\033[7$", KEY_SHOME, NULL}, {"\033[8$", KEY_SEND, NULL},
-    {"\033[3$", KEY_SDC, NULL}, {"\033[5$", KEY_SPREVIOUS, NULL}, {"\033[6$", KEY_SNEXT, NULL}, {"\033[8^", KEY_EOL, NULL},
+    S("[1;2A", SR), S("[1;2B", SF), S("[1;2C", SRIGHT), S("[1;2D", SLEFT), S("[1;2H", SHOME), S("[1;2F", SEND),
+    S("[2;2~", SIC), S("[3;2~", SDC), S("[5;2~", SPREVIOUS), S("[6;2~", SNEXT), S("[c", SRIGHT), S("[d", SLEFT),
+    S("[7$", SHOME), S("[8$", SEND), S("[3$", SDC), S("[5$", SPREVIOUS), S("[6$", SNEXT), S("[8^", EOL),
     /* F1 to F12: of xterm, tmux and screen, of the Linux console, and of rxvt */
-    {"\033OP", KEY_F(1), NULL}, {"\033OQ", KEY_F(2), NULL}, {"\033OR", KEY_F(3), NULL}, {"\033OS", KEY_F(4), NULL},
-    {"\033[[A", KEY_F(1), NULL}, {"\033[[B", KEY_F(2), NULL}, {"\033[[C", KEY_F(3), NULL}, {"\033[[D", KEY_F(4), NULL},
-    {"\033[[E", KEY_F(5), NULL}, {"\033[11~", KEY_F(1), NULL}, {"\033[12~", KEY_F(2), NULL}, {"\033[13~", KEY_F(3), NULL},
-    {"\033[14~", KEY_F(4), NULL}, {"\033[15~", KEY_F(5), NULL}, {"\033[17~", KEY_F(6), NULL}, {"\033[18~", KEY_F(7), NULL},
-    {"\033[19~", KEY_F(8), NULL}, {"\033[20~", KEY_F(9), NULL}, {"\033[21~", KEY_F(10), NULL}, {"\033[23~", KEY_F(11), NULL},
-    {"\033[24~", KEY_F(12), NULL},
+    S("OP", F(1)), S("OQ", F(2)), S("OR", F(3)), S("OS", F(4)), S("[[A", F(1)), S("[[B", F(2)), S("[[C", F(3)),
+    S("[[D", F(4)), S("[[E", F(5)), S("[11~", F(1)), S("[12~", F(2)), S("[13~", F(3)), S("[14~", F(4)), S("[15~", F(5)),
+    S("[17~", F(6)), S("[18~", F(7)), S("[19~", F(8)), S("[20~", F(9)), S("[21~", F(10)), S("[23~", F(11)),
+    S("[24~", F(12)),
     /* with shift, control, both, alt, and shift and alt */
-    FUNCTION_KEYS(12, "2"), FUNCTION_KEYS(24, "5"), FUNCTION_KEYS(36, "6"), FUNCTION_KEYS(48, "3"), FIRST_FUNCTION_KEYS(60, "4"),
+    FUNCTION_KEYS(12, "2"), FUNCTION_KEYS(24, "5"), FUNCTION_KEYS(36, "6"), FUNCTION_KEYS(48, "3"),
+    FIRST_FUNCTION_KEYS(60, "4"),
     /* of rxvt and the Linux console, with shift and control */
-    UPPER_FUNCTION_KEYS(13, "~"), {"\033[23$", KEY_F(21), NULL}, {"\033[24$", KEY_F(22), NULL}, {"\033[11^", KEY_F(23), NULL},
-    {"\033[12^", KEY_F(24), NULL}, {"\033[13^", KEY_F(25), NULL}, {"\033[14^", KEY_F(26), NULL}, {"\033[15^", KEY_F(27), NULL},
-    {"\033[17^", KEY_F(28), NULL}, {"\033[18^", KEY_F(29), NULL}, {"\033[19^", KEY_F(30), NULL}, {"\033[20^", KEY_F(31), NULL},
-    {"\033[21^", KEY_F(32), NULL}, {"\033[23^", KEY_F(33), NULL}, {"\033[24^", KEY_F(34), NULL}, UPPER_FUNCTION_KEYS(35, "^"),
-    {"\033[23@", KEY_F(43), NULL}, {"\033[24@", KEY_F(44), NULL},
+    UPPER_FUNCTION_KEYS(13, "~"), S("[23$", F(21)), S("[24$", F(22)), S("[11^", F(23)), S("[12^", F(24)),
+    S("[13^", F(25)), S("[14^", F(26)), S("[15^", F(27)), S("[17^", F(28)), S("[18^", F(29)), S("[19^", F(30)),
+    S("[20^", F(31)), S("[21^", F(32)), S("[23^", F(33)), S("[24^", F(34)), UPPER_FUNCTION_KEYS(35, "^"),
+    S("[23@", F(43)), S("[24@", F(44)),
+    /* of the Linux console alone */
+    S("\t", BTAB), {"\032", KEY_SUSPEND}, S("[G", B2),
 };
 
-bool curspan_is_of_type(const struct curspan_sequence *sequence, const char *type) {
-    return !sequence->type || strncmp(type, sequence->type, strlen(sequence->type)) == 0;
+bool curspan_is_of_type(int sequence, const char *type) {
+    return sequence < CURSPAN_SEQUENCES - OF_LINUX || strncmp(type, "linux", strlen("linux")) == 0;
 }

@@ -1,5 +1,5 @@
-/* Signals: terminals are given back before one of them ends or stops the program, and at its exit. A handler calls only what the standard
-   allows in one. Nothing here is proved. */
+/* Signals: terminals are given back before one ends or stops the program, and at its exit. Handlers call only what the
+   standard allows in them. Nothing here is proved. */
 #define _GNU_SOURCE
 #include "curspan_terminal.h"
 #include "terminal.h"
@@ -22,12 +22,9 @@ static struct sigaction after_fault[FAULTS];   /* what the program has done at e
 static volatile sig_atomic_t was_stopped, was_resized;
 static volatile sig_atomic_t is_held, stop_is_due; /* the program is not to be stopped now; it is to be then */
 
-/* Sets what a signal does. Meanwhile the terminal may be changed from behind, and where the signal ends the program, no other comes. */
+/* Sets what a signal does. Meanwhile the terminal may be changed from behind, and no other ends the program. */
 static void on(int number, void (*handler)(int), int flags) {
-    struct sigaction action;
-    memset(&action, 0, sizeof action);
-    action.sa_handler = handler;
-    action.sa_flags = flags;
+    struct sigaction action = {.sa_handler = handler, .sa_flags = flags};
     sigemptyset(&action.sa_mask);
     sigaddset(&action.sa_mask, SIGTTOU);
     sigaddset(&action.sa_mask, SIGTSTP);
@@ -61,23 +58,30 @@ static void fault(int number, siginfo_t *info, void *context) {
 /* Whether the terminal listens to this process, and not to one that runs before it. */
 static bool is_in_front(void) { return tcgetpgrp(signalled->line) == getpgrp(); }
 
-static void stop_now(void);
+/* Stops as the signal does where nobody catches it, until the program is continued. */
+static void stop_now(void (*handler)(int)) {
+    sigset_t through;
+    on(SIGTSTP, SIG_DFL, 0);
+    sigemptyset(&through);
+    sigaddset(&through, SIGTSTP);
+    sigaddset(&through, SIGTTOU);
+    raise(SIGTSTP);
+    sigprocmask(SIG_UNBLOCK, &through, NULL);
+    on(SIGTSTP, handler, SA_RESTART);
+}
 
-/* Gives the terminal back and stops. When the program goes on its modes are set again, and the next refresh or getch draws all. */
+/* Gives the terminal back and stops. When the program goes on its modes are set, and the next refresh draws all. */
 static void stop(int number) {
     struct curspan_tty *terminal = signalled;
     int before = errno;
     bool is_owed = owes(terminal), is_keypad = is_owed && terminal->is_keypad;
-    (void)number;
-    if (is_held) {
-        stop_is_due = true;
-        return;
-    }
+    stop_is_due = is_held && number == SIGTSTP;
+    if (is_held) return;
     if (is_owed) {
         if (is_in_front()) tcgetattr(terminal->line, &terminal->program);
         curspan_give_back(terminal);
     }
-    stop_now();
+    stop_now(stop);
     if (is_owed) {
         if (is_in_front()) tcgetattr(terminal->line, &terminal->shell);
         if (terminal->line >= 0) tcsetattr(terminal->line, TCSADRAIN, &terminal->program);
@@ -88,83 +92,51 @@ static void stop(int number) {
     errno = before;
 }
 
-/* Stops as the signal does where nobody catches it, until the program is continued. */
-static void stop_now(void) {
-    sigset_t through;
-    on(SIGTSTP, SIG_DFL, 0);
-    sigemptyset(&through);
-    sigaddset(&through, SIGTSTP);
-    sigaddset(&through, SIGTTOU);
-    raise(SIGTSTP);
-    sigprocmask(SIG_UNBLOCK, &through, NULL);
-    on(SIGTSTP, stop, SA_RESTART);
-}
+static void note_size(int number) { was_resized = number == SIGWINCH; }
 
-static void note_size(int number) {
-    (void)number;
-    was_resized = true;
-}
-
-/* Whether a signal has a handler. */
 static bool has(int number, void (*handler)(int)) {
     struct sigaction now;
     return sigaction(number, NULL, &now) == 0 && !(now.sa_flags & SA_SIGINFO) && now.sa_handler == handler;
 }
 
-/* Catches a signal that the program left as it was. */
-static void catch_default(int number, void (*handler)(int), int flags) {
-    if (has(number, SIG_DFL)) on(number, handler, flags);
-}
-
-/* Leaves a signal that is still caught as it was. */
-static void leave(int number, void (*handler)(int)) {
-    if (has(number, handler)) on(number, SIG_DFL, 0);
-}
+/* What is caught where the program left it as it was. */
+static const struct {
+    int number;
+    void (*handler)(int);
+    int flags;
+} caught[] = {{SIGINT, end, 0}, {SIGTERM, end, 0}, {SIGQUIT, end, 0}, {SIGHUP, end, 0}, {SIGTSTP, stop, SA_RESTART},
+              {SIGWINCH, note_size, 0}};
+enum { CAUGHT = sizeof caught / sizeof caught[0] };
 
 /* Catches faults, also one for want of stack, before what the program does at them. */
 static void catch_faults(void) {
     static char stack[STACK];
     stack_t other = {.ss_sp = stack, .ss_size = STACK}, now;
-    struct sigaction action;
+    struct sigaction action = {.sa_sigaction = fault, .sa_flags = SA_SIGINFO | SA_ONSTACK | SA_RESTART};
     if (sigaltstack(NULL, &now) == 0 && now.ss_flags & SS_DISABLE) sigaltstack(&other, NULL);
-    memset(&action, 0, sizeof action);
-    action.sa_sigaction = fault;
-    action.sa_flags = SA_SIGINFO | SA_ONSTACK | SA_RESTART;
     sigemptyset(&action.sa_mask);
     for (int i = 0; i < FAULTS; i++) sigaction(faults[i], &action, &after_fault[i]);
 }
 
-static void leave_faults(void) {
-    struct sigaction now;
-    for (int i = 0; i < FAULTS; i++)
-        if (sigaction(faults[i], NULL, &now) == 0 && now.sa_flags & SA_SIGINFO && now.sa_sigaction == fault) sigaction(faults[i], &after_fault[i], NULL);
-}
-
 static void catch_signals(void) {
     was_stopped = was_resized = is_held = stop_is_due = false;
-    for (int i = 0; i < ENDING; i++) catch_default(ending[i], end, 0);
-    catch_default(SIGTSTP, stop, SA_RESTART);
     if (has(SIGWINCH, SIG_IGN)) on(SIGWINCH, SIG_DFL, 0);
-    catch_default(SIGWINCH, note_size, 0);
+    for (int i = 0; i < CAUGHT; i++)
+        if (has(caught[i].number, SIG_DFL)) on(caught[i].number, caught[i].handler, caught[i].flags);
     catch_faults();
 }
 
 static void leave_signals(void) {
-    for (int i = 0; i < ENDING; i++) leave(ending[i], end);
-    leave(SIGTSTP, stop);
-    leave(SIGWINCH, note_size);
-    leave_faults();
+    struct sigaction now;
+    for (int i = 0; i < CAUGHT; i++)
+        if (has(caught[i].number, caught[i].handler)) on(caught[i].number, SIG_DFL, 0);
+    for (int i = 0; i < FAULTS; i++)
+        if (sigaction(faults[i], NULL, &now) == 0 && now.sa_flags & SA_SIGINFO && now.sa_sigaction == fault)
+            sigaction(faults[i], &after_fault[i], NULL);
 }
 
 /* Several threads may open and close terminals of their own. */
 static pthread_mutex_t among_threads = PTHREAD_MUTEX_INITIALIZER;
-
-static bool own_signals(struct curspan_tty *tty) {
-    if (signalled && signalled->owner == getpid()) return false;
-    signalled = tty;
-    catch_signals();
-    return true;
-}
 
 bool curspan_attend(struct curspan_tty *tty, bool shall_own) {
     static bool is_registered;
@@ -172,10 +144,14 @@ bool curspan_attend(struct curspan_tty *tty, bool shall_own) {
     if (!is_registered) is_registered = atexit(curspan_terminal_give_back) == 0;
     tty->owner = getpid();
     tty->next = first;
-    bool is_owner = !shall_own || own_signals(tty);
-    if (is_owner) first = tty;
+    bool may_be = !shall_own || !signalled || signalled->owner != getpid();
+    if (may_be) first = tty;
+    if (may_be && shall_own) {
+        signalled = tty;
+        catch_signals();
+    }
     pthread_mutex_unlock(&among_threads);
-    return is_owner;
+    return may_be;
 }
 
 void curspan_abandon(struct curspan_tty *tty) {
@@ -194,7 +170,6 @@ void curspan_abandon(struct curspan_tty *tty) {
 
 struct curspan_tty *curspan_first_tty(void) { return first; }
 
-/* Takes a flag that a handler set. */
 static bool taken(volatile sig_atomic_t *flag) {
     bool was = *flag;
     *flag = false;
@@ -203,7 +178,6 @@ static bool taken(volatile sig_atomic_t *flag) {
 
 bool curspan_was_stopped(void) { return taken(&was_stopped); }
 bool curspan_was_resized(void) { return taken(&was_resized); }
-
 void curspan_hold_stop(void) { is_held = true; }
 
 void curspan_let_stop(void) {
@@ -217,14 +191,12 @@ static bool is_of_program(void (*handler)(int)) {
     return handler != SIG_DFL && handler != SIG_IGN && handler != end && handler != stop && handler != note_size;
 }
 
-/* A fault of the program, whose handler ends no wait. */
-static bool is_fault(int number) { return number == SIGSEGV || number == SIGBUS || number == SIGFPE || number == SIGILL; }
-
-/* Whether all handlers of the program let calls go on that they interrupt. */
+/* Whether all handlers of the program let calls go on that they interrupt. That of a fault ends no wait. */
 static bool handlers_restart(void) {
     for (int number = 1; number <= LAST_SIGNAL; number++) {
         struct sigaction now;
-        if (is_fault(number) || sigaction(number, NULL, &now) != 0 || now.sa_flags & SA_RESTART) continue;
+        bool is_fault = number == SIGSEGV || number == SIGBUS || number == SIGFPE || number == SIGILL;
+        if (is_fault || sigaction(number, NULL, &now) != 0 || now.sa_flags & SA_RESTART) continue;
         if (now.sa_flags & SA_SIGINFO || is_of_program(now.sa_handler)) return false;
     }
     return true;

@@ -1,4 +1,4 @@
-/* Terminals: how each is taken and given back, what is written to it, and the calls of curspan_terminal.h. Nothing here is proved. */
+/* Terminals: how they are taken and given back, what is written, and curspan_terminal.h. Nothing here is proved. */
 #define _GNU_SOURCE
 #include "curspan_terminal.h"
 #include "terminal.h"
@@ -59,12 +59,9 @@ bool curspan_come_back(struct curspan_tty *tty) {
 }
 
 bool curspan_give_back(struct curspan_tty *tty) {
-    bool is_done = true;
     tty->is_ended = tty->was_away = true;
-    if (tty->page != PAGE_LEFT) {
-        is_done = curspan_put_text(tty, tty->leave);
-        if (is_done) tty->page = PAGE_LEFT;
-    }
+    bool is_done = tty->page == PAGE_LEFT || curspan_put_text(tty, tty->leave);
+    if (is_done) tty->page = PAGE_LEFT;
     if (tty->is_keypad && !curspan_switch_keypad(tty, false)) is_done = false;
     if (tty->line >= 0 && tcsetattr(tty->line, TCSADRAIN, &tty->shell) != 0) is_done = false;
     return is_done;
@@ -89,7 +86,6 @@ int curspan_number_in(const char *variable) {
     return *end == 0 && number <= 32767 ? (int)number : -1;
 }
 
-/* The first of three sizes that is one. */
 static int size_of(int wanted, int found, int other) {
     int size = wanted > 0 ? wanted : found > 0 ? found : other;
     return size < CURSPAN_LARGEST_SCREEN ? size : CURSPAN_LARGEST_SCREEN;
@@ -154,10 +150,7 @@ static uint32_t status_of(const curspan_terminal *terminal) {
 /* Which terminal a descriptor is, whatever the name is by which it was opened. */
 static unsigned device_of(int descriptor) {
     unsigned device = 0;
-#ifdef TIOCGDEV
-    if (ioctl(descriptor, TIOCGDEV, &device) != 0) device = 0;
-#endif
-    return device;
+    return ioctl(descriptor, TIOCGDEV, &device) == 0 ? device : 0;
 }
 
 static bool is_open(int descriptor) {
@@ -167,14 +160,12 @@ static bool is_open(int descriptor) {
     return false;
 }
 
-static void form(struct terminal *it) {
-    struct curspan_tty *tty = &it->tty;
-    uint32_t options = it->options;
+static void form(struct curspan_tty *tty, uint32_t options) {
     bool has_page = options & CURSPAN_TERMINAL_PAGE, has_paste = options & CURSPAN_TERMINAL_PASTE;
-    snprintf(tty->enter, sizeof tty->enter, "%s%s%s", has_page ? CURSPAN_ENTER : "", options & CURSPAN_TERMINAL_HIDE_CURSOR ? "\033[?25l" : "",
-             has_paste ? "\033[?2004h" : "");
-    snprintf(tty->leave, sizeof tty->leave, "%s\033[0m\033[?25h\033[%d;1H%s", has_paste ? "\033[?2004l" : "", CURSPAN_LARGEST_SCREEN,
-             has_page ? "\033[?1049l" : "\r\n");
+    const char *hide = options & CURSPAN_TERMINAL_HIDE_CURSOR ? "\033[?25l" : "", *on = has_paste ? "\033[?2004h" : "";
+    const char *off = has_paste ? "\033[?2004l" : "", *back = has_page ? "\033[?1049l" : "\r\n";
+    snprintf(tty->enter, sizeof tty->enter, "%s%s%s", has_page ? CURSPAN_ENTER : "", hide, on);
+    snprintf(tty->leave, sizeof tty->leave, "%s\033[0m\033[?25h\033[%d;1H%s", off, CURSPAN_LARGEST_SCREEN, back);
     tty->program = tty->shell;
     tty->program.c_lflag &= ~(tcflag_t)(ICANON | IEXTEN | ECHO | ECHONL);
     tty->program.c_iflag &= ~(tcflag_t)(ICRNL | INLCR | IGNCR | ISTRIP);
@@ -182,16 +173,20 @@ static void form(struct terminal *it) {
     if (options & CURSPAN_TERMINAL_RAW) curspan_make_raw(&tty->program);
 }
 
-/* Takes a terminal whose descriptors are known. */
+static void set_colours(struct terminal *it, int pair, int foreground, int background) {
+    it->palette.colours[pair][0] = (signed char)foreground;
+    it->palette.colours[pair][1] = (signed char)background;
+}
+
 static uint32_t begin(struct terminal *it) {
     struct curspan_tty *tty = &it->tty;
     int delay = curspan_number_in("ESCDELAY");
     if (tcgetattr(tty->line, &tty->shell) != 0) return CURSPAN_TERMINAL_FAILED;
-    form(it);
+    form(tty, it->options);
     it->thread = pthread_self();
     it->escape_delay = delay >= 0 ? delay : ESCAPE_DELAY;
-    for (int own = 0; own < OWN_PAIRS; own++)
-        for (int which = 0; which < 2; which++) it->palette.colours[own][which] = (signed char)(own == 0 ? OWN_COLOUR : which ? own % 8 : own / 8);
+    for (int own = 0; own < OWN_PAIRS; own++) set_colours(it, own, own / 8, own % 8);
+    set_colours(it, 0, OWN_COLOUR, OWN_COLOUR);
     curspan_find_size(tty, &it->lines, &it->columns);
     tty->is_ended = true;
     if (!curspan_attend(tty, it->options & CURSPAN_TERMINAL_SIGNALS)) return CURSPAN_TERMINAL_SIGNALS_TAKEN;
@@ -203,14 +198,13 @@ static uint32_t begin(struct terminal *it) {
 
 uint32_t curspan_terminal_use(curspan_terminal *terminal, int in, int out, uint32_t options) {
     const char *type = getenv("TERM");
-    const struct terminal none = {.tty = {.in = in, .out = out, .line = in}, .options = options};
     if (terminal->at) return CURSPAN_TERMINAL_OPEN;
     if (!isatty(in) || !isatty(out)) return CURSPAN_TERMINAL_NONE;
     if (type && strcmp(type, "dumb") == 0) return CURSPAN_TERMINAL_DUMB;
     if (is_open(out)) return CURSPAN_TERMINAL_OPEN;
     struct terminal *it = malloc(sizeof *it);
     if (!it) return CURSPAN_TERMINAL_NO_MEMORY;
-    *it = none;
+    *it = (struct terminal){.tty = {.in = in, .out = out, .line = in}, .options = options};
     uint32_t status = begin(it);
     if (status == CURSPAN_TERMINAL_OK) terminal->at = it;
     else free(it);
@@ -227,36 +221,26 @@ uint32_t curspan_terminal_open(curspan_terminal *terminal, const char *path, uin
     return status;
 }
 
-/* Begins a call that writes, and ends it: the program isn't stopped within. */
-static uint32_t begin_writing(const curspan_terminal *terminal) {
-    uint32_t status = status_of(terminal);
-    if (status == CURSPAN_TERMINAL_OK) curspan_hold_stop();
-    return status;
-}
-
-static uint32_t end_writing(uint32_t status) {
-    curspan_let_stop();
-    return status;
-}
-
 static uint32_t done(bool is_done) { return is_done ? CURSPAN_TERMINAL_OK : CURSPAN_TERMINAL_FAILED; }
 
+/* What a call answers that writes to a terminal: the program isn't stopped within. */
+#define WRITE(call) \
+    struct terminal *it = terminal->at; \
+    uint32_t status = status_of(terminal); \
+    if (status != CURSPAN_TERMINAL_OK) return status; \
+    curspan_hold_stop(); \
+    status = (call); \
+    curspan_let_stop(); \
+    return status
+
 uint32_t curspan_terminal_suspend(curspan_terminal *terminal) {
-    struct terminal *it = terminal->at;
-    uint32_t status = begin_writing(terminal);
-    return status ? status : end_writing(done(!curspan_is_owed(&it->tty) || curspan_give_back(&it->tty)));
+    WRITE(done(!curspan_is_owed(&it->tty) || curspan_give_back(&it->tty)));
 }
 
-uint32_t curspan_terminal_resume(curspan_terminal *terminal) {
-    struct terminal *it = terminal->at;
-    uint32_t status = begin_writing(terminal);
-    return status ? status : end_writing(done(curspan_come_back(&it->tty)));
-}
+uint32_t curspan_terminal_resume(curspan_terminal *terminal) { WRITE(done(curspan_come_back(&it->tty))); }
 
 uint32_t curspan_terminal_write(curspan_terminal *terminal, const void *bytes, size_t length) {
-    const struct terminal *it = terminal->at;
-    uint32_t status = begin_writing(terminal);
-    return status ? status : end_writing(done(curspan_put(&it->tty, bytes, length)));
+    WRITE(done(curspan_put(&it->tty, bytes, length)));
 }
 
 uint32_t curspan_terminal_close(curspan_terminal *terminal) {
@@ -286,7 +270,6 @@ int curspan_terminal_descriptor(const curspan_terminal *terminal) {
 
 /* ---- pictures */
 
-/* Takes the terminal again where it was given back. */
 static uint32_t take_again(struct curspan_tty *tty) {
     bool is_there = tty->page == PAGE_ENTERED && !tty->was_away;
     if (!curspan_come_back(tty)) return CURSPAN_TERMINAL_FAILED;
@@ -313,27 +296,21 @@ static uint32_t draw(struct terminal *it, const uint8_t *bytes, size_t length) {
 }
 
 uint32_t curspan_terminal_draw(curspan_terminal *terminal, const uint8_t *bytes, size_t length) {
-    uint32_t status = begin_writing(terminal);
-    return status ? status : end_writing(draw(terminal->at, bytes, length));
+    WRITE(draw(it, bytes, length));
 }
 
-uint32_t curspan_terminal_show(curspan_terminal *terminal, curspan *screen) {
-    uint32_t status = begin_writing(terminal);
-    return status ? status : end_writing(update(terminal->at, screen));
-}
-
-static bool is_colour(int colour) { return colour >= OWN_COLOUR && colour < 8; }
+uint32_t curspan_terminal_show(curspan_terminal *terminal, curspan *screen) { WRITE(update(it, screen)); }
 
 uint32_t curspan_terminal_init_pair(curspan_terminal *terminal, curspan *screen, uint32_t pair, int foreground, int background) {
     struct terminal *it = terminal->at;
     uint32_t status = status_of(terminal);
-    bool are_there = pair > 0 && pair < OWN_PAIRS && is_colour(foreground) && is_colour(background);
+    bool are_colours = foreground >= OWN_COLOUR && foreground < 8 && background >= OWN_COLOUR && background < 8;
     if (status != CURSPAN_TERMINAL_OK) return status;
-    if (!are_there || curspan_init_pair(screen, pair, pair / 8, pair % 8).status != CURSPAN_OK) return CURSPAN_TERMINAL_REFUSED;
-    signed char *colours = it->palette.colours[pair];
+    if (!are_colours || pair >= OWN_PAIRS) return CURSPAN_TERMINAL_REFUSED;
+    if (curspan_init_pair(screen, pair, pair / 8, pair % 8).status != CURSPAN_OK) return CURSPAN_TERMINAL_REFUSED;
+    const signed char *colours = it->palette.colours[pair];
     if (colours[0] != foreground || colours[1] != background) curspan_invalidate(screen);
-    colours[0] = (signed char)foreground;
-    colours[1] = (signed char)background;
+    set_colours(it, (int)pair, foreground, background);
     it->palette.changes = true;
     return CURSPAN_TERMINAL_OK;
 }
@@ -343,17 +320,17 @@ uint32_t curspan_terminal_init_pair(curspan_terminal *terminal, curspan *screen,
 /* Whether the size is another than was told last, or the terminal was given back meanwhile. */
 static bool is_changed(struct terminal *it) {
     int lines = 0, columns = 0;
-    bool owns = it->options & CURSPAN_TERMINAL_SIGNALS, was_stopped = owns && curspan_was_stopped(), is_told = owns && curspan_was_resized();
-    bool is_other = curspan_find_size(&it->tty, &lines, &columns) && (lines != it->lines || columns != it->columns);
-    if (!was_stopped && !is_told && !is_other) return false;
+    bool owns = it->options & CURSPAN_TERMINAL_SIGNALS, was_stopped = owns && curspan_was_stopped();
+    bool is_told = owns && curspan_was_resized(), is_there = curspan_find_size(&it->tty, &lines, &columns);
+    if (!was_stopped && !is_told && !(is_there && (lines != it->lines || columns != it->columns))) return false;
     it->lines = lines;
     it->columns = columns;
     it->tty.was_away = true;
     return true;
 }
 
-/* Waits for input for some milliseconds, or without end where they are negative, and answers whether something is there, or else the key that
-   tells what came in its place: none, a new size or a signal. One that owns no signals looks at its size meanwhile. */
+/* Waits for input for some milliseconds, or without end where they are negative, and answers 0, or the key that tells
+   what came in its place. A terminal that owns no signals looks at its size meanwhile. */
 static uint32_t wait_for_input(struct terminal *it, int milliseconds) {
     bool found = false, owns = it->options & CURSPAN_TERMINAL_SIGNALS;
     long end = curspan_now() + milliseconds;
@@ -369,17 +346,15 @@ static uint32_t wait_for_input(struct terminal *it, int milliseconds) {
     }
 }
 
-/* Reads what is there behind what waits. */
-static bool read_more(struct terminal *it) {
+static void read_more(struct terminal *it) {
     memmove(it->typed, it->typed + it->taken, it->count -= it->taken);
     it->taken = 0;
     ssize_t count = read(it->tty.in, it->typed + it->count, TYPED - it->count);
     if (count > 0) it->count += (size_t)count;
     else if (count == 0 || (errno != EINTR && errno != EAGAIN)) it->is_at_end = true;
-    return count > 0;
 }
 
-/* Takes what waits as part of a text that is pasted, and answers whether that has ended. What there is no memory for is left out. */
+/* Takes what waits as part of a paste, and answers whether that has ended. What there is no memory for is left out. */
 static bool take_paste(struct terminal *it) {
     while (it->taken < it->count) {
         char byte = (char)it->typed[it->taken++];
@@ -398,36 +373,34 @@ static bool take_paste(struct terminal *it) {
     return false;
 }
 
-static bool is_text(const curspan_key *key, const char *text) { return key->length == strlen(text) && memcmp(key->text, text, key->length) == 0; }
+static const curspan_key no_key = {CURSPAN_KEY_NONE, 0, "", 0};
 
 /* Takes a key of what waits, where it is whole, or nothing more comes. */
 static bool take_key(struct terminal *it, bool is_all, curspan_key *key) {
     const unsigned char *bytes = it->typed + it->taken;
     if (it->is_pasting) {
         if (!take_paste(it) && !is_all) return false;
-        const curspan_key pasted = {CURSPAN_KEY_PASTE, 0, it->paste ? it->paste : "", it->length};
+        *key = (curspan_key){CURSPAN_KEY_PASTE, 0, it->paste ? it->paste : "", it->length};
         it->is_pasting = false;
-        *key = pasted;
         return true;
     }
     key->length = it->taken < it->count ? curspan_first_key(bytes, it->count - it->taken, is_all, key) : 0;
     key->text = (const char *)bytes;
     it->taken += key->length;
-    if (!(it->options & CURSPAN_TERMINAL_PASTE) || !is_text(key, "\033[200~")) return key->length > 0;
+    bool is_begin = key->length == PASTE_ENDS && memcmp(bytes, "\033[200~", PASTE_ENDS) == 0;
+    if (!is_begin || !(it->options & CURSPAN_TERMINAL_PASTE)) return key->length > 0;
     it->is_pasting = true;
     it->length = 0;
     return take_key(it, is_all, key);
 }
 
 static uint32_t next_key(struct terminal *it, int milliseconds, curspan_key *key) {
-    const curspan_key none = {CURSPAN_KEY_NONE, 0, "", 0};
     long end = curspan_now() + milliseconds;
-    *key = none;
     if (is_changed(it)) return CURSPAN_KEY_RESIZE;
     while (!take_key(it, it->is_at_end, key)) {
         bool is_begun = it->is_pasting || it->taken < it->count;
         int left = it->is_pasting ? PASTE_DELAY : is_begun ? it->escape_delay : milliseconds < 0 ? -1 : curspan_left_until(end);
-        *key = none;
+        *key = no_key;
         if (it->is_at_end) return CURSPAN_KEY_EOF;
         uint32_t code = wait_for_input(it, left);
         if (code == 0) read_more(it);
@@ -438,9 +411,8 @@ static uint32_t next_key(struct terminal *it, int milliseconds, curspan_key *key
 }
 
 uint32_t curspan_terminal_key(curspan_terminal *terminal, int milliseconds, curspan_key *key) {
-    const curspan_key none = {CURSPAN_KEY_NONE, 0, "", 0};
     uint32_t status = status_of(terminal);
-    *key = none;
+    *key = no_key;
     if (status == CURSPAN_TERMINAL_OK) key->code = next_key(terminal->at, milliseconds, key);
     return status;
 }

@@ -28,19 +28,16 @@ struct curspan_tty {
 
 /* ---- terminal.c */
 
-/* Writes all of some bytes. A handler of signals may call it. */
+/* Writes all of some bytes, or of a text. Handlers of signals may call these. */
 bool curspan_put(const struct curspan_tty *tty, const void *bytes, size_t length);
-/* Writes all of a text. A handler of signals may call it. */
 bool curspan_put_text(const struct curspan_tty *tty, const char *text);
-/* Switches the sequences of the keypad on or off. */
 bool curspan_switch_keypad(struct curspan_tty *tty, bool flag);
 /* Comes to the picture's page, with the program's modes, where it isn't there. */
 bool curspan_come_back(struct curspan_tty *tty);
-/* Leaves the terminal's other page and its keypad, with the modes as they were before. A handler of signals may call it. */
+/* Leaves that page and the keypad, with the modes as they were before. A handler of signals may call it. */
 bool curspan_give_back(struct curspan_tty *tty);
 /* Whether there is something to give back. */
 static inline bool curspan_is_owed(const struct curspan_tty *tty) { return !tty->is_ended || tty->page != PAGE_LEFT; }
-/* Sets the modes of the line. */
 bool curspan_set_modes(const struct curspan_tty *tty, const struct termios *modes);
 /* Lets a read answer as soon as there is a byte, and the keys of signals be bytes. */
 void curspan_read_at_once(struct termios *modes);
@@ -74,8 +71,8 @@ struct curspan_palette {
 /* Gives each pair of a screen its two colours. */
 struct curspan;
 void curspan_number_pairs(struct curspan *screen);
-/* Appends some bytes for the terminal to others, with the colours of a palette, and answers how many were appended: not more than
-   CURSPAN_RECOLOURED times as many. They may be behind the others with room for all between. */
+/* Puts bytes for the terminal into `out`, with the colours of a palette, and answers how many they are: not more than
+   CURSPAN_RECOLOURED times as many. The bytes may be behind these, with room for all between. */
 size_t curspan_recolour(struct curspan_palette *palette, const uint8_t *bytes, size_t length, uint8_t *out);
 enum { CURSPAN_RECOLOURED = 4 };
 /* Lets the terminal draw no alternate characters. */
@@ -88,7 +85,8 @@ struct curspan_outgoing {
 };
 
 /* Writes what a screen sent. Where it can't be written it is lost. */
-bool curspan_hand_on(const struct curspan_tty *tty, struct curspan *screen, struct curspan_palette *palette, struct curspan_outgoing *outgoing);
+bool curspan_hand_on(const struct curspan_tty *tty, struct curspan *screen, struct curspan_palette *palette,
+                     struct curspan_outgoing *outgoing);
 
 /* ---- output.c */
 
@@ -97,34 +95,28 @@ extern struct curspan_tty curspan_the_tty;
 extern FILE *curspan_stream;
 /* Draws all again where the program was stopped and goes on, and answers whether it was. */
 bool curspan_redraw_after_stop(void);
-/* Forgets what the last screen's bytes and cursor were. */
 void curspan_forget_output(void);
 
 /* ---- modes.c */
 
-/* Sets the modes of a new screen. */
-void curspan_begin_modes(void);
-
 /* How keys are read: each is a mode that a function of X/Open sets. */
-struct curspan_modes {
+extern struct curspan_modes {
     bool raw, cbreak, echo, newline, meta;
     int half_delay; /* tenths of a second, or 0 */
-};
+} curspan_modes;
 
-extern struct curspan_modes curspan_modes;
-
+void curspan_begin_modes(void);
 /* Reads keys as they are typed for a while, and puts back what was before. */
 void curspan_begin_raw(struct curspan_modes *modes, struct termios *line);
 void curspan_end_raw(const struct curspan_modes *modes, const struct termios *line);
 
 /* ---- signals.c */
 
-/* Gives a terminal back at exit, and where it shall own the signals, and none does, catches those that the program left as they were.
-   Answers whether it owns them. */
+/* Gives a terminal back at exit, and where it shall own the signals, and none does, catches those that the program left
+   as they were. Answers whether it owns them. */
 bool curspan_attend(struct curspan_tty *tty, bool shall_own);
 /* Leaves a terminal, and the signals that are still caught where it owned them. */
 void curspan_abandon(struct curspan_tty *tty);
-/* The first of the terminals that are open. */
 struct curspan_tty *curspan_first_tty(void);
 /* Holds back the signal that stops the program, and lets it through again. */
 void curspan_hold_stop(void);
@@ -134,54 +126,40 @@ bool curspan_was_stopped(void);
 /* Whether the terminal's size may have changed since the last call of it. */
 bool curspan_was_resized(void);
 
-/* What a wait that signals end came to. */
 enum { WAIT_ENDED, WAIT_STOPPED, WAIT_RESIZED, WAIT_INTERRUPTED };
 
-/* Waits for a descriptor to be read, for some milliseconds, or without end where they are negative. A signal to stop or of a new size ends it
-   also where it came since it was last looked at. Where it ended by itself `found` says whether there is something to read. */
+/* Waits for something to read, for some milliseconds, or without end where they are negative. A signal to stop or of a
+   new size ends it also where it came since that was last looked at. Where it ended by itself `found` says how. */
 int curspan_wait(int descriptor, int milliseconds, bool *found);
 
-/* ---- resizing.c */
+/* ---- resizing.c and screen.c */
 
-/* Takes the size that the terminal has now, and lets getch answer KEY_RESIZE where it is another, or a signal told of
-   it. */
+/* Takes the size that the terminal has now. Where it is another, or a signal told of it, getch answers KEY_RESIZE. */
 void curspan_resize_to_terminal(bool is_told);
 
-/* ---- screen.c */
-
-/* The size of the screen: what the environment asks for goes before. */
+/* The size that the environment asks for, or the terminal has. */
 void curspan_find_screen_size(int *lines, int *columns);
 /* Takes a new size over into what endwin writes. */
 void curspan_tell_size(int lines);
 
-/* ---- sequences.c */
+/* ---- keys */
 
-/* A sequence of a key. */
 struct curspan_sequence {
     const char *bytes;
     int key;
-    const char *type; /* with what the types of the terminals begin that have it, or NULL for all */
 };
 
 enum { CURSPAN_SEQUENCES = 154 };
 extern const struct curspan_sequence curspan_sequences[CURSPAN_SEQUENCES];
-
-/* Whether the keys of a type of terminal have a sequence. */
-bool curspan_is_of_type(const struct curspan_sequence *sequence, const char *type);
-
-/* ---- terminal_keys.c */
-
+/* Whether the keys of a type of terminal have a sequence, by its place. */
+bool curspan_is_of_type(int sequence, const char *type);
 /* The key that some bytes begin with, and how many of them it has: 0 where more must come, unless none do. */
 struct curspan_key;
 size_t curspan_first_key(const unsigned char *bytes, size_t count, bool is_all, struct curspan_key *key);
-
-/* ---- keys.c and input.c */
-
 /* The key whose sequence some bytes are, 0 where they begin none, and ERR where a longer sequence begins with them. */
 int curspan_key_of(const unsigned char *bytes, size_t length);
-/* Forgets the keys that the program defined. */
+/* Forgets the keys that the program defined, and has those of a type. */
 void curspan_forget_keys(const char *type);
-/* Forgets what was typed and not read. */
 void curspan_forget_input(void);
 
 #endif

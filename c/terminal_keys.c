@@ -15,35 +15,32 @@ static const struct {
     int number;
     const char *name;
 } keys[] = {
-    {0, "none"}, {KEY_RESIZE, "resize"}, {0, "paste"}, {0, "unknown"}, {0, "eof"}, {0, "interrupted"}, {KEY_ENTER, "enter"}, {0, "tab"},
-    {0, "escape"}, {KEY_BACKSPACE, "backspace"}, {KEY_UP, "up"}, {KEY_DOWN, "down"}, {KEY_LEFT, "left"}, {KEY_RIGHT, "right"}, {KEY_HOME, "home"},
-    {KEY_END, "end"}, {KEY_PPAGE, "pageup"}, {KEY_NPAGE, "pagedown"}, {KEY_IC, "insert"}, {KEY_DC, "delete"}, {KEY_BEG, "begin"}, {KEY_A1, "a1"},
-    {KEY_A3, "a3"}, {KEY_B2, "b2"}, {KEY_C1, "c1"}, {KEY_C3, "c3"},
+    {0, "none"}, {KEY_RESIZE, "resize"}, {0, "paste"}, {0, "unknown"}, {0, "eof"}, {0, "interrupted"},
+    {KEY_ENTER, "enter"}, {0, "tab"}, {0, "escape"}, {KEY_BACKSPACE, "backspace"}, {KEY_UP, "up"}, {KEY_DOWN, "down"},
+    {KEY_LEFT, "left"}, {KEY_RIGHT, "right"}, {KEY_HOME, "home"}, {KEY_END, "end"}, {KEY_PPAGE, "pageup"},
+    {KEY_NPAGE, "pagedown"}, {KEY_IC, "insert"}, {KEY_DC, "delete"}, {KEY_BEG, "begin"}, {KEY_A1, "a1"}, {KEY_A3, "a3"},
+    {KEY_B2, "b2"}, {KEY_C1, "c1"}, {KEY_C3, "c3"},
 };
 
-/* The key of a sequence without modifiers. */
 static uint32_t key_of(const char *sequence) {
     const char *type = getenv("TERM");
     int number = 0;
     for (int i = 0; i < CURSPAN_SEQUENCES; i++)
-        if (strcmp(curspan_sequences[i].bytes, sequence) == 0 && curspan_is_of_type(&curspan_sequences[i], type ? type : "")) number = curspan_sequences[i].key;
+        if (strcmp(curspan_sequences[i].bytes, sequence) == 0 && curspan_is_of_type(i, type ? type : ""))
+            number = curspan_sequences[i].key;
     if (number >= KEY_F(1) && number <= KEY_F(63)) return CURSPAN_KEY_F((uint32_t)(number - KEY_F(0)));
     for (uint32_t i = 0; number > 0 && i < sizeof keys / sizeof keys[0]; i++)
         if (keys[i].number == number) return CURSPAN_KEY_NONE + i;
     return CURSPAN_KEY_UNKNOWN;
 }
 
-/* The key of a sequence that ends in a letter, in both of its forms. */
-static uint32_t key_of_letter(char letter) {
-    const char control[] = {ESCAPE, '[', letter, 0}, single[] = {ESCAPE, 'O', letter, 0};
+/* The key of a sequence that ends in a letter, in both of its forms, or that has a number. */
+static uint32_t key_by(char letter, unsigned number) {
+    char control[16], single[] = {ESCAPE, 'O', letter, 0};
+    if (letter == '~') snprintf(control, sizeof control, "\033[%u~", number);
+    else snprintf(control, sizeof control, "\033[%c", letter);
     uint32_t code = key_of(control);
     return code == CURSPAN_KEY_UNKNOWN ? key_of(single) : code;
-}
-
-static uint32_t key_of_number(unsigned number) {
-    char text[16];
-    snprintf(text, sizeof text, "\033[%u~", number);
-    return key_of(text);
 }
 
 /* The modifiers by which rxvt ends its sequences. */
@@ -61,15 +58,15 @@ static uint32_t find(const char *text, uint32_t *modifiers) {
     }
     if (strlen(text) == 3 && end >= 'a' && end <= 'd') {
         *modifiers = text[1] == 'O' ? CURSPAN_CTRL : CURSPAN_SHIFT;
-        return key_of_letter((char)toupper(end));
+        return key_by((char)toupper(end), 0);
     }
     if (sscanf(text, "\033[%3u;%2u%c", &number, &more, &last) == 3 && more > 1 && more <= 16 && text[strlen(text) - 2] != ';') {
         *modifiers = (more - 1) & (CURSPAN_SHIFT | CURSPAN_ALT | CURSPAN_CTRL);
-        return last == '~' ? key_of_number(number) : key_of_letter(last);
+        return key_by(last, number);
     }
     if (sscanf(text, "\033[%3u%c", &number, &last) == 2 && last == end && modifiers_of_end(end)) {
         *modifiers = modifiers_of_end(end);
-        return key_of_number(number);
+        return key_by('~', number);
     }
     return key_of(text);
 }
@@ -101,11 +98,9 @@ static size_t plain_key(const unsigned char *bytes, size_t count, bool is_all, c
     return length > 0 ? (size_t)length : 1;
 }
 
-/* A key that is a sequence of some length. */
 static size_t sequence_key(const unsigned char *bytes, size_t length, curspan_key *key) {
-    char text[LONGEST_SEQUENCE + 1];
+    char text[LONGEST_SEQUENCE + 1] = "";
     memcpy(text, bytes, length);
-    text[length] = 0;
     key->code = find(text, &key->modifiers);
     if (key->code == CURSPAN_KEY_UNKNOWN) key->modifiers = 0;
     return length;

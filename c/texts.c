@@ -1,7 +1,6 @@
 /* The words of a status, and which library this is. Nothing here is proved. */
 #include "curspan.h"
 
-/* ./curspan-lib sets it. */
 #ifndef CURSPAN_COMMIT
 #define CURSPAN_COMMIT "unknown"
 #endif
@@ -38,5 +37,4 @@ const char *curspan_text(uint32_t status) {
 }
 
 const char *curspan_version(void) { return CURSPAN_VERSION; }
-
 const char *curspan_commit(void) { return CURSPAN_COMMIT; }

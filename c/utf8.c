@@ -1,5 +1,4 @@
-/* Characters that aren't ASCII. A window has none of them: they come as UTF-8, and each is drawn by a letter or a
-   question mark in as many columns as it takes. Nothing here is proved. */
+/* Characters in UTF-8, drawn by letters or question marks in as many columns as they take. Nothing here is proved. */
 #include "curspan_terminal.h"
 #include "inside.h"
 #include "widths.h"
@@ -13,22 +12,20 @@ static const char letters[] =
 
 enum { FIRST_LETTER = 0xc0 };
 
-/* Whether a character is in one of some ranges, which are in order. */
-static bool is_in(const uint32_t ranges[][2], size_t count, uint32_t character) {
-    size_t from = 0, to = count;
-    while (from < to) {
+/* Whether a character is in one of some ranges, each given by its first character and the first one behind it. */
+static bool is_in(const uint32_t *ends, size_t count, uint32_t character) {
+    size_t from = 0;
+    for (size_t to = count; from < to;) {
         size_t middle = (from + to) / 2;
-        if (character > ranges[middle][1]) from = middle + 1;
-        else if (character < ranges[middle][0]) to = middle;
-        else return true;
+        if (character < ends[middle]) to = middle;
+        else from = middle + 1;
     }
-    return false;
+    return from % 2 == 1;
 }
 
 #define IS_IN(ranges, character) is_in(ranges, sizeof ranges / sizeof ranges[0], character)
 
-/* How many bytes a character has that begins with this one, and 0 where none does. There were longer ones than there
-   are characters, and what begins as they did is waited for. */
+/* How many bytes a character has that begins with this one, or 0: up to six, as UTF-8 once had. */
 static int length_by(uint8_t first) {
     static const uint8_t begins[] = {0xc2, 0xe0, 0xf0, 0xf8, 0xfc};
     int length = 1;
@@ -62,8 +59,7 @@ static curspan_spelling drawn(uint32_t character) {
     return one;
 }
 
-/* A byte that is no part of a character, as ncurses spells it; one that could have been a character by itself is a
-   blank. */
+/* A byte that is no part of a character, as ncurses spells it; one that could have been a character is a blank. */
 static curspan_spelling spelled(uint8_t byte) {
     curspan_spelling blank = {{' '}, 1, false}, control = {{'^', (char)(byte ^ 64)}, 2, false};
     curspan_spelling high = {{'~', byte == 255 ? '?' : (char)(byte - 64)}, 2, false}, meta = {{'M', '-', (char)(byte & 127)}, 3, false};

@@ -1,16 +1,9 @@
-/* What waits to be written. These are functions of their own, so that wmove and waddch keep no registers for them. Nothing here is proved. */
+/* What waits to be written: functions by which wmove and waddch keep no registers. Nothing here is proved. */
 #include "inside.h"
 
 #include <stddef.h>
 
 struct curspan_waiting curspan_waiting;
-
-static void write_text(uint16_t number, unsigned count) {
-    const struct curspan_waiting *all = &curspan_waiting;
-    if (all->y != ERR) curspan_wmove_end(number, (uint16_t)all->y, (uint16_t)all->x, &curspan_kept_screen);
-    if (count == 1) curspan_waddch_end(number, (uint8_t)all->text[0], &curspan_kept_screen);
-    else curspan_waddstr(&curspan_kept_screen, number, all->text, count);
-}
 
 void curspan_write_waiting(void) {
     struct curspan_waiting *all = &curspan_waiting;
@@ -18,8 +11,9 @@ void curspan_write_waiting(void) {
     unsigned count = all->count;
     all->win = NULL;
     all->count = 0;
-    if (count > 0) write_text(number, count);
-    else curspan_wmove_end(number, (uint16_t)all->y, (uint16_t)all->x, &curspan_kept_screen);
+    if (all->y != ERR) curspan_wmove_end(number, (uint16_t)all->y, (uint16_t)all->x, &curspan_kept_screen);
+    if (count == 1) curspan_waddch_end(number, (uint8_t)all->text[0], &curspan_kept_screen);
+    else if (count > 1) curspan_waddstr(&curspan_kept_screen, number, all->text, count);
 }
 
 /* Where it moves to the end of what waits, nothing is left to be done. */

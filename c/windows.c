@@ -1,5 +1,4 @@
-/* Windows and pads: making and placing them, asking about them, and their options. Nothing here is proved: it looks at what C alone can
-   pass, as null and negative arguments, and keeps what Curspan doesn't tell back. */
+/* Windows and pads: making and placing them, asking about them, and their options. Nothing here is proved. */
 #include "inside.h"
 #include "terminal.h"
 
@@ -12,9 +11,8 @@ static WINDOW *numbered[MOST]; /* by their numbers */
 static struct curspan_window the_terminal = {.number = NUMBER, .limit = NOT_READY}; /* it is no window of Curspan */
 
 static void forget(WINDOW *win) {
-    const struct curspan_window none = {
-        .number = NUMBER, .background = ' ', .delay = -1, .limit = NOT_READY, .part = {0, 0, 0, 0, -1, -1}};
-    *win = none;
+    *win = (struct curspan_window){.number = NUMBER, .background = ' ', .delay = -1, .limit = NOT_READY};
+    win->part[4] = win->part[5] = -1;
 }
 
 void curspan_forget_all(void) {
@@ -37,8 +35,7 @@ void curspan_measure(WINDOW *win) {
     curspan_set_end(win);
 }
 
-/* A derived pad is where copies take its parent to be: at the first place of the screen until a part of that is shown. A derived window
-   begins with its parent's attributes and background. */
+/* A derived pad is where copies take its parent to be. A derived window has its parent's attributes and background. */
 static void take_after(WINDOW *win, const WINDOW *parent) {
     win->begin_y = parent->begin_y + getpary(win);
     win->begin_x = parent->begin_x + getparx(win);
@@ -46,7 +43,6 @@ static void take_after(WINDOW *win, const WINDOW *parent) {
     wattrset(win, (int)parent->attrs);
 }
 
-/* A window that was made by an answer, with its size. */
 static WINDOW *made(curspan_answer answer) {
     if (answer.status != CURSPAN_OK) return NULL;
     WINDOW *win = &curspan_windows[answer.first];
@@ -67,7 +63,6 @@ void curspan_begin(curspan_answer answer) {
     curscr = &the_terminal;
 }
 
-/* Makes of a new pad a window that outlies. */
 static WINDOW *made_outlying(curspan_answer answer, int y, int x) {
     WINDOW *win = made(answer);
     if (!win) return NULL;
@@ -82,12 +77,12 @@ WINDOW *newwin(int lines, int columns, int y, int x) {
     if (lines == 0) lines = curspan_lines() - y;
     if (columns == 0) columns = curspan_columns() - x;
     if (lines < 1 || columns < 1) return NULL;
-    if (!curspan_fits(lines, columns, y, x))
-        return made_outlying(curspan_newpad(&curspan_the_screen, (uint16_t)lines, (uint16_t)columns), y, x);
-    return made(curspan_newwin(&curspan_the_screen, (uint16_t)lines, (uint16_t)columns, (uint16_t)y, (uint16_t)x));
+    uint16_t height = (uint16_t)lines, width = (uint16_t)columns;
+    bool fits = curspan_fits(lines, columns, y, x);
+    if (!fits) return made_outlying(curspan_newpad(&curspan_the_screen, height, width), y, x);
+    return made(curspan_newwin(&curspan_the_screen, height, width, (uint16_t)y, (uint16_t)x));
 }
 
-/* Makes a window that shows a part of one that outlies. */
 static WINDOW *derive_outlying(WINDOW *win, int lines, int columns, int y, int x) {
     if (lines == 0) lines = getmaxy(win) - y;
     if (columns == 0) columns = getmaxx(win) - x;
@@ -167,33 +162,25 @@ int mvderwin(WINDOW *win, int y, int x) {
 /* The terminal is as large as window 0 of curspan.h, and its cursor is where the last update left it. */
 static uint16_t number_of(const WINDOW *win) { return is_terminal(win) ? 0 : curspan_number(win); }
 
-#define SCREEN_AND_PLACE(win) &curspan_the_screen, number_of(win)
+#define PLACE_OF(win) &curspan_the_screen, number_of(win)
+/* A pad of curspan.h is nowhere. */
+static bool is_nowhere(const WINDOW *win) { return is_so(curspan_is_pad(PLACE_OF(win))); }
 
 int getcury(const WINDOW *win) { return is_terminal(win) ? win->begin_y : first_of(curspan_getyx(SCREEN_AND(win))); }
 int getcurx(const WINDOW *win) { return is_terminal(win) ? win->begin_x : second_of(curspan_getyx(SCREEN_AND(win))); }
-int getmaxy(const WINDOW *win) { return first_of(curspan_getmaxyx(SCREEN_AND_PLACE(win))); }
-int getmaxx(const WINDOW *win) { return second_of(curspan_getmaxyx(SCREEN_AND_PLACE(win))); }
+int getmaxy(const WINDOW *win) { return first_of(curspan_getmaxyx(PLACE_OF(win))); }
+int getmaxx(const WINDOW *win) { return second_of(curspan_getmaxyx(PLACE_OF(win))); }
 int getpary(const WINDOW *win) { return first_of(curspan_getparyx(SCREEN_AND(win))); }
 int getparx(const WINDOW *win) { return second_of(curspan_getparyx(SCREEN_AND(win))); }
-
-int getbegy(const WINDOW *win) {
-    curspan_answer begin = curspan_getbegyx(SCREEN_AND_PLACE(win));
-    return begin.status == CURSPAN_IS_PAD ? win->begin_y : first_of(begin);
-}
-
-int getbegx(const WINDOW *win) {
-    curspan_answer begin = curspan_getbegyx(SCREEN_AND_PLACE(win));
-    return begin.status == CURSPAN_IS_PAD ? win->begin_x : second_of(begin);
-}
+int getbegy(const WINDOW *win) { return is_nowhere(win) ? win->begin_y : first_of(curspan_getbegyx(PLACE_OF(win))); }
+int getbegx(const WINDOW *win) { return is_nowhere(win) ? win->begin_x : second_of(curspan_getbegyx(PLACE_OF(win))); }
 
 /* ---- options */
 
 int clearok(WINDOW *win, bool flag) {
-    if (is_terminal(win)) {
-        if (flag) curspan_invalidate(&curspan_the_screen);
-        return OK;
-    }
-    return done(curspan_clearok(SCREEN_AND(win), flag));
+    if (!is_terminal(win)) return done(curspan_clearok(SCREEN_AND(win), flag));
+    if (flag) curspan_invalidate(&curspan_the_screen);
+    return OK;
 }
 
 int scrollok(WINDOW *win, bool flag) {
@@ -209,25 +196,16 @@ int wsetscrreg(WINDOW *win, int top, int bottom) {
     return OK;
 }
 
-int idlok(WINDOW *win, bool flag) {
-    if (is_there(win) == ERR) return ERR;
-    win->idlok = flag;
-    return OK;
-}
-
-void idcok(WINDOW *win, bool flag) {
-    if (is_there(win) == OK) win->no_idcok = !flag;
-}
+int idlok(WINDOW *win, bool flag) { return SET_OF(win, idlok, flag); }
+void idcok(WINDOW *win, bool flag) { (void)SET_OF(win, no_idcok, !flag); }
+int leaveok(WINDOW *win, bool flag) { return SET_OF(win, leaveok, flag); }
 
 void immedok(WINDOW *win, bool flag) {
-    if (is_there(win) == ERR) return;
-    win->is_immediate = flag;
-    curspan_set_limit(win);
+    if (SET_OF(win, is_immediate, flag) == OK) curspan_set_limit(win);
 }
 
 int syncok(WINDOW *win, bool flag) {
-    if (is_there(win) == ERR) return ERR;
-    win->synchronizes = flag;
+    if (SET_OF(win, synchronizes, flag) == ERR) return ERR;
     curspan_set_limit(win);
     return OK;
 }
@@ -235,10 +213,4 @@ int syncok(WINDOW *win, bool flag) {
 void curspan_follow(WINDOW *win) {
     if (win->is_immediate) wrefresh(win);
     if (win->synchronizes) wsyncup(win);
-}
-
-int leaveok(WINDOW *win, bool flag) {
-    if (is_there(win) == ERR) return ERR;
-    win->leaveok = flag;
-    return OK;
 }

@@ -49,14 +49,12 @@ void curspan_set_end(WINDOW *win) {
     curspan_set_limit(win);
 }
 
-/* The last line of the scroll region. */
 static int bottom_of(const WINDOW *win) { return least(win->end, (int)win->lines - 1); }
 
 /* Whether writing stops at the end of a line: the last one of the region of a window that doesn't scroll. */
 static bool stops_at(const WINDOW *win, int y) { return y == bottom_of(win) && !is_scrollok(win); }
 
-/* How many characters fit before the last place, where writing stops: that of the window, or of the scroll region
-   where the cursor is above its end. A region that scrolls has none. */
+/* How many characters fit before the last place of the window, or of a scroll region above it that doesn't scroll. */
 static int room_of(const WINDOW *win, int y, int x) {
     int columns = (int)win->columns, last = (int)win->lines - 1;
     bool is_above = y <= win->end && win->end < last;
@@ -109,8 +107,7 @@ static int add_blanks(WINDOW *win, int n, bool are_spaces) {
     return answer;
 }
 
-/* Clears the rest of the line, but not what has ended it, and goes to the next one. On the last line of a window
-   that doesn't scroll the cursor stays. */
+/* Clears the rest of the line, but not what has ended it, and goes to the next one, if it isn't the last. */
 static int end_line(WINDOW *win) {
     int y = getcury(win);
     bool has_ended = win->reach == ENDED, stays = stops_at(win, y);
@@ -124,11 +121,6 @@ static int end_line(WINDOW *win) {
 static int add_tab(WINDOW *win, bool has_attributes) {
     int y = getcury(win), x = getcurx(win), stop = x + TABSIZE - x % TABSIZE;
     return stop < (int)win->columns || stops_at(win, y) ? add_blanks(win, stop - x, has_attributes) : end_line(win);
-}
-
-static int move_back(WINDOW *win, uint8_t ch) {
-    win->reach = UNKNOWN;
-    return done(curspan_waddch(SCREEN_AND(win), ch));
 }
 
 /* Writes a character of two columns, on the next line where one is left on this. */
@@ -150,7 +142,6 @@ void curspan_check_begun(WINDOW *win) {
     curspan_set_limit(win);
 }
 
-/* Writes a byte of UTF-8, once its character is whole. */
 static int add_part(WINDOW *win, uint8_t byte) {
     curspan_spelling spelling = curspan_spell_part(&win->begun, byte);
     curspan_keep_begun(win, getcury(win), getcurx(win));
@@ -158,8 +149,7 @@ static int add_part(WINDOW *win, uint8_t byte) {
     return add_run(win, spelling.text, (size_t)spelling.count);
 }
 
-/* Writes a character that isn't printable, or one after a part of another, with the attributes that Curspan got
-   last. */
+/* Writes a character that isn't printable, or one after a part of another, with the attributes that were given last. */
 static int add_spelled(WINDOW *win, uint8_t ch, bool has_attributes) {
     const char control[2] = {'^', (char)(ch ^ 64)};
     if (win->begun.count > 0 || ch > 127) return add_part(win, ch);
@@ -167,16 +157,14 @@ static int add_spelled(WINDOW *win, uint8_t ch, bool has_attributes) {
     case '\n': return end_line(win);
     case '\t': return add_tab(win, has_attributes);
     case '\r':
-    case '\b': return move_back(win, ch);
+    case '\b': win->reach = UNKNOWN; break;
     default: return add_run(win, control, sizeof control);
     }
+    return done(curspan_waddch(SCREEN_AND(win), ch));
 }
-
-static bool is_printable(uint8_t ch) { return ch >= ' ' && ch <= '~'; }
 
 /* ---- characters and texts */
 
-/* Lets a printable character wait to be written, which doesn't come to the window's end. */
 static inline int add_waiting(WINDOW *win, chtype ch) {
     win->reach++;
     if (curspan_waiting.win != win || curspan_waiting.count == LONGEST) return curspan_wait_here(win, (char)ch);
@@ -204,15 +192,13 @@ int waddch(WINDOW *win, const chtype ch) {
     return add_waiting(win, ch);
 }
 
-/* How many printable characters a text begins with. */
 static size_t run_of(const char *text, size_t length) {
     size_t count = 0;
     while (count < length && is_printable((uint8_t)text[count])) count++;
     return count;
 }
 
-/* Whether a text surely comes to an end above the last line where its window ends. Each newline, and each line that
-   it fills, is one down. */
+/* Whether a text surely ends above the last line of its window. Newlines, and lines that are full, go one down. */
 static bool ends_above(const WINDOW *win, const char *text, size_t length) {
     if (win->begun.count > 0 || win->reach == ENDED) return false;
     if (win->end == ENDLESS) return true;
@@ -222,7 +208,6 @@ static bool ends_above(const WINDOW *win, const char *text, size_t length) {
     return place.first + lines < (size_t)win->end;
 }
 
-/* Writes a text piece by piece. */
 static int add_each_piece(WINDOW *win, const char *text, size_t length) {
     for (size_t from = 0, run; from < length; from += run) {
         run = win->begun.count > 0 ? 0 : run_of(text + from, length - from);
@@ -233,7 +218,6 @@ static int add_each_piece(WINDOW *win, const char *text, size_t length) {
     return OK;
 }
 
-/* Writes a text of alternate characters, where some of them are none on this terminal. */
 static int add_alternates(WINDOW *win, const char *text, size_t length) {
     for (; length > 0; text++, length--)
         if (curspan_add_any(win, (unsigned char)*text) == ERR) return ERR;
@@ -261,7 +245,6 @@ bool curspan_fits_at_end(WINDOW *win, size_t length) {
     return length <= (size_t)room;
 }
 
-/* Lets a short text wait to be written, where all its characters are printable. */
 static bool waits(WINDOW *win, const char *text, size_t length) {
     if (length == 0 || length > SHORT || run_of(text, length) < length) return false;
     if (curspan_waiting.win != win || curspan_waiting.count + length > LONGEST) {
@@ -273,8 +256,7 @@ static bool waits(WINDOW *win, const char *text, size_t length) {
     return true;
 }
 
-/* Writes a text of one line at once, where it fits before the last place of a window that is ready, and all its
-   characters are printable. */
+/* Writes a printable text of one line at once, where it fits before the last place of a window that is ready. */
 static inline bool is_written(WINDOW *win, const char *text, size_t length) {
     bool surely_fits = win && win->reach < win->limit && length <= win->columns;
     if (!surely_fits && !curspan_fits_at_end(win, length)) return false;
@@ -283,32 +265,17 @@ static inline bool is_written(WINDOW *win, const char *text, size_t length) {
     return curspan_waddstr(SCREEN_AND(win), text, length).status == CURSPAN_OK;
 }
 
-/* How many bytes the first line of a text has. */
-static inline size_t line_of(const char *text) {
-#ifdef __GLIBC__
-    return (size_t)(strchrnul(text, '\n') - text);
-#else
-    return strcspn(text, "\n");
-#endif
-}
-
 int waddstr(WINDOW *win, const char *text) {
     if (!text) return ERR;
-    size_t line = line_of(text);
+    size_t line = (size_t)(strchrnul(text, '\n') - text);
     return !text[line] && is_written(win, text, line) ? OK : add_pieces(win, text, line + strlen(text + line));
-}
-
-/* How many bytes a text has, of which at most n are looked at. */
-static size_t length_of(const char *text, int n) {
-    const char *end = memchr(text, 0, (size_t)n);
-    return end ? (size_t)(end - text) : (size_t)n;
 }
 
 int waddnstr(WINDOW *win, const char *text, int n) {
     if (n < 0) return waddstr(win, text);
     if (n == 0) return is_there(win);
     if (!text) return ERR;
-    size_t length = length_of(text, n);
+    size_t length = strnlen(text, (size_t)n);
     return !memchr(text, '\n', length) && is_written(win, text, length) ? OK : add_pieces(win, text, length);
 }
 

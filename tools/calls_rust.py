@@ -5,12 +5,15 @@ import re
 
 from calls_text import applied, fill, layout, signature
 
-# Of each type: as an argument of a method, in C's function, and how a method passes it on.
+# Of each type: as an argument of a method, in C's function, and how a method passes it on. A call that isn't for pads
+# takes a window alone.
 TYPES = {
     'number': ('u32', 'u32', '{0}'),
     'colour': ('Color', 'u32', 'u32::from({0})'),
     'signed': ('i32', 'i32', '{0}'),
-    'window': ('Window', 'u32', 'self.windows.number({0}.0)'),
+    'window': ('impl Into<Window>', 'u32', 'self.windows.number({0}.into().0)'),
+    'window alone': ('Window', 'u32', 'self.windows.number({0}.0)'),
+    'pad': ('Pad', 'u32', 'self.windows.number({0}.0)'),
     'panel': ('Panel', 'u32', 'self.panels.number({0}.0)'),
     'panel_or_none': ('Option<Panel>', 'u32', '{0}.map_or(0, |{0}| self.panels.number({0}.0))'),
     'character': ('char', 'u32', 'u32::from({0})'),
@@ -21,6 +24,7 @@ TYPES = {
 ANSWERS = {
     'nothing': ('()', 'Ok(())'),
     'made window': ('Window', 'self.added_window(answer.first)'),
+    'made pad': ('Pad', 'self.added_window(answer.first).map(|pad| Pad(pad.0))'),
     'window': ('Window', 'Ok(self.window(answer.first))'),
     'new_panel': ('Panel', 'self.added_panel(answer.first)'),
     'panel_or_none': ('Option<Panel>', 'Ok(self.panel(answer.first))'),
@@ -44,11 +48,18 @@ def function(call):
     return f'    fn curspan_{call.name}({", ".join(arguments)}) -> Answer;'
 
 
+def typed(call):
+    """The arguments of a call, of which windows and pads are told apart."""
+    window = 'window alone' if 'IsPad' in call.refusals else 'window'
+    return [(name, 'pad' if name == 'pad' else window if kind == 'window' else kind) for name, kind in call.arguments]
+
+
 def method(call, names):
     targets = names - {name for name, _ in call.arguments}
-    parameters = ['&self' if call.asks else '&mut self', *(f'{name}: {TYPES[kind][0]}' for name, kind in call.arguments)]
-    answer, made = ANSWERS['made window' if call.answer == 'window' and not call.asks else call.answer]
-    passed = [(name, TYPES[kind][2].format(name)) for name, kind in call.arguments]
+    parameters = ['&self' if call.asks else '&mut self', *(f'{name}: {TYPES[kind][0]}' for name, kind in typed(call))]
+    made = f'made {"pad" if call.name.endswith("pad") else "window"}'
+    answer, made = ANSWERS[made if call.answer == 'window' and not call.asks else call.answer]
+    passed = [(name, TYPES[kind][2].format(name)) for name, kind in typed(call)]
     bound = ''.join(f'        let {name} = {value};\n' for name, value in passed if 'self' in value)
     handed = [f'&{"" if call.asks else "mut "}self.sys', *(name if 'self' in value else value for name, value in passed)]
     start = '' if call.answer == 'nothing' else 'let answer = '
@@ -64,7 +75,9 @@ def method(call, names):
 # Of each answer: how the program in C tells it.
 TOLD = {'window': 'window', 'new_panel': 'window', 'panel_or_none': 'panel', 'count_of_bytes': 'bytes', 'count_of_cells': 'nothing'}
 # Of each type: how the program in Rust takes it from a line, where that isn't the type's own name.
-TAKEN_IN_RUST = {'window': 'known.window(a.number({}))', 'panel': 'known.panel(a.number({}))', 'panel_or_none': 'known.panel_or_none(a.number({}))',
+TAKEN_IN_RUST = {'window': 'known.window(a.number({}))', 'window alone': 'known.window(a.number({}))',
+                 'pad': 'known.pad(screen, a.number({}))?', 'panel': 'known.panel(a.number({}))',
+                 'panel_or_none': 'known.panel_or_none(a.number({}))',
                  'colour': 'a.color({})?'}
 
 
@@ -74,7 +87,7 @@ def replay_in_c(call):
 
 
 def replay_in_rust(call):
-    taken = [TAKEN_IN_RUST.get(kind, f'a.{kind}({{}})').format(place) for place, (_, kind) in enumerate(call.arguments)]
+    taken = [TAKEN_IN_RUST.get(kind, f'a.{kind}({{}})').format(place) for place, (_, kind) in enumerate(typed(call))]
     refused = '' if call.answer == 'count_of_cells' else '?'
     return f'        "{call.name}" => screen.{call.name}({", ".join(taken)}){refused}.text(known),'
 

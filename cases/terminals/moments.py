@@ -1,5 +1,6 @@
-"""Ends each program, whose commands are the words after a count and a seed, so many times at moments by chance: by Ctrl-C, TERM, HUP, Ctrl-Z with
-fg and then q, and a fault, in turn. A fault is an exception in Python, USR1 in a script, and elsewhere ABRT. The terminal is as before each time."""
+"""Ends each program, whose commands are the words after a count and a seed, so many times at moments by chance: by
+Ctrl-C, TERM, HUP, Ctrl-Z with fg and then q, and a fault, in turn. A fault is an exception in Python, USR1 in a script,
+a panic in the program for that, and elsewhere ABRT. The terminal is as before each time."""
 import os
 import random
 import shlex
@@ -21,13 +22,15 @@ ENDS = ['Ctrl-C', 'TERM', 'HUP', 'Ctrl-Z', 'fault']
 
 def end(terminal, command, how):
     if how == 'Ctrl-C':
-        may_be_lost = command[0] == 'bash' or b'\x1b[?1049h' not in terminal.bytes
+        may_be_lost = b'\x1b[?1049h' not in terminal.bytes
         terminal.type(b'\x03')
         if may_be_lost and not terminal.ends(5):
-            again.append(command[-1])    # bash loses one at times, and Python in callbacks of the imports that it begins with
+            again.append(command[-1])    # bash drops one at its begin, and Python in callbacks of the imports that it begins with
             terminal.type(b'\x03')
     elif how in ('TERM', 'HUP'):
         os.kill(terminal.process, {'TERM': signal.SIGTERM, 'HUP': signal.SIGHUP}[how])
+    elif how == 'fault' and command[-1].endswith('/panics'):
+        terminal.type(b'x')
     elif how == 'fault':
         os.kill(terminal.process, signal.SIGUSR1 if command[0] in ('python3', 'bash') else signal.SIGABRT)
     else:
@@ -43,7 +46,7 @@ def end(terminal, command, how):
 
 
 def try_one(command, how, moment):
-    terminal = Terminal(command)
+    terminal = Terminal(command, environment={'RUST_BACKTRACE': '0'})    # a backtrace takes long
     limit = time.monotonic() + moment
     while time.monotonic() < limit:
         terminal.read(0.001)

@@ -40,18 +40,19 @@ def keys_of(command, terminal_type, parts, pause):
 
 def name_of(key):
     """The name of a key of curses.h, or nothing where it is one of the many with modifiers."""
-    function = re.match(r'KEY_F\((\d+)\)', key)
+    function = re.match(r'F\((\d+)\)', key)
     if function:
         return f'f{function[1]}' if int(function[1]) <= 12 else None
-    return NAMES.get(key[4:], key[4:].lower())
+    return NAMES.get(key, key.lower())
 
 
 def sequences():
-    """The sequences of the table, and what they are named."""
-    table = (CASES.parent / 'c/sequences.c').read_text()
-    for text, key, kind in re.findall(r'\{"((?:\\033|\\177|\\t|\\032)[^"]*)", (KEY_\w+(?:\(\d+\))?), (NULL|"\w+")\}', table):
-        if kind == 'NULL' and name_of(key):
-            yield bytes_of(text.replace('\\t', '\\011').replace('\\033', '\\0033').replace('\\177', '\\0177')), name_of(key)
+    """The sequences of all terminals, and what they are named."""
+    yield b'\x7f', 'backspace'
+    table, _, _ = (CASES.parent / 'c/sequences.c').read_text().partition('/* of the Linux console alone */')
+    for text, key in re.findall(r'S\("([^"]*)", (\w+(?:\(\d+\))?)\)', table):
+        if name_of(key):
+            yield b'\x1b' + text.encode(), name_of(key)
 
 
 def compare(what, answers):

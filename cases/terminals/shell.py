@@ -39,6 +39,8 @@ SITUATIONS = [
      r'line [78]: curspan_show: the program has ended'),
     ('Ctrl-C while it waits for a key', 'curspan_open || exit\nREADY', b'\x03', 130, ''),
     ('Ctrl-C while it sleeps', 'curspan_open || exit\nSHOWN\nsleep 30\n', b'\x03', 130, ''),
+    ('Ctrl-C while a command runs that ignores it',
+     "curspan_open || exit\nSHOWN\nbash -c 'trap \"\" INT; sleep 0.4'\nREADY", b'\x03', 130, ''),
     ('Ctrl-C while it draws', 'curspan_open || exit\nSHOWN\nwhile :; do curspan_call move 0 1 1; curspan_show; done\n', b'\x03', 130, ''),
     ('a line that is asked for', 'curspan_open || exit\nSHOWN\ncurspan_ask_line 0 2 2 20 old\nline=$curspan_answer\ncurspan_close\necho "it is $line"\n',
      b'\x7f\x7f\x7fnew x\x7fline\r', 0, 'it is new line'),

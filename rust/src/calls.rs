@@ -1,7 +1,7 @@
 //! The methods that only hand on their call.
 #![forbid(unsafe_code)]
 
-use crate::{sys, Attributes, Cell, Color, Panel, Refusal, Screen, Window};
+use crate::{sys, Attributes, Cell, Color, Pad, Panel, Refusal, Screen, Window};
 
 #[allow(clippy::similar_names, clippy::too_many_arguments)]
 impl<W> Screen<W> {
@@ -72,9 +72,9 @@ impl<W> Screen<W> {
     /// [`BadSize`](Refusal::BadSize), [`TooMany`](Refusal::TooMany),
     /// [`NoMemory`](Refusal::NoMemory).
     #[inline]
-    pub fn newpad(&mut self, lines: u32, columns: u32) -> Result<Window, Refusal> {
+    pub fn newpad(&mut self, lines: u32, columns: u32) -> Result<Pad, Refusal> {
         let answer = sys::curspan_newpad(&mut self.sys, lines, columns)?;
-        self.added_window(answer.first)
+        self.added_window(answer.first).map(|pad| Pad(pad.0))
     }
 
     /// Makes a pad that shows the part of a pad from a line and a column of it on. A size of 0
@@ -88,15 +88,15 @@ impl<W> Screen<W> {
     #[inline]
     pub fn subpad(
         &mut self,
-        pad: Window,
+        pad: Pad,
         lines: u32,
         columns: u32,
         y: u32,
         x: u32,
-    ) -> Result<Window, Refusal> {
+    ) -> Result<Pad, Refusal> {
         let pad = self.windows.number(pad.0);
         let answer = sys::curspan_subpad(&mut self.sys, pad, lines, columns, y, x)?;
-        self.added_window(answer.first)
+        self.added_window(answer.first).map(|pad| Pad(pad.0))
     }
 
     /// Moves a window that is in no panel to a place of the screen. No other window moves.
@@ -120,8 +120,8 @@ impl<W> Screen<W> {
     /// [`NoSuchWindow`](Refusal::NoSuchWindow), [`NotDerived`](Refusal::NotDerived),
     /// [`OutsideParent`](Refusal::OutsideParent).
     #[inline]
-    pub fn mvderwin(&mut self, win: Window, y: u32, x: u32) -> Result<(), Refusal> {
-        let win = self.windows.number(win.0);
+    pub fn mvderwin(&mut self, win: impl Into<Window>, y: u32, x: u32) -> Result<(), Refusal> {
+        let win = self.windows.number(win.into().0);
         sys::curspan_mvderwin(&mut self.sys, win, y, x)?;
         Ok(())
     }
@@ -133,8 +133,8 @@ impl<W> Screen<W> {
     /// [`NoSuchWindow`](Refusal::NoSuchWindow); [`OutsideWindow`](Refusal::OutsideWindow) for a
     /// place that the window hasn't.
     #[inline]
-    pub fn wmove(&mut self, win: Window, y: u32, x: u32) -> Result<(), Refusal> {
-        let win = self.windows.number(win.0);
+    pub fn wmove(&mut self, win: impl Into<Window>, y: u32, x: u32) -> Result<(), Refusal> {
+        let win = self.windows.number(win.into().0);
         sys::curspan_wmove(&mut self.sys, win, y, x)?;
         Ok(())
     }
@@ -149,8 +149,8 @@ impl<W> Screen<W> {
     /// [`NoSuchWindow`](Refusal::NoSuchWindow); [`BadCharacter`](Refusal::BadCharacter) for another
     /// character outside 32 to 126.
     #[inline]
-    pub fn waddch(&mut self, win: Window, ch: char) -> Result<(), Refusal> {
-        let win = self.windows.number(win.0);
+    pub fn waddch(&mut self, win: impl Into<Window>, ch: char) -> Result<(), Refusal> {
+        let win = self.windows.number(win.into().0);
         sys::curspan_waddch(&mut self.sys, win, u32::from(ch))?;
         Ok(())
     }
@@ -163,8 +163,8 @@ impl<W> Screen<W> {
     /// [`NoSuchWindow`](Refusal::NoSuchWindow); [`BadCharacter`](Refusal::BadCharacter) for a
     /// character outside 32 to 126.
     #[inline]
-    pub fn winsch(&mut self, win: Window, ch: char) -> Result<(), Refusal> {
-        let win = self.windows.number(win.0);
+    pub fn winsch(&mut self, win: impl Into<Window>, ch: char) -> Result<(), Refusal> {
+        let win = self.windows.number(win.into().0);
         sys::curspan_winsch(&mut self.sys, win, u32::from(ch))?;
         Ok(())
     }
@@ -176,8 +176,8 @@ impl<W> Screen<W> {
     ///
     /// [`NoSuchWindow`](Refusal::NoSuchWindow).
     #[inline]
-    pub fn wdelch(&mut self, win: Window) -> Result<(), Refusal> {
-        let win = self.windows.number(win.0);
+    pub fn wdelch(&mut self, win: impl Into<Window>) -> Result<(), Refusal> {
+        let win = self.windows.number(win.into().0);
         sys::curspan_wdelch(&mut self.sys, win)?;
         Ok(())
     }
@@ -189,8 +189,8 @@ impl<W> Screen<W> {
     ///
     /// [`NoSuchWindow`](Refusal::NoSuchWindow).
     #[inline]
-    pub fn winsertln(&mut self, win: Window) -> Result<(), Refusal> {
-        let win = self.windows.number(win.0);
+    pub fn winsertln(&mut self, win: impl Into<Window>) -> Result<(), Refusal> {
+        let win = self.windows.number(win.into().0);
         sys::curspan_winsertln(&mut self.sys, win)?;
         Ok(())
     }
@@ -201,8 +201,8 @@ impl<W> Screen<W> {
     ///
     /// [`NoSuchWindow`](Refusal::NoSuchWindow).
     #[inline]
-    pub fn wdeleteln(&mut self, win: Window) -> Result<(), Refusal> {
-        let win = self.windows.number(win.0);
+    pub fn wdeleteln(&mut self, win: impl Into<Window>) -> Result<(), Refusal> {
+        let win = self.windows.number(win.into().0);
         sys::curspan_wdeleteln(&mut self.sys, win)?;
         Ok(())
     }
@@ -213,8 +213,8 @@ impl<W> Screen<W> {
     ///
     /// [`NoSuchWindow`](Refusal::NoSuchWindow).
     #[inline]
-    pub fn werase(&mut self, win: Window) -> Result<(), Refusal> {
-        let win = self.windows.number(win.0);
+    pub fn werase(&mut self, win: impl Into<Window>) -> Result<(), Refusal> {
+        let win = self.windows.number(win.into().0);
         sys::curspan_werase(&mut self.sys, win)?;
         Ok(())
     }
@@ -226,8 +226,8 @@ impl<W> Screen<W> {
     ///
     /// [`NoSuchWindow`](Refusal::NoSuchWindow).
     #[inline]
-    pub fn wclear(&mut self, win: Window) -> Result<(), Refusal> {
-        let win = self.windows.number(win.0);
+    pub fn wclear(&mut self, win: impl Into<Window>) -> Result<(), Refusal> {
+        let win = self.windows.number(win.into().0);
         sys::curspan_wclear(&mut self.sys, win)?;
         Ok(())
     }
@@ -238,8 +238,8 @@ impl<W> Screen<W> {
     ///
     /// [`NoSuchWindow`](Refusal::NoSuchWindow).
     #[inline]
-    pub fn wclrtoeol(&mut self, win: Window) -> Result<(), Refusal> {
-        let win = self.windows.number(win.0);
+    pub fn wclrtoeol(&mut self, win: impl Into<Window>) -> Result<(), Refusal> {
+        let win = self.windows.number(win.into().0);
         sys::curspan_wclrtoeol(&mut self.sys, win)?;
         Ok(())
     }
@@ -251,8 +251,8 @@ impl<W> Screen<W> {
     ///
     /// [`NoSuchWindow`](Refusal::NoSuchWindow).
     #[inline]
-    pub fn wclrtobot(&mut self, win: Window) -> Result<(), Refusal> {
-        let win = self.windows.number(win.0);
+    pub fn wclrtobot(&mut self, win: impl Into<Window>) -> Result<(), Refusal> {
+        let win = self.windows.number(win.into().0);
         sys::curspan_wclrtobot(&mut self.sys, win)?;
         Ok(())
     }
@@ -265,8 +265,8 @@ impl<W> Screen<W> {
     /// [`NoSuchWindow`](Refusal::NoSuchWindow); [`ScrollingOff`](Refusal::ScrollingOff) for a
     /// window that doesn't scroll.
     #[inline]
-    pub fn wscrl(&mut self, win: Window, n: i32) -> Result<(), Refusal> {
-        let win = self.windows.number(win.0);
+    pub fn wscrl(&mut self, win: impl Into<Window>, n: i32) -> Result<(), Refusal> {
+        let win = self.windows.number(win.into().0);
         sys::curspan_wscrl(&mut self.sys, win, n)?;
         Ok(())
     }
@@ -278,8 +278,13 @@ impl<W> Screen<W> {
     /// [`NoSuchWindow`](Refusal::NoSuchWindow); [`BadRegion`](Refusal::BadRegion) if `top` is after
     /// `bottom` or `bottom` outside the window.
     #[inline]
-    pub fn wsetscrreg(&mut self, win: Window, top: u32, bottom: u32) -> Result<(), Refusal> {
-        let win = self.windows.number(win.0);
+    pub fn wsetscrreg(
+        &mut self,
+        win: impl Into<Window>,
+        top: u32,
+        bottom: u32,
+    ) -> Result<(), Refusal> {
+        let win = self.windows.number(win.into().0);
         sys::curspan_wsetscrreg(&mut self.sys, win, top, bottom)?;
         Ok(())
     }
@@ -291,8 +296,8 @@ impl<W> Screen<W> {
     ///
     /// [`NoSuchWindow`](Refusal::NoSuchWindow).
     #[inline]
-    pub fn scrollok(&mut self, win: Window, flag: bool) -> Result<(), Refusal> {
-        let win = self.windows.number(win.0);
+    pub fn scrollok(&mut self, win: impl Into<Window>, flag: bool) -> Result<(), Refusal> {
+        let win = self.windows.number(win.into().0);
         sys::curspan_scrollok(&mut self.sys, win, flag)?;
         Ok(())
     }
@@ -304,8 +309,8 @@ impl<W> Screen<W> {
     ///
     /// [`NoSuchWindow`](Refusal::NoSuchWindow).
     #[inline]
-    pub fn clearok(&mut self, win: Window, flag: bool) -> Result<(), Refusal> {
-        let win = self.windows.number(win.0);
+    pub fn clearok(&mut self, win: impl Into<Window>, flag: bool) -> Result<(), Refusal> {
+        let win = self.windows.number(win.into().0);
         sys::curspan_clearok(&mut self.sys, win, flag)?;
         Ok(())
     }
@@ -316,8 +321,8 @@ impl<W> Screen<W> {
     ///
     /// [`NoSuchWindow`](Refusal::NoSuchWindow).
     #[inline]
-    pub fn wattrset(&mut self, win: Window, attrs: Attributes) -> Result<(), Refusal> {
-        let win = self.windows.number(win.0);
+    pub fn wattrset(&mut self, win: impl Into<Window>, attrs: Attributes) -> Result<(), Refusal> {
+        let win = self.windows.number(win.into().0);
         sys::curspan_wattrset(&mut self.sys, win, attrs.bits())?;
         Ok(())
     }
@@ -328,8 +333,8 @@ impl<W> Screen<W> {
     ///
     /// [`NoSuchWindow`](Refusal::NoSuchWindow).
     #[inline]
-    pub fn wattron(&mut self, win: Window, attrs: Attributes) -> Result<(), Refusal> {
-        let win = self.windows.number(win.0);
+    pub fn wattron(&mut self, win: impl Into<Window>, attrs: Attributes) -> Result<(), Refusal> {
+        let win = self.windows.number(win.into().0);
         sys::curspan_wattron(&mut self.sys, win, attrs.bits())?;
         Ok(())
     }
@@ -340,8 +345,8 @@ impl<W> Screen<W> {
     ///
     /// [`NoSuchWindow`](Refusal::NoSuchWindow).
     #[inline]
-    pub fn wattroff(&mut self, win: Window, attrs: Attributes) -> Result<(), Refusal> {
-        let win = self.windows.number(win.0);
+    pub fn wattroff(&mut self, win: impl Into<Window>, attrs: Attributes) -> Result<(), Refusal> {
+        let win = self.windows.number(win.into().0);
         sys::curspan_wattroff(&mut self.sys, win, attrs.bits())?;
         Ok(())
     }
@@ -353,8 +358,13 @@ impl<W> Screen<W> {
     /// [`NoSuchWindow`](Refusal::NoSuchWindow); [`BadCharacter`](Refusal::BadCharacter) for a
     /// character outside 32 to 126.
     #[inline]
-    pub fn wbkgdset(&mut self, win: Window, attrs: Attributes, ch: char) -> Result<(), Refusal> {
-        let win = self.windows.number(win.0);
+    pub fn wbkgdset(
+        &mut self,
+        win: impl Into<Window>,
+        attrs: Attributes,
+        ch: char,
+    ) -> Result<(), Refusal> {
+        let win = self.windows.number(win.into().0);
         sys::curspan_wbkgdset(&mut self.sys, win, attrs.bits(), u32::from(ch))?;
         Ok(())
     }
@@ -365,8 +375,8 @@ impl<W> Screen<W> {
     ///
     /// [`NoSuchWindow`](Refusal::NoSuchWindow); [`BadPair`](Refusal::BadPair) for a number past 63.
     #[inline]
-    pub fn wcolor_set(&mut self, win: Window, pair: u32) -> Result<(), Refusal> {
-        let win = self.windows.number(win.0);
+    pub fn wcolor_set(&mut self, win: impl Into<Window>, pair: u32) -> Result<(), Refusal> {
+        let win = self.windows.number(win.into().0);
         sys::curspan_wcolor_set(&mut self.sys, win, pair)?;
         Ok(())
     }
@@ -377,8 +387,8 @@ impl<W> Screen<W> {
     ///
     /// [`NoSuchWindow`](Refusal::NoSuchWindow); [`BadPair`](Refusal::BadPair) for a number past 63.
     #[inline]
-    pub fn wbkgdpair(&mut self, win: Window, pair: u32) -> Result<(), Refusal> {
-        let win = self.windows.number(win.0);
+    pub fn wbkgdpair(&mut self, win: impl Into<Window>, pair: u32) -> Result<(), Refusal> {
+        let win = self.windows.number(win.into().0);
         sys::curspan_wbkgdpair(&mut self.sys, win, pair)?;
         Ok(())
     }
@@ -423,8 +433,8 @@ impl<W> Screen<W> {
     #[inline]
     pub fn copywin(
         &mut self,
-        src: Window,
-        dst: Window,
+        src: impl Into<Window>,
+        dst: impl Into<Window>,
         sminrow: u32,
         smincol: u32,
         dminrow: u32,
@@ -433,8 +443,8 @@ impl<W> Screen<W> {
         dmaxcol: u32,
         overlay: bool,
     ) -> Result<(), Refusal> {
-        let src = self.windows.number(src.0);
-        let dst = self.windows.number(dst.0);
+        let src = self.windows.number(src.into().0);
+        let dst = self.windows.number(dst.into().0);
         sys::curspan_copywin(
             &mut self.sys,
             src,
@@ -456,8 +466,8 @@ impl<W> Screen<W> {
     ///
     /// [`NoSuchWindow`](Refusal::NoSuchWindow).
     #[inline]
-    pub fn touchwin(&mut self, win: Window) -> Result<(), Refusal> {
-        let win = self.windows.number(win.0);
+    pub fn touchwin(&mut self, win: impl Into<Window>) -> Result<(), Refusal> {
+        let win = self.windows.number(win.into().0);
         sys::curspan_touchwin(&mut self.sys, win)?;
         Ok(())
     }
@@ -468,8 +478,8 @@ impl<W> Screen<W> {
     ///
     /// [`NoSuchWindow`](Refusal::NoSuchWindow).
     #[inline]
-    pub fn untouchwin(&mut self, win: Window) -> Result<(), Refusal> {
-        let win = self.windows.number(win.0);
+    pub fn untouchwin(&mut self, win: impl Into<Window>) -> Result<(), Refusal> {
+        let win = self.windows.number(win.into().0);
         sys::curspan_untouchwin(&mut self.sys, win)?;
         Ok(())
     }
@@ -481,8 +491,8 @@ impl<W> Screen<W> {
     /// [`NoSuchWindow`](Refusal::NoSuchWindow); [`OutsideWindow`](Refusal::OutsideWindow) if the
     /// window hasn't line `y`, or not `n` lines from it on.
     #[inline]
-    pub fn touchline(&mut self, win: Window, y: u32, n: u32) -> Result<(), Refusal> {
-        let win = self.windows.number(win.0);
+    pub fn touchline(&mut self, win: impl Into<Window>, y: u32, n: u32) -> Result<(), Refusal> {
+        let win = self.windows.number(win.into().0);
         sys::curspan_touchline(&mut self.sys, win, y, n)?;
         Ok(())
     }
@@ -494,8 +504,14 @@ impl<W> Screen<W> {
     /// [`NoSuchWindow`](Refusal::NoSuchWindow); [`OutsideWindow`](Refusal::OutsideWindow) if the
     /// window hasn't line `y`, or not `n` lines from it on.
     #[inline]
-    pub fn wtouchln(&mut self, win: Window, y: u32, n: u32, flag: bool) -> Result<(), Refusal> {
-        let win = self.windows.number(win.0);
+    pub fn wtouchln(
+        &mut self,
+        win: impl Into<Window>,
+        y: u32,
+        n: u32,
+        flag: bool,
+    ) -> Result<(), Refusal> {
+        let win = self.windows.number(win.into().0);
         sys::curspan_wtouchln(&mut self.sys, win, y, n, flag)?;
         Ok(())
     }
@@ -506,8 +522,8 @@ impl<W> Screen<W> {
     ///
     /// [`NoSuchWindow`](Refusal::NoSuchWindow).
     #[inline]
-    pub fn wsyncup(&mut self, win: Window) -> Result<(), Refusal> {
-        let win = self.windows.number(win.0);
+    pub fn wsyncup(&mut self, win: impl Into<Window>) -> Result<(), Refusal> {
+        let win = self.windows.number(win.into().0);
         sys::curspan_wsyncup(&mut self.sys, win)?;
         Ok(())
     }
@@ -518,8 +534,8 @@ impl<W> Screen<W> {
     ///
     /// [`NoSuchWindow`](Refusal::NoSuchWindow).
     #[inline]
-    pub fn wsyncdown(&mut self, win: Window) -> Result<(), Refusal> {
-        let win = self.windows.number(win.0);
+    pub fn wsyncdown(&mut self, win: impl Into<Window>) -> Result<(), Refusal> {
+        let win = self.windows.number(win.into().0);
         sys::curspan_wsyncdown(&mut self.sys, win)?;
         Ok(())
     }
@@ -531,8 +547,8 @@ impl<W> Screen<W> {
     /// [`NoSuchWindow`](Refusal::NoSuchWindow); [`OutsideWindow`](Refusal::OutsideWindow) if the
     /// window hasn't line `y`.
     #[inline]
-    pub fn is_linetouched(&self, win: Window, y: u32) -> Result<bool, Refusal> {
-        let win = self.windows.number(win.0);
+    pub fn is_linetouched(&self, win: impl Into<Window>, y: u32) -> Result<bool, Refusal> {
+        let win = self.windows.number(win.into().0);
         let answer = sys::curspan_is_linetouched(&self.sys, win, y)?;
         Ok(answer.first != 0)
     }
@@ -543,8 +559,8 @@ impl<W> Screen<W> {
     ///
     /// [`NoSuchWindow`](Refusal::NoSuchWindow).
     #[inline]
-    pub fn is_wintouched(&self, win: Window) -> Result<bool, Refusal> {
-        let win = self.windows.number(win.0);
+    pub fn is_wintouched(&self, win: impl Into<Window>) -> Result<bool, Refusal> {
+        let win = self.windows.number(win.into().0);
         let answer = sys::curspan_is_wintouched(&self.sys, win)?;
         Ok(answer.first != 0)
     }
@@ -555,8 +571,8 @@ impl<W> Screen<W> {
     ///
     /// [`NoSuchWindow`](Refusal::NoSuchWindow).
     #[inline]
-    pub fn getyx(&self, win: Window) -> Result<(u32, u32), Refusal> {
-        let win = self.windows.number(win.0);
+    pub fn getyx(&self, win: impl Into<Window>) -> Result<(u32, u32), Refusal> {
+        let win = self.windows.number(win.into().0);
         let answer = sys::curspan_getyx(&self.sys, win)?;
         Ok((answer.first, answer.second))
     }
@@ -579,8 +595,8 @@ impl<W> Screen<W> {
     ///
     /// [`NoSuchWindow`](Refusal::NoSuchWindow).
     #[inline]
-    pub fn getmaxyx(&self, win: Window) -> Result<(u32, u32), Refusal> {
-        let win = self.windows.number(win.0);
+    pub fn getmaxyx(&self, win: impl Into<Window>) -> Result<(u32, u32), Refusal> {
+        let win = self.windows.number(win.into().0);
         let answer = sys::curspan_getmaxyx(&self.sys, win)?;
         Ok((answer.first, answer.second))
     }
@@ -591,8 +607,8 @@ impl<W> Screen<W> {
     ///
     /// [`NoSuchWindow`](Refusal::NoSuchWindow), [`NotDerived`](Refusal::NotDerived).
     #[inline]
-    pub fn getparyx(&self, win: Window) -> Result<(u32, u32), Refusal> {
-        let win = self.windows.number(win.0);
+    pub fn getparyx(&self, win: impl Into<Window>) -> Result<(u32, u32), Refusal> {
+        let win = self.windows.number(win.into().0);
         let answer = sys::curspan_getparyx(&self.sys, win)?;
         Ok((answer.first, answer.second))
     }
@@ -603,8 +619,8 @@ impl<W> Screen<W> {
     ///
     /// [`NoSuchWindow`](Refusal::NoSuchWindow).
     #[inline]
-    pub fn winch(&self, win: Window) -> Result<Cell, Refusal> {
-        let win = self.windows.number(win.0);
+    pub fn winch(&self, win: impl Into<Window>) -> Result<Cell, Refusal> {
+        let win = self.windows.number(win.into().0);
         let answer = sys::curspan_winch(&self.sys, win)?;
         Ok(Cell(answer.first))
     }
@@ -775,7 +791,7 @@ impl<W> Screen<W> {
     #[inline]
     pub fn pnoutrefresh(
         &mut self,
-        pad: Window,
+        pad: Pad,
         pminrow: u32,
         pmincol: u32,
         sminrow: u32,

@@ -50,6 +50,43 @@ impl Window {
     }
 }
 
+/// A pad of a [`Screen`](crate::Screen): a window without a place on the screen, of which parts are
+/// shown by [`pnoutrefresh`](crate::Screen::pnoutrefresh). Calls that are for windows and pads take
+/// it too; those that aren't for pads don't.
+///
+/// ```
+/// use curspan::{Screen, STDSCR};
+///
+/// let mut screen = Screen::new(Vec::new(), 4, 10)?;
+/// let pad = screen.newpad(100, 100)?;
+/// screen.mvwaddstr(pad, 50, 0, "far below")?;
+/// screen.pnoutrefresh(pad, 50, 0, 0, 0, 3, 9)?;
+/// assert_eq!(screen.to_string().lines().next(), Some("far below "));
+/// # Ok::<(), curspan::Refusal>(())
+/// ```
+///
+/// ```compile_fail,E0308
+/// # let mut screen = curspan::Screen::new(Vec::new(), 4, 10).unwrap();
+/// let pad = screen.newpad(100, 100).unwrap();
+/// screen.new_panel(pad);
+/// ```
+#[derive(Clone, Copy, PartialEq, Eq, Hash, Debug)]
+pub struct Pad(pub(crate) Handle);
+
+impl Pad {
+    /// The pad's number, as scripts and `curspan.h` have it.
+    #[must_use]
+    pub const fn number(self) -> u32 {
+        self.0.number
+    }
+}
+
+impl From<Pad> for Window {
+    fn from(pad: Pad) -> Window {
+        Window(pad.0)
+    }
+}
+
 /// A panel of a [`Screen`](crate::Screen): a window's place in the stack.
 ///
 /// It is a small handle, to be copied. Deleting the panel makes it stale: then each call refuses it

@@ -39,8 +39,8 @@
 //! # Linking
 //!
 //! The build script takes `libcurspan.a` from the folder that the variable `CURSPAN_LIB_DIR` names,
-//! or from where pkg-config finds `curspan.pc`; where only the shared library is there, it takes
-//! that.
+//! or from `lib/` of the one that `CURSPAN_PREFIX` names, or else the crate's own; where only the
+//! shared library is there, it takes that.
 #![deny(unsafe_code)]
 #![warn(missing_docs, clippy::pedantic)]
 
@@ -60,7 +60,7 @@ mod text;
 pub use attributes::Attributes;
 pub use cells::{Cell, Color, ShownCell};
 pub use error::Error;
-pub use handles::{Panel, Window, STDSCR};
+pub use handles::{Pad, Panel, Window, STDSCR};
 pub use refusal::Refusal;
 pub use screen::Screen;
 pub use text::{plain, WindowWriter};

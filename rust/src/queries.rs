@@ -1,7 +1,7 @@
 //! What is asked of a screen beside the calls.
 #![forbid(unsafe_code)]
 
-use crate::{sys, Attributes, Cell, Panel, Refusal, Screen, ShownCell, Window, STDSCR};
+use crate::{sys, Attributes, Cell, Pad, Panel, Refusal, Screen, ShownCell, Window, STDSCR};
 use std::iter;
 
 impl<W> Screen<W> {
@@ -23,7 +23,8 @@ impl<W> Screen<W> {
     ///
     /// [`NoSuchWindow`](Refusal::NoSuchWindow); [`OutsideWindow`](Refusal::OutsideWindow) if the
     /// window hasn't the line.
-    pub fn row(&self, win: Window, y: u32) -> Result<Vec<Cell>, Refusal> {
+    pub fn row(&self, win: impl Into<Window>, y: u32) -> Result<Vec<Cell>, Refusal> {
+        let win = win.into();
         let mut cells = vec![Cell::default(); self.read_row(win, y, &mut [])?];
         self.read_row(win, y, &mut cells)?;
         Ok(cells)
@@ -36,8 +37,13 @@ impl<W> Screen<W> {
     ///
     /// As [`row`](Screen::row).
     #[inline]
-    pub fn read_row(&self, win: Window, y: u32, cells: &mut [Cell]) -> Result<usize, Refusal> {
-        let answer = sys::row(&self.sys, self.windows.number(win.0), y, cells)?;
+    pub fn read_row(
+        &self,
+        win: impl Into<Window>,
+        y: u32,
+        cells: &mut [Cell],
+    ) -> Result<usize, Refusal> {
+        let answer = sys::row(&self.sys, self.windows.number(win.into().0), y, cells)?;
         Ok(answer.first as usize)
     }
 
@@ -97,8 +103,8 @@ impl<W> Screen<W> {
     ///
     /// [`NoSuchWindow`](Refusal::NoSuchWindow).
     #[inline]
-    pub fn wattr_get(&self, win: Window) -> Result<(Attributes, u32), Refusal> {
-        let answer = sys::curspan_wattr_get(&self.sys, self.windows.number(win.0))?;
+    pub fn wattr_get(&self, win: impl Into<Window>) -> Result<(Attributes, u32), Refusal> {
+        let answer = sys::curspan_wattr_get(&self.sys, self.windows.number(win.into().0))?;
         Ok((Attributes::of_bits(answer.first), answer.second))
     }
 
@@ -108,8 +114,8 @@ impl<W> Screen<W> {
     ///
     /// [`NoSuchWindow`](Refusal::NoSuchWindow).
     #[inline]
-    pub fn getbkgd(&self, win: Window) -> Result<Cell, Refusal> {
-        let answer = sys::curspan_getbkgd(&self.sys, self.windows.number(win.0))?;
+    pub fn getbkgd(&self, win: impl Into<Window>) -> Result<Cell, Refusal> {
+        let answer = sys::curspan_getbkgd(&self.sys, self.windows.number(win.into().0))?;
         Ok(Cell(answer.first))
     }
 
@@ -119,8 +125,8 @@ impl<W> Screen<W> {
     ///
     /// [`NoSuchWindow`](Refusal::NoSuchWindow).
     #[inline]
-    pub fn wgetscrreg(&self, win: Window) -> Result<(u32, u32), Refusal> {
-        let answer = sys::curspan_wgetscrreg(&self.sys, self.windows.number(win.0))?;
+    pub fn wgetscrreg(&self, win: impl Into<Window>) -> Result<(u32, u32), Refusal> {
+        let answer = sys::curspan_wgetscrreg(&self.sys, self.windows.number(win.into().0))?;
         Ok((answer.first, answer.second))
     }
 
@@ -130,8 +136,8 @@ impl<W> Screen<W> {
     ///
     /// [`NoSuchWindow`](Refusal::NoSuchWindow).
     #[inline]
-    pub fn is_scrollok(&self, win: Window) -> Result<bool, Refusal> {
-        let answer = sys::curspan_is_scrollok(&self.sys, self.windows.number(win.0))?;
+    pub fn is_scrollok(&self, win: impl Into<Window>) -> Result<bool, Refusal> {
+        let answer = sys::curspan_is_scrollok(&self.sys, self.windows.number(win.into().0))?;
         Ok(answer.first != 0)
     }
 
@@ -141,8 +147,8 @@ impl<W> Screen<W> {
     ///
     /// [`NoSuchWindow`](Refusal::NoSuchWindow).
     #[inline]
-    pub fn is_cleared(&self, win: Window) -> Result<bool, Refusal> {
-        let answer = sys::curspan_is_cleared(&self.sys, self.windows.number(win.0))?;
+    pub fn is_cleared(&self, win: impl Into<Window>) -> Result<bool, Refusal> {
+        let answer = sys::curspan_is_cleared(&self.sys, self.windows.number(win.into().0))?;
         Ok(answer.first != 0)
     }
 
@@ -152,9 +158,21 @@ impl<W> Screen<W> {
     ///
     /// [`NoSuchWindow`](Refusal::NoSuchWindow).
     #[inline]
-    pub fn is_pad(&self, win: Window) -> Result<bool, Refusal> {
-        let answer = sys::curspan_is_pad(&self.sys, self.windows.number(win.0))?;
+    pub fn is_pad(&self, win: impl Into<Window>) -> Result<bool, Refusal> {
+        let answer = sys::curspan_is_pad(&self.sys, self.windows.number(win.into().0))?;
         Ok(answer.first != 0)
+    }
+
+    /// A window of [`windows`](Screen::windows) as the pad that it is.
+    ///
+    /// # Errors
+    ///
+    /// [`NoSuchWindow`](Refusal::NoSuchWindow), [`NotPad`](Refusal::NotPad).
+    #[inline]
+    pub fn pad(&self, win: Window) -> Result<Pad, Refusal> {
+        self.is_pad(win)?
+            .then_some(Pad(win.0))
+            .ok_or(Refusal::NotPad)
     }
 
     /// The window or pad from which a window or pad derives.
@@ -163,8 +181,8 @@ impl<W> Screen<W> {
     ///
     /// [`NoSuchWindow`](Refusal::NoSuchWindow), [`NotDerived`](Refusal::NotDerived).
     #[inline]
-    pub fn wgetparent(&self, win: Window) -> Result<Window, Refusal> {
-        let answer = sys::curspan_wgetparent(&self.sys, self.windows.number(win.0))?;
+    pub fn wgetparent(&self, win: impl Into<Window>) -> Result<Window, Refusal> {
+        let answer = sys::curspan_wgetparent(&self.sys, self.windows.number(win.into().0))?;
         Ok(self.window(answer.first))
     }
 
@@ -174,8 +192,8 @@ impl<W> Screen<W> {
     ///
     /// [`NoSuchWindow`](Refusal::NoSuchWindow).
     #[inline]
-    pub fn window_panel(&self, win: Window) -> Result<Option<Panel>, Refusal> {
-        let answer = sys::curspan_window_panel(&self.sys, self.windows.number(win.0))?;
+    pub fn window_panel(&self, win: impl Into<Window>) -> Result<Option<Panel>, Refusal> {
+        let answer = sys::curspan_window_panel(&self.sys, self.windows.number(win.into().0))?;
         Ok(self.panel(answer.first))
     }
 }

@@ -69,8 +69,9 @@ impl<W: Write> Screen<W> {
     ///
     /// Those of the writer. Whatever part of the bytes it took, the terminal may show anything
     /// then, and the next `doupdate` clears it and sends all, so that one which succeeds repairs
-    /// it: it is made at once where the writer was [`Interrupted`](io::ErrorKind::Interrupted). And [`OutOfMemory`](io::ErrorKind::OutOfMemory) where there is no memory for the bytes;
-    /// those that were made come before the next one's.
+    /// it: it is made at once where the writer was [`Interrupted`](io::ErrorKind::Interrupted). And
+    /// [`OutOfMemory`](io::ErrorKind::OutOfMemory) where there is no memory for the bytes; those
+    /// that were made come before the next one's.
     pub fn doupdate(&mut self) -> io::Result<u32> {
         match self.send() {
             Err(error) if error.kind() == io::ErrorKind::Interrupted => self.send(),
@@ -132,7 +133,8 @@ impl<W> Screen<W> {
     ///
     /// [`NoSuchWindow`](Refusal::NoSuchWindow), [`StandardScreen`](Refusal::StandardScreen),
     /// [`InPanel`](Refusal::InPanel), [`HasDerived`](Refusal::HasDerived).
-    pub fn delwin(&mut self, win: Window) -> Result<(), Refusal> {
+    pub fn delwin(&mut self, win: impl Into<Window>) -> Result<(), Refusal> {
+        let win = win.into();
         sys::curspan_delwin(&mut self.sys, self.windows.number(win.0))?;
         self.windows.remove(win.0);
         Ok(())
@@ -158,8 +160,13 @@ impl<W> Screen<W> {
     /// [`NoSuchWindow`](Refusal::NoSuchWindow); [`BadCharacter`](Refusal::BadCharacter) for a
     /// character other than 8, 10, 13 and 32 to 126.
     #[inline]
-    pub fn waddstr(&mut self, win: Window, text: impl AsRef<[u8]>) -> Result<(), Refusal> {
-        sys::waddstr(&mut self.sys, self.windows.number(win.0), text.as_ref())?;
+    pub fn waddstr(
+        &mut self,
+        win: impl Into<Window>,
+        text: impl AsRef<[u8]>,
+    ) -> Result<(), Refusal> {
+        let win = self.windows.number(win.into().0);
+        sys::waddstr(&mut self.sys, win, text.as_ref())?;
         Ok(())
     }
 
@@ -174,11 +181,12 @@ impl<W> Screen<W> {
     #[inline]
     pub fn mvwaddstr(
         &mut self,
-        win: Window,
+        win: impl Into<Window>,
         y: u32,
         x: u32,
         text: impl AsRef<[u8]>,
     ) -> Result<(), Refusal> {
+        let win = win.into();
         self.wmove(win, y, x)?;
         self.waddstr(win, text)
     }

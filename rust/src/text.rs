@@ -1,7 +1,7 @@
 //! Texts of windows and screens: what is formatted into a window, and the picture as lines.
 #![forbid(unsafe_code)]
 
-use crate::{sys, Refusal, Screen, Window, STDSCR};
+use crate::{sys, Cell, Refusal, Screen, Window, STDSCR};
 use std::fmt;
 
 /// A window that texts are formatted into by [`write!`], from its cursor on.
@@ -29,8 +29,16 @@ impl<W> fmt::Write for WindowWriter<'_, W> {
 
 impl<W> Screen<W> {
     /// What [`write!`] writes a formatted text into a window by.
-    pub fn window_writer(&mut self, win: Window) -> WindowWriter<'_, W> {
+    pub fn window_writer(&mut self, win: impl Into<Window>) -> WindowWriter<'_, W> {
+        let win = win.into();
         WindowWriter { screen: self, win }
+    }
+
+    /// Moves the cursor, and answers the window it moved in.
+    fn moved(&mut self, win: impl Into<Window>, y: u32, x: u32) -> Result<Window, Refusal> {
+        let win = win.into();
+        self.wmove(win, y, x)?;
+        Ok(win)
     }
 
     /// Moves the cursor, and writes a character there by [`waddch`](Screen::waddch). Where only the
@@ -39,8 +47,14 @@ impl<W> Screen<W> {
     /// # Errors
     ///
     /// Those of [`wmove`](Screen::wmove) and [`waddch`](Screen::waddch).
-    pub fn mvwaddch(&mut self, win: Window, y: u32, x: u32, ch: char) -> Result<(), Refusal> {
-        self.wmove(win, y, x)?;
+    pub fn mvwaddch(
+        &mut self,
+        win: impl Into<Window>,
+        y: u32,
+        x: u32,
+        ch: char,
+    ) -> Result<(), Refusal> {
+        let win = self.moved(win, y, x)?;
         self.waddch(win, ch)
     }
 
@@ -49,8 +63,14 @@ impl<W> Screen<W> {
     /// # Errors
     ///
     /// Those of [`wmove`](Screen::wmove) and [`winsch`](Screen::winsch).
-    pub fn mvwinsch(&mut self, win: Window, y: u32, x: u32, ch: char) -> Result<(), Refusal> {
-        self.wmove(win, y, x)?;
+    pub fn mvwinsch(
+        &mut self,
+        win: impl Into<Window>,
+        y: u32,
+        x: u32,
+        ch: char,
+    ) -> Result<(), Refusal> {
+        let win = self.moved(win, y, x)?;
         self.winsch(win, ch)
     }
 
@@ -59,9 +79,19 @@ impl<W> Screen<W> {
     /// # Errors
     ///
     /// Those of [`wmove`](Screen::wmove).
-    pub fn mvwdelch(&mut self, win: Window, y: u32, x: u32) -> Result<(), Refusal> {
-        self.wmove(win, y, x)?;
+    pub fn mvwdelch(&mut self, win: impl Into<Window>, y: u32, x: u32) -> Result<(), Refusal> {
+        let win = self.moved(win, y, x)?;
         self.wdelch(win)
+    }
+
+    /// Moves the cursor, and answers the cell there by [`winch`](Screen::winch).
+    ///
+    /// # Errors
+    ///
+    /// Those of [`wmove`](Screen::wmove).
+    pub fn mvwinch(&mut self, win: impl Into<Window>, y: u32, x: u32) -> Result<Cell, Refusal> {
+        let win = self.moved(win, y, x)?;
+        self.winch(win)
     }
 }
 

@@ -64,7 +64,7 @@ fn a_deleted_window_is_refused_where_its_number_came_back() {
     screen.delwin(old).unwrap();
     let new = screen.newpad(9, 9).unwrap();
     assert_eq!(new.number(), old.number());
-    assert_ne!(new, old);
+    assert_ne!(Window::from(new), old);
     assert!(all(
         &ends_of_window(&mut screen, old),
         Refusal::NoSuchWindow

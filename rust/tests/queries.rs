@@ -107,10 +107,12 @@ fn windows_and_panels_come_in_the_order_of_their_numbers() {
     screen.hide_panel(low).unwrap();
     assert_eq!(
         screen.windows().collect::<Vec<_>>(),
-        [STDSCR, one, two, three]
+        [STDSCR, one, two.into(), three]
     );
     assert_eq!(screen.panels().collect::<Vec<_>>(), [low, high]);
     assert_eq!(screen.wgetparent(three), Ok(STDSCR));
     assert_eq!(screen.window_panel(one), Ok(Some(high)));
     assert_eq!(screen.is_pad(two), Ok(true));
+    assert_eq!(screen.pad(two.into()), Ok(two));
+    assert_eq!(screen.pad(one), Err(Refusal::NotPad));
 }

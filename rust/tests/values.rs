@@ -61,3 +61,18 @@ fn great_numbers_are_refused_and_not_cut() {
     );
     assert_eq!(screen.getyx(STDSCR), Ok((0, 0)));
 }
+
+#[test]
+fn what_moves_first_is_as_the_move_and_the_call() {
+    let mut screen = Screen::new(Vec::new(), 2, 10).unwrap();
+    let pad = screen.newpad(2, 10).unwrap();
+    screen.mvwaddstr(pad, 1, 0, "abc").unwrap();
+    screen.mvwaddch(pad, 1, 1, 'B').unwrap();
+    screen.mvwinsch(pad, 1, 0, '>').unwrap();
+    screen.mvwdelch(pad, 1, 3).unwrap();
+    let row = screen.row(pad, 1).unwrap();
+    let text: String = row.iter().map(|cell| cell.character()).collect();
+    assert_eq!(text, ">aB       ");
+    assert_eq!(screen.mvwinch(pad, 1, 2).unwrap().character(), 'B');
+    assert_eq!(screen.mvwinch(pad, 2, 0), Err(Refusal::OutsideWindow));
+}

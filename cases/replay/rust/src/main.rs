@@ -7,7 +7,7 @@
 //! A number stands for the handle that was got with it last, which may be stale; one with which
 //! none was got, for one of another screen.
 
-use curspan::{Attributes, Cell, Color, Error, Panel, Refusal, Screen, Window, STDSCR};
+use curspan::{Attributes, Cell, Color, Error, Pad, Panel, Refusal, Screen, Window, STDSCR};
 use std::collections::HashMap;
 use std::io::{self, BufRead};
 use std::{env, error};
@@ -75,6 +75,10 @@ impl Known {
         self.windows.get(&number).copied().unwrap_or(self.no_window)
     }
 
+    fn pad<W>(&self, screen: &Screen<W>, number: u32) -> Result<Pad, Refusal> {
+        screen.pad(self.window(number))
+    }
+
     fn panel(&self, number: u32) -> Panel {
         self.panels.get(&number).copied().unwrap_or(self.no_panel)
     }
@@ -107,6 +111,12 @@ impl Answer for Window {
     fn text(self, known: &mut Known) -> Option<String> {
         known.windows.insert(self.number(), self);
         Some(self.number().to_string())
+    }
+}
+
+impl Answer for Pad {
+    fn text(self, known: &mut Known) -> Option<String> {
+        Window::from(self).text(known)
     }
 }
 
