@@ -1,4 +1,5 @@
-"""The wrong bodies that tools/calls writes: an edit for each constructor and each method that it writes, which the prover must refuse."""
+"""The wrong bodies that tools/calls writes: an edit for each method that it writes, which the prover
+must refuse."""
 import sys
 
 # Where they are, by the folder of their crate.
@@ -33,23 +34,17 @@ def wrong_body(call, calls):
     return f'is_{other.name}', '', other
 
 
-def constructed(call):
-    """How the body of a constructor begins, as far as no other one does."""
-    return f'Call::{call.group}({call.group}::{call.variant}' + (' {' if call.arguments else ')')
-
-
 def asked_for(call):
-    """How the body of a method begins."""
-    return f'self.{"find" if call.asks else "make"}(&constructors::{call.name}('
+    """How the body of a method begins, as far as no other one does."""
+    made = f'Call::{call.group}({call.group}::{call.variant}'
+    return f'self.{"find" if call.asks else "make"}(&{made}' + (' {' if call.arguments else ')')
 
 
 def edits(groups, has_method):
     """The text of each edit, by its file."""
-    of_all = [calls for _, calls in groups.values()]
-    of_methods = [[it for it in calls if has_method(it)] for calls in of_all]
-    for crate, of_groups, begun in (('constructors', of_all, constructed), ('methods', of_methods, asked_for)):
-        for calls in of_groups:
-            for call in calls:
-                name, first, made = wrong_body(call, calls)
-                text = f'file: src/lib.rt\nold: {begun(call)}\nnew: {first}{begun(made)}\n'
-                yield f'crates/{crate}/{FOLDER}/{call.name}_{name}.edit', text
+    for _, calls in groups.values():
+        calls = [it for it in calls if has_method(it)]
+        for call in calls:
+            name, first, made = wrong_body(call, calls)
+            text = f'file: src/written_methods.rt\nold: {asked_for(call)}\nnew: {first}{asked_for(made)}\n'
+            yield f'crates/methods/{FOLDER}/{call.name}_{name}.edit', text
