@@ -1,4 +1,4 @@
-"""The wrong bodies that tools/calls writes: one of each constructor and of each method that it writes."""
+"""The wrong bodies that tools/calls writes: one for each method that it writes."""
 import sys
 
 from wrong_bodies import WrongBody, text_of
@@ -33,24 +33,18 @@ def wrong_body(call, calls):
     return f'is_{other.name}', '', other
 
 
-def constructed(call):
-    """How the body of a constructor begins, as far as no other one does."""
-    return f'Call::{call.group}({call.group}::{call.variant}' + (' {' if call.arguments else ')')
-
-
 def asked_for(call):
-    """How the body of a method begins."""
-    return f'self.{"find" if call.asks else "make"}(&constructors::{call.name}('
+    """How the body of a method begins, as far as no other one does."""
+    made = f'Call::{call.group}({call.group}::{call.variant}'
+    return f'self.{"find" if call.asks else "make"}(&{made}' + (' {' if call.arguments else ')')
 
 
 def files(groups, has_method):
     """The text of each file of wrong bodies, by its path."""
-    of_all = [calls for _, calls in groups.values()]
-    of_methods = [[it for it in calls if has_method(it)] for calls in of_all]
-    for crate, of_groups, begun in (('constructors', of_all, constructed), ('methods', of_methods, asked_for)):
-        path, bodies = f'crates/{crate}/wrong/lib.written.edits', []
-        for calls in of_groups:
-            for call in calls:
-                name, first, made = wrong_body(call, calls)
-                bodies.append(WrongBody(path, f'{call.name}_{name}', False, [(begun(call), first + begun(made))]))
-        yield path, text_of(bodies)
+    path, bodies = 'crates/methods/wrong/written_methods.written.edits', []
+    for _, calls in groups.values():
+        calls = [it for it in calls if has_method(it)]
+        for call in calls:
+            name, first, made = wrong_body(call, calls)
+            bodies.append(WrongBody(path, f'{call.name}_{name}', False, [(asked_for(call), first + asked_for(made))]))
+    yield path, text_of(bodies)

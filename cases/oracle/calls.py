@@ -1,44 +1,28 @@
-"""The words of a script: of each call the forms of its arguments, and what it does to the world and answers."""
+"""The words of a script: of each call the forms of its arguments, by calls.table, and what it does to the world."""
+import pathlib
+import re
+
 from . import copying, making, refreshing, stacking, writing
 
-FORMS = {
-    making: {
-        'newwin': 'number number number number', 'subwin': 'number number number number number',
-        'derwin': 'number number number number number', 'newpad': 'number number', 'subpad': 'number number number number number',
-        'delwin': 'number', 'mvwin': 'number number number', 'mvderwin': 'number number number',
-        'getyx': 'number', 'getbegyx': 'number', 'getmaxyx': 'number', 'getparyx': 'number', 'inch': 'number',
-        'is_linetouched': 'number number', 'is_wintouched': 'number',
-    },
-    writing: {
-        'move': 'number number number', 'addch': 'number character', 'addstr': 'number text', 'insch': 'number character',
-        'delch': 'number', 'insertln': 'number', 'deleteln': 'number', 'erase': 'number', 'clear': 'number', 'clrtoeol': 'number',
-        'clrtobot': 'number', 'scrl': 'number signed', 'setscrreg': 'number number number', 'scrollok': 'number flag',
-        'clearok': 'number flag', 'attrset': 'number attributes', 'attron': 'number attributes', 'attroff': 'number attributes',
-        'bkgdset': 'number attributes character', 'color_set': 'number number', 'bkgdpair': 'number number',
-    },
-    copying: {
-        'overlay': 'number number', 'overwrite': 'number number',
-        'copywin': 'number number number number number number number number flag', 'touchwin': 'number', 'untouchwin': 'number',
-        'touchline': 'number number number', 'touchln': 'number number number flag', 'syncup': 'number', 'syncdown': 'number',
-    },
-    stacking: {
-        'new_panel': 'number', 'del_panel': 'number', 'show_panel': 'number', 'hide_panel': 'number', 'top_panel': 'number',
-        'bottom_panel': 'number', 'move_panel': 'number number number', 'replace_panel': 'number number',
-        'panel_above': 'number_or_none', 'panel_below': 'number_or_none', 'panel_window': 'number', 'panel_hidden': 'number',
-    },
-    refreshing: {
-        'noutrefresh': 'number', 'pnoutrefresh': 'number number number number number number number', 'update_panels': '',
-        'doupdate': '', 'init_pair': 'number number number',
-    },
-}
+FORMS = {'window': 'number', 'panel': 'number', 'colour': 'number', 'panel_or_none': 'number_or_none'}
 
 
-def named(group, word):
+def named(word):
     """addch writes a text of one character."""
-    return getattr(group, 'addstr' if word == 'addch' else word)
+    word = 'addstr' if word == 'addch' else word
+    return next(getattr(group, word) for group in (making, writing, copying, stacking, refreshing) if hasattr(group, word))
 
 
-CALLS = {word: (forms.split(), named(group, word)) for group, words in FORMS.items() for word, forms in words.items()}
+def calls():
+    """Of each word the forms of its arguments and its function."""
+    table = pathlib.Path(__file__).resolve().parents[2] / 'calls.table'
+    head = r'(?m)^(\w+)(?: \((\w+)[^)]*\))?((?: \w+:\w+)*) (?:->|asks) \w+$'
+    for name, other, arguments in re.findall(head, table.read_text()):
+        word = other or name
+        yield word, ([FORMS.get(kind, kind) for kind in re.findall(r':(\w+)', arguments)], named(word))
+
+
+CALLS = dict(calls())
 
 
 def make(world, call, arguments):

@@ -1,7 +1,7 @@
 //! Lists of calls that are all made over writers that fail.
 
 use crate::screens::{SHOW, UPDATE, addstr, is_shown, run_all, screen_over, stream};
-use desk::{Call, Refusal, RunAllEnd, WinId, WriteFault};
+use desk::{Call, Refusal, RunAllEnd, WinId, WriteFault, Writing};
 use faulty::Halting;
 use std::alloc::Global;
 use std::test::Fail;
@@ -36,7 +36,7 @@ fn a_writer_that_fails_at_any_byte_is_shown_all(rt: HostRuntime) -> Result<(), F
         addstr(b"hi"),
         UPDATE,
         SHOW,
-        constructors::werase(win),
+        Call::Writing(Writing::Erase { win }),
         addstr(b"!"),
         UPDATE,
         SHOW,

@@ -3,7 +3,8 @@
 use crate::screens::{HI, SHOW, Tried, UPDATE, addstr, call, is_shown, run, screen, stream};
 use cell::Attr;
 use desk::{
-    Call, Calls, Counted, Fault, PanelId, Refusal, RunEnd, Screen, VirtualScreen, WinId, WriteFault,
+    Call, Calls, Counted, Fault, PanelId, Refusal, RunEnd, Screen, VirtualScreen, WinId,
+    WriteFault, Writing,
 };
 use faulty::Halting;
 use methods::Methods;
@@ -25,7 +26,7 @@ fn run_twice(
 /// Runs of calls of which one is refused, and of two that find nothing changed.
 fn run_and_again(alloc: Global) -> Result<([RunEnd; 2], Vec<u8>), Refusal> {
     let win = WinId(9);
-    let nowhere = constructors::werase(win);
+    let nowhere = Call::Writing(Writing::Erase { win });
     let calls = [UPDATE, addstr(b"hi"), nowhere, UPDATE, SHOW];
     run_twice(alloc, usize::MAX, &calls, &[UPDATE, SHOW])
 }
@@ -111,7 +112,7 @@ fn a_later_update_that_fails_is_shown_all_again(rt: HostRuntime) -> Result<(), F
 /// Whether a clear screen is wanted once it is asked for, after a `doupdate` that fails, and after one that doesn't.
 fn clear_wanted(screen: &mut Tried) -> [bool; 3] {
     let win = WinId::STANDARD;
-    run(screen, &[constructors::wclear(win), UPDATE]);
+    run(screen, &[Call::Writing(Writing::Clear { win }), UPDATE]);
     let asked = screen.desk().clear_wanted();
     let failed = call(screen, &SHOW).is_err() && screen.desk().clear_wanted();
     let shown = call(screen, &SHOW).is_err() || screen.desk().clear_wanted();
@@ -189,8 +190,8 @@ fn another_writer_is_shown_all_again(rt: HostRuntime) -> Result<(), Fail> {
 fn fill(screen: &mut Tried) {
     let win = WinId::STANDARD;
     let (attrs, ch) = (Attr::NONE, b'x');
-    let background = constructors::wbkgdset(win, attrs, ch);
-    let erase = constructors::werase(win);
+    let background = Call::Writing(Writing::Bkgdset { win, attrs, ch });
+    let erase = Call::Writing(Writing::Erase { win });
     run(screen, &[background, erase, UPDATE, SHOW]);
 }
 

@@ -4,7 +4,7 @@
 
 use cell::Rendition;
 use desk::{
-    Call, Calls, Counted, Fault, Refresh, Refusal, Reply, RunAllEnd, RunEnd, Screen, WinId,
+    Call, Calls, Counted, Fault, Refresh, Refusal, Reply, RunAllEnd, RunEnd, Screen, WinId, Writing,
 };
 use ecma::Terminal;
 use faulty::Halting;
@@ -53,7 +53,7 @@ pub(crate) const HI: &[u8] = b"\x1b[0m\x1b[2J\x1b[1;1Hhi";
 /// Writes a text on the standard screen.
 pub(crate) fn addstr(text: &[u8]) -> Call<'_> {
     let win = WinId::STANDARD;
-    constructors::waddstr(win, text)
+    Call::Writing(Writing::Addstr { win, text })
 }
 
 /// Whether a terminal that reads a stream shows a text in its corner, nothing else, and the cursor after it.

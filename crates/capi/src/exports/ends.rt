@@ -9,6 +9,7 @@ use crate::handle::Handle;
 use crate::surface::Outlet;
 use desk::{Sink, WinId};
 use std::alloc::Global;
+use world::{Call, Writing};
 
 /// Moves the cursor to a line and a column.
 #[unsafe(no_mangle)]
@@ -21,7 +22,14 @@ pub extern "C" fn curspan_wmove_end(
 ) -> i32
     ensures { Ended ⟦<Outlet as Sink>⟧ screen.old.value (Call.Writing (Writing.Move (record { 0 = win }) y x)) result screen.new.value }
 {
-    screen.end(alloc, &constructors::wmove(WinId(win), y, x))
+    screen.end(
+        alloc,
+        &Call::Writing(Writing::Move {
+            win: WinId(win),
+            y,
+            x,
+        }),
+    )
 }
 
 /// Writes a character at the cursor.
@@ -29,5 +37,11 @@ pub extern "C" fn curspan_wmove_end(
 pub extern "C" fn curspan_waddch_end(alloc: Global, win: u16, ch: u8, screen: &mut Handle) -> i32
     ensures { Ended ⟦<Outlet as Sink>⟧ screen.old.value (Call.Writing (Writing.Addch (record { 0 = win }) ch)) result screen.new.value }
 {
-    screen.end(alloc, &constructors::waddch(WinId(win), ch))
+    screen.end(
+        alloc,
+        &Call::Writing(Writing::Addch {
+            win: WinId(win),
+            ch,
+        }),
+    )
 }
