@@ -16,7 +16,7 @@ use Rattle.script.specs.declared.fault.TextFault.TheVariants.{LineTooLong}
 use Rattle.script.specs.declared.limits.TheConstants.{LONGEST_LINE}
 use Rattle.world.specs.declared.call.Call.{Call}
 use Rattle.commands.specs.Shows.{ReadsStream}
-use Rattle.commands.specs.Written.{IsNotWritten, IsWritten, Outputs, TriesToLog}
+use Rattle.commands.specs.Written.{Complains, IsNotWritten, IsWritten, Outputs, TriesToLog}
 
 -- ---- the findings
 
@@ -74,11 +74,11 @@ abbrev pub Judges : Bool → List (List ℕ) → Seen → Seen → ℕ → Type 
 Judges true lines log after status = (status ≡ (if length lines == 0 then 0 else 2)) × (after ≡ log)
 Judges false lines log after status = (status ≡ 3) × TriesToLog log after (last_line Reading)
 
--- The output took the report; or that failed, and the log gets a line.
+-- The output took the report; or that failed, and the log gets a line, unless nobody reads the output.
 abbrev pub Reports : Bool → List (List ℕ) → Outputs → Outputs → ℕ → Type 0
 Reports is_whole lines old new status =
     (IsWritten old.output new.output (report lines) × Judges is_whole lines old.log new.log status)
-    ⊎ ((status ≡ 3) × IsNotWritten old.output new.output (report lines) × TriesToLog old.log new.log (last_line Log))
+    ⊎ ((status ≡ 3) × IsNotWritten old.output new.output (report lines) × Complains new.closed old.log new.log (last_line Log))
 
 -- The script was read, and its findings are reported.
 pub record Checks (input rest : SourceSeen) (old new : Outputs) (status : ℕ) : Type 0 where

@@ -10,7 +10,7 @@ ghost use Rattle.checks.specs.steps.Checking.{EndsReport, ReportsMore, ReportsRe
 use crate::everywhere::refusal_everywhere;
 use crate::findings::{finding, refused};
 use arrayvec::ArrayVec;
-use commands::{ACCEPTED, BAD_TEXT, log_failure, put, write_out};
+use commands::{ACCEPTED, BAD_TEXT, Closable, complain, log_failure, put, write_out};
 use script::{Arguments, LONGEST_LINE, LineEnd, Lines, ScriptFault, TextFault, Word, read_line};
 use streams::{Sink, Source, append, append_decimal};
 
@@ -166,14 +166,14 @@ fn end_report<O: Sink>(out: &mut O, report: Report) -> bool
 /// wrong, and after them how many they are, and answers the status. It isn't inlined, so that what runs a script has no
 /// room for findings on the stack.
 #[inline(never)]
-pub fn check_script<R: Source, O: Sink, L: Sink>(input: &mut R, out: &mut O, log: &mut L) -> u8
-    ensures checked { Checks (R.seen input.old) (R.seen input.new) (outputs (O.seen out.old) (L.seen log.old))
-        (outputs (O.seen out.new) (L.seen log.new)) result }
+pub fn check_script<R: Source, O: Closable, L: Sink>(input: &mut R, out: &mut O, log: &mut L) -> u8
+    ensures checked { Checks (R.seen input.old) (R.seen input.new) (outputs (O.seen out.old) (O.closed out.old) (L.seen log.old))
+        (outputs (O.seen out.new) (O.closed out.new) (L.seen log.new)) result }
     ensures log { result < 2 → (L.seen log.new).failures ≡ (L.seen log.old).failures }
 {
     let checked = report_lines(input, out);
     if !end_report(out, checked.1) {
-        return log_failure(log, ScriptFault::Log);
+        return complain(out, log);
     }
     if !checked.0 {
         return log_failure(log, ScriptFault::Reading);

@@ -1,3 +1,4 @@
+pub mod Closing
 pub mod CommandLine
 pub mod Printing
 pub mod Written

@@ -7,13 +7,13 @@ use Rattle.script.specs.declared.fault.ScriptFault.TheVariants.{Log}
 use Rattle.commands.specs.Escapes.{escaped_text}
 use Rattle.commands.specs.Statuses.{LacksMemory}
 use Rattle.commands.specs.declared.status.Need.TheVariants.{CommandLine, Help, Usage}
-use Rattle.commands.specs.Written.{IsNotWritten, IsWritten, Outputs, TriesToLog}
+use Rattle.commands.specs.Written.{Complains, IsNotWritten, IsWritten, Outputs, TriesToLog}
 
--- A text was shown: it went to the output; or writing it failed, and the log gets a line.
+-- A text was shown: it went to the output; or writing it failed, and the log gets a line, unless nobody reads the output.
 abbrev pub ShowsText : List ℕ → Outputs → Outputs → ℕ → Type 0
 ShowsText text old new status =
     ((status ≡ 0) × IsWritten old.output new.output text × (new.log ≡ old.log))
-    ⊎ ((status ≡ 3) × IsNotWritten old.output new.output text × TriesToLog old.log new.log (last_line Log))
+    ⊎ ((status ≡ 3) × IsNotWritten old.output new.output text × Complains new.closed old.log new.log (last_line Log))
 
 -- Help was shown, a text of clap's.
 abbrev pub ShowsHelp : Outputs → Outputs → ℕ → Type 0

@@ -11,7 +11,7 @@ use Rattle.script.specs.Characters.{newline}
 use Rattle.script.specs.Log.{last_line}
 use Rattle.script.specs.declared.fault.ScriptFault.TheVariants.{Reading, Log}
 use Rattle.commands.specs.Printing.{printed_picture}
-use Rattle.commands.specs.Written.{IsNotWritten, IsWritten, Outputs, TriesToLog}
+use Rattle.commands.specs.Written.{Complains, IsNotWritten, IsWritten, Outputs, TriesToLog}
 use Rattle.commands.specs.declared.requests.Job.{Job}
 
 -- ---- reading
@@ -45,12 +45,12 @@ Judges stream first last log log_after status =
     × (((status ≡ 1) × IsWritten log log_after (offset_line at)) ⊎ ((status ≡ 3) × IsNotWritten log log_after (offset_line at))))
 
 -- Of a stream that isn't whole nothing is printed, and the log gets a line. Else the picture of the last terminal is
--- printed; or writing it failed, and the log gets a line.
+-- printed; or writing it failed, and the log gets a line, unless nobody reads the output.
 abbrev pub ShowsStream : Bool → List ℕ → Terminal → Terminal → Outputs → Outputs → ℕ → Type 0
 ShowsStream false stream first last old new status = (status ≡ 3) × (new.output ≡ old.output) × TriesToLog old.log new.log (last_line Reading)
 ShowsStream true stream first last old new status =
     (IsWritten old.output new.output (terminal_text last) × Judges stream first last old.log new.log status)
-    ⊎ ((status ≡ 3) × IsNotWritten old.output new.output (terminal_text last) × TriesToLog old.log new.log (last_line Log))
+    ⊎ ((status ≡ 3) × IsNotWritten old.output new.output (terminal_text last) × Complains new.closed old.log new.log (last_line Log))
 
 -- The stream that was read is shown from a blank terminal of the job's size on.
 pub record Shows (job : Job) (input rest : SourceSeen) (old new : Outputs) (status : ℕ) : Type 0 where

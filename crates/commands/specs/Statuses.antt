@@ -1,11 +1,13 @@
 -- The exit statuses of the program, and that there is no memory.
-use Rattle.std.specs.Prelude.{◌≡◌, ◌∷◌, ◌++◌, [], ℕ, List, codes, if◌then◌else◌}
+use Rattle.std.specs.Prelude.{◌≡◌, ◌∷◌, ◌++◌, [], ℕ, Bool, List, codes, if◌then◌else◌}
 use Rattle.std.specs.Option.{option_map_or}
+use Rattle.streams.specs.Sinks.{Seen}
 use Rattle.script.specs.Characters.{newline}
+use Rattle.script.specs.Log.{last_line}
 use Rattle.script.specs.declared.fault.ScriptEnd.{ScriptEnd}
 use Rattle.script.specs.declared.fault.ScriptFault.{ScriptFault}
 use Rattle.script.specs.declared.fault.ScriptFault.TheVariants.{Text, Reading, Write, Log}
-use Rattle.commands.specs.Written.{Outputs, TriesToLog}
+use Rattle.commands.specs.Written.{Complains, Outputs, TriesToLog}
 use Rattle.commands.specs.declared.status.Need.{Need}
 use Rattle.commands.specs.declared.status.Need.TheVariants.{CommandLine, Help, Usage, Streams, Screen}
 
@@ -19,6 +21,11 @@ status_of_fault Log = 3
 -- 1 where some call was refused, 0 where each was accepted
 abbrev pub status_of : ScriptEnd → ℕ
 status_of end = option_map_or status_of_fault end.fault (if end.refused then 1 else 0)
+
+-- The log gets a line about a fault that ended a script, but none of a failed write where nobody reads the output.
+abbrev pub SaysFault : Bool → ScriptFault → Seen → Seen → Type 0
+SaysFault closed (Write line fault) log log_after = Complains closed log log_after (last_line (Write line fault))
+SaysFault closed fault log log_after = TriesToLog log log_after (last_line fault)
 
 -- ---- lack of memory
 

@@ -42,12 +42,18 @@ WritingEnds false old new text = IsNotWritten old new text
 abbrev pub TriesToLog : Seen → Seen → List ℕ → Type 0
 TriesToLog log log_after line = IsWritten log log_after line ⊎ IsNotWritten log log_after line
 
+-- The same of a line about the output, but where nobody reads that nothing is done: who closed it wants no complaint.
+abbrev pub Complains : Bool → Seen → Seen → List ℕ → Type 0
+Complains true log log_after line = log_after ≡ log
+Complains false log log_after line = TriesToLog log log_after line
+
 -- ---- the output and the log
 
--- what has been seen of the output and of the log
+-- what has been seen of the output and of the log, and whether nobody reads the output
 pub record Outputs : Type 0 where
   pub output : Seen
+  pub closed : Bool
   pub log : Seen
 
-abbrev pub outputs : Seen → Seen → Outputs
-outputs output log = record { output = output; log = log }
+abbrev pub outputs : Seen → Bool → Seen → Outputs
+outputs output closed log = record { output = output; closed = closed; log = log }

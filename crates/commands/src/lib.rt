@@ -2,6 +2,7 @@
 //! picture. What `check` does is in `checks`.
 //! This is a library of its own, so that it is proved beside those that a screen wants.
 //!
+//! - `closing`: outputs of which it is known whether somebody reads them
 //! - `command`: the command line
 //! - `escapes`: a usage fault's text
 //! - `laws`: the numerals in the help are the limits
@@ -17,6 +18,7 @@
 
 #![tactic(auto)]
 
+mod closing;
 mod command;
 mod escapes;
 mod laws;
@@ -30,6 +32,7 @@ mod status;
 mod subcommands;
 mod writing;
 
+pub use closing::{Closable, Output};
 pub use command::job;
 pub use laws::limits_in_help;
 pub use opening::{OpenFault, log_unopened};
@@ -37,5 +40,7 @@ pub use printing::print;
 pub use refused_words::usage;
 pub use requests::{Invocation, Job, Kind, Request, Variables};
 pub use show::show_stream;
-pub use status::{ACCEPTED, BAD_TEXT, Need, log_failure, log_fault, no_memory, status_of};
+pub use status::{
+    ACCEPTED, BAD_TEXT, Need, complain, log_failure, log_fault, no_memory, status_of,
+};
 pub use writing::{put, write_log, write_out};

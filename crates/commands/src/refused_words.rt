@@ -5,31 +5,31 @@ ghost use Rattle.clap.specs.Words.{kind_of};
 ghost use Rattle.commands.specs.RefusedWords.{Explains, ShowsText};
 ghost use Rattle.commands.specs.Written.{outputs};
 
+use crate::closing::Closable;
 use crate::escapes::log_escaped;
-use crate::status::{ACCEPTED, BAD_TEXT, Need, log_failure, no_memory};
+use crate::status::{ACCEPTED, BAD_TEXT, Need, complain, no_memory};
 use crate::writing::write_out;
 use clap::Error;
 use clap::error::ErrorKind;
-use script::ScriptFault;
 use std::alloc::Global;
 use std::convert::AsStr;
 use streams::Sink;
 
 /// Prints a text on the output, and answers the status.
-fn show_text<O: Sink, L: Sink>(text: &[u8], out: &mut O, log: &mut L) -> u8
-    ensures shown { ShowsText text.now (outputs (O.seen out.old) (L.seen log.old)) (outputs (O.seen out.new) (L.seen log.new)) result }
+fn show_text<O: Closable, L: Sink>(text: &[u8], out: &mut O, log: &mut L) -> u8
+    ensures shown { ShowsText text.now (outputs (O.seen out.old) (O.closed out.old) (L.seen log.old)) (outputs (O.seen out.new) (O.closed out.new) (L.seen log.new)) result }
     ensures log { result < 2 → log.new ≡ log.old }
 {
     if write_out(out, text) {
         ACCEPTED
     } else {
-        log_failure(log, ScriptFault::Log)
+        complain(out, log)
     }
 }
 
 /// Prints help on the output, or a usage fault, escaped, on the log, and answers the status.
-pub fn usage<O: Sink, L: Sink>(alloc: Global, error: &Error, out: &mut O, log: &mut L) -> u8
-    ensures explained { Explains (kind_of error.now) (outputs (O.seen out.old) (L.seen log.old)) (outputs (O.seen out.new) (L.seen log.new)) result }
+pub fn usage<O: Closable, L: Sink>(alloc: Global, error: &Error, out: &mut O, log: &mut L) -> u8
+    ensures explained { Explains (kind_of error.now) (outputs (O.seen out.old) (O.closed out.old) (L.seen log.old)) (outputs (O.seen out.new) (O.closed out.new) (L.seen log.new)) result }
     ensures log { result < 2 → log.new ≡ log.old }
 {
     if error.kind() == ErrorKind::OutOfMemory {

@@ -10,9 +10,10 @@ ghost use Rattle.commands.specs.declared.status.Need.{Need};
 ghost use Rattle.commands.specs.steps.Feeding.{Feeds, LogsFault};
 ghost use Rattle.commands.specs.Written.{WritingEnds, outputs};
 
+use crate::closing::Closable;
 use crate::printing::print;
 use crate::requests::Job;
-use crate::status::{ACCEPTED, FAILED, Need, REFUSED, log_failure, no_memory};
+use crate::status::{ACCEPTED, FAILED, Need, REFUSED, complain, log_failure, no_memory};
 use crate::writing::write_out;
 use arrayvec::ArrayVec;
 use ecma::{NotInProfile, Terminal};
@@ -85,14 +86,14 @@ fn judge<L: Sink>(log: &mut L, fault: Option<NotInProfile>) -> u8
 }
 
 /// Reads a stream to its end into a terminal, prints the picture that it leaves, and gives the status.
-fn show_on<R: Source, O: Sink, L: Sink>(
+fn show_on<R: Source, O: Closable, L: Sink>(
     terminal: &mut Terminal,
     input: &mut R,
     out: &mut O,
     log: &mut L,
 ) -> u8
     ensures shown { (job : Job) → HasRead [] (blank_terminal job.lines job.cols) terminal.old
-        → Shows job (R.seen input.old) (R.seen input.new) (outputs (O.seen out.old) (L.seen log.old)) (outputs (O.seen out.new) (L.seen log.new)) result }
+        → Shows job (R.seen input.old) (R.seen input.new) (outputs (O.seen out.old) (O.closed out.old) (L.seen log.old)) (outputs (O.seen out.new) (O.closed out.new) (L.seen log.new)) result }
     ensures log { result < 2 → (L.seen log.new).failures ≡ (L.seen log.old).failures }
 {
     if !read_stream(input, terminal) {
@@ -101,12 +102,12 @@ fn show_on<R: Source, O: Sink, L: Sink>(
     if print_terminal(out, terminal) {
         judge(log, terminal.fault())
     } else {
-        log_failure(log, ScriptFault::Log)
+        complain(out, log)
     }
 }
 
 /// Shows the stream that is read on a terminal of the job's size, and gives the status.
-pub fn show_stream<R: Source, O: Sink, L: Sink>(
+pub fn show_stream<R: Source, O: Closable, L: Sink>(
     alloc: Global,
     job: Job,
     input: &mut R,
@@ -114,9 +115,9 @@ pub fn show_stream<R: Source, O: Sink, L: Sink>(
     log: &mut L,
 ) -> u8
     requires { IsSize job.lines × IsSize job.cols }
-    ensures shown { (LacksMemory Need.Screen (outputs (O.seen out.old) (L.seen log.old)) (outputs (O.seen out.new) (L.seen log.new)) result ×
+    ensures shown { (LacksMemory Need.Screen (outputs (O.seen out.old) (O.closed out.old) (L.seen log.old)) (outputs (O.seen out.new) (O.closed out.new) (L.seen log.new)) result ×
         (R.seen input.new ≡ R.seen input.old))
-        ⊎ Shows job (R.seen input.old) (R.seen input.new) (outputs (O.seen out.old) (L.seen log.old)) (outputs (O.seen out.new) (L.seen log.new)) result }
+        ⊎ Shows job (R.seen input.old) (R.seen input.new) (outputs (O.seen out.old) (O.closed out.old) (L.seen log.old)) (outputs (O.seen out.new) (O.closed out.new) (L.seen log.new)) result }
     ensures log { result < 2 → (L.seen log.new).failures ≡ (L.seen log.old).failures }
 {
     match Terminal::new(alloc, job.lines, job.cols) {

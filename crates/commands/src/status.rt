@@ -1,10 +1,11 @@
 //! The exit statuses, and what is written to the log with them.
 
 ghost use Rattle.std.specs.Prelude.{◌≡◌, ◌<◌, MatchOption, None};
-ghost use Rattle.commands.specs.Statuses.{no_memory_line, status_of};
-ghost use Rattle.commands.specs.Written.{TriesToLog};
+ghost use Rattle.commands.specs.Statuses.{SaysFault, no_memory_line, status_of};
+ghost use Rattle.commands.specs.Written.{Complains, TriesToLog};
 ghost use Rattle.script.specs.Log.{last_line};
 
+use crate::closing::Closable;
 use crate::writing::write_log;
 use script::{ScriptEnd, ScriptFault, last_line};
 use streams::Sink;
@@ -66,12 +67,27 @@ pub fn log_failure<L: Sink>(log: &mut L, fault: ScriptFault) -> u8
     FAILED
 }
 
-/// Writes to the log the line of the fault that ended a script, if there is one.
-pub fn log_fault<L: Sink>(log: &mut L, fault: Option<ScriptFault>)
-    ensures { MatchOption fault (log.new ≡ log.old) (λ fault. TriesToLog (L.seen log.old) (L.seen log.new) (last_line fault)) }
+/// Writes to the log that writing the output failed, unless nobody reads it, and answers the status for that. Who closed
+/// the output wants no complaint of it.
+pub fn complain<O: Closable, L: Sink>(out: &O, log: &mut L) -> u8
+    ensures status { result ≡ 3 }
+    ensures logs { Complains (O.closed out.now) (L.seen log.old) (L.seen log.new) (last_line ScriptFault.Log) }
 {
-    if let Some(fault) = fault {
-        write_log(log, last_line(fault).as_slice());
+    if out.is_closed() {
+        return FAILED;
+    }
+    log_failure(log, ScriptFault::Log)
+}
+
+/// Writes to the log the line of the fault that ended a script, if there is one; but none of a failed write where nobody
+/// reads the output.
+pub fn log_fault<O: Closable, L: Sink>(out: &O, log: &mut L, fault: Option<ScriptFault>)
+    ensures { MatchOption fault (log.new ≡ log.old) (λ fault. SaysFault (O.closed out.now) fault (L.seen log.old) (L.seen log.new)) }
+{
+    match fault {
+        Some(ScriptFault::Write { .. }) if out.is_closed() => {}
+        Some(fault) => write_log(log, last_line(fault).as_slice()),
+        None => {}
     }
 }
 

@@ -1,6 +1,8 @@
 //! The definition of the command line, for `clap`.
 
-ghost use Rattle.std.specs.Prelude.{◌≡◌, IfOk, false};
+ghost use Rattle.std.specs.Prelude.{◌≡◌, IfOk, Some, codes, false};
+ghost use Rattle.std.specs.Option.{option_map};
+ghost use Rattle.commands.specs.declared.subcommands.TheConstants.{EXAMPLE, VERSION};
 ghost use Rattle.clap.specs.Words.{app_of, new_app, rule_of, with_rule};
 ghost use Rattle.clap.specs.declared.builder.command.Command.TheViews.{out-Command};
 ghost use Rattle.commands.specs.CommandLine.{bare, check_mode, curspan, file_rule, log_rule, mode, on_screen, quiet_rule, size_rule, with_files};
@@ -33,6 +35,7 @@ pub const COLS_HELP: &str = "Columns of the screen, 1 to 999 [env: COLUMNS]";
 /// An option for a number of lines or columns of a screen.
 fn size<'a>(alloc: Global, name: &'a str, help: &'a str) -> Arg<'a>
     ensures rule { rule_of result ≡ size_rule name.entry.now }
+    ensures help { result.help ≡ Some help.entry }
     ensures local { result.global ≡ false }
 {
     Arg::new(alloc, name)
@@ -46,6 +49,7 @@ fn size<'a>(alloc: Global, name: &'a str, help: &'a str) -> Arg<'a>
 /// The name of the file that is read.
 fn file<'a>(alloc: Global) -> Arg<'a>
     ensures rule { rule_of result ≡ file_rule }
+    ensures help { option_map (λ s. s.now) result.help ≡ Some (codes "File to read in place of standard input, which - is too") }
     ensures local { result.global ≡ false }
 {
     Arg::new(alloc, "file")
@@ -57,6 +61,7 @@ fn file<'a>(alloc: Global) -> Arg<'a>
 /// An option for the name of the file that gets the log.
 fn log<'a>(alloc: Global) -> Arg<'a>
     ensures rule { rule_of result ≡ log_rule }
+    ensures help { option_map (λ s. s.now) result.help ≡ Some (codes "File that gets the log, made anew, in place of standard error") }
     ensures local { result.global ≡ false }
 {
     Arg::new(alloc, "log")
@@ -69,6 +74,7 @@ fn log<'a>(alloc: Global) -> Arg<'a>
 /// A flag by which answers aren't logged.
 fn quiet<'a>(alloc: Global) -> Arg<'a>
     ensures rule { rule_of result ≡ quiet_rule }
+    ensures help { option_map (λ s. s.now) result.help ≡ Some (codes "Log faults alone, and not what calls answer") }
     ensures local { result.global ≡ false }
 {
     Arg::new(alloc, "quiet")
@@ -98,6 +104,7 @@ fn with_files<'a>(alloc: Global, command: Command<'a>) -> Result<Command<'a>, Al
 /// A subcommand without its arguments.
 fn plain<'a>(alloc: Global, name: &'a str, about: &'a str) -> Command<'a>
     ensures app { app_of result ≡ new_app name.entry.now }
+    ensures about { (out-Command result).about ≡ Some about.entry }
     ensures local { (out-Command result).has_globals ≡ false }
 {
     Command::new(alloc, name).about(about)
@@ -154,6 +161,9 @@ fn checking<'a>(alloc: Global) -> Result<Command<'a>, AllocError>
 /// The program without its subcommands.
 fn program<'a>(alloc: Global) -> Command<'a>
     ensures app { app_of result ≡ bare }
+    ensures about { option_map (λ s. s.now) (out-Command result).about ≡ Some (codes "Run scripts of curses window calls") }
+    ensures version { option_map (λ s. s.now) (out-Command result).version ≡ Some VERSION.now }
+    ensures example { option_map (λ s. s.now) (out-Command result).after_help ≡ Some EXAMPLE.now }
     ensures local { (out-Command result).has_globals ≡ false }
 {
     Command::new(alloc, "curspan")

@@ -1,2 +1,3 @@
+pub mod Files
 pub mod Serving
 pub mod steps

@@ -1,8 +1,10 @@
 //! The script and the log of the program: standard streams, or files of the system.
 
-ghost use Rattle.std.specs.Prelude.{◌≡◌, IfOk, false};
+ghost use Rattle.std.specs.Prelude.{◌≡◌, ◌-◌, ◌^◌, IfOk, None};
 ghost use Rattle.std.specs.IoError.{error_kind};
+ghost use Rattle.curspan.specs.Files.{IsUnread};
 ghost use Rattle.curspan.specs.steps.Opening.{fault_of_kind};
+ghost use Rattle.curspan.specs.steps.Places.{at_place};
 
 use crate::opening::{FileSink, FileSource};
 use commands::OpenFault;
@@ -18,8 +20,8 @@ const READ_AT_ONCE: usize = 4096;
 /// A file that was named. Beside it folders are open: where a standard stream is closed, one of them has its number,
 /// and not the file, so that reads and writes of that stream still fail.
 #[derive(Drop)]
-struct Named {
-    file: File,
+struct Named<F> {
+    file: F,
     folders: [Option<File>; 3],
 }
 
@@ -35,12 +37,14 @@ fn folders(rt: &HostRuntime) -> [Option<File>; 3] {
 
 /// A standard stream, or the file that took its place.
 #[derive(Drop)]
-enum Place<S> {
+enum Place<S, F> {
     Standard(S),
-    File(Named),
+    File(Named<F>),
 }
 
-impl<S: Read> Read for Place<S> {
+impl<S: Read, F: Read> Read for Place<S, F> {
+    ghost remaining = { at_place S.remaining F.remaining };
+
     fn read(&mut self, buffer: &mut [u8]) -> io::Result<usize> {
         match self {
             Place::Standard(stream) => stream.read(buffer),
@@ -49,7 +53,9 @@ impl<S: Read> Read for Place<S> {
     }
 }
 
-impl<S: Write> Write for Place<S> {
+impl<S: Write, F: Write> Write for Place<S, F> {
+    ghost contents = { at_place S.contents F.contents };
+
     fn write(&mut self, piece: &[u8]) -> io::Result<usize> {
         match self {
             Place::Standard(stream) => stream.write(piece),
@@ -91,13 +97,13 @@ fn open_to_read(rt: &HostRuntime, name: &str) -> io::Result<File> {
 #[derive(Drop)]
 pub struct Script<'a, S> {
     rt: &'a HostRuntime,
-    reader: CountedReader<BufReader<Patient<Place<S>>>>,
+    reader: CountedReader<BufReader<Patient<Place<S, File>>>>,
 }
 
 impl<'a, S: Read + Drop> Script<'a, S> {
     /// A script on a standard stream. An error says that there is no memory for its buffer.
     pub fn new(rt: &'a HostRuntime, stream: S) -> io::Result<Script<'a, S>>
-        ensures { IfOk result (λ script. (⟦<Script<'a, S> as Source>⟧.seen script).met_end ≡ false) }
+        ensures { IfOk result (λ script. IsUnread (⟦<Script<'a, S> as Source>⟧.seen script)) }
     {
         let reader = reader_of(rt, Place::Standard(stream))?;
         Ok(Script { rt, reader })
@@ -107,16 +113,17 @@ impl<'a, S: Read + Drop> Script<'a, S> {
 /// A reader with a buffer.
 fn reader_of<S: Read + Drop>(
     rt: &HostRuntime,
-    place: Place<S>,
-) -> io::Result<CountedReader<BufReader<Patient<Place<S>>>>>
-    ensures { IfOk result (λ reader. (⟦<CountedReader<BufReader<Patient<Place<S>>>> as Source>⟧.seen reader).met_end ≡ false) }
+    place: Place<S, File>,
+) -> io::Result<CountedReader<BufReader<Patient<Place<S, File>>>>>
+    ensures unread { IfOk result (λ reader. IsUnread (⟦<CountedReader<BufReader<Patient<Place<S, File>>>> as Source>⟧.seen reader)) }
+    ensures reads { IfOk result (λ reader. (⟦<CountedReader<BufReader<Patient<Place<S, File>>>> as Source>⟧.seen reader).reads_left ≡ 2 ^ 64 - 1) }
 {
     let place = Patient { stream: place };
     Ok(CountedReader::new(BufReader::with_capacity(rt.alloc(), READ_AT_ONCE, place)?))
 }
 
 impl<S: Read + Drop> Source for Script<'_, S> {
-    ghost seen = { λ s. ⟦<CountedReader<BufReader<Patient<Place<S>>>> as Source>⟧.seen s.reader };
+    ghost seen = { λ s. ⟦<CountedReader<BufReader<Patient<Place<S, File>>>> as Source>⟧.seen s.reader };
 
     fn read(&mut self, buffer: &mut [u8]) -> io::Result<usize> {
         self.reader.read(buffer)
@@ -125,7 +132,10 @@ impl<S: Read + Drop> Source for Script<'_, S> {
 
 impl<S: Read + Drop> FileSource for Script<'_, S> {
     // nothing is known of what a file holds
-    ghost opens = { λ s name seen. Unit {0} };
+    ghost opens = { λ s name seen. seen.reads_left ≡ 2 ^ 64 - 1 };
+
+    // nothing is known of what the system refuses
+    ghost unopened = { λ s name fault. Unit {0} };
 
     fn open(&mut self, name: &str) -> Result<(), OpenFault> {
         let folders = folders(self.rt);
@@ -140,13 +150,14 @@ impl<S: Read + Drop> FileSource for Script<'_, S> {
 #[derive(Drop)]
 pub struct Log<'a, S> {
     rt: &'a HostRuntime,
-    writer: Counted<Patient<Place<S>>>,
+    writer: Counted<Patient<Place<S, File>>>,
 }
 
 impl<'a, S: Write + Drop> Log<'a, S> {
     /// A log on a standard stream.
     pub fn new(rt: &'a HostRuntime, stream: S) -> Log<'a, S>
-        ensures { (⟦<Log<'a, S> as Sink>⟧.seen result).failures ≡ 0 }
+        ensures failures { (⟦<Log<'a, S> as Sink>⟧.seen result).failures ≡ 0 }
+        ensures flushes { (⟦<Log<'a, S> as Sink>⟧.seen result).flushes ≡ 0 }
     {
         Log {
             rt,
@@ -158,7 +169,7 @@ impl<'a, S: Write + Drop> Log<'a, S> {
 }
 
 impl<S: Write + Drop> Sink for Log<'_, S> {
-    ghost seen = { λ s. ⟦<Counted<Patient<Place<S>>> as Sink>⟧.seen s.writer };
+    ghost seen = { λ s. ⟦<Counted<Patient<Place<S, File>>> as Sink>⟧.seen s.writer };
 
     fn write(&mut self, piece: &[u8]) -> io::Result<usize> {
         self.writer.write(piece)
@@ -171,7 +182,10 @@ impl<S: Write + Drop> Sink for Log<'_, S> {
 
 impl<S: Write + Drop> FileSink for Log<'_, S> {
     // nothing is known of what a file holds
-    ghost creates = { λ s name seen. Unit {0} };
+    ghost creates = { λ s name seen. seen.taken ≡ None };
+
+    // nothing is known of what the system refuses
+    ghost uncreated = { λ s name fault. Unit {0} };
 
     fn create(&mut self, name: &str) -> Result<(), OpenFault> {
         let folders = folders(self.rt);

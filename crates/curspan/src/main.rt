@@ -9,17 +9,16 @@ mod files;
 mod opening;
 mod serve;
 
-use commands::{BAD_TEXT, Need, Variables, no_memory, write_log};
+use commands::{BAD_TEXT, Need, Output, Variables, no_memory, write_log};
 use desk::Counted;
 use environment::variable;
 use files::{Log, Script};
 use opening::FileSink;
 use serve::serve;
-use std::cell::Cell;
 use std::io::{BufWriter, ErrorKind};
 use std::process::ExitCode;
 use std::{env, io};
-use streams::{Output, OutputLog, Patient};
+use streams::Patient;
 
 /// How many bytes wait before they are written to standard output. A painter's piece of more goes out as it is.
 const WRITTEN_AT_ONCE: usize = 1024;
@@ -33,13 +32,8 @@ enum Obstacle {
 }
 
 fn main(rt: HostRuntime) -> ExitCode {
-    let is_closed = Cell::new(false);
-    let stderr = OutputLog {
-        writer: rt.stderr(),
-        is_closed: &is_closed,
-    };
-    let mut log = Log::new(&rt, stderr);
-    let status = match run(&rt, &is_closed, &mut log) {
+    let mut log = Log::new(&rt, rt.stderr());
+    let status = match run(&rt, &mut log) {
         Ok(status) => status,
         Err(Obstacle::NoMemory(need)) => no_memory(&mut log, need),
         Err(Obstacle::BadWord) => {
@@ -55,30 +49,27 @@ fn words(rt: &HostRuntime) -> io::Result<Vec<String>> {
     Ok(env::args(rt)?.collect(rt.alloc())?)
 }
 
-/// Does what words ask for, on the standard streams or files, and answers the status. It notes once nobody reads
-/// standard output.
+/// Does what words ask for, on the standard streams or files, and answers the status.
 fn begin<L: FileSink>(
     rt: &HostRuntime,
-    is_closed: &Cell<bool>,
     words: &[String],
     variables: &Variables<'_>,
     log: &mut L,
 ) -> Result<u8, Obstacle> {
     let lacks_streams = |_| Obstacle::NoMemory(Need::Streams);
     let mut input = Script::new(rt, rt.stdin()).map_err(lacks_streams)?;
-    let out = Output {
-        writer: Patient {
-            stream: rt.stdout(),
-        },
-        is_closed,
+    let stdout = Patient {
+        stream: rt.stdout(),
     };
-    let out = BufWriter::with_capacity(rt.alloc(), WRITTEN_AT_ONCE, out).map_err(lacks_streams)?;
-    let mut out = Counted::new(out);
+    let buffered = BufWriter::with_capacity(rt.alloc(), WRITTEN_AT_ONCE, stdout).map_err(
+        lacks_streams,
+    )?;
+    let mut out = Output::new(Counted::new(buffered));
     Ok(serve(rt.alloc(), words, variables, &mut input, &mut out, log))
 }
 
 /// The same of what the command line asks for.
-fn run<L: FileSink>(rt: &HostRuntime, is_closed: &Cell<bool>, log: &mut L) -> Result<u8, Obstacle> {
+fn run<L: FileSink>(rt: &HostRuntime, log: &mut L) -> Result<u8, Obstacle> {
     let words = words(rt).map_err(|error| match error.kind() {
         ErrorKind::OutOfMemory => Obstacle::NoMemory(Need::CommandLine),
         _ => Obstacle::BadWord,
@@ -90,5 +81,5 @@ fn run<L: FileSink>(rt: &HostRuntime, is_closed: &Cell<bool>, log: &mut L) -> Re
         lines: lines.as_ref().map(|text| text.as_str()),
         columns: columns.as_ref().map(|text| text.as_str()),
     };
-    begin(rt, is_closed, words.as_slice(), &variables, log)
+    begin(rt, words.as_slice(), &variables, log)
 }

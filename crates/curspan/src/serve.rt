@@ -22,12 +22,10 @@ use crate::opening::{FileSink, FileSource};
 use cell::Rendition;
 use checks::check_script;
 use commands::{
-    Invocation, Job, Kind, Need, Request, Variables, job, log_failure, log_fault, log_unopened,
-    no_memory, print, show_stream, status_of, usage,
+    Closable, Invocation, Job, Kind, Need, Request, Variables, complain, job, log_fault,
+    log_unopened, no_memory, print, show_stream, status_of, usage,
 };
-use desk::{
-    Call, Calls, Desk, Refusal, Screen, ScriptEnd, ScriptFault, Sink, Source, VirtualScreen,
-};
+use desk::{Call, Calls, Desk, Refusal, Screen, ScriptEnd, Sink, Source, VirtualScreen};
 use std::alloc::Global;
 use std::convert::AsStr;
 use streams::Discard;
@@ -44,45 +42,45 @@ fn blank_screen(alloc: Global, job: Job) -> Result<Screen<Discard>, Refusal>
 }
 
 /// Runs a script on a screen, and writes to the log the fault that ended it.
-fn run_and_log<W: Sink, R: Source, L: Sink>(
+fn run_and_log<W: Closable, R: Source, L: Sink>(
     screen: &mut Screen<W>,
     input: &mut R,
     log: &mut L,
 ) -> ScriptEnd
-    ensures ran { RunsAndLogs W.seen screen.old screen.new (R.seen input.old) (R.seen input.new) (L.seen log.old) (L.seen log.new) result }
+    ensures ran { RunsAndLogs W.seen W.closed screen.old screen.new (R.seen input.old) (R.seen input.new) (L.seen log.old) (L.seen log.new) result }
     ensures log { result.fault ≡ None → (L.seen log.new).failures ≡ (L.seen log.old).failures }
     ensures same { W.name screen.new.writer ≡ W.name screen.old.writer }
 {
     let end = screen.run_script(input, log);
-    log_fault(log, end.fault);
+    log_fault(screen.writer(), log, end.fault);
     end
 }
 
 /// The same, but for what the calls answer: that is thrown away.
-fn run_quietly<W: Sink, R: Source, L: Sink>(
+fn run_quietly<W: Closable, R: Source, L: Sink>(
     screen: &mut Screen<W>,
     input: &mut R,
     log: &mut L,
 ) -> ScriptEnd
-    ensures ran { RunsQuietly W.seen screen.old screen.new (R.seen input.old) (R.seen input.new) (L.seen log.old) (L.seen log.new) result }
+    ensures ran { RunsQuietly W.seen W.closed screen.old screen.new (R.seen input.old) (R.seen input.new) (L.seen log.old) (L.seen log.new) result }
     ensures log { result.fault ≡ None → (L.seen log.new).failures ≡ (L.seen log.old).failures }
     ensures same { W.name screen.new.writer ≡ W.name screen.old.writer }
 {
     let mut answers = Discard::new();
     let end = screen.run_script(input, &mut answers);
-    log_fault(log, end.fault);
+    log_fault(screen.writer(), log, end.fault);
     end
 }
 
 /// Runs a script on a screen, and writes to the log what the calls answer, unless it is to be quiet, and the fault that
 /// ended the script.
-fn run_script<W: Sink, R: Source, L: Sink>(
+fn run_script<W: Closable, R: Source, L: Sink>(
     is_quiet: bool,
     screen: &mut Screen<W>,
     input: &mut R,
     log: &mut L,
 ) -> ScriptEnd
-    ensures ran { RunsBy is_quiet W.seen screen.old screen.new (R.seen input.old) (R.seen input.new) (L.seen log.old) (L.seen log.new) result }
+    ensures ran { RunsBy is_quiet W.seen W.closed screen.old screen.new (R.seen input.old) (R.seen input.new) (L.seen log.old) (L.seen log.new) result }
     ensures log { result.fault ≡ None → (L.seen log.new).failures ≡ (L.seen log.old).failures }
     ensures same { W.name screen.new.writer ≡ W.name screen.old.writer }
 {
@@ -94,7 +92,7 @@ fn run_script<W: Sink, R: Source, L: Sink>(
 }
 
 /// Runs a script on a screen of the job's size over the output, and answers the status.
-fn run<'a, R: Source, O: Sink, L: Sink>(
+fn run<'a, R: Source, O: Closable, L: Sink>(
     alloc: Global,
     is_quiet: bool,
     job: Job,
@@ -103,10 +101,10 @@ fn run<'a, R: Source, O: Sink, L: Sink>(
     log: &mut L,
 ) -> u8
     requires { IsSize job.lines × IsSize job.cols }
-    ensures ran { (LacksMemory Need.Screen (outputs (O.seen out.old) (L.seen log.old)) (outputs (O.seen out.new) (L.seen log.new)) result ×
+    ensures ran { (LacksMemory Need.Screen (outputs (O.seen out.old) (O.closed out.old) (L.seen log.old)) (outputs (O.seen out.new) (O.closed out.new) (L.seen log.new)) result ×
         (R.seen input.new ≡ R.seen input.old))
-        ⊎ Runs ⟦<&'a mut O as Sink>⟧.seen is_quiet job (R.seen input.old) (R.seen input.new) (outputs (O.seen out.old) (L.seen log.old))
-        (outputs (O.seen out.new) (L.seen log.new)) result }
+        ⊎ Runs ⟦<&'a mut O as Sink>⟧.seen ⟦<&'a mut O as Closable>⟧.closed is_quiet job (R.seen input.old) (R.seen input.new) (outputs (O.seen out.old) (O.closed out.old) (L.seen log.old))
+        (outputs (O.seen out.new) (O.closed out.new) (L.seen log.new)) result }
     ensures log { result < 2 → (L.seen log.new).failures ≡ (L.seen log.old).failures }
 {
     let mut screen = match blank_screen(alloc, job) {
@@ -136,15 +134,15 @@ fn print_desk<O: Sink>(out: &mut O, desk: &Desk) -> bool
 }
 
 /// Runs a script on a screen, prints the picture that it leaves, and answers the status.
-fn paint_screen<R: Source, O: Sink, L: Sink>(
+fn paint_screen<R: Source, O: Closable, L: Sink>(
     is_quiet: bool,
     screen: &mut Screen<Discard>,
     input: &mut R,
     out: &mut O,
     log: &mut L,
 ) -> u8
-    ensures painted { PaintsScreen ⟦<Discard as Sink>⟧.seen is_quiet screen.old (R.seen input.old) (R.seen input.new)
-        (outputs (O.seen out.old) (L.seen log.old)) (outputs (O.seen out.new) (L.seen log.new)) result }
+    ensures painted { PaintsScreen ⟦<Discard as Sink>⟧.seen ⟦<Discard as Closable>⟧.closed is_quiet screen.old (R.seen input.old) (R.seen input.new)
+        (outputs (O.seen out.old) (O.closed out.old) (L.seen log.old)) (outputs (O.seen out.new) (O.closed out.new) (L.seen log.new)) result }
     ensures log { result < 2 → (L.seen log.new).failures ≡ (L.seen log.old).failures }
 {
     let end = run_script(is_quiet, screen, input, log);
@@ -155,12 +153,12 @@ fn paint_screen<R: Source, O: Sink, L: Sink>(
     if print_desk(out, screen.desk()) {
         status_of(end)
     } else {
-        log_failure(log, ScriptFault::Log)
+        complain(out, log)
     }
 }
 
 /// Runs a script on a screen of the job's size, prints the picture that it leaves, and answers the status.
-fn paint<R: Source, O: Sink, L: Sink>(
+fn paint<R: Source, O: Closable, L: Sink>(
     alloc: Global,
     is_quiet: bool,
     job: Job,
@@ -169,10 +167,10 @@ fn paint<R: Source, O: Sink, L: Sink>(
     log: &mut L,
 ) -> u8
     requires { IsSize job.lines × IsSize job.cols }
-    ensures painted { (LacksMemory Need.Screen (outputs (O.seen out.old) (L.seen log.old)) (outputs (O.seen out.new) (L.seen log.new)) result ×
+    ensures painted { (LacksMemory Need.Screen (outputs (O.seen out.old) (O.closed out.old) (L.seen log.old)) (outputs (O.seen out.new) (O.closed out.new) (L.seen log.new)) result ×
         (R.seen input.new ≡ R.seen input.old))
-        ⊎ Paints ⟦<Discard as Sink>⟧.seen is_quiet job (R.seen input.old) (R.seen input.new) (outputs (O.seen out.old) (L.seen log.old))
-        (outputs (O.seen out.new) (L.seen log.new)) result }
+        ⊎ Paints ⟦<Discard as Sink>⟧.seen ⟦<Discard as Closable>⟧.closed is_quiet job (R.seen input.old) (R.seen input.new) (outputs (O.seen out.old) (O.closed out.old) (L.seen log.old))
+        (outputs (O.seen out.new) (O.closed out.new) (L.seen log.new)) result }
     ensures log { result < 2 → (L.seen log.new).failures ≡ (L.seen log.old).failures }
 {
     let mut screen = match blank_screen(alloc, job) {
@@ -186,7 +184,7 @@ fn paint<R: Source, O: Sink, L: Sink>(
 }
 
 /// Does what is asked for with a screen, and answers the status.
-fn do_job<'a, R: Source, O: Sink, L: Sink>(
+fn do_job<'a, R: Source, O: Closable, L: Sink>(
     alloc: Global,
     is_quiet: bool,
     job: Job,
@@ -195,8 +193,8 @@ fn do_job<'a, R: Source, O: Sink, L: Sink>(
     log: &mut L,
 ) -> u8
     requires { IsSize job.lines × IsSize job.cols }
-    ensures done { DoesJob ⟦<&'a mut O as Sink>⟧.seen ⟦<Discard as Sink>⟧.seen is_quiet job (R.seen input.old) (R.seen input.new)
-        (outputs (O.seen out.old) (L.seen log.old)) (outputs (O.seen out.new) (L.seen log.new)) result }
+    ensures done { DoesJob ⟦<&'a mut O as Sink>⟧.seen ⟦<&'a mut O as Closable>⟧.closed ⟦<Discard as Sink>⟧.seen ⟦<Discard as Closable>⟧.closed is_quiet job (R.seen input.old) (R.seen input.new)
+        (outputs (O.seen out.old) (O.closed out.old) (L.seen log.old)) (outputs (O.seen out.new) (O.closed out.new) (L.seen log.new)) result }
     ensures log { result < 2 → (L.seen log.new).failures ≡ (L.seen log.old).failures }
 {
     match job.kind {
@@ -207,7 +205,7 @@ fn do_job<'a, R: Source, O: Sink, L: Sink>(
 }
 
 /// Does what is asked for, and answers the status.
-fn perform<'a, R: Source, O: Sink, L: Sink>(
+fn perform<'a, R: Source, O: Closable, L: Sink>(
     alloc: Global,
     is_quiet: bool,
     request: Request,
@@ -216,8 +214,8 @@ fn perform<'a, R: Source, O: Sink, L: Sink>(
     log: &mut L,
 ) -> u8
     requires { HasSize request }
-    ensures done { Does ⟦<&'a mut O as Sink>⟧.seen ⟦<Discard as Sink>⟧.seen is_quiet request (R.seen input.old) (R.seen input.new)
-        (outputs (O.seen out.old) (L.seen log.old)) (outputs (O.seen out.new) (L.seen log.new)) result }
+    ensures done { Does ⟦<&'a mut O as Sink>⟧.seen ⟦<&'a mut O as Closable>⟧.closed ⟦<Discard as Sink>⟧.seen ⟦<Discard as Closable>⟧.closed is_quiet request (R.seen input.old) (R.seen input.new)
+        (outputs (O.seen out.old) (O.closed out.old) (L.seen log.old)) (outputs (O.seen out.new) (O.closed out.new) (L.seen log.new)) result }
     ensures log { result < 2 → (L.seen log.new).failures ≡ (L.seen log.old).failures }
 {
     match request {
@@ -235,7 +233,7 @@ fn open_script<R: FileSource, L: Sink>(
 ) -> Result<(), u8>
     ensures { MatchResult result
         (λ _. (log.new ≡ log.old) × IsOpened (R.opens input.old) (text_of name.entry) (R.seen input.old) (R.seen input.new))
-        (λ status. (R.seen input.new ≡ R.seen input.old) × IsUnopened (text_of name.entry) (L.seen log.old) (L.seen log.new) status) }
+        (λ status. (R.seen input.new ≡ R.seen input.old) × IsUnopened (R.unopened input.old) (text_of name.entry) (L.seen log.old) (L.seen log.new) status) }
 {
     let Some(name) = name else {
         return Ok(());
@@ -251,7 +249,7 @@ fn open_script<R: FileSource, L: Sink>(
 fn open_log<L: FileSink>(name: Option<&str>, log: &mut L) -> Result<(), u8>
     ensures { MatchResult result
         (λ _. IsCreated (L.creates log.old) (text_of name.entry) (L.seen log.old) (L.seen log.new))
-        (λ status. IsUnopened (text_of name.entry) (L.seen log.old) (L.seen log.new) status) }
+        (λ status. IsUnopened (L.uncreated log.old) (text_of name.entry) (L.seen log.old) (L.seen log.new) status) }
 {
     let Some(name) = name else {
         return Ok(());
@@ -263,7 +261,7 @@ fn open_log<L: FileSink>(name: Option<&str>, log: &mut L) -> Result<(), u8>
 }
 
 /// Reads the script that is named, and does with it what is asked for, and answers the status.
-fn perform_on_script<'a, R: FileSource, O: Sink, L: Sink>(
+fn perform_on_script<'a, R: FileSource, O: Closable, L: Sink>(
     alloc: Global,
     invocation: &Invocation<'_>,
     input: &mut R,
@@ -271,8 +269,8 @@ fn perform_on_script<'a, R: FileSource, O: Sink, L: Sink>(
     log: &mut L,
 ) -> u8
     requires { HasSize invocation.now.request }
-    ensures { ServesScript ⟦<&'a mut O as Sink>⟧.seen ⟦<Discard as Sink>⟧.seen (R.opens input.old) invocation.now (R.seen input.old) (R.seen input.new)
-        (outputs (O.seen out.old) (L.seen log.old)) (outputs (O.seen out.new) (L.seen log.new)) result }
+    ensures { ServesScript ⟦<&'a mut O as Sink>⟧.seen ⟦<&'a mut O as Closable>⟧.closed ⟦<Discard as Sink>⟧.seen ⟦<Discard as Closable>⟧.closed (R.opens input.old) (R.unopened input.old) invocation.now (R.seen input.old) (R.seen input.new)
+        (outputs (O.seen out.old) (O.closed out.old) (L.seen log.old)) (outputs (O.seen out.new) (O.closed out.new) (L.seen log.new)) result }
 {
     match open_script(invocation.script, input, log) {
         Ok(()) => perform(
@@ -288,7 +286,7 @@ fn perform_on_script<'a, R: FileSource, O: Sink, L: Sink>(
 }
 
 /// Opens the log that is named, reads the script, does with it what is asked for, and answers the status.
-fn perform_invocation<'a, R: FileSource, O: Sink, L: FileSink>(
+fn perform_invocation<'a, R: FileSource, O: Closable, L: FileSink>(
     alloc: Global,
     invocation: &Invocation<'_>,
     input: &mut R,
@@ -296,9 +294,9 @@ fn perform_invocation<'a, R: FileSource, O: Sink, L: FileSink>(
     log: &mut L,
 ) -> u8
     requires { HasSize invocation.now.request }
-    ensures { ServesInvocation ⟦<&'a mut O as Sink>⟧.seen ⟦<Discard as Sink>⟧.seen (R.opens input.old) (L.creates log.old) invocation.now
+    ensures { ServesInvocation ⟦<&'a mut O as Sink>⟧.seen ⟦<&'a mut O as Closable>⟧.closed ⟦<Discard as Sink>⟧.seen ⟦<Discard as Closable>⟧.closed (R.opens input.old) (R.unopened input.old) (L.creates log.old) (L.uncreated log.old) invocation.now
         (R.seen input.old) (R.seen input.new)
-        (outputs (O.seen out.old) (L.seen log.old)) (outputs (O.seen out.new) (L.seen log.new)) result }
+        (outputs (O.seen out.old) (O.closed out.old) (L.seen log.old)) (outputs (O.seen out.new) (O.closed out.new) (L.seen log.new)) result }
 {
     match open_log(invocation.log, log) {
         Ok(()) => perform_on_script(alloc, invocation, input, out, log),
@@ -312,7 +310,7 @@ fn perform_invocation<'a, R: FileSource, O: Sink, L: FileSink>(
 /// want of memory. Else the status is that of how the script ended, 3 where its picture can't be written, or 4 where
 /// there is no memory. The first word is the program's name. A status below 2 means that no write or flush of the log
 /// failed.
-pub fn serve<'a, S: AsStr, R: FileSource, O: Sink, L: FileSink>(
+pub fn serve<'a, S: AsStr, R: FileSource, O: Closable, L: FileSink>(
     alloc: Global,
     words: &[S],
     variables: &Variables<'_>,
@@ -320,9 +318,9 @@ pub fn serve<'a, S: AsStr, R: FileSource, O: Sink, L: FileSink>(
     out: &'a mut O,
     log: &mut L,
 ) -> u8
-    ensures served { Serves ⟦<&'a mut O as Sink>⟧.seen ⟦<Discard as Sink>⟧.seen (R.opens input.old) (L.creates log.old)
+    ensures served { Serves ⟦<&'a mut O as Sink>⟧.seen ⟦<&'a mut O as Closable>⟧.closed ⟦<Discard as Sink>⟧.seen ⟦<Discard as Closable>⟧.closed (R.opens input.old) (R.unopened input.old) (L.creates log.old) (L.uncreated log.old)
         (sizes_of variables.now) (map S.text words.now) (R.seen input.old) (R.seen input.new)
-        (outputs (O.seen out.old) (L.seen log.old)) (outputs (O.seen out.new) (L.seen log.new)) result }
+        (outputs (O.seen out.old) (O.closed out.old) (L.seen log.old)) (outputs (O.seen out.new) (O.closed out.new) (L.seen log.new)) result }
 {
     match job(alloc, words, variables) {
         Ok(invocation) => perform_invocation(alloc, &invocation, input, out, log),

@@ -16,10 +16,10 @@ abbrev pub HasSize : Request → Type 0
 HasSize (requests.Job job) = IsSize job.lines × IsSize job.cols
 HasSize requests.Check = ⊤
 
-module _ {V : Type 0} (discarded : V → Seen) where
+module _ {V : Type 0} (discarded : V → Seen) (unheard : V → Bool) where
   pub record PaintsScreen (is_quiet : Bool) (first : ScreenOver V) (input rest : SourceSeen) (old new : Outputs) (status : ℕ) : Type 0 where
     pub last : ScreenOver V
     pub end : ScriptEnd
     pub log_after : Seen
-    pub runs : RunsBy is_quiet discarded first last input rest old.log log_after end
+    pub runs : RunsBy is_quiet discarded unheard first last input rest old.log log_after end
     pub prints : Prints end (world last.desk) log_after old new status

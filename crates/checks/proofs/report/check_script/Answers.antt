@@ -13,12 +13,12 @@ returns-then-not-end_report-clause-checked g c =
       reads = report.reads;
       lines = report.lines;
       found = report.found;
-      ends = inr (c.log_failure.ensures.status, ended, c.log_failure.ensures.logs);
+      ends = inr (c.complain.ensures.status, ended, c.complain.ensures.logs);
     }
 
 pub returns-then-not-checked-clause-checked : goal.returns-then-not-checked-clause-checked
 returns-then-not-checked-clause-checked g c =
     let report = rw (not-true _ c.if-not-checked.true) at c.report_lines-checked.ensures in
     let ended = rw c.if-not-end_report.false at (c.end_report.ensures _ _ report.reported) in
-    let failed = c.log_failure-then-not-checked.ensures in
+    let failed = c.log_failure.ensures in
     record { text = report.text; is_whole = false; reads = report.reads; lines = report.lines; found = report.found; ends = inl (ended, (failed.status, failed.logs)) }

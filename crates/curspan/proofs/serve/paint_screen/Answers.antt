@@ -18,7 +18,7 @@ returns-else-print_desk-clause-painted g c =
       end = c.run_script-end.result;
       log_after = g.L.Sink.seen c.run_script-end.new.log;
       runs = c.run_script-end.ensures.ran;
-      prints = without _ _ fault (inr (c.log_failure.ensures.status, not_written, c.log_failure.ensures.logs));
+      prints = without _ _ fault (inr (c.complain.ensures.status, not_written, c.complain.ensures.logs));
     }
 
 pub returns-then-print_desk-clause-painted : goal.returns-then-print_desk-clause-painted

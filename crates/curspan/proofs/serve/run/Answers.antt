@@ -19,5 +19,6 @@ returns-clause-ran g c =
         runs = c.run_script-end.ensures.ran;
       };
       output = rw (sym c.into_writer.ensures) (search rules);
+      shut = rw (sym c.into_writer.ensures) (search rules);
       status_is = c.status_of.ensures.status;
     })
