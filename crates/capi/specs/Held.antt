@@ -1,6 +1,6 @@
 -- The screen of an open handle.
-use Rattle.std.specs.Prelude.{◌≡◌, ℕ, List, []}
-use Rattle.compose.specs.Desks.{world}
+use Rattle.std.specs.Prelude.{◌≡◌, ℕ, List, [], false}
+use Rattle.compose.specs.Desks.{is_damaged_line, world}
 use Rattle.world.specs.World.{first_world}
 use Rattle.paint.specs.Updates.{first_painter}
 use Rattle.capi.specs.declared.surface.Surface.{Surface}
@@ -9,8 +9,10 @@ use Rattle.capi.specs.declared.surface.Surface.{Surface}
 abbrev pub pending : Surface → List ℕ
 pending s = s.screen.writer.writer.items
 
--- a blank screen, of which nothing was sent yet
+-- a blank screen, of which nothing was sent or read yet, and no line is damaged
 pub record IsBlank (lines columns : ℕ) (s : Surface) : Type 0 where
   pub world : world s.screen.desk ≡ first_world lines columns
   pub painter : s.screen.painter ≡ first_painter lines columns
   pub pending : pending s ≡ []
+  pub undamaged : (line : ℕ) → is_damaged_line s.screen.desk line ≡ false
+  pub unread : s.screen.desk.cells_read ≡ 0
