@@ -102,13 +102,15 @@ curspan_unlock_terminal() {
 curspan_start() {
     local ends line
     # shellcheck disable=SC2069 # answers go to the pipe, and what is drawn to the terminal
-    coproc curspan_process {
-        trap '' HUP INT QUIT TERM TSTP TTOU
-        trap 'followed=yes' USR1
-        followed=
-        (printf '%s\n' "$BASHPID"; curspan_run run --lines "$curspan_lines" --cols "$curspan_columns" 2>&1 > /dev/tty)
-        [ -n "$followed" ] || { curspan_give_terminal_back; curspan_unlock_terminal; }
-    } 2> /dev/null
+    {
+        coproc curspan_process {
+            trap '' HUP INT QUIT TERM TSTP TTOU
+            trap 'followed=yes' USR1
+            followed=
+            (printf '%s\n' "$BASHPID"; curspan_run run --lines "$curspan_lines" --cols "$curspan_columns" 2>&1 > /dev/tty)
+            [ -n "$followed" ] || { curspan_give_terminal_back; curspan_unlock_terminal; }
+        }
+    } 2> /dev/null    # nor does bash say that the one before has only just ended
     ends=("${curspan_process[@]}") curspan_guard=${curspan_process_PID:-}
     curspan_calls=${ends[1]:-} curspan_sent=0
     { exec {curspan_answers}<&"${ends[0]}"; } 2> /dev/null
@@ -132,9 +134,10 @@ curspan_open() {
     local IFS=$' \t\n' signal fd lines columns told
     if [ -n "$curspan_owner" ]; then curspan_complain 'a screen is open already'; return 1; fi
     for fd in 0 1 2; do [ -e "/proc/$BASHPID/fd/$fd" ] || eval "exec $fd<> /dev/null"; done
-    if ! [[ "$*" =~ ^([0-9]{1,3}\ [0-9]{1,3})?$ ]]; then curspan_complain "lines and columns are wanted, or neither, and not: $*"; return 1; fi
+    if ! [[ "$*" =~ ^([1-9][0-9]{0,2}\ [1-9][0-9]{0,2})?$ ]]; then curspan_complain "lines and columns are wanted, or neither, and not: $*"; return 1; fi
     if ! { : < /dev/tty; } 2> /dev/null; then curspan_complain 'there is no terminal to draw on'; return 1; fi
     if [ "${TERM:-dumb}" = dumb ]; then curspan_complain 'the terminal is dumb, as TERM says'; return 1; fi
+    if ! tput clear > /dev/null 2>&1; then curspan_complain "no terminal of the type $TERM is known"; return 1; fi
     if ! (curspan_run --help) > /dev/null 2>&1; then curspan_complain "the program $curspan_program doesn't run; CURSPAN names another"; return 1; fi
     curspan_find_size
     if [ "$lines" -lt "${1:-1}" ] || [ "$columns" -lt "${2:-1}" ]; then
@@ -182,12 +185,12 @@ curspan_close() {
     return "$status"
 }
 
-# A new, blank screen of the terminal's size, after the key `resize`.
+# A new, blank screen of the terminal's size, after the key `resize`. One of a size that was given stays, and is drawn anew.
 curspan_resize() {
     local lines columns
     curspan_is_here || return 1
     curspan_find_size
-    if [ "$curspan_full" != 0 ]; then return 0; fi
+    if [ "$curspan_full" != 0 ]; then curspan_make clearok 0 on; return; fi
     curspan_hold
     kill -USR1 "$curspan_guard" 2> /dev/null
     curspan_stop
@@ -255,7 +258,7 @@ curspan_text() {
 curspan_show() { curspan_make update_panels && curspan_make doupdate; }
 
 # Stops the script as Ctrl-Z does any other, with the terminal given back. When it goes on, the terminal is its own
-# again.
+# again, and may have another size.
 curspan_stop_script() {
     curspan_hold
     curspan_give_terminal_back
@@ -264,6 +267,7 @@ curspan_stop_script() {
     curspan_release
     curspan_make clearok 0 on
     curspan_show
+    curspan_resized=yes
 }
 
 # Reads a byte, or what is one character, into `byte`, for so many microseconds, or for ever. It waits a fifth of a second
@@ -304,6 +308,7 @@ curspan_read_key() {
     local byte rest left='' part
     curspan_is_here || return 1
     if [ $# != 0 ]; then
+        if ! [[ "$1" =~ ^[0-9]*\.?[0-9]*$ ]]; then curspan_complain "a number of seconds is wanted, and not: $1"; return 1; fi
         part=${1#"${1%%.*}"}000000
         part=${part#.}
         left=$((10#0${1%%.*} * 1000000 + 10#${part:0:6}))
@@ -372,6 +377,7 @@ curspan_border() {
     curspan_text "$window" "$edge"
     if [ -n "$title" ]; then
         curspan_make move "$window" 0 2
-        curspan_text "$window" " $title "
+        title=" $title "
+        curspan_text "$window" "${title:0:columns > 4 ? columns - 4 : 0}"
     fi
 }
