@@ -260,14 +260,16 @@ curspan_show() { curspan_make update_panels && curspan_make doupdate; }
 # Stops the script as Ctrl-Z does any other, with the terminal given back. When it goes on, the terminal is its own
 # again, and may have another size.
 curspan_stop_script() {
+    local lines columns
     curspan_hold
     curspan_give_terminal_back
     kill -TSTP 0
     curspan_take_terminal
     curspan_release
+    curspan_find_size
+    if [ "$curspan_full" = 0 ] && [ "$lines $columns" != "$curspan_lines $curspan_columns" ]; then curspan_resized=yes; fi
     curspan_make clearok 0 on
     curspan_show
-    curspan_resized=yes
 }
 
 # Reads a byte, or what is one character, into `byte`, for so many microseconds, or for ever. It waits a fifth of a second

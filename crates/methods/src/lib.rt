@@ -4,4 +4,8 @@
 
 mod written_methods;
 
+use calls::Calls;
+
 pub use written_methods::Methods;
+
+impl<C: Calls> Methods for C {}
