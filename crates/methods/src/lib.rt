@@ -5,7 +5,6 @@
 mod written_methods;
 
 use calls::Calls;
-
 pub use written_methods::Methods;
 
 impl<C: Calls> Methods for C {}
