@@ -3,17 +3,21 @@
 
        curspan_terminal terminal = CURSPAN_TERMINAL_INIT;
        curspan screen = CURSPAN_INIT;
-       curspan_key key;
+       curspan_key key = {CURSPAN_KEY_RESIZE, 0, NULL, 0};
        uint32_t status = curspan_terminal_open(&terminal, NULL, CURSPAN_TERMINAL_USUAL);
        if (status != CURSPAN_TERMINAL_OK) return fprintf(stderr, "%s\n", curspan_terminal_text(status)), 1;
-       do {
-           int lines, columns;
-           curspan_terminal_size(&terminal, &lines, &columns);
-           curspan_open(&screen, lines, columns);
+       while (key.code != 'q' && key.code != CURSPAN_KEY_EOF) {
+           if (key.code == CURSPAN_KEY_RESIZE) {
+               int lines, columns;
+               curspan_terminal_size(&terminal, &lines, &columns);
+               curspan_open(&screen, (uint32_t)lines, (uint32_t)columns);
+               ... make windows, panels and pairs ...
+           }
            ... draw ...
+           curspan_update_panels(&screen);
            curspan_terminal_show(&terminal, &screen);
-           curspan_terminal_key(&terminal, 1000, &key);
-       } while (key.code != 'q');
+           curspan_terminal_key(&terminal, -1, &key);
+       }
        curspan_close(&screen);
        curspan_terminal_close(&terminal);
 
@@ -152,7 +156,7 @@ enum curspan_key_code {
    ESCDELAY milliseconds where the environment has that, is the key of its name. */
 uint32_t curspan_terminal_key(curspan_terminal *terminal, int milliseconds, curspan_key *key);
 
-/* Puts the name of a key into `out`, with a NUL, where there is room, and answers its length: the character, or a name such as up, page_down, f1,
+/* Puts the name of a key into `out`, with a NUL, where there is room, and answers its length: the character, or a name such as up, pagedown, f1,
    ctrl+left, alt+x, shift+tab, none, resize. */
 size_t curspan_key_name(const curspan_key *key, char *out, size_t room);
 

@@ -3,7 +3,8 @@
 use crate::Refusal;
 use std::{error, fmt, io};
 
-/// Why a program ends that makes calls and writes: a [`Refusal`], or an error of its writer.
+/// Why a program ends that makes calls and writes: a [`Refusal`], or an error of its writer or
+/// terminal.
 ///
 /// Both become an `Error` by `?`:
 ///
@@ -24,7 +25,7 @@ use std::{error, fmt, io};
 pub enum Error {
     /// A call was refused.
     Refused(Refusal),
-    /// Bytes could not be written.
+    /// Bytes could not be written, a terminal not be opened, or no key be read.
     Write(io::Error),
 }
 

@@ -40,7 +40,7 @@
 //!
 //! The build script takes `libcurspan.a` from the folder that the variable `CURSPAN_LIB_DIR` names,
 //! or from `lib/` of the one that `CURSPAN_PREFIX` names, or else the crate's own; where only the
-//! shared library is there, it takes that.
+//! shared library is there, it takes that. It doesn't ask pkg-config.
 #![deny(unsafe_code)]
 #![warn(missing_docs, clippy::pedantic)]
 

@@ -1,7 +1,7 @@
 //! Terminals: their keys, their size, and the page that a screen is shown on.
 //!
-//! A [`Terminal`] is given back when it is dropped, before a panic is told of, at exit, and before a
-//! signal ends or stops the program:
+//! A [`Terminal`] is given back when it and the screens that it made are dropped, before a panic is
+//! told of, at exit, and before a signal ends or stops the program:
 //!
 //! ```no_run
 //! use curspan::terminal::Terminal;
@@ -151,7 +151,8 @@ impl Terminal {
         self.0.size()
     }
 
-    /// Waits for a key, for some time, or without end. There is none where none came in that time.
+    /// Waits for a key, for some time, or for ever where that is `None`. The answer is `None` where
+    /// none came in that time.
     ///
     /// # Errors
     ///
@@ -186,7 +187,9 @@ impl Terminal {
     }
 
     /// The same screen, where the terminal's size is the same. Else a new one, whose standard
-    /// screen has what that one showed.
+    /// screen has what that one showed, popups too, until [`werase`](Screen::werase). Pairs stay.
+    /// Windows and panels are gone, and so is what was set of the standard screen, as attributes
+    /// and `scrollok`.
     ///
     /// # Errors
     ///
