@@ -4,7 +4,7 @@
 # follows the size of the terminal, and ends no process: it says which one it would.
 set -uo pipefail
 . "$(dirname "$(readlink -f "${BASH_SOURCE[0]}")")/screen.bash"
-column=-k3,3nr chosen=0 first=0 ended=0 rows=()
+column=-k3,3nr chosen=0 first=0 ended=0 rows=() asked=''
 
 # Reads number, name and memory in KiB of each process, sorted.
 look() {
@@ -24,6 +24,22 @@ write_line() {
     curspan_text 0 "$text"
 }
 
+# Shows the list under the question whether a process shall be ended.
+ask() {
+    local number name text window panel width=$((curspan_columns < 40 ? curspan_columns : 40))
+    IFS=$'\t' read -r number name _ <<< "$asked"
+    text="y or n: end $number, ${name:0:15}?"
+    curspan_ask newwin 3 "$width" $(((curspan_lines - 3) / 2)) $(((curspan_columns - width) / 2))
+    window=$curspan_answer
+    curspan_border "$window" 3 "$width" "${text:0:width - 5}"
+    curspan_ask new_panel "$window"
+    panel=$curspan_answer
+    curspan_show
+    curspan_call del_panel "$panel"
+    curspan_call delwin "$window"
+}
+
+# Shows the list, and the question where there is one and room for it.
 draw() {
     local y number name memory text room=$((curspan_lines - 2))
     chosen=$((chosen >= ${#rows[@]} ? ${#rows[@]} - 1 : chosen < 0 ? 0 : chosen))
@@ -35,22 +51,8 @@ draw() {
         write_line $((y + 1)) $((first + y == chosen ? 2 : 0)) "$text"
     done
     write_line $((curspan_lines - 1)) 1 " p number  n name  m memory  k end ($ended)  q quit"
-    curspan_show
-}
-
-# Asks in a window over the others.
-ask_to_end() {
-    local number name window panel
-    IFS=$'\t' read -r number name _ <<< "${rows[chosen]}"
-    curspan_ask newwin 3 40 $(((curspan_lines - 3) / 2)) $(((curspan_columns - 40) / 2)) || return
-    window=$curspan_answer
-    curspan_border "$window" 3 40 "End $number, ${name:0:15}? y or n"
-    curspan_ask new_panel "$window"
-    panel=$curspan_answer
-    curspan_show
-    if curspan_read_key && [ "$curspan_key" = y ]; then ended=$number; fi
-    curspan_call del_panel "$panel"
-    curspan_call delwin "$window"
+    if ((curspan_lines < 3 || curspan_columns < 12)); then asked=; fi
+    if [ -n "$asked" ]; then ask; else curspan_show; fi
 }
 
 begin() {
@@ -63,6 +65,10 @@ begin
 look
 while draw; do
     curspan_read_key 1 || { look; continue; }
+    if [ -n "$asked" ] && [ "$curspan_key" != resize ]; then
+        [ "$curspan_key" != y ] || ended=${asked%%$'\t'*}
+        asked='' curspan_key=''
+    fi
     case $curspan_key in
         up) chosen=$((chosen - 1)) ;;
         down) chosen=$((chosen + 1)) ;;
@@ -71,7 +77,7 @@ while draw; do
         p) column=-k1,1n; look ;;
         n) column=-k2,2; look ;;
         m) column=-k3,3nr; look ;;
-        k) ask_to_end ;;
+        k) asked=${rows[chosen]} ;;
         resize) curspan_resize && begin ;;
         q) break ;;
     esac

@@ -39,6 +39,13 @@ def look(command):
     types(b'n', b'\x1b[', 'the question goes')
     types(b'p', b'\x1b[', 'it sorts by number')
     types(b'\x1b[B', b'\x1b[', 'an arrow chooses')
+    types(b'k', b'y or n', 'it asks again')
+    for lines, columns in ((10, 30), (24, 80)):
+        at = len(terminal.bytes)
+        terminal.resize(lines, columns)
+        judge(name, f'its question stays at {lines} by {columns}', terminal.shows(b'y or n', 10, at))
+    types(b'y', b'\x1b[', 'the question goes')
+    time.sleep(0.3)
     at = len(terminal.bytes)
     terminal.resize(30, 100)
     judge(name, 'it follows the size', terminal.shows(b'\x1b[30;1H', 10, at))

@@ -37,6 +37,13 @@ def read(master):
     return data
 
 
+def sends_all_once(screen, master, when):
+    read(master)
+    count, sent = screen.doupdate(), read(master)
+    picture = sent[sent.find(b'\x1b[0m\x1b[2J'):]
+    want(picture.count(b'screen 0') == 1 and count == len(picture), f'all is sent once {when}, and counted')
+
+
 os.environ['TERM'] = 'xterm'
 pairs = [pty.openpty() for _ in range(2)]
 masters, slaves = [it[0] for it in pairs], [it[1] for it in pairs]
@@ -69,6 +76,7 @@ want(terminals[0].key(2) == 'resize', 'a new size is a key')
 new = terminals[0].screen()
 want(new is not old and old.closed and (new.lines, new.columns) == (12, 50) and new.stdscr.line(0).rstrip() == 'screen 0', 'a screen is made anew with what it showed')
 want(new.stdscr.inch(0, 0).pair == 1, 'its pairs stay')
+sends_all_once(new, masters[0], 'after a new size')
 
 raises(curspan.TerminalError, 'open already', curspan.Terminal, slaves[0])
 raises(curspan.TerminalError, 'no terminal', curspan.Terminal, os.pipe()[0])
@@ -89,9 +97,7 @@ if child == 0:
 want(os.waitpid(child, 0)[1] == 0, 'a forked child is refused')
 terminals[0].suspend()
 want(termios.tcgetattr(slaves[0]) == before[0], 'a terminal that is suspended has its modes')
-read(masters[0])
-new.doupdate()
-want(b'screen 0' in read(masters[0]), 'and shows all again')
+sends_all_once(new, masters[0], 'after it was suspended')
 for terminal in terminals:
     with terminal:
         pass

@@ -12,9 +12,9 @@ enum { MOST = 5000, TITLE = 1, CHOSEN = 2 };
 static struct process {
     int number, memory;
     char name[64];
-} processes[MOST];
-static int count, chosen, first, lines, columns, ended;
-static uint32_t order = 'm';
+} processes[MOST], asked;
+static int count, chosen, first, lines, columns, ended, order = 'm';
+static char text[200];
 static curspan_terminal terminal = CURSPAN_TERMINAL_INIT;
 static curspan screen = CURSPAN_INIT;
 
@@ -56,7 +56,6 @@ static void put(uint32_t win, int y, uint32_t pair, const char *text) {
 
 static void draw(void) {
     int room = lines - 2;
-    char text[200];
     chosen = chosen >= count ? count - 1 : chosen < 0 ? 0 : chosen;
     first = chosen < first ? chosen : chosen >= first + room ? chosen - room + 1 : first;
     put(0, 0, TITLE, "   NUMBER  NAME                   KIB");
@@ -68,24 +67,19 @@ static void draw(void) {
     snprintf(text, sizeof text, " p number  n name  m memory  k end (%d)  q quit", ended);
     put(0, lines - 1, TITLE, text);
     curspan_update_panels(&screen);
-    curspan_terminal_show(&terminal, &screen);
 }
 
-static void ask_to_end(const struct process *it) {
-    curspan_key key;
-    char text[200];
-    uint32_t y = (uint32_t)(lines - 3) / 2, x = (uint32_t)(columns - 40) / 2;
-    curspan_answer made = curspan_newwin(&screen, 3, 40, y, x);
-    if (made.status != CURSPAN_OK) return;
-    snprintf(text, sizeof text, " End %d, %.15s? y or n", it->number, it->name);
-    for (int line = 0; line < 3; line++) put(made.first, line, CHOSEN, line == 1 ? text : "");
-    curspan_answer panel = curspan_new_panel(&screen, made.first);
+/* Draws the question whether a process shall be ended over the list. */
+static void ask(void) {
+    uint32_t height = lines < 3 ? 1 : 3, width = columns < 40 ? (uint32_t)columns : 40;
+    uint32_t y = ((uint32_t)lines - height) / 2, x = ((uint32_t)columns - width) / 2;
+    uint32_t win = curspan_newwin(&screen, height, width, y, x).first;
+    uint32_t panel = curspan_new_panel(&screen, win).first;
+    snprintf(text, sizeof text, " y or n: end %d, %.15s?", asked.number, asked.name);
+    for (uint32_t i = 0; i < height; i++) put(win, (int)i, CHOSEN, i == height / 2 ? text : "");
     curspan_update_panels(&screen);
-    curspan_terminal_show(&terminal, &screen);
-    curspan_terminal_key(&terminal, -1, &key);
-    if (key.code == 'y') ended = it->number;
-    curspan_del_panel(&screen, panel.first);
-    curspan_delwin(&screen, made.first);
+    curspan_del_panel(&screen, panel);
+    curspan_delwin(&screen, win);
 }
 
 static void begin(void) {
@@ -100,13 +94,20 @@ int main(void) {
     uint32_t status = curspan_terminal_open(&terminal, NULL, CURSPAN_TERMINAL_USUAL);
     if (status != CURSPAN_TERMINAL_OK) return puts(curspan_terminal_text(status)), 1;
     while (key.code != 'q' && key.code != CURSPAN_KEY_EOF) {
-        if (key.code == 'p' || key.code == 'n' || key.code == 'm') order = key.code;
+        if (key.code == 'p' || key.code == 'n' || key.code == 'm') order = (int)key.code;
         if (key.code == CURSPAN_KEY_RESIZE) begin();
         chosen += (key.code == CURSPAN_KEY_DOWN) - (key.code == CURSPAN_KEY_UP);
-        if (key.code == 'k') ask_to_end(&processes[chosen]);
+        if (key.code == 'k') asked = processes[chosen];
         look();
         draw();
+        if (asked.number) ask();
+        curspan_terminal_show(&terminal, &screen);
         curspan_terminal_key(&terminal, 1000, &key);
+        if (asked.number && key.code != CURSPAN_KEY_NONE && key.code != CURSPAN_KEY_RESIZE) {
+            if (key.code == 'y') ended = asked.number;
+            asked.number = 0;
+            key.code = CURSPAN_KEY_NONE;
+        }
     }
     curspan_close(&screen);
     return curspan_terminal_close(&terminal) != CURSPAN_TERMINAL_OK;

@@ -37,22 +37,21 @@ def draw(screen: curspan.Screen, rows: List[Process], first: int, chosen: int, e
     keys = f' p number  n name  m memory  k end ({ended})  q quit'
     desk.addstr(screen.lines - 1, 0, f'{keys:{width}.{width}}', pair=TITLE)
     screen.update_panels()
-    screen.doupdate()
 
 
-def ask_to_end(terminal: curspan.Terminal, screen: curspan.Screen, number: int, name: str) -> bool:
-    y, x = (screen.lines - 3) // 2, (screen.columns - 40) // 2
-    with screen.newwin(3, 40, y, x) as window, window.new_panel():
+def ask(screen: curspan.Screen, number: int, name: str) -> None:
+    """Draws the question whether a process shall be ended over the list."""
+    lines, width = min(3, screen.lines), min(40, screen.columns)
+    y, x = (screen.lines - lines) // 2, (screen.columns - width) // 2
+    with screen.newwin(lines, width, y, x) as window, window.new_panel():
         window.background = curspan.Cell(' ', Attr.REVERSE)
         window.erase()
-        window.addstr(1, 2, f'End {number}, {name:.15}? y or n')
+        window.addstr(lines // 2, 0, f' y or n: end {number}, {name:.15}?'[:width])
         screen.update_panels()
-        screen.doupdate()
-        return terminal.key() == 'y'
 
 
 def main(terminal: curspan.Terminal) -> None:
-    order, first, chosen, ended, key = 'm', 0, 0, 0, None
+    order, first, chosen, ended, asked, key = 'm', 0, 0, 0, None, None
     screen = terminal.screen(errors='replace')
     screen.init_pair(TITLE, Color.WHITE, Color.BLUE)
     screen.init_pair(CHOSEN, Color.RED, Color.DEFAULT)
@@ -61,11 +60,15 @@ def main(terminal: curspan.Terminal) -> None:
         chosen = max(0, min(chosen, len(processes) - 1))
         first = max(min(first, chosen), chosen - screen.lines + 3)
         draw(screen, processes, first, chosen, ended)
+        if asked:
+            ask(screen, *asked[:2])
+        screen.doupdate()
         key = terminal.key(1)
+        if asked and key not in (None, 'resize'):
+            ended, asked, key = asked[0] if key == 'y' else ended, None, None
+        asked = processes[chosen] if key == 'k' else asked
         order = key if key in ORDERS else order
         chosen += {'up': -1, 'down': 1}.get(key or '', 0)
-        if key == 'k' and ask_to_end(terminal, screen, *processes[chosen][:2]):
-            ended = processes[chosen][0]
 
 
 if __name__ == '__main__':

@@ -126,7 +126,8 @@ PyObject *curspan_iterate_lines(PyObject *self, uint32_t lines, PyObject *(*line
 
 /* ---- terminal.c */
 
-bool curspan_show_on(PyObject *terminal, Screen *screen);
+/* Writes bytes of a screen, with its colours; or none, without an exception, where the terminal was given back meanwhile. */
+bool curspan_draw_on(PyObject *terminal, PyObject *bytes, bool *is_away);
 PyObject *curspan_give_pair(PyObject *terminal, Screen *screen, uint32_t pair, int foreground, int background);
 
 /* ---- the other files: methods that are written by hand, in the order of their tables */

@@ -73,22 +73,27 @@ static bool write_all(PyObject *file, PyObject *bytes, bool is_raw) {
     return flushed;
 }
 
-/* Writes what was not taken yet to the screen's file. Where that fails the terminal may show anything. */
-static bool send(Screen *screen) {
-    PyObject *file = screen->file, *bytes = take(screen);
+/* Writes what was not taken yet to the screen's file or terminal. Where that fails the terminal may show anything. */
+static bool send(Screen *screen, bool *is_away) {
+    PyObject *file = screen->file, *terminal = screen->terminal, *bytes = take(screen);
     if (!bytes) return false;
-    Py_INCREF(file);
-    bool is_sent = PyBytes_Size(bytes) == 0 || write_all(file, bytes, screen->file_is_raw);
-    Py_DECREF(file);
+    Py_XINCREF(file);
+    bool is_sent = terminal ? curspan_draw_on(terminal, bytes, is_away) : PyBytes_Size(bytes) == 0 || write_all(file, bytes, screen->file_is_raw);
+    Py_XDECREF(file);
     Py_DECREF(bytes);
     if (!is_sent) curspan_invalidate(&screen->handle);
     return is_sent;
 }
 
+/* Where the terminal was given back meanwhile, the update is made again, of all. */
 PyObject *curspan_screen_doupdate(PyObject *self, PyObject *none) {
     (void)none;
-    curspan_answer answer = curspan_doupdate(&SCREEN(self)->handle);
-    if (answer.status == CURSPAN_OK && SCREEN(self)->terminal && !curspan_show_on(SCREEN(self)->terminal, SCREEN(self))) return NULL;
-    if (answer.status == CURSPAN_OK && SCREEN(self)->file && !send(SCREEN(self))) return NULL;
-    return number(answer);
+    Screen *screen = SCREEN(self);
+    for (;;) {
+        bool is_away = false;
+        curspan_answer answer = curspan_doupdate(&screen->handle);
+        bool goes_out = answer.status == CURSPAN_OK && (screen->terminal || screen->file);
+        if (!goes_out || send(screen, &is_away)) return number(answer);
+        if (!is_away) return NULL;
+    }
 }

@@ -246,9 +246,10 @@ static PyObject *terminal_screen(PyObject *self, PyObject *arguments, PyObject *
     return terminal->screen;
 }
 
-bool curspan_show_on(PyObject *self, Screen *screen) {
-    uint32_t status = curspan_terminal_show(&TERMINAL(self)->handle, &screen->handle);
-    if (status != CURSPAN_TERMINAL_OK) fail(status);
+bool curspan_draw_on(PyObject *self, PyObject *bytes, bool *is_away) {
+    uint32_t status = curspan_terminal_draw(&TERMINAL(self)->handle, (const uint8_t *)PyBytes_AsString(bytes), (size_t)PyBytes_Size(bytes));
+    *is_away = status == CURSPAN_TERMINAL_AWAY;
+    if (status != CURSPAN_TERMINAL_OK && !*is_away) fail(status);
     return status == CURSPAN_TERMINAL_OK;
 }
 

@@ -3,7 +3,7 @@
 //! each second, follows the size of the terminal, and ends no process: it says which one it would.
 
 use curspan::terminal::{Key, Output, Terminal};
-use curspan::{plain, Attributes, Color, Error, Screen, STDSCR};
+use curspan::{plain, Attributes, Color, Error, Refusal, Screen, STDSCR};
 use std::time::Duration;
 use std::{cmp, fs};
 
@@ -17,11 +17,8 @@ type Process = (u32, String, u64);
 fn process(number: &str) -> Option<Process> {
     let read = |file| fs::read_to_string(format!("/proc/{number}/{file}")).ok();
     let pages: u64 = read("statm")?.split(' ').nth(1)?.parse().ok()?;
-    Some((
-        number.parse().ok()?,
-        read("comm")?.trim_end().into(),
-        pages * 4,
-    ))
+    let name = read("comm")?.trim_end().into();
+    Some((number.parse().ok()?, name, pages * 4))
 }
 
 fn look(order: &str) -> Vec<Process> {
@@ -56,26 +53,27 @@ fn draw(screen: &mut Screen<Output>, found: &[Process], at: (usize, usize)) -> R
     Ok(())
 }
 
-fn asks_to_end(term: &Terminal, screen: &mut Screen<Output>, it: &Process) -> Result<bool, Error> {
+/// Draws the question whether a process shall be ended over the list.
+fn ask(screen: &mut Screen<Output>, it: &Process) -> Result<(), Refusal> {
     let (lines, columns) = screen.getmaxyx(STDSCR)?;
-    let window = screen.newwin(3, 40, (lines - 3) / 2, (columns - 40) / 2)?;
+    let (height, width) = (cmp::min(lines, 3), cmp::min(columns, 40));
+    let window = screen.newwin(height, width, (lines - height) / 2, (columns - width) / 2)?;
     screen.wbkgdset(window, Attributes::REVERSE, ' ')?;
     screen.werase(window)?;
-    let text = format!(" End {}, {:.15}? y or n", it.0, it.1);
-    screen.mvwaddstr(window, 1, 0, plain(&text))?;
+    let text = format!(" y or n: end {}, {:.15}?", it.0, it.1);
+    let text: String = text.chars().take(width as usize).collect();
+    screen.mvwaddstr(window, height / 2, 0, plain(&text))?;
     let panel = screen.new_panel(window)?;
     screen.update_panels();
-    screen.doupdate()?;
-    let answer = term.key(None)?.map_or(false, |key| key == "y");
     screen.del_panel(panel)?;
-    screen.delwin(window)?;
-    Ok(answer)
+    screen.delwin(window)
 }
 
 fn main() -> Result<(), Error> {
     let terminal = Terminal::open()?;
     let mut screen = terminal.screen()?;
     let (mut order, mut first, mut chosen, mut ended) = ("m".to_string(), 0, 0, 0);
+    let mut asked = None;
     terminal.init_pair(&mut screen, TITLE, Color::White, Color::Blue)?;
     terminal.init_pair(&mut screen, CHOSEN, Color::Red, Color::Default)?;
     loop {
@@ -88,15 +86,20 @@ fn main() -> Result<(), Error> {
         let keys = format!(" p number  n name  m memory  k end ({ended})  q quit");
         put(&mut screen, lines - 1, TITLE, &keys)?;
         screen.update_panels();
+        if let Some(it) = &asked {
+            ask(&mut screen, it)?;
+        }
         screen.doupdate()?;
         let key = terminal.key(Some(Duration::from_secs(1)))?;
-        match key.as_ref().map_or("", Key::name) {
-            "q" => return Ok(()),
-            "up" => chosen = chosen.saturating_sub(1),
-            "down" => chosen += 1,
-            "resize" => screen = terminal.screen_after(screen)?,
-            "k" if asks_to_end(&terminal, &mut screen, &found[chosen])? => ended = found[chosen].0,
-            name @ ("p" | "n" | "m") => order = name.to_string(),
+        match (key.as_ref().map_or("", Key::name), &asked) {
+            ("" | "resize", _) => screen = terminal.screen_after(screen)?,
+            ("y", Some(it)) => (ended, asked) = (it.0, None),
+            (_, Some(_)) => asked = None,
+            ("q", _) => return Ok(()),
+            ("up", _) => chosen = chosen.saturating_sub(1),
+            ("down", _) => chosen += 1,
+            ("k", _) => asked = Some(found[chosen].clone()),
+            (name @ ("p" | "n" | "m"), _) => order = name.to_string(),
             _ => {}
         }
     }
