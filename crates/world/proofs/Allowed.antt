@@ -8,7 +8,7 @@ use Rattle.world.specs.Sound.{AreSoundPanels, IsSoundPanel}
 use Rattle.world.specs.Effects.{Change, asks, deletes, edits, makes, marks, moves, shifts}
 use Rattle.world.specs.calls.Making.{free_among, has_derived, has_no_parent, making_change, making_refusal}
 use Rattle.world.proofs.PanelLaws.{in_panel-some}
-use Rattle.world.specs.declared.call.Making.{Making}
+use Rattle.world.specs.declared.written_calls.Making.{Making}
 
 -- a new window has a free number; one that is deleted or moved is in no panel, and is not the standard screen
 abbrev pub IsAllowed : Windows → Panels → Change → Type 0

@@ -26,7 +26,7 @@ use Rattle.world.proofs.ViewLaws.{backing_of, cell_at-same, own-same}
 use Rattle.world.proofs.WindowLaws.{own-ends, own-put, put-keeps, put-takes}
 use Rattle.world.proofs.WritingLaws.{view-edit}
 use Rattle.world.specs.declared.call.Call.{Call}
-use Rattle.world.specs.declared.call.Making.{Making}
+use Rattle.world.specs.declared.written_calls.Making.{Making}
 
 -- ---- an edit
 

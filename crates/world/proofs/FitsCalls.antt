@@ -11,9 +11,9 @@ use Rattle.world.specs.calls.Writing.{writing_edit, writing_refusal}
 use Rattle.world.proofs.Allowed.{passed}
 use Rattle.world.proofs.Fits.{FitsChange, FitsEdit}
 use Rattle.world.proofs.SoundCells.{IsCell-written, attributes-or, copied-cells, held-cell, overlaid, shown, touched-within}
-use Rattle.world.specs.declared.call.Copying.{Copying}
-use Rattle.world.specs.declared.call.Writing.{Writing}
-use Rattle.world.specs.declared.call.Writing.TheVariants.{Insch}
+use Rattle.world.specs.declared.written_calls.Copying.{Copying}
+use Rattle.world.specs.declared.written_calls.Writing.{Writing}
+use Rattle.world.specs.declared.written_calls.Writing.TheVariants.{Insch}
 
 -- ---- the calls that write
 

@@ -6,8 +6,8 @@ use Rattle.world.specs.World.{World}
 use Rattle.world.specs.Effects.{composed_windows, unmarked_lines, with_unmarked}
 use Rattle.world.specs.calls.Dispatch.{world_after}
 use Rattle.world.specs.declared.call.Call.TheVariants as calls
-use Rattle.world.specs.declared.call.Refresh.{Refresh}
-use Rattle.world.specs.declared.call.Refresh.TheVariants.{UpdatePanels}
+use Rattle.world.specs.declared.written_calls.Refresh.{Refresh}
+use Rattle.world.specs.declared.written_calls.Refresh.TheVariants.{UpdatePanels}
 use Rattle.world.proofs.ViewLaws.{SameCells, backing_of, changed-cells, found-dressed, outline_of, place-same, same-if}
 
 module _ (window : WindowMap) (ws : List ℕ) where

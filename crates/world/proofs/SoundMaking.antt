@@ -17,7 +17,7 @@ use Rattle.world.specs.World.{blank_grid, new_window}
 use Rattle.world.specs.Sound.{AreSoundWindows, HasCells, IsSoundWindow}
 use Rattle.world.specs.Effects.{deletes, makes, moves, shifts, moved_to, shifted_to, under_number, with_part, with_place}
 use Rattle.world.specs.calls.Making.{derived_from, free_among, is_full, is_inside, is_outside, is_part_of, making_change, making_refusal, new_number, next_window, window_on_screen}
-use Rattle.world.specs.declared.call.Making.{Making}
+use Rattle.world.specs.declared.written_calls.Making.{Making}
 use Rattle.world.proofs.Allowed.{free-number, passed}
 use Rattle.world.proofs.MoveLaws.{no-part}
 use Rattle.world.proofs.Fits.{FitsChange, IsNewWindow}

@@ -18,8 +18,8 @@ use Rattle.world.proofs.Fits.{FitsOrder}
 use Rattle.world.proofs.PanelLaws.{in_panel-some}
 use Rattle.world.proofs.PlaceLaws.{keeps-change, keeps-moved, panels-kept}
 use Rattle.world.proofs.StackingLaws.{IsOrdered, ordered-stacking}
-use Rattle.world.specs.declared.call.Stacking.{Stacking}
-use Rattle.world.specs.declared.call.Stacking.TheVariants.{NewPanel, MovePanel, ReplacePanel}
+use Rattle.world.specs.declared.written_calls.Stacking.{Stacking}
+use Rattle.world.specs.declared.written_calls.Stacking.TheVariants.{NewPanel, MovePanel, ReplacePanel}
 
 -- ---- panels in which the panel p is put elsewhere, taken out or given a window
 

@@ -17,8 +17,8 @@ use Rattle.world.specs.Panels.{Panels, cursor_from, found_from_top, holds, panel
 use Rattle.world.specs.Sound.{IsSound, IsSoundVirtual, IsSoundWindow}
 use Rattle.world.specs.Effects.{Effect, after, composes, refreshes, shown_over}
 use Rattle.world.specs.calls.Refresh.{refresh_effect, refresh_refusal}
-use Rattle.world.specs.declared.call.Refresh.{Refresh}
-use Rattle.world.specs.declared.call.Refresh.TheVariants.{Pnoutrefresh}
+use Rattle.world.specs.declared.written_calls.Refresh.{Refresh}
+use Rattle.world.specs.declared.written_calls.Refresh.TheVariants.{Pnoutrefresh}
 use Rattle.world.proofs.Fits.{FitsEffect}
 use Rattle.world.proofs.PictureLaws.{standard-holds}
 use Rattle.world.proofs.SoundCells.{copied-cells, held-cell}

@@ -18,7 +18,7 @@ use Rattle.world.specs.calls.Affected.{order_shows_at, panel_shows_at, stays_on_
 use Rattle.world.specs.calls.Stacking.{stacking_order, stacking_refusal, without}
 use Rattle.world.proofs.Allowed.{IsAllowed, passed, sound-panel}
 use Rattle.world.proofs.MoveLaws.{cell-placed, found-change, holds-placed}
-use Rattle.world.specs.declared.call.Stacking.{Stacking}
+use Rattle.world.specs.declared.written_calls.Stacking.{Stacking}
 
 -- ---- a search that passes the panel p by
 

@@ -16,9 +16,9 @@ ghost use Rattle.world.specs.Effects.{DifferInSettings, Edit, after_edit, edit_d
 ghost use Rattle.cell.specs.Glyphs.{Glyph};
 ghost use Rattle.cell.specs.Pictures.{shown_at};
 ghost use Rattle.world.specs.declared.call.Call.{Call};
-ghost use Rattle.world.specs.declared.call.Making.{Making};
-ghost use Rattle.world.specs.declared.call.Refresh.{Refresh};
-ghost use Rattle.world.specs.declared.call.Stacking.{Stacking};
+ghost use Rattle.world.specs.declared.written_calls.Making.{Making};
+ghost use Rattle.world.specs.declared.written_calls.Refresh.{Refresh};
+ghost use Rattle.world.specs.declared.written_calls.Stacking.{Stacking};
 ghost use Rattle.world.specs.Windows.{Drawing, GridPlace, HasPlace, IsWrite, Window, WindowMap, Windows, cell_at, cell_in_grid, derives, onward, over, own, put, put_windows};
 
 /// The places of a window lead to a rectangle of one grid: where one leads is where the first one leads, moved.

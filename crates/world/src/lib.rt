@@ -5,12 +5,14 @@
 //! - `laws`: the laws, each the contract of a function
 //! - `panel`: numbers of panels
 //! - `settings`: the settings of a window, and columns of a line
+//! - `written_calls`: the calls of each group, written by a tool
 #![tactic(auto)]
 
-mod call;
+pub mod call;
 pub mod laws;
 mod panel;
 mod settings;
+mod written_calls;
 
 pub use call::{Call, Composed, Copying, Making, Query, Refresh, Reply, Stacking, Writing};
 pub use cell::{Attr, Cell, Rect, Refusal, WinId};

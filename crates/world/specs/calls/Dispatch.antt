@@ -15,7 +15,7 @@ use Rattle.cell.specs.declared.refusal.Refusal.{Refusal}
 use Rattle.cell.specs.declared.window.Rect.{Rect}
 use Rattle.world.specs.declared.call.Call.{Call}
 use Rattle.world.specs.declared.call.Call.TheVariants as calls
-use Rattle.world.specs.declared.call.Refresh.TheVariants.{UpdatePanels, Doupdate}
+use Rattle.world.specs.declared.written_calls.Refresh.TheVariants.{UpdatePanels, Doupdate}
 use Rattle.world.specs.declared.call.Reply.{Reply}
 
 -- ---- two rows

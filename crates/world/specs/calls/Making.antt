@@ -14,8 +14,8 @@ use Rattle.world.specs.Effects.{Change, makes, deletes, moves, shifts, after_cha
 use Rattle.world.specs.calls.Rule.{missing_window}
 use Rattle.cell.specs.declared.refusal.Refusal.{Refusal}
 use Rattle.cell.specs.declared.refusal.Refusal.TheVariants.{OffScreen, OutsideParent, HasDerived, InPanel, IsPad, NotPad, NotDerived, BadSize, StandardScreen, TooMany}
-use Rattle.world.specs.declared.call.Making.{Making}
-use Rattle.world.specs.declared.call.Making.TheVariants.{Newwin, Subwin, Derwin, Newpad, Subpad, Delwin, Mvwin, Mvderwin}
+use Rattle.world.specs.declared.written_calls.Making.{Making}
+use Rattle.world.specs.declared.written_calls.Making.TheVariants.{Newwin, Subwin, Derwin, Newpad, Subpad, Delwin, Mvwin, Mvderwin}
 
 -- ---- what a window is
 

@@ -10,8 +10,8 @@ use Rattle.world.specs.calls.Making.{is_pad, has_no_parent}
 use Rattle.world.specs.calls.Rule.{Rule, missing_window}
 use Rattle.cell.specs.declared.refusal.Refusal.{Refusal}
 use Rattle.cell.specs.declared.refusal.Refusal.TheVariants.{IsPad, NotDerived}
-use Rattle.world.specs.declared.call.Query.{Query}
-use Rattle.world.specs.declared.call.Query.TheVariants.{Getyx, Getbegyx, Getmaxyx, Getparyx, Inch}
+use Rattle.world.specs.declared.written_calls.Query.{Query}
+use Rattle.world.specs.declared.written_calls.Query.TheVariants.{Getyx, Getbegyx, Getmaxyx, Getparyx, Inch}
 use Rattle.world.specs.declared.call.Reply.{Reply}
 use Rattle.world.specs.declared.call.Reply.TheVariants.{Nothing, TwoNumbers, Cell}
 use Rattle.world.specs.declared.settings.Columns.{Columns}

@@ -17,8 +17,8 @@ use Rattle.world.specs.calls.Copying.{copywin_drawing}
 use Rattle.world.specs.calls.Making.{is_pad}
 use Rattle.world.specs.calls.Rule.{Rule, missing_window}
 use Rattle.world.specs.calls.Writing.{is_no_pair, lacks_place}
-use Rattle.world.specs.declared.call.Refresh.{Refresh}
-use Rattle.world.specs.declared.call.Refresh.TheVariants.{Noutrefresh, Pnoutrefresh, UpdatePanels, Doupdate, InitPair}
+use Rattle.world.specs.declared.written_calls.Refresh.{Refresh}
+use Rattle.world.specs.declared.written_calls.Refresh.TheVariants.{Noutrefresh, Pnoutrefresh, UpdatePanels, Doupdate, InitPair}
 use Rattle.world.specs.declared.settings.Columns.{Columns}
 
 -- ---- what is touched of a window

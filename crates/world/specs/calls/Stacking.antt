@@ -15,8 +15,8 @@ use Rattle.world.specs.Panels.{Panels, panel_limit, is_in_panel, standard_screen
 use Rattle.world.specs.Effects.{Order, changes, adds, orders, carries, asks, with_entry, panels_after}
 use Rattle.world.specs.calls.Making.{is_off_screen, is_pad}
 use Rattle.world.specs.declared.call.Reply.TheVariants.{Flag, Number, Panel}
-use Rattle.world.specs.declared.call.Stacking.{Stacking}
-use Rattle.world.specs.declared.call.Stacking.TheVariants.{NewPanel, DelPanel, ShowPanel, HidePanel, TopPanel, BottomPanel, MovePanel, ReplacePanel, PanelAbove, PanelBelow, PanelWindow, PanelHidden}
+use Rattle.world.specs.declared.written_calls.Stacking.{Stacking}
+use Rattle.world.specs.declared.written_calls.Stacking.TheVariants.{NewPanel, DelPanel, ShowPanel, HidePanel, TopPanel, BottomPanel, MovePanel, ReplacePanel, PanelAbove, PanelBelow, PanelWindow, PanelHidden}
 use Rattle.world.specs.declared.panel.PanelId.{PanelId}
 
 -- ---- the order

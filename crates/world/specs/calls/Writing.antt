@@ -19,9 +19,9 @@ use Rattle.world.specs.Effects.{Edit, sets, draws, types, after_edit, edit_windo
 use Rattle.world.specs.calls.Rule.{missing_window}
 use Rattle.cell.specs.declared.refusal.Refusal.{Refusal}
 use Rattle.cell.specs.declared.refusal.Refusal.TheVariants.{OutsideWindow, BadRegion, BadCharacter, BadPair, ScrollingOff}
-use Rattle.world.specs.declared.call.Writing.{Writing}
-use Rattle.world.specs.declared.call.Writing.TheVariants.{Move, Addch, Addstr, Insch, Delch, Insertln, Deleteln, Erase, Clear, Clrtoeol, Clrtobot, Scrl, Setscrreg, Scrollok, Clearok, Attrset}
-use Rattle.world.specs.declared.call.Writing.TheVariants.{Attron, Attroff, Bkgdset, ColorSet, Bkgdpair}
+use Rattle.world.specs.declared.written_calls.Writing.{Writing}
+use Rattle.world.specs.declared.written_calls.Writing.TheVariants.{Move, Addch, Addstr, Insch, Delch, Insertln, Deleteln, Erase, Clear, Clrtoeol, Clrtobot, Scrl, Setscrreg, Scrollok, Clearok, Attrset}
+use Rattle.world.specs.declared.written_calls.Writing.TheVariants.{Attron, Attroff, Bkgdset, ColorSet, Bkgdpair}
 use Rattle.world.specs.declared.settings.Settings.{Settings}
 
 -- ---- tests
