@@ -41,7 +41,7 @@ def asked_for(call):
 
 def files(groups, has_method):
     """The text of each file of wrong bodies, by its path."""
-    path, bodies = 'crates/methods/wrong/written_methods.written.edits', []
+    path, bodies = 'crates/calls/wrong/written_methods.written.edits', []
     for _, calls in groups.values():
         calls = [it for it in calls if has_method(it)]
         for call in calls:

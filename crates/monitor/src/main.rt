@@ -3,7 +3,7 @@
 #![tactic(auto)]
 
 use desk::{Attr, Calls, Counted, Fault, Refusal, Screen, Sink, WinId};
-use methods::Methods;
+use calls::Methods;
 use std::alloc::{AllocError, Global};
 
 /// The lines and the columns of the screen.

@@ -7,7 +7,7 @@ use desk::{
     WriteFault, Writing,
 };
 use faulty::Halting;
-use methods::Methods;
+use calls::Methods;
 use std::alloc::Global;
 use std::test::Fail;
 

@@ -12,7 +12,7 @@ ghost use Rattle.world.specs.declared.call.Refresh.{Refresh};
 ghost use Rattle.world.specs.Replies.{its_panel, no_answer, two_numbers};
 ghost use Rattle.calls.specs.Methods.{as_reply};
 
-use calls::Calls;
+use crate::making::Calls;
 use cell::{Attr, Cell, WinId};
 use world::{Call, Copying, Making, PanelId, Query, Refresh, Stacking, Writing};
 
@@ -661,3 +661,5 @@ pub trait Methods: Calls {
         self.make(&Call::Refresh(Refresh::InitPair { pair, foreground, background }))
     }
 }
+
+impl<C: Calls> Methods for C {}
