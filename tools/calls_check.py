@@ -1,6 +1,7 @@
 """What tools/calls writes for check: the names of each call's arguments, and from curses.table what is said of names that are no calls."""
 import sys
 
+from calls_table import calls_of
 from calls_text import fill
 
 # How many calls a row may name, as MOST_CALLS in crates/checks/src/said.rt, and how long a name may be, as NAME_ROOM in suggest.rt.
@@ -110,14 +111,40 @@ def all_names(groups):
     return '\n\n'.join([*(names(group, calls) for group, (_, calls) in groups.items()), whole])
 
 
-def parts(path, groups):
-    calls = [call for _, its in groups.values() for call in its]
+def file_of_names(groups):
+    """The file of the names of arguments."""
+    words = ', '.join([*(f'{group}Word' for group in sorted(groups)[:-1]), 'Word', 'WritingWord'])
+    return f'''//! The names of each call's arguments. Written by tools/calls from calls.table.
+
+ghost use Rattle.checks.specs.Findings.{{HasNames}};
+ghost use Rattle.script.specs.declared.words.Word.TheVariants as words;
+
+use script::{{{words}}};
+
+{all_names(groups)}
+'''
+
+
+def file_of_curses(rows, calls, groups):
+    """The file of what is said of names that are no calls."""
+    uses = ''.join(f'use script::{it}::*;\n' for it in sorted(['Word', *(f'{group}Word' for group in groups)]))
+    return f'''//! Names that are no calls, and what is said of them. Written by tools/calls from curses.table.
+
+use crate::suggest::Row;
+{uses}
+{table(rows, calls)}
+'''
+
+
+def files(path, groups):
+    """The text of each file, by its path."""
+    calls = calls_of(groups)
     rows = read_rows(path, calls)
-    yield 'crates/checks/src/written_names.rt', 'arguments', all_names(groups)
-    yield 'crates/checks/src/written_curses.rt', 'curses', table(rows, calls)
-    yield 'docs/curspan.1', 'curses', '\n'.join(entries(rows))
+    yield 'crates/checks/src/written_names.rt', file_of_names(groups)
+    yield 'crates/checks/src/written_curses.rt', file_of_curses(rows, calls, groups)
+    yield 'cases/check/names_of_curses_that_are_no_calls.case', case(rows)
 
 
-def cases(path, groups):
-    calls = [call for _, its in groups.values() for call in its]
-    yield 'cases/check/names_of_curses_that_are_no_calls.case', case(read_rows(path, calls))
+def parts(path, groups):
+    """The text of each part of a file, by the file and its name."""
+    yield 'docs/curspan.1', 'curses', '\n'.join(entries(read_rows(path, calls_of(groups))))

@@ -2,6 +2,9 @@
 import re
 import textwrap
 
+from calls_table import calls_of
+from calls_text import fill, said_first
+
 WIDTH = 140
 # Of each type of argument: in C, what takes it from an object, and its hint.
 TYPES = {
@@ -160,23 +163,46 @@ def row(method):
 
 def error(number, name, words):
     bases = {'NoMemory': 'Refusal, MemoryError'}.get(name, 'Refusal')
-    return f'class {name}({bases}):\n    """{words[0].upper()}{words[1:]}."""\n    status = {number}'
+    return f'class {name}({bases}):\n    """{said_first(words)}."""\n    status = {number}'
+
+
+def errors(refusals):
+    """The file of the exceptions."""
+    classes = '\n\n\n'.join(error(number, *it) for number, it in enumerate(refusals, 1))
+    exported = fill(', '.join(f"'{name}'" for name, _ in refusals) + ',', '    ')
+    return f'"""The refusals. Written by tools/calls from calls.table."""\nfrom ._errors import Refusal\n\n__all__ = [\n{exported}\n]\n\n\n{classes}\n'
+
+
+def table(name, methods):
+    """The table of a type's methods in C. Those that are no calls come after."""
+    return '\n'.join([f'PyMethodDef curspan_{name}_methods[] = {{', *map(row, (it for it in methods if it.type == name)),
+                      f'    OTHER_METHODS_OF_{name.upper()}S', '    {NULL, NULL, 0, NULL},', '};'])
+
+
+def methods_in_c(names, methods):
+    """The file of the methods of some types in C."""
+    functions = [function(it) for it in methods if it.type in names and it.call.name not in BY_HAND]
+    head = f'/* The methods of {" and ".join(f"{name}s" for name in names)}. Written by tools/calls from calls.table. */\n#include "methods.h"'
+    return '\n\n'.join([head, *functions, *(table(name, methods) for name in names)]) + '\n'
+
+
+def methods_of(groups):
+    words = {call.name: call.word for call in calls_of(groups)}
+    return [Method(call, words) for call in calls_of(groups)]
+
+
+def files(refusals, groups):
+    """The text of each file that is written whole, by its path."""
+    yield 'python/curspan/_written_errors.py', errors(refusals)
+    yield 'python/src/written_windows.c', methods_in_c(('window', 'pad'), methods_of(groups))
+    yield 'python/src/written_screens.c', methods_in_c(('screen', 'panel'), methods_of(groups))
 
 
 def parts(refusals, groups):
-    """The text of each part, by its file and its name."""
-    words = {call.name: call.word for _, its in groups.values() for call in its}
-    methods = [Method(call, words) for _, its in groups.values() for call in its]
-    files = {'python/src/methods_of_windows.c': ('window', 'pad'), 'python/src/methods_of_screens.c': ('screen', 'panel')}
-    for file, types in files.items():
-        yield file, 'methods', '\n\n'.join(function(it) for it in methods if it.type in types and it.call.name not in BY_HAND)
-        for name in types:
-            own = [it for it in methods if it.type == name]
-            yield file, f'{name} rows', '\n'.join(map(row, own))
-            yield 'python/curspan/_curspan.pyi', f'{name} stubs', '\n'.join('    ' + line for it in own for line in it.stubs())
+    """The text of each part of a file, by the file and its name."""
+    methods = methods_of(groups)
+    for name in ('screen', 'window', 'pad', 'panel'):
+        yield 'python/curspan/_curspan.pyi', f'{name} stubs', '\n'.join('    ' + line for it in methods if it.type == name for line in it.stubs())
     yield 'docs/python.md', 'methods', '\n'.join(entries(name, methods) for name in ('screen', 'window', 'pad', 'panel'))
     named = '\n'.join(textwrap.fill(f'- `{name}`: {words}', 120, subsequent_indent='  ', break_on_hyphens=False) for name, words in refusals)
     yield 'docs/python.md', 'refusals', named
-    yield 'python/curspan/_errors.py', 'errors', '\n\n\n'.join(error(number, *it) for number, it in enumerate(refusals, 1))
-    yield 'python/curspan/__init__.py', 'exported', '\n'.join(textwrap.wrap(', '.join(f"'{name}'" for name, _ in refusals) + ',', 100, initial_indent='    ', subsequent_indent='    '))
-    yield 'python/curspan/__init__.py', 'imports', '\n'.join(textwrap.wrap(', '.join(name for name, _ in refusals) + ',', 100, initial_indent='    ', subsequent_indent='    '))

@@ -3,7 +3,10 @@ in C and in Rust, which make the calls of a script.
 """
 import re
 
-from calls_text import applied, fill, layout, signature
+from calls_table import calls_of
+from calls_text import applied, fill, layout, said_first, signature
+
+WRITTEN = 'Written by tools/calls from calls.table.'
 
 # Of each type: as an argument of a method, in C's function, and how a method passes it on. A call that isn't for pads
 # takes a window alone.
@@ -83,7 +86,7 @@ TAKEN_IN_RUST = {'window': 'known.window(a.number({}))', 'window alone': 'known.
 
 def replay_in_c(call):
     passed = ['text, length' if kind == 'text' else f'n[{place}]' for place, (_, kind) in enumerate(call.arguments)]
-    return f'    CALL({", ".join([call.name, TOLD.get(call.answer, call.answer), *passed])})'
+    return f'CALL({", ".join([call.name, TOLD.get(call.answer, call.answer), *passed])})'
 
 
 def replay_in_rust(call):
@@ -92,15 +95,88 @@ def replay_in_rust(call):
     return f'        "{call.name}" => screen.{call.name}({", ".join(taken)}){refused}.text(known),'
 
 
-def parts(refusals, groups):
-    """The text of each part, by its file and its name."""
-    calls = [call for _, its in groups.values() for call in its]
+def refusal_enum(refusals):
+    """The file of the refusals and their texts."""
     numbered = [(number, name, words) for number, (name, words) in enumerate(refusals, 1)]
+    variants = '\n'.join(f'    /// {said_first(words)}.\n    {name} = {number},' for number, name, words in numbered)
+    texts = ''.join(applied('', [f'Refusal::{name}', f'"{words}"'], '    ') + ',\n' for name, words in refusals)
+    return f'''//! The refusals and what they say. {WRITTEN}
+#![forbid(unsafe_code)]
+
+/// Why a call is refused.
+///
+/// A refused call changes nothing and sends nothing. Where several reasons hold, the call's
+/// documentation has the order of its tests.
+#[derive(Clone, Copy, PartialEq, Eq, Hash, Debug)]
+#[non_exhaustive]
+pub enum Refusal {{
+{variants}
+}}
+
+/// What each says, in the order of their numbers.
+pub(crate) const TEXTS: [(Refusal, &str); {len(refusals)}] = [
+{texts}];
+'''
+
+
+def functions(calls):
+    """The file of C's functions of calls, which adds them to others."""
+    lines = '\n'.join('    ' * 3 + function(call).strip() for call in calls if call.name not in IN_SYS)
+    return f'''//! The functions of calls in `curspan.h`. {WRITTEN}
+#![forbid(unsafe_code)]
+
+/// Hands these functions, and others after them, to a macro.
+macro_rules! with_calls {{
+    ($macro:ident! {{ $($others:tt)* }}) => {{
+        $macro! {{
+{lines}
+            $($others)*
+        }}
+    }};
+}}
+'''
+
+
+def forwarding(calls):
+    """The file of the methods that only hand on their call."""
     names = {call.name for call in calls}
-    yield 'rust/src/refusal.rs', 'variants', '\n'.join(f'    /// {words[0].upper()}{words[1:]}.\n    {name} = {number},' for number, name, words in numbered)
-    yield 'rust/src/refusal.rs', 'texts', f'const TEXTS: [(Refusal, &str); {len(refusals)}] = [\n' + ''.join(
-        applied('', [f'Refusal::{name}', f'"{words}"'], '    ') + ',\n' for _, name, words in numbered) + '];'
-    yield 'rust/src/sys.rs', 'functions', '\n'.join(function(call) for call in calls if call.name not in IN_SYS)
-    yield 'cases/replay/replay.c', 'calls', '\n'.join(map(replay_in_c, calls))
-    yield 'cases/replay/rust/src/calls.rs', 'calls', '\n'.join(map(replay_in_rust, calls))
-    yield 'rust/src/calls.rs', 'forwarding', '\n\n'.join(method(call, names) for call in calls if call.name not in BY_HAND)
+    methods = '\n\n'.join(method(call, names) for call in calls if call.name not in BY_HAND)
+    return f'''//! The methods that only hand on their call. {WRITTEN}
+#![forbid(unsafe_code)]
+
+use crate::{{sys, Attributes, Cell, Color, Pad, Panel, Refusal, Screen, Window}};
+
+#[allow(clippy::similar_names, clippy::too_many_arguments)]
+impl<W> Screen<W> {{
+{methods}
+}}
+'''
+
+
+def replay(calls):
+    """The file of the calls that a program of cases/replay makes in Rust."""
+    return f'''//! Each call by its name. {WRITTEN}
+
+use crate::{{questions, Answer, Arguments, Known}};
+use curspan::{{Error, Screen}};
+use std::io::Stdout;
+
+/// Makes a call or asks a question, and answers what the log says of its answer, if anything.
+#[rustfmt::skip]
+pub(crate) fn make(screen: &mut Screen<Stdout>, known: &mut Known, call: &str, a: &Arguments) -> Result<Option<String>, Error> {{
+    Ok(match call {{
+{chr(10).join(map(replay_in_rust, calls))}
+        _ => questions::ask(screen, known, call, a)?,
+    }})
+}}
+'''
+
+
+def files(refusals, groups):
+    """The text of each file, by its path."""
+    calls = calls_of(groups)
+    yield 'rust/src/written_refusal.rs', refusal_enum(refusals)
+    yield 'rust/src/written_functions.rs', functions(calls)
+    yield 'rust/src/written_calls.rs', forwarding(calls)
+    yield 'cases/replay/rust/src/written_calls.rs', replay(calls)
+    yield 'cases/replay/written_calls.h', f'/* Each call by its name. {WRITTEN} */\n' + ''.join(replay_in_c(call) + '\n' for call in calls)

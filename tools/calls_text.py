@@ -1,4 +1,5 @@
 """How tools/calls lays out what it writes."""
+import re
 import textwrap
 
 
@@ -6,6 +7,21 @@ def fill(text, indent, width=120, first=None):
     """A text in lines, which begin with an indent."""
     return textwrap.fill(text, width, initial_indent=indent if first is None else first, subsequent_indent=indent, break_on_hyphens=False,
                          break_long_words=False)
+
+
+def said_first(text):
+    """A text as a sentence begins."""
+    return text[0].upper() + text[1:]
+
+
+def code(text, indent):
+    """A text of Rattle in lines, those after the first further in. No line ends after a colon or before a brace."""
+    kept = re.sub(r'(?<=:) | (?=})', '\xa0', text)
+    return fill(kept, indent + ' ' * 4, first=indent).replace('\xa0', ' ')
+
+
+def ensures(text, indent):
+    return code(f'ensures {{ {text} }}', indent)
 
 
 def layout(head, items, tail, indent, most, braces='()'):

@@ -39,11 +39,11 @@ def asked_for(call):
     return f'self.{"find" if call.asks else "make"}(&{made}' + (' {' if call.arguments else ')')
 
 
-def files(groups, has_method):
+def files(groups):
     """The text of each file of wrong bodies, by its path."""
     path, bodies = 'crates/calls/wrong/written_methods.written.edits', []
     for _, calls in groups.values():
-        calls = [it for it in calls if has_method(it)]
+        calls = [it for it in calls if it.has_method()]
         for call in calls:
             name, first, made = wrong_body(call, calls)
             bodies.append(WrongBody(path, f'{call.name}_{name}', False, [(asked_for(call), first + asked_for(made))]))

@@ -13,23 +13,14 @@ Screen, Window, Pad and Panel have a method for each call, and each call that is
 OutsideWindow. The page docs/python.md explains all.
 """
 from ._curspan import Pad, Panel, Screen, Terminal, Window, commit as __commit__, version as __version__
-from ._errors import (
-    # Written by tools/calls from calls.table: imports
-    NoSuchWindow, NoSuchPanel, OffScreen, OutsideParent, OutsideWindow, HasDerived, InPanel, IsPad,
-    NotPad, NotDerived, BadSize, BadRegion, BadCharacter, StandardScreen, Hidden, ScrollingOff,
-    TooMany, NoMemory, BadRectangle, BadPair,
-    # End of what tools/calls wrote
-    Closed, Error, Refusal, TerminalError, WriteFailed,
-)
+from ._errors import Closed, Error, Refusal, TerminalError, WriteFailed
 from ._values import Attr, Cell, Color, Paste, Shown
 from ._wrapper import wrapper
+from . import _written_errors
+from ._written_errors import *
 
 __all__ = [
     'Terminal', 'wrapper', 'Screen', 'Window', 'Pad', 'Panel', 'Attr', 'Color', 'Cell', 'Shown', 'Paste',
-    # Written by tools/calls from calls.table: exported
-    'NoSuchWindow', 'NoSuchPanel', 'OffScreen', 'OutsideParent', 'OutsideWindow', 'HasDerived',
-    'InPanel', 'IsPad', 'NotPad', 'NotDerived', 'BadSize', 'BadRegion', 'BadCharacter',
-    'StandardScreen', 'Hidden', 'ScrollingOff', 'TooMany', 'NoMemory', 'BadRectangle', 'BadPair',
-    # End of what tools/calls wrote
     'Closed', 'Error', 'Refusal', 'TerminalError', 'WriteFailed', '__commit__', '__version__',
 ]
+__all__ += _written_errors.__all__

@@ -1,5 +1,4 @@
-"""Why a call did nothing: an exception for each reason, with its number in C."""
-from typing import Dict, Type
+"""Why a call did nothing. Each exception has its number in C, and `_written_errors` has those of refusals."""
 
 
 class Error(Exception):
@@ -9,110 +8,6 @@ class Error(Exception):
 
 class Refusal(Error):
     """A call that the library refuses: nothing is changed, and nothing sent."""
-
-
-# Written by tools/calls from calls.table: errors
-
-class NoSuchWindow(Refusal):
-    """There is no such window or pad."""
-    status = 1
-
-
-class NoSuchPanel(Refusal):
-    """There is no such panel."""
-    status = 2
-
-
-class OffScreen(Refusal):
-    """A part would lie off the screen, or there would be no cell."""
-    status = 3
-
-
-class OutsideParent(Refusal):
-    """A derived window or pad would not lie inside its parent, or have no cell."""
-    status = 4
-
-
-class OutsideWindow(Refusal):
-    """The window has no such place, line or rectangle."""
-    status = 5
-
-
-class HasDerived(Refusal):
-    """A window or pad derives from this one."""
-    status = 6
-
-
-class InPanel(Refusal):
-    """The window is in a panel."""
-    status = 7
-
-
-class IsPad(Refusal):
-    """The call is not for pads."""
-    status = 8
-
-
-class NotPad(Refusal):
-    """The call is for pads alone."""
-    status = 9
-
-
-class NotDerived(Refusal):
-    """The call is for windows and pads that derive from another one."""
-    status = 10
-
-
-class BadSize(Refusal):
-    """A screen or a pad has no such size."""
-    status = 11
-
-
-class BadRegion(Refusal):
-    """The region's first line is after its last, or the window has no such line."""
-    status = 12
-
-
-class BadCharacter(Refusal):
-    """The character is none that the call takes."""
-    status = 13
-
-
-class StandardScreen(Refusal):
-    """The call is not for the standard screen."""
-    status = 14
-
-
-class Hidden(Refusal):
-    """The panel is hidden."""
-    status = 15
-
-
-class ScrollingOff(Refusal):
-    """The window doesn't scroll."""
-    status = 16
-
-
-class TooMany(Refusal):
-    """There are 1000 windows and pads besides the standard screen, or 1000 panels."""
-    status = 17
-
-
-class NoMemory(Refusal, MemoryError):
-    """There is no memory for it."""
-    status = 18
-
-
-class BadRectangle(Refusal):
-    """A rectangle's first line or column is after its last."""
-    status = 19
-
-
-class BadPair(Refusal):
-    """There is no such colour pair or colour, or pair 0 was to be set."""
-    status = 20
-
-# End of what tools/calls wrote
 
 
 class WriteFailed(Error, MemoryError):
@@ -127,8 +22,3 @@ class Closed(Error):
 
 class TerminalError(Error):
     """A terminal can't be opened or used. Its text says why."""
-
-
-BY_STATUS: Dict[int, Type[Error]] = {it.status: it for it in [*Refusal.__subclasses__(), WriteFailed, Closed]}
-for _it in (Error, Refusal, TerminalError, *BY_STATUS.values()):
-    _it.__module__ = 'curspan'

@@ -34,7 +34,7 @@ static bool find(PyObject **place, const char *module, const char *name) {
 bool curspan_find_values(void) {
     if (!find(&attribute_type, "curspan._values", "Attr") || !find(&cell_type, "curspan._values", "Cell")) return false;
     if (!find(&shown_type, "curspan._values", "Shown") || !find(&colour_type, "curspan._values", "Color")) return false;
-    if (!find(&errors, "curspan._errors", "BY_STATUS") || !find(&error_of_terminals, "curspan._errors", "TerminalError")) return false;
+    if (!find(&errors, "curspan._statuses", "BY_STATUS") || !find(&error_of_terminals, "curspan._errors", "TerminalError")) return false;
     if (!find(&paste_type, "curspan._values", "Paste")) return false;
     for (int bits = 0; bits < ATTRIBUTES; bits++)
         if (!put(&attributes[bits], PyObject_CallFunction(attribute_type, "i", bits))) return false;

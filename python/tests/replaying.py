@@ -16,7 +16,7 @@ OF_PANELS = ('del_panel', 'show_panel', 'hide_panel', 'top_panel', 'bottom_panel
 FURTHER_WINDOWS = {'overlay': 1, 'overwrite': 1, 'copywin': 1, 'replace_panel': 1}
 WITH_ATTRIBUTES = ('attrset', 'attron', 'attroff', 'bkgdset')
 COUNTS = ('update_panels', 'doupdate')
-NUMBERS = {it.__name__: number for number, it in curspan._errors.BY_STATUS.items()}
+NUMBERS = {it.__name__: number for number, it in curspan._statuses.BY_STATUS.items()}
 
 
 def told(answer):

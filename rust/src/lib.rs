@@ -44,8 +44,10 @@
 #![deny(unsafe_code)]
 #![warn(missing_docs, clippy::pedantic)]
 
+#[macro_use]
+mod written_functions;
+
 mod attributes;
-mod calls;
 mod cells;
 mod error;
 mod handles;
@@ -56,14 +58,16 @@ mod screen;
 mod sys;
 pub mod terminal;
 mod text;
+mod written_calls;
+mod written_refusal;
 
 pub use attributes::Attributes;
 pub use cells::{Cell, Color, ShownCell};
 pub use error::Error;
 pub use handles::{Pad, Panel, Window, STDSCR};
-pub use refusal::Refusal;
 pub use screen::Screen;
 pub use text::{plain, WindowWriter};
+pub use written_refusal::Refusal;
 
 // The examples of the page on the crate run too.
 #[doc = include_str!("../README.md")]

@@ -11,7 +11,8 @@ use Rattle.world.specs.declared.call.Query.TheVariants.{Getyx}
 use Rattle.world.specs.declared.call.Stacking.TheVariants.{NewPanel, PanelAbove, PanelBelow}
 use Rattle.world.specs.declared.call.Refresh.TheVariants.{UpdatePanels}
 use Rattle.calls.specs.Queries.{is_query, only_asks}
-use Rattle.calls.specs.Refusals.{refusals_of, tested}
+use Rattle.calls.specs.Refusals.{tested}
+use Rattle.calls.specs.WrittenRefusals.{refusals_of}
 
 pub query-asks : (world : World) (call : Call) → is_query call ≡ only_asks (effect_of world call)
 query-asks world (calls.Making (Newwin lines columns y x)) = refl

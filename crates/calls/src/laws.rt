@@ -2,7 +2,8 @@
 
 ghost use Rattle.std.specs.Prelude.{◌≡◌};
 ghost use Rattle.calls.specs.Queries.{is_query, only_asks};
-ghost use Rattle.calls.specs.Refusals.{refusals_of, tested};
+ghost use Rattle.calls.specs.Refusals.{tested};
+ghost use Rattle.calls.specs.WrittenRefusals.{refusals_of};
 ghost use Rattle.world.specs.World.{World};
 ghost use Rattle.world.specs.calls.Dispatch.{effect_of};
 ghost use Rattle.world.specs.declared.call.Call.{Call};

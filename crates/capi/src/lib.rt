@@ -8,6 +8,7 @@
 //! - `number`: numbers as C passes them
 //! - `question`: what C asks beside the calls
 //! - `surface`: a screen whose bytes are kept
+//! - `written_numbers`: the numbers of refusals, written by a tool
 #![tactic(auto)]
 
 mod answer;
@@ -17,3 +18,4 @@ mod line;
 mod number;
 mod question;
 mod surface;
+mod written_numbers;

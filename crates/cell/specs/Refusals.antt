@@ -1,8 +1,8 @@
 -- Why a call is refused, as the log names it. X/Open Curses answers ERR alone; numbers and names are Curspan's own.
 use Rattle.std.specs.Prelude.{◌≡◌, ℕ, List, [], ◌∷◌, Bool, codes, Option, Some, None, if◌then◌else◌, Result, MatchResult, ◌⊎◌}
-use Rattle.cell.specs.declared.refusal.Refusal.{Refusal}
-use Rattle.cell.specs.declared.refusal.Refusal.TheVariants.{NoSuchWindow, NoSuchPanel, OffScreen, OutsideParent, OutsideWindow, HasDerived, InPanel, IsPad, NotPad, NotDerived, BadSize, BadRegion}
-use Rattle.cell.specs.declared.refusal.Refusal.TheVariants.{BadCharacter, StandardScreen, Hidden, ScrollingOff, TooMany, NoMemory, BadRectangle, BadPair}
+use Rattle.cell.specs.declared.written_refusals.Refusal.{Refusal}
+use Rattle.cell.specs.declared.written_refusals.Refusal.TheVariants.{NoSuchWindow, NoSuchPanel, OffScreen, OutsideParent, OutsideWindow, HasDerived, InPanel, IsPad, NotPad, NotDerived, BadSize, BadRegion}
+use Rattle.cell.specs.declared.written_refusals.Refusal.TheVariants.{BadCharacter, StandardScreen, Hidden, ScrollingOff, TooMany, NoMemory, BadRectangle, BadPair}
 
 -- of the tests that hold, the first one's refusal
 abbrev pub first_of : List (Bool × Refusal) → Option Refusal

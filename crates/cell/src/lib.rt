@@ -13,6 +13,7 @@
 //! - `shown`: renditions and shown cells
 //! - `virtual_screen`: what a painter reads of a virtual screen
 //! - `window`: numbers of windows, and rectangles
+//! - `written_refusals`: the refusals and their texts, written by a tool
 #![tactic(auto)]
 
 mod attr;
@@ -23,10 +24,11 @@ mod difference;
 mod grid;
 mod lanes;
 mod limits;
-mod refusal;
+pub mod refusal;
 mod shown;
 mod virtual_screen;
 mod window;
+mod written_refusals;
 
 pub use attr::{Attr, hex_digits};
 pub use cell::{Cell, are_printable, is_printable};

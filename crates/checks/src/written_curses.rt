@@ -1,4 +1,4 @@
-//! Names that are no calls, and what is said of them.
+//! Names that are no calls, and what is said of them. Written by tools/calls from curses.table.
 
 use crate::suggest::Row;
 use script::CopyingWord::*;
@@ -9,7 +9,6 @@ use script::StackingWord::*;
 use script::Word::*;
 use script::WritingWord::*;
 
-// Written by tools/calls from curses.table: curses
 #[rattlefmt::skip]
 pub const CURSES: [&[Row]; 10] = [
     &[(b"acs_hline acs_vline border border_set box box_set hline hline_set vline vline_set", &[Writing(Addstr)], b"lines are drawn by + - and |"),
@@ -122,4 +121,3 @@ pub const CURSES: [&[Row]; 10] = [
       (b"scroll_down scroll_up scrolldown scrollup", &[Writing(Scrl)], b""),
       (b"touch touch_window touchwindow", &[Copying(Touchwin)], b"")],
 ];
-// End of what tools/calls wrote

@@ -1,11 +1,9 @@
-//! The names of each call's arguments.
+//! The names of each call's arguments. Written by tools/calls from calls.table.
 
 ghost use Rattle.checks.specs.Findings.{HasNames};
 ghost use Rattle.script.specs.declared.words.Word.TheVariants as words;
 
 use script::{CopyingWord, MakingWord, QueryWord, RefreshWord, StackingWord, Word, WritingWord};
-
-// Written by tools/calls from calls.table: arguments
 
 #[rattlefmt::skip]
 fn of_making(word: MakingWord) -> &'static [u8]
@@ -101,5 +99,3 @@ pub fn names_of_arguments(word: Word) -> &'static [u8]
         Word::Refresh(word) => of_refresh(word),
     }
 }
-
-// End of what tools/calls wrote

@@ -18,12 +18,13 @@ ghost use Rattle.windows.specs.Calls.{Drew, its_frame, no_frame};
 ghost use Rattle.world.specs.Replies.{its_panel, no_answer};
 ghost use Rattle.stack.specs.Tables.{panels};
 ghost use Rattle.compose.specs.steps.Changes.{changed_panel, named_panel, ordered_panel};
-ghost use Rattle.compose.specs.steps.Outcomes.{Affects, Rearranges, as_outcome, drawn, numbered, shifted, unseen, with_frame, written_window};
+ghost use Rattle.compose.specs.steps.Outcomes.{Affects, Rearranges, as_outcome, drawn, numbered, shifted, unseen, with_frame};
 ghost use Rattle.compose.specs.Calling.{Called};
 
 use crate::damaging::Affected;
 use crate::desk::Desk;
 use crate::panels::{delete_window, move_panel, move_window, new_panel, replace_panel};
+use crate::written_windows::window_of;
 use cell::{Rect, Refusal, WinId};
 use grids::Grids;
 use stack::Stack;
@@ -54,37 +55,6 @@ pub(crate) fn make(table: &mut Grids, stack: &Stack, making: Making) -> Result<O
         Making::Delwin { win } => Outcome::unseen(delete_window(table, stack, win)),
         Making::Mvwin { win, y, x } => Outcome::unseen(move_window(table, stack, win, y, x)),
         Making::Mvderwin { win, y, x } => Outcome::shift(win, table.mvderwin(win, y, x)),
-    }
-}
-
-/// The window that a call writes in, or of which it sets how it is written in.
-fn window_of(writing: Writing<'_>) -> WinId
-    ensures { result.0 ≡ written_window writing.entry }
-{
-    match writing {
-        // Written by tools/calls from calls.table: windows
-        Writing::Move { win, .. } => win,
-        Writing::Addch { win, .. } => win,
-        Writing::Addstr { win, .. } => win,
-        Writing::Insch { win, .. } => win,
-        Writing::Delch { win } => win,
-        Writing::Insertln { win } => win,
-        Writing::Deleteln { win } => win,
-        Writing::Erase { win } => win,
-        Writing::Clear { win } => win,
-        Writing::Clrtoeol { win } => win,
-        Writing::Clrtobot { win } => win,
-        Writing::Scrl { win, .. } => win,
-        Writing::Setscrreg { win, .. } => win,
-        Writing::Scrollok { win, .. } => win,
-        Writing::Clearok { win, .. } => win,
-        Writing::Attrset { win, .. } => win,
-        Writing::Attron { win, .. } => win,
-        Writing::Attroff { win, .. } => win,
-        Writing::Bkgdset { win, .. } => win,
-        Writing::ColorSet { win, .. } => win,
-        Writing::Bkgdpair { win, .. } => win,
-        // End of what tools/calls wrote
     }
 }
 

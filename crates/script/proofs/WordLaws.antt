@@ -6,12 +6,12 @@ use Rattle.script.specs.steps.Rows.{find_named, words_like}
 use Rattle.script.specs.Words.{entry_of, word_of, words}
 use Rattle.script.specs.declared.words.Word.{Word}
 use Rattle.script.specs.declared.words.Word.TheVariants.{Making, Writing, Copying, Query, Stacking, Refresh}
-use Rattle.script.specs.declared.words.MakingWord.TheVariants.{Newwin}
-use Rattle.script.specs.declared.words.WritingWord.TheVariants.{Move}
-use Rattle.script.specs.declared.words.CopyingWord.TheVariants.{Overlay}
-use Rattle.script.specs.declared.words.QueryWord.TheVariants.{Getyx}
-use Rattle.script.specs.declared.words.StackingWord.TheVariants.{NewPanel}
-use Rattle.script.specs.declared.words.RefreshWord.TheVariants.{Noutrefresh}
+use Rattle.script.specs.declared.written_words.MakingWord.TheVariants.{Newwin}
+use Rattle.script.specs.declared.written_words.WritingWord.TheVariants.{Move}
+use Rattle.script.specs.declared.written_words.CopyingWord.TheVariants.{Overlay}
+use Rattle.script.specs.declared.written_words.QueryWord.TheVariants.{Getyx}
+use Rattle.script.specs.declared.written_words.StackingWord.TheVariants.{NewPanel}
+use Rattle.script.specs.declared.written_words.RefreshWord.TheVariants.{Noutrefresh}
 
 pub found_both_ways : (word : Word) → (word_of (entry_of word).word ≡ Some word) × (find_named (words_like (entry_of word).word) (entry_of word).word ≡ Some word)
 found_both_ways (Making Newwin) = (refl, refl)

@@ -1,6 +1,6 @@
 -- A word is searched for among those of its first letter, one after another.
 use Rattle.std.proofs.Common.{◌≡◌, ℕ, ◌+◌, ◌<◌, Bool, true, false, Option, Some, List, [], ◌∷◌, length, drop, get_or, find, add-one, drop-cons, map, ◌%◌, arith, slice_get, slice_index_or}
-use Rattle.script.specs.declared.words.TheConstants.{WORDS}
+use Rattle.script.specs.declared.written_words.TheConstants.{WORDS}
 use Rattle.script.specs.steps.Rows.{words_like}
 
 pub find-next : {A : Type 0} (p : A → Bool) (xs : List A) (i : ℕ) (d : A) (found : Option A) → i < length xs → p (get_or xs i d) ≡ false

@@ -18,17 +18,17 @@ use Rattle.world.specs.declared.call.Copying.TheVariants.{Overlay, Overwrite, Co
 use Rattle.world.specs.declared.call.Query.TheVariants.{Getyx, Getbegyx, Getmaxyx, Getparyx, Inch}
 use Rattle.world.specs.declared.call.Stacking.TheVariants.{NewPanel, DelPanel, ShowPanel, HidePanel, TopPanel, BottomPanel, MovePanel, ReplacePanel, PanelAbove, PanelBelow, PanelWindow, PanelHidden}
 use Rattle.world.specs.declared.call.Refresh.TheVariants.{Noutrefresh, Pnoutrefresh, UpdatePanels, Doupdate, InitPair}
-use Rattle.script.specs.declared.words.TheConstants.{WORDS}
+use Rattle.script.specs.declared.written_words.TheConstants.{WORDS}
 use Rattle.script.specs.declared.words.Form.{Form}
 use Rattle.script.specs.declared.words.Form.TheVariants.{Number, NumberOrNone, Signed, Attributes, Flag, Character, Text}
 use Rattle.script.specs.declared.words.Word.{Word}
 use Rattle.script.specs.declared.words.Word.TheVariants as word
-use Rattle.script.specs.declared.words.MakingWord.TheVariants as making
-use Rattle.script.specs.declared.words.WritingWord.TheVariants as writing
-use Rattle.script.specs.declared.words.CopyingWord.TheVariants as copying
-use Rattle.script.specs.declared.words.QueryWord.TheVariants as query
-use Rattle.script.specs.declared.words.StackingWord.TheVariants as stacking
-use Rattle.script.specs.declared.words.RefreshWord.TheVariants as refresh
+use Rattle.script.specs.declared.written_words.MakingWord.TheVariants as making
+use Rattle.script.specs.declared.written_words.WritingWord.TheVariants as writing
+use Rattle.script.specs.declared.written_words.CopyingWord.TheVariants as copying
+use Rattle.script.specs.declared.written_words.QueryWord.TheVariants as query
+use Rattle.script.specs.declared.written_words.StackingWord.TheVariants as stacking
+use Rattle.script.specs.declared.written_words.RefreshWord.TheVariants as refresh
 
 -- What the arguments of a call say. Its numbers are in their order.
 pub record Arguments : Type 0 where

@@ -9,7 +9,8 @@
 //! - `log`: the lines of the log
 //! - `numbers`: numbers, as digits
 //! - `text`: texts, with their escapes
-//! - `words`: the words, listed by first letter, with a row for each call
+//! - `words`: what a word says, by its row
+//! - `written_words`: the words, listed by first letter, with a row for each call, written by a tool
 #![tactic(auto)]
 
 mod arguments;
@@ -22,6 +23,7 @@ mod log;
 mod numbers;
 mod text;
 mod words;
+mod written_words;
 
 pub use arguments::Arguments;
 pub use bytes::{LineEnd, Lines};
@@ -30,6 +32,7 @@ pub use limits::{ALL_ATTRIBUTES, GREATEST_NUMBER, GREATEST_SIGNED, LONGEST_LINE,
 pub use line::{next_argument, read_line, split_at_space};
 pub use log::{LogLine, last_line, log_answer};
 pub use numbers::has_digits_alone;
-pub use words::{
-    CopyingWord, Form, MakingWord, QueryWord, RefreshWord, StackingWord, WORDS, Word, WritingWord,
+pub use words::{Form, Word};
+pub use written_words::{
+    CopyingWord, MakingWord, QueryWord, RefreshWord, StackingWord, WORDS, WritingWord,
 };

@@ -12,8 +12,10 @@ use std::collections::HashMap;
 use std::io::{self, BufRead};
 use std::{env, error};
 
-mod calls;
 mod questions;
+mod written_calls;
+
+use written_calls::make;
 
 /// The arguments of a call.
 struct Arguments<'a>(Vec<&'a str>);
@@ -166,7 +168,7 @@ fn main() -> Result<(), Box<dyn error::Error>> {
             words.next().expect("a line's number"),
             words.next().expect("a call"),
         );
-        let told = match calls::make(&mut screen, &mut known, call, &Arguments(words.collect())) {
+        let told = match make(&mut screen, &mut known, call, &Arguments(words.collect())) {
             Err(Error::Refused(refusal)) => Some(format!("E{}", refusal.number())),
             end => end?,
         };

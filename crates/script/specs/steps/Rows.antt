@@ -5,7 +5,7 @@ use Rattle.script.specs.Words.{Arguments, Entry, entry_of, placeless}
 use Rattle.script.specs.declared.limits.TheConstants.{MOST_ARGUMENTS}
 use Rattle.script.specs.declared.words.Row.{Row}
 use Rattle.script.specs.declared.words.Word.{Word}
-use Rattle.script.specs.declared.words.TheConstants.{WORDS}
+use Rattle.script.specs.declared.written_words.TheConstants.{WORDS}
 
 -- The row has the word and the forms of the entry, and the call that its arguments make.
 pub record IsRow (row : Row) (entry : Entry) (a : Arguments) : Type 0 where

@@ -1,7 +1,5 @@
-/* The methods of windows and pads: those that only hand on their call are written by tools/calls, and their rows with them. */
-#include "inside.h"
-
-/* Written by tools/calls from calls.table: methods */
+/* The methods of windows and pads. Written by tools/calls from calls.table. */
+#include "methods.h"
 
 static PyObject *window_subwin(PyObject *self, PyObject *const *given, Py_ssize_t count, PyObject *names) {
     static const Parameters parameters = {"subwin", 0, 4, {"lines", "columns", "y", "x"}};
@@ -307,10 +305,7 @@ static PyObject *window_pnoutrefresh(PyObject *self, PyObject *const *given, Py_
     return nothing(curspan_pnoutrefresh(HANDLE(self), NUMBER(self), pminrow, pmincol, sminrow, smincol, smaxrow, smaxcol));
 }
 
-/* End of what tools/calls wrote */
-
 PyMethodDef curspan_window_methods[] = {
-    /* Written by tools/calls from calls.table: window rows */
     {"subwin", AS_FUNCTION(window_subwin), METH_FASTCALL | METH_KEYWORDS,
      "subwin($self, lines=0, columns=0, y=0, x=0)\n"
      "--\n"
@@ -559,16 +554,11 @@ PyMethodDef curspan_window_methods[] = {
      "Takes what is touched of a window into the virtual screen, at the window's place, with its cursor.\n"
      "Then no place of it is touched; and if it asked for a clear screen, the virtual screen asks for it\n"
      "instead. Refused: NoSuchWindow, IsPad."},
-    /* End of what tools/calls wrote */
-    {"line", curspan_window_line, METH_O, "line($self, y, /)\n--\n\nThe characters of a line, as a text. Refused: NoSuchWindow, OutsideWindow."},
-    {"row", curspan_window_row, METH_O, "row($self, y, /)\n--\n\nThe cells of a line, a list of Cell. Refused: NoSuchWindow, OutsideWindow."},
-    {"__enter__", curspan_itself, METH_NOARGS, NULL},
-    {"__exit__", curspan_window_exit, METH_VARARGS, NULL},
+    OTHER_METHODS_OF_WINDOWS
     {NULL, NULL, 0, NULL},
 };
 
 PyMethodDef curspan_pad_methods[] = {
-    /* Written by tools/calls from calls.table: pad rows */
     {"subpad", AS_FUNCTION(window_subpad), METH_FASTCALL | METH_KEYWORDS,
      "subpad($self, lines=0, columns=0, y=0, x=0)\n"
      "--\n"
@@ -585,6 +575,6 @@ PyMethodDef curspan_pad_methods[] = {
      "beside the rectangle; and if the pad asked for a clear screen, the virtual screen asks for it\n"
      "instead. Refused: NoSuchWindow, NotPad; BadRectangle if a last line or column comes before its\n"
      "first; OutsideWindow if the rectangle isn't in the pad; OffScreen if it isn't on the screen."},
-    /* End of what tools/calls wrote */
+    OTHER_METHODS_OF_PADS
     {NULL, NULL, 0, NULL},
 };

@@ -1,4 +1,4 @@
-//! Each call by its name.
+//! Each call by its name. Written by tools/calls from calls.table.
 
 use crate::{questions, Answer, Arguments, Known};
 use curspan::{Error, Screen};
@@ -8,7 +8,6 @@ use std::io::Stdout;
 #[rustfmt::skip]
 pub(crate) fn make(screen: &mut Screen<Stdout>, known: &mut Known, call: &str, a: &Arguments) -> Result<Option<String>, Error> {
     Ok(match call {
-        // Written by tools/calls from calls.table: calls
         "newwin" => screen.newwin(a.number(0), a.number(1), a.number(2), a.number(3))?.text(known),
         "subwin" => screen.subwin(known.window(a.number(0)), a.number(1), a.number(2), a.number(3), a.number(4))?.text(known),
         "derwin" => screen.derwin(known.window(a.number(0)), a.number(1), a.number(2), a.number(3), a.number(4))?.text(known),
@@ -71,7 +70,6 @@ pub(crate) fn make(screen: &mut Screen<Stdout>, known: &mut Known, call: &str, a
         "update_panels" => screen.update_panels().text(known),
         "doupdate" => screen.doupdate()?.text(known),
         "init_pair" => screen.init_pair(a.number(0), a.color(1)?, a.color(2)?)?.text(known),
-        // End of what tools/calls wrote
         _ => questions::ask(screen, known, call, a)?,
     })
 }

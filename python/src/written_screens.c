@@ -1,7 +1,5 @@
-/* The methods of screens and panels: those that only hand on their call are written by tools/calls, and their rows with them. */
-#include "inside.h"
-
-/* Written by tools/calls from calls.table: methods */
+/* The methods of screens and panels. Written by tools/calls from calls.table. */
+#include "methods.h"
 
 static PyObject *screen_newwin(PyObject *self, PyObject *const *given, Py_ssize_t count, PyObject *names) {
     static const Parameters parameters = {"newwin", 0, 4, {"lines", "columns", "y", "x"}};
@@ -85,10 +83,7 @@ static PyObject *screen_update_panels(PyObject *self, PyObject *none) {
     return number(curspan_update_panels(&SCREEN(self)->handle));
 }
 
-/* End of what tools/calls wrote */
-
 PyMethodDef curspan_screen_methods[] = {
-    /* Written by tools/calls from calls.table: screen rows */
     {"newwin", AS_FUNCTION(screen_newwin), METH_FASTCALL | METH_KEYWORDS,
      "newwin($self, lines=0, columns=0, y=0, x=0)\n"
      "--\n"
@@ -120,27 +115,11 @@ PyMethodDef curspan_screen_methods[] = {
      "Gives a colour pair a foreground and a background: 0 black, 1 red, 2 green, 3 yellow, 4 blue, 5\n"
      "magenta, 6 cyan, 7 white. What is shown already stays. Refused: BadPair for pair 0, for one past 63,\n"
      "and for a colour past 7."},
-    /* End of what tools/calls wrote */
-    {"bottom_panel", curspan_screen_bottom_panel, METH_NOARGS, "bottom_panel($self)\n--\n\nThe visible panel at the bottom, or None."},
-    {"top_panel", curspan_screen_top_panel, METH_NOARGS, "top_panel($self)\n--\n\nThe visible panel on top, or None."},
-    {"line", curspan_screen_line, METH_O,
-     "line($self, y, /)\n--\n\nThe characters of a line of the virtual screen, as a text. Refused: OutsideWindow."},
-    {"row", curspan_screen_row, METH_O,
-     "row($self, y, /)\n--\n\nThe cells of a line of the virtual screen, a list of Shown: as the last doupdate showed them, or the next will.\n"
-     "Refused: OutsideWindow."},
-    {"take", curspan_screen_take, METH_NOARGS,
-     "take($self)\n--\n\nMoves the bytes for the terminal out that were sent and not taken yet, in order. With a file doupdate does so."},
-    {"invalidate", curspan_screen_invalidate, METH_NOARGS,
-     "invalidate($self)\n--\n\nSays that the terminal may show anything: the next doupdate clears it and sends all."},
-    {"close", curspan_screen_close, METH_NOARGS,
-     "close($self)\n--\n\nFrees the screen with all that it has. Each further call is refused as Closed. The file stays open, and nothing is sent."},
-    {"__enter__", curspan_screen_enter, METH_NOARGS, NULL},
-    {"__exit__", curspan_screen_exit, METH_VARARGS, NULL},
+    OTHER_METHODS_OF_SCREENS
     {NULL, NULL, 0, NULL},
 };
 
 PyMethodDef curspan_panel_methods[] = {
-    /* Written by tools/calls from calls.table: panel rows */
     {"delete", AS_FUNCTION(curspan_panel_delete), METH_NOARGS,
      "delete($self)\n"
      "--\n"
@@ -198,8 +177,6 @@ PyMethodDef curspan_panel_methods[] = {
      "--\n"
      "\n"
      "Whether a panel is hidden. Refused: NoSuchPanel."},
-    /* End of what tools/calls wrote */
-    {"__enter__", curspan_itself, METH_NOARGS, NULL},
-    {"__exit__", curspan_panel_exit, METH_VARARGS, NULL},
+    OTHER_METHODS_OF_PANELS
     {NULL, NULL, 0, NULL},
 };

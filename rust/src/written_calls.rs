@@ -1,12 +1,10 @@
-//! The methods that only hand on their call.
+//! The methods that only hand on their call. Written by tools/calls from calls.table.
 #![forbid(unsafe_code)]
 
 use crate::{sys, Attributes, Cell, Color, Pad, Panel, Refusal, Screen, Window};
 
 #[allow(clippy::similar_names, clippy::too_many_arguments)]
 impl<W> Screen<W> {
-    // Written by tools/calls from calls.table: forwarding
-
     /// Makes a window at a place of the screen, with a blank grid of its own. A size of 0 reaches
     /// to the edge of the screen.
     ///
@@ -834,6 +832,4 @@ impl<W> Screen<W> {
         )?;
         Ok(())
     }
-
-    // End of what tools/calls wrote
 }
