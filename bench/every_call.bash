@@ -1,5 +1,5 @@
 # Lines of scripts that make every call, for bench/memory and bench/budgets.
-# shellcheck shell=bash disable=SC2034
+# shellcheck shell=bash disable=SC2034,SC2154
 
 # Windows and pads to call on: 1 has a grid and scrolls, 2 derives from it, 3 is a pad, and 4 derives from that; 5, 6
 # and 7 are for panels, of which 1 has 5, 2 has 6, and 3 was deleted.
@@ -23,32 +23,24 @@ derwin 1 2 3 1 1:1
 subwin 1 2 3 1 1:1
 subpad 3 2 3 1 1:1'
 
-# All other calls, but delwin, which is counted with what it deletes. A semicolon is between calls that go together.
-others='addch 1 x
+# All other calls, but delwin, which is counted with what it deletes: those that set something of a window or ask, by their
+# types, and the rest. A semicolon is between calls that go together.
+others=$("$root/bench/lines" 2)
+others+='
+addch 1 x
 addstr 1 some text\nand more of it, past the end
 addstr 3 some text in a pad
-attrset 1 11
-attron 1 02
-attroff 1 01
 bkgdset 1 04 .
-bkgdpair 1 2
 bottom_panel 2
 clear 2
-clearok 1 on
 clrtobot 2
 clrtoeol 2
-color_set 1 3
 copywin 0 3 0 0 0 0 4 8 on
 copywin 1 2 0 1 0 0 1 3 off
 delch 1
 deleteln 1
 erase 4
-getbegyx 2
-getmaxyx 3
-getparyx 4
-getyx 1
 hide_panel 1; show_panel 1
-inch 2
 init_pair 3 1 4
 insch 1 y
 insertln 2
@@ -70,7 +62,6 @@ pnoutrefresh 3 0 0 1 1 3 4
 replace_panel 1 7; replace_panel 1 5
 scrl 1 1
 scrl 1 -1
-scrollok 1 on
 setscrreg 1 0 2
 syncdown 2
 syncup 2

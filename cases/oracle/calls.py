@@ -1,8 +1,6 @@
 """The words of a script: of each call the forms of its arguments, by calls.table, and what it does to the world."""
-import pathlib
-import re
-
 from . import copying, making, refreshing, stacking, writing
+from .table import TABLE
 
 FORMS = {'window': 'number', 'panel': 'number', 'colour': 'number', 'panel_or_none': 'number_or_none'}
 
@@ -13,16 +11,8 @@ def named(word):
     return next(getattr(group, word) for group in (making, writing, copying, stacking, refreshing) if hasattr(group, word))
 
 
-def calls():
-    """Of each word the forms of its arguments and its function."""
-    table = pathlib.Path(__file__).resolve().parents[2] / 'calls.table'
-    head = r'(?m)^(\w+)(?: \((\w+)[^)]*\))?((?: \w+:\w+)*) (?:->|asks) \w+$'
-    for name, other, arguments in re.findall(head, table.read_text()):
-        word = other or name
-        yield word, ([FORMS.get(kind, kind) for kind in re.findall(r':(\w+)', arguments)], named(word))
-
-
-CALLS = dict(calls())
+# Of each word the forms of its arguments and its function.
+CALLS = {word: ([FORMS.get(kind, kind) for _, kind in call.arguments], named(word)) for word, call in TABLE.items()}
 
 
 def make(world, call, arguments):

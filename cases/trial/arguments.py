@@ -1,4 +1,5 @@
 """What follows each word of a script: arguments that the world accepts, mostly, and some that it doesn't."""
+from oracle.table import TABLE
 from oracle.world import STANDARD_SCREEN
 
 WILD_NUMBERS = (0, 1, 2, 63, 64, 255, 256, 998, 999, 1000, 1001, 32767, 32768, 65535)
@@ -22,8 +23,24 @@ class Arguments:
 
     def of(self, word):
         """The arguments of a word, numbers and bytes."""
-        said = getattr(self, 'for_' + word, self.one_window)()
-        return [self.maybe_wild(said_word) for said_word in said]
+        maker = getattr(self, 'for_' + word, None)
+        return [self.maybe_wild(it) for it in (maker() if maker else self.by_types(word))]
+
+    def by_types(self, word):
+        """Arguments by their names and types; places are of a window that comes first."""
+        said = []
+        for name, kind in TABLE[word].arguments:
+            window = self.window_of(said[0] if said else None)
+            by_name = {'pair': self.a_pair, 'x': lambda: self.near(window.columns)}
+            said.append(by_name[name]() if name in by_name else self.by_type(kind, window))
+        return said
+
+    def by_type(self, kind, window):
+        """An argument of a type. A number is that of a line of the window."""
+        makers = {'window': self.a_window, 'panel': self.a_panel, 'panel_or_none': self.a_panel_or_none, 'flag': self.a_flag, 'attributes': self.attributes,
+                  'character': self.character, 'colour': lambda: self.chance.randrange(8), 'number': lambda: self.near(window.lines),
+                  'signed': lambda: self.chance.randint(-window.lines, window.lines)}
+        return makers[kind]()
 
     def maybe_wild(self, said):
         if isinstance(said, int) and not isinstance(said, bool) and self.chance.random() < self.wildness:
@@ -70,6 +87,9 @@ class Arguments:
         if not self.world.panels or self.chance.random() < self.wildness:
             return self.chance.randrange(len(self.world.panels) + 2)
         return self.chance.choice(list(self.world.panels))
+
+    def a_panel_or_none(self):
+        return b'none' if self.chance.random() < 0.3 else self.a_panel()
 
     # Making and placing.
 
@@ -118,12 +138,9 @@ class Arguments:
             return [self.chance.randint(1, 4), self.chance.choice((999, 1000, 1001))]
         return [self.chance.randint(1, 2 * min(self.world.lines, 12)), self.chance.randint(1, 2 * min(self.world.columns, 20))]
 
-    def one_window(self):
-        return [self.a_window()]
-
     def for_delwin(self):
         if self.chance.random() < 0.3:
-            return self.one_window()
+            return [self.a_window()]
         hidden = [w for p, w in self.world.panels.items() if p not in self.world.visible]
         if hidden and self.chance.random() < 0.3:
             return [self.chance.choice(hidden)]
@@ -145,11 +162,6 @@ class Arguments:
 
     # Writing.
 
-    def for_move(self):
-        w = self.a_window()
-        lines, columns = size_of(self.window_of(w))
-        return [w, self.near(lines), self.near(columns)]
-
     def character(self, others=b'\n\r\b'):
         kind = self.chance.random()
         if kind < self.spaces:
@@ -159,9 +171,6 @@ class Arguments:
         if kind > 0.9 and others:
             return self.chance.choice((others[0:1], others[0:1], others[1:2], others[2:3]))
         return bytes([self.chance.choice(LETTERS + b'\\' if kind < 0.85 else range(32, 127))])
-
-    def for_addch(self):
-        return [self.a_window(), self.character()]
 
     def for_addstr(self):
         longest = self.chance.choice((1, 4, self.longest_text))
@@ -187,29 +196,11 @@ class Arguments:
     def a_flag(self):
         return self.chance.random() < 0.75
 
-    def for_scrollok(self):
-        return [self.a_window(), self.a_flag()]
-
-    for_clearok = for_scrollok
-
     def attributes(self):
         return f'{self.chance.choice((0, 1, 2, 4, 8, 16, 32, 63, self.chance.randrange(64))):02x}'.encode()
 
-    def for_attrset(self):
-        return [self.a_window(), self.attributes()]
-
-    for_attron = for_attroff = for_attrset
-
-    def for_bkgdset(self):
-        return [self.a_window(), self.attributes(), self.character(b'')]
-
     def a_pair(self):
         return self.chance.choice((0, 1, 2, 3, 63, self.chance.randrange(66)))
-
-    def for_color_set(self):
-        return [self.a_window(), self.a_pair()]
-
-    for_bkgdpair = for_color_set
 
     # Copies and marks.
 
@@ -288,10 +279,6 @@ class Arguments:
     def for_touchln(self):
         return [*self.for_touchline(), self.a_flag()]
 
-    def for_is_linetouched(self):
-        w = self.a_window()
-        return [w, self.near(self.window_of(w).lines)]
-
     def for_syncup(self):
         return [self.a_window(lambda w, window: window.parent is not None)]
 
@@ -310,12 +297,6 @@ class Arguments:
     def for_new_panel(self):
         return [self.free_window()]
 
-    def one_panel(self):
-        return [self.a_panel()]
-
-    for_del_panel = for_show_panel = for_hide_panel = for_top_panel = for_bottom_panel = one_panel
-    for_panel_window = for_panel_hidden = one_panel
-
     def for_move_panel(self):
         p = self.a_panel()
         return [p, *self.on_screen(self.world.panels.get(p))]
@@ -323,17 +304,7 @@ class Arguments:
     def for_replace_panel(self):
         return [self.a_panel(), self.free_window()]
 
-    def for_panel_above(self):
-        return [b'none' if self.chance.random() < 0.3 else self.a_panel()]
-
-    for_panel_below = for_panel_above
-
     # Refresh.
-
-    def nothing(self):
-        return []
-
-    for_update_panels = for_doupdate = nothing
 
     def for_noutrefresh(self):
         return [self.a_window(lambda w, window: not window.is_pad())]

@@ -1,25 +1,15 @@
 """What must hold of a program in another language that makes the calls of a script."""
-import pathlib
 import re
 
 from oracle.calls import CALLS
 from oracle.script import faults_of, lines_of, read_line
+from oracle.table import TABLE
 
 from .asking import Asking
 from .differing import want
 from .program import Program
 
 NO_NUMBER = 65535     # of no window or panel
-TABLE = pathlib.Path(__file__).resolve().parent.parent.parent / 'calls.table'
-
-
-def names_of_words():
-    """Each call's name in C, by its word."""
-    heads = re.findall(r'(?m)^(\w+)(?: \((\w+)\))?(?: \w+:\w+)* (?:->|asks) \w+$', TABLE.read_text())
-    return {word or name: name for name, word in heads}
-
-
-NAMES = names_of_words()
 
 
 class Replay(Program):
@@ -42,7 +32,7 @@ def plain(said, form):
 def plain_call(call):
     """The call's name in C, and its arguments."""
     forms, _ = CALLS[call.word]
-    return ' '.join([NAMES[call.word], *map(plain, call.arguments, forms)])
+    return ' '.join([TABLE[call.word].name, *map(plain, call.arguments, forms)])
 
 
 def with_questions(script, text, log):

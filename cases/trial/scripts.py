@@ -2,24 +2,32 @@
 from oracle.calls import CALLS
 from oracle.running import Run
 from oracle.script import LONGEST_LINE
+from oracle.table import TABLE
 
 from .arguments import LETTERS, Arguments
 from .spoiling import quiet_line, spoiled
 
-GROUPS = {
-    'windows': 'newwin subwin derwin newpad subpad delwin mvwin mvderwin',
-    'texts': 'move addch addstr addstr addstr',
-    'editing': 'insch delch insertln deleteln erase clear clrtoeol clrtobot scrl setscrreg scrollok',
-    'settings': 'attrset attron attroff bkgdset color_set bkgdpair init_pair clearok',
-    'copies': 'overlay overlay overwrite copywin copywin copywin',
-    'marks': 'touchwin untouchwin touchline touchln syncup syncdown is_linetouched is_wintouched',
-    'queries': 'getyx getbegyx getmaxyx getparyx inch',
-    'panels': 'new_panel del_panel show_panel hide_panel top_panel bottom_panel move_panel replace_panel',
-    'neighbours': 'panel_above panel_below panel_window panel_hidden',
-    'refresh': 'noutrefresh pnoutrefresh doupdate update_panels',
-}
+COPIES = ['overlay', 'overwrite', 'copywin']
+
+
+def theme_of(call):
+    """The theme of a call: its group, of which those that set something, and those on panels that ask, are themes of their own."""
+    if any(name in ('attrs', 'pair', 'flag') for name, _ in call.arguments) and call.group in ('Writing', 'Refresh'):
+        return 'settings'
+    return 'neighbours' if call.asks and call.group == 'Stacking' else call.group
+
+
+def themes():
+    """The words of each theme, and of two more those that scripts are to have most."""
+    words = {'texts': 'move addch addstr addstr addstr'.split(), 'copies': COPIES * 2 + ['copywin']}
+    for word, call in TABLE.items():
+        words.setdefault(theme_of(call), []).append(word)
+    return words
+
+
+GROUPS = themes()
 PLACED = ('addch', 'addstr', 'insch', 'delch', 'insertln', 'deleteln', 'clrtoeol', 'clrtobot', 'inch')   # at the cursor
-WITH_EFFECTS = f'{GROUPS["copies"]} {GROUPS["settings"]}'.split()   # of which a window then shows what they did
+WITH_EFFECTS = COPIES + GROUPS['settings']   # of which a window then shows what they did
 UP = (b'update_panels', b'doupdate')
 ESCAPED = {10: b'\\n', 13: b'\\r', 8: b'\\b', 92: b'\\\\'}
 
@@ -78,7 +86,7 @@ class Walk:
         theme = self.chance.choice(list(GROUPS))
         for name, group in GROUPS.items():
             liking = self.chance.choice((0, 1, 1, 2, 3)) + (name == 'texts') + 5 * (name == theme)
-            for word in group.split():
+            for word in group:
                 words += [word] * (liking * self.chance.choice((0, 1, 1, 3)))
         return words or ['addstr']
 
@@ -150,7 +158,7 @@ class Walk:
 
     def show_effect(self, word):
         """Asks of the window what it holds, or lets a setting have an effect first."""
-        if word not in GROUPS['copies'].split():
+        if word not in COPIES:
             self.write(b'%b %d' % (self.chance.choice((b'erase', b'clrtoeol', b'clrtobot', b'addstr', b'delch')), self.arguments.last)
                        + (b' a  b' if self.chance.random() < 0.3 else b''))
         self.ask(self.arguments.last)
@@ -163,7 +171,7 @@ class Walk:
     def update(self):
         """Updates the terminal, sometimes after more than one refresh, between which something was written."""
         for _ in range(self.chance.choice((0, 0, 0, 0, 0, 1, 2))):
-            w, y, x = self.arguments.for_move()
+            w, y, x = self.arguments.by_types('move')
             if w in self.run.world.windows:
                 self.write(b'update_panels')
                 self.write(b'move %d %d %d' % (w, y, x))
@@ -181,7 +189,7 @@ class Walk:
 
     def colour_anew(self):
         """Gives a pair other colours, in which a text is shown."""
-        w, pair = self.arguments.for_color_set()
+        w, pair = self.arguments.by_types('color_set')
         self.write(b'color_set %d %d' % (w, pair))
         self.write(b'addstr %d abc' % w)
         self.update()

@@ -1,21 +1,13 @@
 """Makes the calls of a script by the methods of Python, and writes the log that `curspan run` writes."""
-import re
-
 import curspan
 from curspan import Attr
 from oracle.running import answer_text
 from oracle.script import Fault, lines_of, read_line
+from oracle.table import TABLE
 from trial.asking import Asking, line_text
+from calls_python import Method  # of tools, as oracle.table finds it
 
-# Calls that have another name as methods.
-NAMES = {'scrl': 'scroll', 'delwin': 'delete', 'del_panel': 'delete'}
-OF_SCREENS = ('newwin', 'newpad', 'init_pair', 'update_panels', 'doupdate')
-OF_PANELS = ('del_panel', 'show_panel', 'hide_panel', 'top_panel', 'bottom_panel', 'move_panel', 'replace_panel', 'panel_above', 'panel_below',
-             'panel_window', 'panel_hidden')
-# The places of further windows among the arguments, of attributes, and of texts and characters.
-FURTHER_WINDOWS = {'overlay': 1, 'overwrite': 1, 'copywin': 1, 'replace_panel': 1}
-WITH_ATTRIBUTES = ('attrset', 'attron', 'attroff', 'bkgdset')
-COUNTS = ('update_panels', 'doupdate')
+METHODS = {word: Method(call, {}) for word, call in TABLE.items()}
 NUMBERS = {it.__name__: number for number, it in curspan._statuses.BY_STATUS.items()}
 
 
@@ -76,7 +68,7 @@ class Replay:
         self.note(word, arguments, answer)
         if word in ('panel_above', 'panel_below') and answer is None:
             answer = 'none'
-        if word not in COUNTS:
+        if not TABLE[word].answer.startswith('count'):
             self.tell(number, told(answer))
 
     def ask(self, name, arguments):
@@ -149,26 +141,21 @@ class Replay:
         return self.panels.get(number) or self.chance.choice(self.gone['panel'])
 
     def call(self, word, arguments):
-        name = NAMES.get(word, word)
+        method, receiver = METHODS[word], self.screen
         if word in ('panel_above', 'panel_below') and arguments[0] is None:
             return self.screen.bottom_panel() if word == 'panel_above' else self.screen.top_panel()
-        if word in FURTHER_WINDOWS:
-            place = FURTHER_WINDOWS[word]
-            arguments[place] = self.window(arguments[place])
-        if word in WITH_ATTRIBUTES:
-            arguments[1] = Attr(int(arguments[1], 16) if isinstance(arguments[1], bytes) else arguments[1])
-        if word == 'bkgdset':
-            arguments[1:] = reversed(arguments[1:])
-        if word in OF_SCREENS:
-            receiver = self.screen
-        elif word in OF_PANELS:
-            receiver = self.panel(arguments.pop(0))
-            name = re.sub('_?panel_?', '', name)
-        else:
-            receiver = self.window(arguments.pop(0))
-            if not hasattr(receiver, name) and name in ('subpad', 'pnoutrefresh'):   # no method of windows
-                raise curspan.NoSuchWindow if receiver in self.gone['window'] else curspan.NotPad
-        return self.by_chance(receiver, name, [self.as_text(it) for it in arguments])
+        given = {name: self.object(kind, it) for (name, kind), it in zip(TABLE[word].arguments, arguments)}
+        if method.owner != 'screen':
+            receiver = given.pop(TABLE[word].arguments[0][0])
+        if method.type == 'pad' and not hasattr(receiver, method.name):     # no method of windows
+            raise curspan.NoSuchWindow if receiver in self.gone['window'] else curspan.NotPad
+        return self.by_chance(receiver, method.name, [self.as_text(given[name]) for name, _ in method.parameters])
+
+    def object(self, kind, it):
+        """An argument as Python has it."""
+        if kind == 'attributes':
+            return Attr(int(it, 16) if isinstance(it, bytes) else it)
+        return self.window(it) if kind == 'window' else self.panel(it) if kind.startswith('panel') else it
 
     def as_text(self, value):
         """Bytes as a text, at times, where they are one."""
