@@ -17,5 +17,3 @@ mod of_script;
 mod of_small_set;
 #[cfg(test)]
 mod of_streams;
-#[cfg(test)]
-mod rows;

@@ -1,6 +1,5 @@
 //! What lines of scripts say, how they are read from pieces, and the lines of the log.
 
-use crate::rows::{ROWS, Row};
 use cell::{Attr, Cell, Refusal, WinId};
 use faulty::{Halting, Pieces};
 use script::{
@@ -15,19 +14,6 @@ use world::{Composed, PanelId, Reply};
 /// Whether a fault is written so.
 fn is_fault(alloc: Global, fault: TextFault, text: &str) -> Result<bool, AllocError> {
     Ok(format!(in alloc; "{fault}")?.as_str() == text)
-}
-
-/// Whether a row's line makes its call.
-fn makes_call(row: &Row) -> bool {
-    let line = row.0.as_bytes();
-    if line.len() > LONGEST_LINE {
-        return false;
-    }
-    let mut arguments = Arguments::new();
-    match read_line(line, &mut arguments) {
-        Ok(Some(word)) => row.makes(word.call(&arguments)),
-        _ => false,
-    }
 }
 
 /// Whether a line makes no call, and that is said of it.
@@ -58,13 +44,6 @@ static OTHERS: [(&str, &[&str]); 5] = [
         "panel_above None", "panel_below 01", "panel_window none", "getyx none",
     ]),
 ];
-
-#[test]
-fn words_make_their_calls(rt: HostRuntime) {
-    for row in &ROWS {
-        assert!(rt; makes_call(row), "at {}", row.0);
-    }
-}
 
 #[test]
 fn other_lines_have_their_faults(rt: HostRuntime) -> Result<(), Fail> {

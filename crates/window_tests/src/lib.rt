@@ -1,5 +1,5 @@
-//! The tests of `extents`, `grids`, `windows`, `stack`, `picture`, `compose` and `desk`, by public calls alone: what a call does is
-//! tried by scripts; and of screens over writers that fail, by runs and histories of calls.
+//! The tests of `extents`, `grids`, `stack`, `picture`, `compose` and `desk`, by public calls alone, and of screens over writers
+//! that fail, by runs and histories of calls. What a call does is proved, and tried by `cases`.
 //! `docs/DECISIONS.md` says why tests have crates of their own.
 #![tactic(auto)]
 
@@ -12,8 +12,6 @@ mod of_grids;
 #[cfg(test)]
 mod of_histories;
 #[cfg(test)]
-mod of_panels;
-#[cfg(test)]
 mod of_picture;
 #[cfg(test)]
 mod of_runs;
@@ -21,8 +19,6 @@ mod of_runs;
 mod of_scripts;
 #[cfg(test)]
 mod of_stack;
-#[cfg(test)]
-mod of_windows;
 #[cfg(test)]
 mod screens;
 #[cfg(test)]

@@ -2,7 +2,7 @@
 //! helpers without a contract make them.
 
 use calls::Calls;
-use cell::{Refusal, WinId};
+use cell::Refusal;
 use compose::Desk;
 use script::{Arguments, LONGEST_LINE, log_answer, read_line};
 use std::alloc::Global;
@@ -42,16 +42,4 @@ pub(crate) fn run(desk: &mut Desk, alloc: Global, script: &str) -> Result<Vec<u8
         }
     }
     Ok(log.into_inner())
-}
-
-/// The characters of a window, line after line.
-pub(crate) fn text(desk: &Desk, alloc: Global, win: WinId) -> Result<Vec<u8>, Fail> {
-    let (lines, _) = desk.windows().table.getmaxyx(win)?;
-    let mut text = Vec::new(alloc);
-    for y in 0..lines {
-        for cell in desk.row(win, y) {
-            text.push(cell.ch())?;
-        }
-    }
-    Ok(text)
 }
