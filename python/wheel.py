@@ -1,5 +1,5 @@
 #!/usr/bin/env python3
-"""Makes the wheel of Curspan for Python out of the library that ./curspan-lib built: cc compiles the extension, and Python's own modules do
+"""Makes the wheel of Curspan for Python out of the library that tools/curspan-lib built: cc compiles the extension, and Python's own modules do
 the rest. It is what `pip` asks by pyproject.toml, too."""
 import argparse
 import base64
@@ -60,7 +60,7 @@ def link(to, shared=False, target=THIS):
     """Compiles and links the extension, with the archive, or with the shared library."""
     library = ROOT / 'build' / ('' if target == THIS else target) / ('libcurspan.so' if shared else 'libcurspan.a')
     if not library.exists():
-        sys.exit(f'wheel: there is no {library}: {"./curspan-lib" if target == THIS else "tools/build_for " + target} builds it')
+        sys.exit(f'wheel: there is no {library}: {"tools/curspan-lib" if target == THIS else "tools/build_for " + target} builds it')
     if not (HEADERS / 'Python.h').exists():
         sys.exit(f"wheel: {sys.executable} has no headers in {HEADERS}: Debian's are in python3-dev")
     with tempfile.TemporaryDirectory() as work:

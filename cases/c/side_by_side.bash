@@ -1,6 +1,6 @@
 # What the scripts share that compare programs of cases/c over ncurses and over Curspan, in a terminal of 24 lines by 80 columns. Whoever
 # sources it has set part, its name. Status 77 where gcc, libncurses-dev, tmux, tic or python3 is missing, or the library isn't built
-# (./curspan-lib).
+# (tools/curspan-lib).
 # shellcheck shell=bash
 root=$(dirname "$(readlink -f "${BASH_SOURCE[0]}")")/../..
 work=$(mktemp -d)
@@ -20,7 +20,7 @@ for tool in gcc tmux tic python3; do
     command -v "$tool" > /dev/null || skip "$tool is not installed"
 done
 echo '#include <panel.h>' | gcc -E - > /dev/null 2>&1 || skip 'libncurses-dev is not installed'
-[ -f "$root/build/libcurspan.a" ] || skip 'the library is not built by ./curspan-lib'
+[ -f "$root/build/libcurspan.a" ] || skip 'the library is not built by tools/curspan-lib'
 
 # A terminal of just what Curspan writes to one whose type it doesn't know: without an alternate character set, so that ncurses draws lines in
 # ASCII too.
