@@ -1,11 +1,11 @@
 //! Streams that a signal interrupts, and outputs that nobody reads.
 
-use faulty::{Halting, Interrupted, Pieces, Unread};
 use std::alloc::Global;
 use std::cell::Cell;
 use std::io;
 use std::io::{ErrorKind, Read, Write};
 use streams::{Output, OutputLog, Patient};
+use test_streams::{Halting, Interrupted, Pieces, Unread};
 
 /// Whether three reads of two bytes answer that, and leave these in their room.
 fn gives<R: Read>(mut reader: R, answers: [Result<usize, ErrorKind>; 3], left: &[u8]) -> bool

@@ -4,10 +4,10 @@ ghost use Rattle.std.specs.Prelude.{◌≡◌, IfOk, false};
 ghost use Rattle.cell.specs.Pictures.{HasSize};
 
 use cell::{Attr, Colour, ColourPair, Grid, Refusal, Rendition, Shown, VirtualScreen};
-use faulty::Halting;
 use paint::{Counted, Painter, Sent, Sink, WriteFault};
 use std::alloc::Global;
 use std::test::Fail;
+use test_streams::Halting;
 
 /// A picture with the cursor at a place, which wants no clear screen.
 #[derive(Drop)]

@@ -1,7 +1,6 @@
 //! What lines of scripts say, how they are read from pieces, and the lines of the log.
 
 use cell::{Attr, Cell, Refusal, WinId};
-use faulty::{Halting, Pieces};
 use script::{
     Arguments, LONGEST_LINE, LineEnd, Lines, ScriptFault, TextFault, last_line, log_answer,
     read_line,
@@ -9,6 +8,7 @@ use script::{
 use std::alloc::{AllocError, Global};
 use std::test::Fail;
 use streams::{Counted, CountedReader, Sent, WriteFault};
+use test_streams::{Halting, Pieces};
 use world::{Composed, PanelId, Reply};
 
 /// Whether a fault is written so.

@@ -1,8 +1,8 @@
 //! Pieces that are sent and read, also where the stream takes few bytes, stops or fails.
 
-use faulty::{Halting, Pieces};
 use std::alloc::Global;
 use streams::{Counted, CountedReader, Discard, Sink, Source, WriteFault, send};
+use test_streams::{Halting, Pieces};
 
 /// Whether the sends of two pieces answer that, and the writer takes these bytes of them.
 fn sends(writer: Halting, answers: [Result<u32, WriteFault>; 2], bytes: &[u8]) -> bool {

@@ -2,9 +2,9 @@
 
 use crate::screens::{SHOW, UPDATE, addstr, is_shown, run_all, screen_over, stream};
 use desk::{Call, Refusal, RunAllEnd, WinId, WriteFault, Writing};
-use faulty::Halting;
 use std::alloc::Global;
 use std::test::Fail;
+use test_streams::Halting;
 
 /// Makes all calls on a new screen, and gives all that the writer took.
 fn made_over(

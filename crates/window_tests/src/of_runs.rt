@@ -1,15 +1,15 @@
 //! Runs of calls, methods, and writers that fail.
 
 use crate::screens::{HI, SHOW, Tried, UPDATE, addstr, call, is_shown, run, screen, stream};
+use calls::Methods;
 use cell::Attr;
 use desk::{
     Call, Calls, Counted, Fault, PanelId, Refusal, RunEnd, Screen, VirtualScreen, WinId,
     WriteFault, Writing,
 };
-use faulty::Halting;
-use calls::Methods;
 use std::alloc::Global;
 use std::test::Fail;
+use test_streams::Halting;
 
 /// A run of calls on a new screen, another, and all that the writer took.
 fn run_twice(

@@ -2,9 +2,9 @@
 
 use crate::screens::{HI, Tried, screen, stream};
 use desk::{Counted, CountedReader, Refusal, ScriptEnd, ScriptFault, TextFault, WriteFault};
-use faulty::{Halting, Pieces};
 use std::alloc::Global;
 use std::test::Fail;
+use test_streams::{Halting, Pieces};
 
 /// Runs a script, with a log.
 fn run_script(screen: &mut Tried, script: Pieces<'_>, log: &mut Counted<Halting>) -> ScriptEnd {

@@ -7,8 +7,8 @@ use desk::{
     Call, Calls, Counted, Fault, Refresh, Refusal, Reply, RunAllEnd, RunEnd, Screen, WinId, Writing,
 };
 use ecma::Terminal;
-use faulty::Halting;
 use std::alloc::Global;
+use test_streams::Halting;
 
 /// A screen over a writer that can fail.
 pub(crate) type Tried = Screen<Counted<Halting>>;
