@@ -1,4 +1,4 @@
-"""What tools/calls writes for Rust: the functions and the methods of the crate, and its refusals. And the lines of the programs of cases/replay,
+"""What tools/calls writes for Rust: the functions and the methods of the crate, and its refusals. And the lines of the programs of tests/replay,
 in C and in Rust, which make the calls of a script.
 """
 import re
@@ -73,7 +73,7 @@ def method(call, names):
                       f'{bound}{made_by}', f'        {made}', '    }'])
 
 
-# ---- the programs of cases/replay, which make the calls of a script
+# ---- the programs of tests/replay, which make the calls of a script
 
 # Of each answer: how the program in C tells it.
 TOLD = {'window': 'window', 'new_panel': 'window', 'panel_or_none': 'panel', 'count_of_bytes': 'bytes', 'count_of_cells': 'nothing'}
@@ -154,7 +154,7 @@ impl<W> Screen<W> {{
 
 
 def replay(calls):
-    """The file of the calls that a program of cases/replay makes in Rust."""
+    """The file of the calls that a program of tests/replay makes in Rust."""
     return f'''//! Each call by its name. {WRITTEN}
 
 use crate::{{questions, Answer, Arguments, Known}};
@@ -178,5 +178,5 @@ def files(refusals, groups):
     yield 'rust/src/written_refusal.rs', refusal_enum(refusals)
     yield 'rust/src/written_functions.rs', functions(calls)
     yield 'rust/src/written_calls.rs', forwarding(calls)
-    yield 'cases/replay/rust/src/written_calls.rs', replay(calls)
-    yield 'cases/replay/written_calls.h', f'/* Each call by its name. {WRITTEN} */\n' + ''.join(replay_in_c(call) + '\n' for call in calls)
+    yield 'tests/replay/rust/src/written_calls.rs', replay(calls)
+    yield 'tests/replay/written_calls.h', f'/* Each call by its name. {WRITTEN} */\n' + ''.join(replay_in_c(call) + '\n' for call in calls)

@@ -67,7 +67,7 @@ impl Handle {
         }
     }
 
-    /// Frees what it owns, which is mostly nothing. No clause can say that: `cases/library_memory` looks for leaks.
+    /// Frees what it owns, which is mostly nothing. No clause can say that: `tests/library_memory` looks for leaks.
     #[inline(always)]
     fn free(self, alloc: Global) {
         if let Some(loose) = self.into_loose(alloc) {
@@ -242,7 +242,7 @@ impl Handle {
     }
 }
 
-/// Frees a screen. No clause can say that: `cases/library_memory` looks for leaks.
+/// Frees a screen. No clause can say that: `tests/library_memory` looks for leaks.
 #[cold]
 #[inline(never)]
 fn free_surface(loose: Loose<Surface, Global>) {
