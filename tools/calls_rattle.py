@@ -1,5 +1,5 @@
-"""What tools/calls writes in Rattle, each a file of its own: calls and refusals as data, methods, and the window that a
-call writes in."""
+"""What tools/calls writes in Rattle, each a file of its own: calls and refusals as data, methods, and the
+dispatch of the calls that write."""
 import re
 
 from calls_table import ANSWERS, CLAUSE, FORM, RATTLE, TYPES, calls_of
@@ -122,14 +122,28 @@ def window(call):
     return f'        Writing::{call.variant} {{ win{", .." if len(call.arguments) > 1 else ""} }} => win,\n'
 
 
-def windows(groups):
-    """The file that tells the window of a writing call."""
-    return f'''//! The window that a call writes in. {WRITTEN}
+def made(call):
+    """How a call is made that writes in a window."""
+    names = ', '.join(name for name, _ in call.arguments)
+    makes = f'windows.{call.name}({names})'
+    return f'        Writing::{call.variant} {{ {names} }} => {makes if call.draws else f"without_frame({makes})"},\n'
+
+
+def writing(groups):
+    """The file of the calls that write."""
+    calls = groups['Writing'][1]
+    return f'''//! The calls that write in a window. {WRITTEN}
 
 ghost use Rattle.std.specs.Prelude.{{◌≡◌}};
+ghost use Rattle.world.specs.Effects.{{edits}};
+ghost use Rattle.world.specs.calls.Writing.{{writing_refusal, writing_edit}};
+ghost use Rattle.grids.specs.Tables.{{windows as windows_of}};
+ghost use Rattle.windows.specs.Calls.{{Drew, its_frame}};
 ghost use Rattle.compose.specs.steps.Outcomes.{{written_window}};
 
-use cell::WinId;
+use crate::dispatch::without_frame;
+use cell::{{Rect, Refusal, WinId}};
+use windows::Windows;
 use world::Writing;
 
 /// The window that a call writes in, or of which it sets how it is written in.
@@ -137,7 +151,19 @@ pub(crate) fn window_of(writing: Writing<'_>) -> WinId
     ensures {{ result.0 ≡ written_window writing.entry }}
 {{
     match writing {{
-{''.join(map(window, groups['Writing'][1]))}    }}
+{''.join(map(window, calls))}    }}
+}}
+
+/// Makes a call that writes in a window, or sets how it is written in, and answers its frame.
+#[rattlefmt::skip]
+#[inline(always)]
+#[tactic(auto, using(crate::proofs::OutcomeLaws::framed))]
+pub(crate) fn draw(windows: &mut Windows, writing: Writing<'_>) -> Result<Option<Rect>, Refusal>
+    ensures {{ Drew its_frame windows.old.table (writing_refusal (windows_of windows.old.table) writing.entry)
+        (edits (writing_edit (windows_of windows.old.table) writing.entry)) result windows.new.table }}
+{{
+    match writing {{
+{''.join(map(made, calls))}    }}
 }}
 '''
 
@@ -148,4 +174,4 @@ def files(refusals, groups):
     yield 'crates/world/src/written_calls.rt', group_enums(groups)
     yield 'crates/calls/specs/WrittenRefusals.antt', rows_of_refusals(refusals, groups)
     yield 'crates/calls/src/written_methods.rt', methods(groups)
-    yield 'crates/compose/src/written_windows.rt', windows(groups)
+    yield 'crates/compose/src/written_dispatch.rt', writing(groups)

@@ -43,7 +43,8 @@ class Call:
 
     def __init__(self, group, head, refusals, sentence):
         left, self.asks, self.answer = re.fullmatch(r'(.*?)\s*(->|asks) (\w+)', head).groups()
-        self.asks = self.asks == 'asks'
+        self.asks, self.draws = self.asks == 'asks', self.answer == 'drawing'
+        self.answer = 'nothing' if self.draws else self.answer
         self.name, other, self.variant, rest = re.fullmatch(r'(\w+)(?: \((\w+)(?: (\w+))?\))?(.*)', left).groups()
         self.word = other or self.name
         self.arguments = [tuple(word.split(':')) for word in rest.split()]

@@ -1,4 +1,4 @@
-"""The wrong bodies that tools/calls writes: one for each method that it writes."""
+"""The wrong bodies that tools/calls writes: one for each method, and for each writing call in the dispatch."""
 import sys
 
 from wrong_bodies import WrongBody, text_of
@@ -20,7 +20,7 @@ def wrong_body(call, calls):
     """A wrong body: its name, what it does first, and the call that it makes. That is another one, which takes and
     answers the same; or else two arguments change places; or else the window is the standard screen; or else it is
     another one, which takes the same."""
-    other = neighbour(call, calls, lambda it: (it.answer, it.asks) == (call.answer, call.asks))
+    other = neighbour(call, calls, lambda it: (it.answer, it.asks, it.draws) == (call.answer, call.asks, call.draws))
     pair, window = first_pair(call), next((name for name, kind in call.arguments if kind == 'window'), None)
     if not other and pair:
         one, two = pair
@@ -39,6 +39,23 @@ def asked_for(call):
     return f'self.{"find" if call.asks else "make"}(&{made}' + (' {' if call.arguments else ')')
 
 
+def dispatched(call, names):
+    """The call of `windows` that makes a call."""
+    return f'windows.{call.name}({", ".join(names)})'
+
+
+def wrong_dispatch(call, calls):
+    """A wrong body of the dispatch: its name, and the call that it makes in place of the right one."""
+    name, first, made = wrong_body(call, calls)
+    names = [name for name, _ in call.arguments]
+    if first.startswith('let ('):
+        one, two = map(names.index, first_pair(call))
+        names[one], names[two] = names[two], names[one]
+    elif first:
+        names[0] = 'WinId(0)'
+    return f'{call.name}_{name}', dispatched(made, names)
+
+
 def files(groups):
     """The text of each file of wrong bodies, by its path."""
     path, bodies = 'crates/calls/wrong/written_methods.written.edits', []
@@ -48,3 +65,6 @@ def files(groups):
             name, first, made = wrong_body(call, calls)
             bodies.append(WrongBody(path, f'{call.name}_{name}', False, [(asked_for(call), first + asked_for(made))]))
     yield path, text_of(bodies)
+    path, calls = 'crates/compose/wrong/written_dispatch.written.edits', groups['Writing'][1]
+    turned = [(dispatched(call, [name for name, _ in call.arguments]), *wrong_dispatch(call, calls)) for call in calls]
+    yield path, text_of([WrongBody(path, name, False, [(old, new)]) for old, name, new in turned])

@@ -14,7 +14,7 @@ ghost use Rattle.world.specs.declared.call.Reply.{Reply};
 ghost use Rattle.calls.specs.Methods.{as_reply};
 ghost use Rattle.calls.specs.Queries.{is_query};
 ghost use Rattle.grids.specs.Tables.{windows as windows_of};
-ghost use Rattle.windows.specs.Calls.{Drew, its_frame, no_frame};
+ghost use Rattle.windows.specs.Calls.{no_frame};
 ghost use Rattle.world.specs.Replies.{its_panel, no_answer};
 ghost use Rattle.stack.specs.Tables.{panels};
 ghost use Rattle.compose.specs.steps.Changes.{changed_panel, named_panel, ordered_panel};
@@ -24,7 +24,7 @@ ghost use Rattle.compose.specs.Calling.{Called};
 use crate::damaging::Affected;
 use crate::desk::Desk;
 use crate::panels::{delete_window, move_panel, move_window, new_panel, replace_panel};
-use crate::written_windows::window_of;
+use crate::written_dispatch::{draw, window_of};
 use cell::{Rect, Refusal, WinId};
 use grids::Grids;
 use stack::Stack;
@@ -58,42 +58,9 @@ pub(crate) fn make(table: &mut Grids, stack: &Stack, making: Making) -> Result<O
     }
 }
 
-/// Makes a call that writes in a window, or sets how it is written in, and answers its frame.
-#[rattlefmt::skip]
-#[inline(always)]
-#[tactic(auto, using(crate::proofs::OutcomeLaws::framed))]
-fn draw(windows: &mut Windows, writing: Writing<'_>) -> Result<Option<Rect>, Refusal>
-    ensures { Drew its_frame windows.old.table (writing_refusal (windows_of windows.old.table) writing.entry)
-        (edits (writing_edit (windows_of windows.old.table) writing.entry)) result windows.new.table }
-{
-    match writing {
-        Writing::Move { win, y, x } => without_frame(windows.wmove(win, y, x)),
-        Writing::Addch { win, ch } => windows.waddch(win, ch),
-        Writing::Addstr { win, text } => windows.waddstr(win, text),
-        Writing::Insch { win, ch } => windows.winsch(win, ch),
-        Writing::Delch { win } => windows.wdelch(win),
-        Writing::Insertln { win } => windows.winsertln(win),
-        Writing::Deleteln { win } => windows.wdeleteln(win),
-        Writing::Erase { win } => windows.werase(win),
-        Writing::Clear { win } => windows.wclear(win),
-        Writing::Clrtoeol { win } => windows.wclrtoeol(win),
-        Writing::Clrtobot { win } => windows.wclrtobot(win),
-        Writing::Scrl { win, n } => windows.wscrl(win, n),
-        Writing::Setscrreg { win, top, bottom } => without_frame(windows.wsetscrreg(win, top, bottom)),
-        Writing::Scrollok { win, flag } => without_frame(windows.scrollok(win, flag)),
-        Writing::Clearok { win, flag } => without_frame(windows.clearok(win, flag)),
-        Writing::Attrset { win, attrs } => without_frame(windows.wattrset(win, attrs)),
-        Writing::Attron { win, attrs } => without_frame(windows.wattron(win, attrs)),
-        Writing::Attroff { win, attrs } => without_frame(windows.wattroff(win, attrs)),
-        Writing::Bkgdset { win, attrs, ch } => without_frame(windows.wbkgdset(win, attrs, ch)),
-        Writing::ColorSet { win, pair } => without_frame(windows.wcolor_set(win, pair)),
-        Writing::Bkgdpair { win, pair } => without_frame(windows.wbkgdpair(win, pair)),
-    }
-}
-
 /// The frame of a call that set how a window is written in: it has none.
 #[inline(always)]
-fn without_frame(end: Result<(), Refusal>) -> Result<Option<Rect>, Refusal>
+pub(crate) fn without_frame(end: Result<(), Refusal>) -> Result<Option<Rect>, Refusal>
     ensures { result ≡ with_frame no_frame end }
 {
     end?;

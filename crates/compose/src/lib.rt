@@ -12,7 +12,7 @@
 //! - `refresh`: what a window or a pad puts into the virtual screen
 //! - `update`: the step that composes the picture
 //! - `virtual_picture`: what the virtual screen shows, and what changed of it
-//! - `written_windows`: the window that a call writes in, written by a tool
+//! - `written_dispatch`: the calls that write in a window, written by a tool
 #![tactic(auto)]
 
 mod counted;
@@ -26,7 +26,7 @@ mod queries;
 mod refresh;
 mod update;
 mod virtual_picture;
-mod written_windows;
+mod written_dispatch;
 
 pub use desk::Desk;
 pub use picture::{Rows, Span, compose_row};

@@ -1,7 +1,7 @@
 -- `draw`: the number of lines that `wscrl` takes is signed, and it is passed as bits.
 use Rattle.std.proofs.Common.{rules, w16}
 use Rattle.std.proofs.lemmas.Int.{to_z-of_z}
-use Rattle.compose.proofs.dispatch.draw.Goals as goal
+use Rattle.compose.proofs.written_dispatch.draw.Goals as goal
 
 pub returns-in-Scrl : goal.returns-in-Scrl
 returns-in-Scrl c = rw (c.in-Scrl.is) (search (rw (to_z-of_z w16 c.in-Scrl.n (search rules)) at c.wscrl.ensures))
