@@ -36,7 +36,7 @@ pub fn next_changed(shown: &[Shown], wanted: &[Shown], from: usize, end: usize) 
     far_changed(shown, wanted, near, end)
 }
 
-/// The same, where it is expected after many cells: these are looked at together.
+/// The same, by many cells that are looked at together.
 fn far_changed(shown: &[Shown], wanted: &[Shown], from: usize, end: usize) -> usize
     requires same { length shown.now ≡ length wanted.now }
     requires ordered { from ≤ end }
@@ -76,27 +76,7 @@ pub fn stretch(shown: &[Shown], wanted: &[Shown], start: usize, end: usize) -> (
             x += 1;
         }
     }
-    (stop, changed_after(shown, wanted, stop, x, end))
-}
-
-/// The first changed cell from a column on, where those from a stretch's end up to it were looked at: it is expected near
-/// that, or else after many cells.
-#[inline(always)]
-fn changed_after(shown: &[Shown], wanted: &[Shown], stop: usize, from: usize, end: usize) -> usize
-    requires same { length shown.now ≡ length wanted.now }
-    requires before { stop ≤ from }
-    requires ordered { from ≤ end }
-    requires inside { end ≤ length wanted.now }
-    ensures ordered { from ≤ result }
-    ensures within { result ≤ end }
-    ensures alike { (v : ℕ) → from ≤ v → v < result → slice_index_or shown.now v shown_blank ≡ slice_index_or wanted.now v shown_blank }
-    ensures changed { result < end → slice_index_or shown.now result shown_blank ≡ slice_index_or wanted.now result shown_blank → ⊥ }
-{
-    if from - stop > FEW {
-        far_changed(shown, wanted, from, end)
-    } else {
-        next_changed(shown, wanted, from, end)
-    }
+    (stop, next_changed(shown, wanted, x, end))
 }
 
 /// Whether, before an end, a cell has a rendition, and no more than a few are between it and those of it. To print these

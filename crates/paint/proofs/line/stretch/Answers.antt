@@ -70,5 +70,5 @@ loop-rendition-preserved c =
 pub returns-clause-alike : goal.returns-clause-alike
 returns-clause-alike c = λ v from to. elim (cases_lt v c.loop-rendition.x) [
   | inl below ↦ c.loop-rendition.invariant.alike v from below
-  | inr past ↦ c.changed_after.ensures.alike v past to
+  | inr past ↦ c.next_changed.ensures.alike v past to
 ]
