@@ -1,25 +1,27 @@
 -- What a method of a call answers is also the outcome of the call, or its reply.
-use Rattle.std.proofs.Common.{◌≡◌, ℕ, None, Option, Result, refl, arith}
+use Rattle.std.proofs.Common.{◌≡◌, ℕ, Bool, None, true, Option, Result, refl, arith}
 use Rattle.cell.specs.Pictures.{Place}
 use Rattle.cell.specs.declared.refusal.Refusal.{Refusal}
 use Rattle.cell.specs.declared.window.Rect.{Rect}
 use Rattle.cell.specs.declared.window.WinId.{WinId}
-use Rattle.world.specs.Effects.{Change, Edit, edit_window, edits, makes, shifts, windows_after}
-use Rattle.world.specs.Replies.{its_number, no_answer}
+use Rattle.world.specs.Effects.{Change, Edit, edit_window, edits, makes, order_reply, shifts, windows_after}
+use Rattle.world.specs.Replies.{its_flag, its_number, no_answer}
 use Rattle.world.specs.Windows.{Window, Windows}
-use Rattle.world.specs.calls.Stacking.{stacking_order, stacking_tests}
+use Rattle.world.specs.calls.Stacking.{stacking_order, stacking_refusal, stacking_tests}
 use Rattle.world.specs.calls.Writing.{writing_edit}
 use Rattle.world.specs.declared.call.Reply.{Reply}
 use Rattle.world.specs.declared.call.Stacking.{Stacking}
 use Rattle.world.specs.declared.call.Writing.{Writing}
+use Rattle.world.specs.declared.call.Call.TheVariants as calls
 use Rattle.calls.specs.Methods.{as_reply}
+use Rattle.calls.specs.Queries.{is_query}
 use Rattle.grids.specs.Calls.{Changed}
 use Rattle.grids.specs.Tables.{WindowTable, windows}
 use Rattle.windows.specs.Calls.{Drew, its_frame}
-use Rattle.stack.specs.Calls.{Arranged}
+use Rattle.stack.specs.Calls.{Arranged, no_windows}
 use Rattle.stack.specs.Tables.{PanelTable, panels}
 use Rattle.compose.specs.steps.Changes.{affected_by}
-use Rattle.compose.specs.steps.Outcomes.{Affects, Ordered, Rearranges, as_outcome, drawn, numbered, shifted, unseen, with_frame, written_window}
+use Rattle.compose.specs.steps.Outcomes.{Affects, Answered, Ordered, Rearranges, as_outcome, drawn, numbered, shifted, told, unseen, with_frame, written_window}
 use Rattle.compose.proofs.Arranging.{ordered}
 use Rattle.compose.proofs.DeskLemmas.{refused-as}
 
@@ -34,6 +36,11 @@ module _ (old new : WindowTable) (refusal : Option Refusal) where
       → Affects old refusal change (as_outcome unseen r) new
   unfolding Affects
   affects-unseen change r h none = grind arith
+
+  pub affects-told : (change : Change) (r : Result Bool Refusal) → Changed its_flag old refusal change r new → affected_by (windows old) change ≡ None
+      → Affects old refusal change (as_outcome told r) new
+  unfolding Affects
+  affects-told change r h none = grind arith
 
   pub affects-drawn : (win : WinId) (edit : Edit) (r : Result (Option Rect) Refusal) → Drew its_frame old refusal (edits edit) r new → win.0 ≡ edit_window edit
       → Affects old refusal (edits edit) (as_outcome (drawn win) r) new
@@ -66,6 +73,12 @@ pub rearranges-alone : (table : WindowTable) (ps after : PanelTable) (stacking :
     → windows_after (windows table) (panels ps) (stacking_order (panels ps) stacking) ≡ windows table → Rearranges table ps stacking (as_reply no_answer r) table after
 rearranges-alone table ps after stacking r arranged still = rearranges-as no_answer table table ps after stacking r (ordered table ps no_answer _ stacking r after arranged refl still)
 
-pub ruleset outcomes = (affects-unseen, affects-drawn, affects-shifted, affects-numbered, same-window)
+-- one that asked alone
+pub rearranges-asked : (table : WindowTable) (ps : PanelTable) (stacking : Stacking) (r : Result Reply Refusal) → is_query (calls.Stacking stacking) ≡ true
+    → Answered (stacking_refusal no_windows (panels ps) stacking) (order_reply (stacking_order (panels ps) stacking)) r → Rearranges table ps stacking r table ps
+unfolding Rearranges
+rearranges-asked table ps stacking r asks h = grind arith
 
-pub ruleset replies = (rearranges-as, rearranges-alone)
+pub ruleset outcomes = (affects-unseen, affects-told, affects-drawn, affects-shifted, affects-numbered, same-window)
+
+pub ruleset replies = (rearranges-as, rearranges-alone, rearranges-asked)

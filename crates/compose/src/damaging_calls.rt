@@ -11,7 +11,6 @@ ghost use Rattle.world.specs.calls.Stacking.{panel_number};
 ghost use Rattle.world.specs.calls.Affected.{panel_shows_at};
 ghost use Rattle.world.specs.Effects.{edits};
 ghost use Rattle.world.specs.declared.call.Call.{Call};
-ghost use Rattle.calls.specs.Queries.{is_query};
 ghost use Rattle.grids.specs.Tables.{windows as windows_of};
 ghost use Rattle.stack.specs.Tables.{panels};
 ghost use Rattle.picture.specs.Parts.{IsFrameWithin, part_holds};
@@ -64,7 +63,7 @@ pub(crate) fn write_damaging(
     Ok(outcome.reply)
 }
 
-/// Makes a call that copies cells or touches places, and adds what it damages. It is not inlined, so that other calls
+/// Makes a call that copies cells or touches places, or asks what is touched, and adds what it damages. It is not inlined, so that other calls
 /// make no room for what it answers.
 #[inline(never)]
 #[tactic(auto, unfolding(crate::specs::steps::Outcomes::Affects))]
@@ -75,7 +74,6 @@ pub(crate) fn copy_damaging(
     copying: Copying,
 ) -> Result<Reply, Refusal>
     requires height { length damage.old ≡ windows.old.table.lines }
-    requires changes { is_query (Call.Copying copying) ≡ false }
     ensures { ChangedDamaging windows.old.table (panels stack.now) (copying_refusal (windows_of windows.old.table) copying)
         (copying_change (windows_of windows.old.table) copying) damage.old result windows.new.table damage.new }
 {
@@ -84,7 +82,7 @@ pub(crate) fn copy_damaging(
     Ok(outcome.reply)
 }
 
-/// Makes a call that changes panels, and adds what it damages.
+/// Makes a call that changes panels, or asks about them, and adds what it damages.
 #[tactic(auto, unfolding(crate::specs::steps::Outcomes::Rearranges))]
 pub(crate) fn arrange_damaging(
     table: &mut Grids,
@@ -94,7 +92,6 @@ pub(crate) fn arrange_damaging(
 ) -> Result<Reply, Refusal>
     requires panels { AreSoundPanels (windows_of table.old).window (panels stack.old) }
     requires height { length damage.old ≡ table.old.lines }
-    requires changes { is_query (Call.Stacking stacking) ≡ false }
     ensures { OrderedDamaging table.old stack.old stacking damage.old result table.new stack.new damage.new }
 {
     prove!(table.has_window(WinId::STANDARD));

@@ -26,10 +26,10 @@ use crate::counted::CountedWindows;
 use crate::damaging::damage_part;
 use crate::damaging_calls::{arrange_damaging, copy_damaging, make_damaging, write_damaging};
 use crate::dispatch::refresh;
-use crate::queries::{answer, of_marks, of_panels, of_window};
+use crate::queries::{answer, of_window};
 use crate::update::update_panels;
 use crate::virtual_picture::VirtualPicture;
-use calls::{Calls, is_query};
+use calls::Calls;
 use cell::{Cell, Colour, Grid, PairId, Pairs, Refusal, Shown, VirtualScreen, WinId};
 use extents::Extents;
 use grids::Grids;
@@ -207,14 +207,10 @@ impl Desk {
 
     /// Makes a call that copies cells or touches places, or asks what is touched.
     #[inline(always)]
-    fn copy_or_ask(&mut self, copying: Copying) -> Result<Reply, Refusal>
+    fn copy(&mut self, copying: Copying) -> Result<Reply, Refusal>
         ensures { Called self.old (Call.Copying copying) result self.new }
     {
-        if is_query(&Call::Copying(copying)) {
-            of_marks(&self.windows.table, copying)
-        } else {
-            copy_damaging(&mut self.windows, &self.stack, &mut self.damage, copying)
-        }
+        copy_damaging(&mut self.windows, &self.stack, &mut self.damage, copying)
     }
 
     /// Answers a call that asks about a window or pad.
@@ -227,19 +223,15 @@ impl Desk {
 
     /// Makes a call that changes panels, or asks about them.
     #[inline(always)]
-    fn arrange_or_ask(&mut self, stacking: Stacking) -> Result<Reply, Refusal>
+    fn arrange(&mut self, stacking: Stacking) -> Result<Reply, Refusal>
         ensures { Called self.old (Call.Stacking stacking) result self.new }
     {
-        if is_query(&Call::Stacking(stacking)) {
-            of_panels(&self.stack, stacking)
-        } else {
-            arrange_damaging(
-                &mut self.windows.table,
-                &mut self.stack,
-                &mut self.damage,
-                stacking,
-            )
-        }
+        arrange_damaging(
+            &mut self.windows.table,
+            &mut self.stack,
+            &mut self.damage,
+            stacking,
+        )
     }
 
     /// Makes a call that refreshes or sets the colours of a pair, which is any of them but `doupdate`.
@@ -359,9 +351,9 @@ impl Calls for Desk {
         match *call {
             Call::Making(making) => self.make(making),
             Call::Writing(writing) => self.write(writing),
-            Call::Copying(copying) => self.copy_or_ask(copying),
+            Call::Copying(copying) => self.copy(copying),
             Call::Query(asked) => self.ask_window(asked),
-            Call::Stacking(stacking) => self.arrange_or_ask(stacking),
+            Call::Stacking(stacking) => self.arrange(stacking),
             Call::Refresh(asked) => self.refresh_any(asked),
         }
     }

@@ -12,18 +12,18 @@ ghost use Rattle.world.specs.Effects.{edits};
 ghost use Rattle.world.specs.declared.call.Call.{Call};
 ghost use Rattle.world.specs.declared.call.Reply.{Reply};
 ghost use Rattle.calls.specs.Methods.{as_reply};
-ghost use Rattle.calls.specs.Queries.{is_query};
 ghost use Rattle.grids.specs.Tables.{windows as windows_of};
 ghost use Rattle.windows.specs.Calls.{no_frame};
 ghost use Rattle.world.specs.Replies.{its_panel, no_answer};
 ghost use Rattle.stack.specs.Tables.{panels};
 ghost use Rattle.compose.specs.steps.Changes.{changed_panel, named_panel, ordered_panel};
-ghost use Rattle.compose.specs.steps.Outcomes.{Affects, Rearranges, as_outcome, drawn, numbered, shifted, unseen, with_frame};
+ghost use Rattle.compose.specs.steps.Outcomes.{Affects, Rearranges, as_outcome, drawn, numbered, shifted, told, unseen, with_frame};
 ghost use Rattle.compose.specs.Calling.{Called};
 
 use crate::damaging::Affected;
 use crate::desk::Desk;
 use crate::panels::{delete_window, move_panel, move_window, new_panel, replace_panel};
+use crate::queries::of_panels;
 use crate::written_dispatch::{draw, window_of};
 use cell::{Rect, Refusal, WinId};
 use grids::Grids;
@@ -77,11 +77,10 @@ pub(crate) fn write(windows: &mut Windows, writing: Writing<'_>) -> Result<Outco
     Outcome::drawing(window_of(writing), draw(windows, writing))
 }
 
-/// Makes a call that copies cells or touches places.
+/// Makes a call that copies cells or touches places, or asks what is touched.
 #[rattlefmt::skip]
 #[tactic(auto, using(crate::proofs::OutcomeLaws::outcomes))]
 pub(crate) fn copy(windows: &mut Windows, copying: Copying) -> Result<Outcome, Refusal>
-    requires { is_query (Call.Copying copying) ≡ false }
     ensures { Affects windows.old.table (copying_refusal (windows_of windows.old.table) copying)
         (copying_change (windows_of windows.old.table) copying) result windows.new.table }
 {
@@ -96,8 +95,8 @@ pub(crate) fn copy(windows: &mut Windows, copying: Copying) -> Result<Outcome, R
         Copying::Touchln { win, y, n, flag } => Outcome::unseen(windows.table.wtouchln(win, y, n, flag)),
         Copying::Syncup { win } => Outcome::unseen(windows.table.wsyncup(win)),
         Copying::Syncdown { win } => Outcome::unseen(windows.table.wsyncdown(win)),
-        Copying::IsLinetouched { .. } => unreachable!(),
-        Copying::IsWintouched { .. } => unreachable!(),
+        Copying::IsLinetouched { win, y } => Outcome::answer(windows.table.is_linetouched(win, y)),
+        Copying::IsWintouched { win } => Outcome::answer(windows.table.is_wintouched(win)),
     }
 }
 
@@ -128,6 +127,16 @@ impl Outcome {
         })
     }
 
+    /// Of a call that asked whether something is so.
+    fn answer(is: Result<bool, Refusal>) -> Result<Outcome, Refusal>
+        ensures { result ≡ as_outcome told is }
+    {
+        Ok(Outcome {
+            reply: Reply::Flag(is?),
+            affected: None,
+        })
+    }
+
     /// Of a call that moved a window in its parent.
     fn shift(win: WinId, end: Result<(), Refusal>) -> Result<Outcome, Refusal>
         ensures { result ≡ as_outcome (shifted win) end }
@@ -150,12 +159,11 @@ impl Outcome {
     }
 }
 
-/// Makes a call that makes, deletes, orders or moves a panel, or gives it a window.
+/// Makes a call that makes, deletes, orders or moves a panel, or gives it a window, or asks about panels.
 #[rattlefmt::skip]
 #[tactic(auto, using(crate::proofs::OutcomeLaws::replies))]
 pub(crate) fn arrange(table: &mut Grids, stack: &mut Stack, stacking: Stacking) -> Result<Reply, Refusal>
-    requires panels { AreSoundPanels (windows_of table.old).window (panels stack.old) }
-    requires changes { is_query (Call.Stacking stacking) ≡ false }
+    requires { AreSoundPanels (windows_of table.old).window (panels stack.old) }
     ensures { Rearranges table.old stack.old stacking result table.new stack.new }
 {
     match stacking {
@@ -167,10 +175,7 @@ pub(crate) fn arrange(table: &mut Grids, stack: &mut Stack, stacking: Stacking) 
         Stacking::BottomPanel { panel } => nothing(stack.bottom(panel)),
         Stacking::MovePanel { panel, y, x } => nothing(move_panel(table, stack, panel, y, x)),
         Stacking::ReplacePanel { panel, win } => nothing(replace_panel(table, stack, panel, win)),
-        Stacking::PanelAbove { .. } => unreachable!(),
-        Stacking::PanelBelow { .. } => unreachable!(),
-        Stacking::PanelWindow { .. } => unreachable!(),
-        Stacking::PanelHidden { .. } => unreachable!(),
+        _ => of_panels(stack, stacking),
     }
 }
 

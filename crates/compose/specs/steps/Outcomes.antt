@@ -1,5 +1,5 @@
 -- A call made on windows, with what it affects of what is shown, and one with what it damages; and a call on panels.
-use Rattle.std.specs.Prelude.{◌≡◌, ℕ, IfOk, OnErr, OnOk, Option, Some, None, List, Result, Ok, Err}
+use Rattle.std.specs.Prelude.{◌≡◌, ℕ, Bool, IfOk, OnErr, OnOk, Option, Some, None, List, Result, Ok, Err}
 use Rattle.std.specs.Option.{option_map}
 use Rattle.std.specs.Result.{result_err}
 use Rattle.cell.specs.declared.refusal.Refusal.{Refusal}
@@ -11,7 +11,7 @@ use Rattle.world.specs.calls.Stacking.{after_stacking, stacking_order, stacking_
 use Rattle.cell.specs.declared.window.Rect.{Rect}
 use Rattle.cell.specs.declared.window.WinId.{WinId}
 use Rattle.world.specs.declared.call.Reply.{Reply}
-use Rattle.world.specs.declared.call.Reply.TheVariants.{Nothing, Number}
+use Rattle.world.specs.declared.call.Reply.TheVariants.{Flag, Nothing, Number}
 use Rattle.world.specs.calls.Writing.{writing_edit}
 use Rattle.world.specs.declared.call.Stacking.{Stacking}
 use Rattle.world.specs.declared.call.Writing.{Writing}
@@ -38,6 +38,10 @@ unseen done = record { reply = Nothing; affected = None }
 -- of one that drew in a window
 abbrev pub drawn : WinId → Option Rect → Outcome
 drawn win frame = record { reply = Nothing; affected = option_map (Written win) frame }
+
+-- of one that asked whether something is so
+abbrev pub told : Bool → Outcome
+told is = record { reply = Flag is; affected = None }
 
 -- of one that moved a window in its parent
 abbrev pub shifted : WinId → Unit {0} → Outcome

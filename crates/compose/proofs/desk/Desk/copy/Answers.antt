@@ -1,12 +1,12 @@
--- `copy_or_ask`: a call on windows leaves a desk as its relation says (`WindowCalls`).
+-- `copy`: a call on windows leaves a desk as its relation says (`WindowCalls`).
 use Rattle.std.proofs.Common.{refl}
 use Rattle.world.specs.declared.call.Call.TheVariants as calls
 use Rattle.compose.specs.contracts.desk.Desk.{the_view}
 use Rattle.compose.proofs.WindowCalls.{change-made}
-use Rattle.compose.proofs.desk.Desk.copy_or_ask.Goals as goal
+use Rattle.compose.proofs.desk.Desk.copy.Goals as goal
 
-pub returns-else-is_query : goal.returns-else-is_query
-returns-else-is_query c =
+pub returns : goal.returns
+returns c =
     let m = c.copy_damaging in
     rw (← c.self.view_is)
     (change-made (the_view c.self.inside) m.new.windows.table m.new.damage (calls.Copying c.args.copying) _ c.self.invariant refl m.result m.ensures refl m.ensures.call.reply (λ left. left)).1
