@@ -1,6 +1,6 @@
 -- Cells as numbers, one in each lane, and a mask of the lanes in which two differ.
-use Rattle.std.proofs.Common.{◌≡◌, ℕ, suc, ◌+◌, ◌-◌, ◌*◌, ◌^◌, ◌/◌, ◌%◌, ◌<◌, true, false, List, [], ◌∷◌, length, get_or, set}
-use Rattle.std.proofs.Common.{take, drop, map, refl, sym, ap, subst, ◌∙◌, arith, eq-eqb, ne_eqb, eqb, cond, inl, inr, w32}
+use Rattle.std.proofs.Common.{◌≡◌, ℕ, suc, ◌+◌, ◌-◌, ◌*◌, ◌^◌, ◌/◌, ◌%◌, ◌<◌, true, List, [], ◌∷◌, length, get_or, set}
+use Rattle.std.proofs.Common.{take, map, refl, sym, ap, subst, ◌∙◌, arith, eq-eqb, ne_eqb, eqb, cond, inl, inr, w32}
 use Rattle.std.specs.Prelude.{not, replicate, ◌==◌, ◌&&◌, ◌≤◌, Bool, slice_index_or, nat_lt}
 use Rattle.std.specs.List.{common_prefix_len, list_all, prefix_len}
 use lib.Count.{count_trailing_zeros}
@@ -13,7 +13,7 @@ use Rattle.std.proofs.lemmas.Nat.Bits.{bit_at-lt, bit_at-zero, bit_at_xor, same_
 use Rattle.std.proofs.lemmas.List.{get_or-map, get_or_default, length-map, take-map, take_more, take_more_set, map-append}
 use Rattle.std.proofs.lemmas.List.Folds.{list_all-append}
 use Rattle.std.proofs.lemmas.List.Sums.{common_prefix_len-le}
-use Rattle.std.proofs.lemmas.Simd.{bitmask_splat, length-zip2, mask_l-mod, tops_compared, trailing_mask_l}
+use Rattle.std.proofs.lemmas.Simd.{length-zip2, mask_l-mod, tops_compared, trailing_mask_l}
 use Rattle.cell.specs.Differences.{DiffersAt, same_rendition}
 use Rattle.cell.specs.EqualityLaws.{same_rendition-equal, same_rendition-equivalence}
 use Rattle.cell.specs.Glyphs.{Glyph, IsCell, blank}

@@ -3,11 +3,11 @@
 ghost use Rattle.std.specs.Prelude.{◌≡◌, ◌==◌, ◌&&◌, is_none, ◌≤◌, nat_le, if◌then◌else◌, length, map, slice_set, true};
 ghost use Rattle.std.specs.List.{AllByRecursion, list_all};
 ghost use Rattle.cell.specs.Shown.{ArePairs, default_pair, IsColour, IsShown, first_pairs, pair_at, shown, shown_in};
-ghost use Rattle.cell.specs.declared.lanes.TheConstants.{BLOCK, LANES};
+ghost use Rattle.cell.specs.declared.lanes.TheConstants.{LANES};
 
 use crate::cell::Cell;
 use crate::colour_bits::ColourBits;
-use crate::lanes::{BLOCK, LANES, have_pair, lanes_have_pair};
+use crate::lanes::{LANES, lanes_have_pair};
 use crate::limits::{LAST_COLOUR, LAST_PAIR};
 use crate::shown::Shown;
 use std::marker::Model;
@@ -211,60 +211,14 @@ impl Pairs {
     {
         if cells.len() < LANES {
             self.show_each(cells, places);
-        } else if cells.len() < BLOCK {
-            self.show_rest(cells, places);
         } else {
-            self.show_blocks(cells, places);
+            self.show_lanes(cells, places);
         }
     }
 
-    /// The same, a block after another. Where much is left after them, the last block begins before it, and some cells
-    /// are shown twice.
+    /// The same, so many together. Where the last of them aren't as many, some are shown twice.
     #[inline(never)]
-    fn show_blocks(&self, cells: &[Cell], places: &mut [Shown])
-        requires many { BLOCK ≤ length cells.now }
-        requires places { length places.old ≡ length cells.now }
-        ensures shown { places.new ≡ map (shown self.now) cells.now }
-        ensures cells { AllByRecursion IsShown places.new }
-    {
-        let mut start = 0;
-        while cells.len() - start > BLOCK / 2 {
-            let from = start.min(cells.len() - BLOCK);
-            start = from + BLOCK;
-            self.show_block(&cells[from..start], &mut places[from..start]);
-        }
-        if start < cells.len() {
-            let rest = start.min(cells.len() - LANES);
-            self.show_rest(&cells[rest..], &mut places[rest..]);
-        }
-    }
-
-    /// The same of so many cells. Most have one pair, which is looked up once.
-    #[inline(always)]
-    fn show_block(&self, cells: &[Cell], places: &mut [Shown])
-        requires cells { length cells.now ≡ BLOCK }
-        requires places { length places.old ≡ BLOCK }
-        ensures shown { places.new ≡ map (shown self.now) cells.now }
-        ensures cells { AllByRecursion IsShown places.new }
-    {
-        let pair = cells[0].pair();
-        let colours = self.colours_of(pair);
-        if pair == PairId::DEFAULT && colours.are_default() {
-            if have_pair(cells, PairId::DEFAULT) {
-                show_plain(cells, places);
-                return;
-            }
-        } else if have_pair(cells, pair) {
-            show_alike(colours, cells, places);
-            return;
-        }
-        self.show_rest(cells, places);
-    }
-
-    /// The same of fewer cells, or of a block's of several pairs. Where the last of them aren't as many as are shown
-    /// together, some are shown twice.
-    #[inline(never)]
-    fn show_rest(&self, cells: &[Cell], places: &mut [Shown])
+    fn show_lanes(&self, cells: &[Cell], places: &mut [Shown])
         requires many { LANES ≤ length cells.now }
         requires places { length places.old ≡ length cells.now }
         ensures shown { places.new ≡ map (shown self.now) cells.now }
@@ -313,54 +267,6 @@ impl Pairs {
             places[x] = shown;
         }
     }
-}
-
-/// Writes the cells of a block in colours into as many places, whatever their pairs are.
-fn show_alike(colours: ColourBits, cells: &[Cell], places: &mut [Shown])
-    requires cells { length cells.now ≡ BLOCK }
-    requires places { length places.old ≡ BLOCK }
-    ensures shown { places.new ≡ map (shown_in colours) cells.now }
-    ensures cells { AllByRecursion IsShown places.new }
-{
-    let mut start = 0;
-    while start < BLOCK {
-        let end = start + LANES;
-        places[start..end].copy_from_slice(&show_in(colours, &cells[start..end]));
-        start = end;
-    }
-}
-
-/// Writes the cells of a block, which are all of pair 0, in the default colours into as many places: they are copied as
-/// they are.
-fn show_plain(cells: &[Cell], places: &mut [Shown])
-    requires cells { length cells.now ≡ BLOCK }
-    requires places { length places.old ≡ BLOCK }
-    requires plain { list_all (λ cell. cell.pair == 0) cells.now ≡ true }
-    ensures shown { places.new ≡ map (shown_in default_pair) cells.now }
-    ensures cells { AllByRecursion IsShown places.new }
-{
-    let mut start = 0;
-    while start < BLOCK {
-        let end = start + LANES;
-        places[start..end].copy_from_slice(&plain(&cells[start..end]));
-        start = end;
-    }
-}
-
-/// So many cells of pair 0 in the default colours, by a loop that the compiler vectorizes.
-fn plain(cells: &[Cell]) -> [Shown; LANES]
-    requires cells { length cells.now ≡ LANES }
-    requires plain { list_all (λ cell. cell.pair == 0) cells.now ≡ true }
-    ensures shown { result ≡ map (shown_in default_pair) cells.now }
-    ensures cells { AllByRecursion IsShown result }
-{
-    let mut shown = [Shown::BLANK; LANES];
-    for x in 0..LANES {
-        let cell = Shown::plain(cells[x]);
-        prove!(cell.ch() >= b' ');
-        shown[x] = cell;
-    }
-    shown
 }
 
 /// So many cells in colours, whatever their pairs are, by a loop that the compiler vectorizes.

@@ -67,13 +67,6 @@ impl ColourBits {
         }
     }
 
-    /// Whether both are the default.
-    pub(crate) fn are_default(self) -> bool
-        ensures { result ≡ (is_none self.foreground && is_none self.background) }
-    {
-        self.bits == 0
-    }
-
     /// Their bits.
     pub(crate) fn bits(self) -> u32
         ensures value { colours_of result ≡ self }

@@ -35,7 +35,7 @@ pub use cell::{Cell, are_printable, is_printable};
 pub use colour::{Colour, ColourPair, PairId, Pairs};
 pub use difference::{first_diff, last_diff};
 pub use grid::{Element, Grid, show_cells};
-pub use lanes::{BLOCK, LANES, have_rendition};
+pub use lanes::{LANES, have_rendition};
 pub use limits::{
     FIRST_CHARACTER, LARGEST_PAD, LARGEST_SCREEN, LAST_CHARACTER, LAST_COLOUR, LAST_PAIR,
     MOST_PANELS, MOST_WINDOWS, is_no_size, limits_in_numerals,

@@ -164,14 +164,6 @@ impl Shown {
         }
     }
 
-    /// A cell of pair 0 in the default colours: both are kept as one number.
-    pub(crate) fn plain(cell: Cell) -> Shown
-        requires { cell.pair ≡ 0 }
-        ensures { result ≡ shown_in default_pair cell }
-    {
-        Shown { bits: cell.bits() }
-    }
-
     /// The cell as one number.
     pub(crate) fn bits(self) -> u32
         ensures value { result ≡ shown_bits self }

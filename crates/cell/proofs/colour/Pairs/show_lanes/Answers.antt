@@ -2,7 +2,7 @@ use Rattle.std.proofs.Common.{◌-◌, length, arith}
 use Rattle.std.proofs.lemmas.Grind.{common_steps}
 use Rattle.cell.proofs.ShownPieces.{shown_fewer, shown_more, shown_rest, sound_more, sound_rest}
 use Rattle.cell.specs.Shown.{IsShown}
-use Rattle.cell.proofs.colour.Pairs.show_rest.Goals as goal
+use Rattle.cell.proofs.colour.Pairs.show_lanes.Goals as goal
 
 pub loop-start-preserved : goal.loop-start-preserved
 loop-start-preserved c = record {
