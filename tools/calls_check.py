@@ -29,10 +29,22 @@ def refuse(row, why):
     sys.exit(f'calls: curses.table, line {row.number}: {why}')
 
 
+def without_calls(text, calls):
+    """The text of the table without names that are calls by now, and without rows that have no other."""
+    words = {call.word for call in calls}
+    for line in text.split('\n'):
+        names, colon, rest = line.partition(':')
+        kept = [name for name in names.split() if name not in words]
+        if line.startswith(('#', '== ')) or not colon or kept == names.split():
+            yield line
+        elif kept:
+            yield ' '.join(kept) + colon + rest
+
+
 def read_rows(path, calls):
     """The rows by part, each part with its title."""
     words, seen, parts = {call.word for call in calls}, {}, []
-    for number, line in enumerate(path.read_text().split('\n'), 1):
+    for number, line in enumerate(without_calls(path.read_text(), calls), 1):
         if line.startswith('== '):
             parts.append((line[3:], []))
         elif line and not line.startswith('#'):
@@ -43,8 +55,6 @@ def read_rows(path, calls):
 def look_at(row, rows, words, seen):
     """Adds a row to those of its part, if it is right."""
     for name in row.names:
-        if name in words:
-            refuse(row, f'{name} is a call')
         if name in seen:
             refuse(row, f'{name} stands in line {seen[name]} too')
         if name != name.lower() or len(name) > NAME_ROOM:
@@ -140,6 +150,7 @@ def files(path, groups):
     """The text of each file, by its path."""
     calls = calls_of(groups)
     rows = read_rows(path, calls)
+    yield path.name, '\n'.join(without_calls(path.read_text(), calls))
     yield 'crates/checks/src/written_names.rt', file_of_names(groups)
     yield 'crates/checks/src/written_curses.rt', file_of_curses(rows, calls, groups)
     yield 'cases/check/names_of_curses_that_are_no_calls.case', case(rows)
