@@ -23,11 +23,9 @@ derwin 1 2 3 1 1:1
 subwin 1 2 3 1 1:1
 subpad 3 2 3 1 1:1'
 
-# All other calls, but delwin, which is counted with what it deletes: those that set something of a window or ask, by their
-# types, and the rest. A semicolon is between calls that go together.
-others=$("$root/bench/lines" 2)
-others+='
-addch 1 x
+# All other calls, but delwin, which is counted with what it deletes. A semicolon is between calls that go together. What
+# writes in a window, sets something of it or asks, and isn't named here, is made with arguments of its types.
+others='addch 1 x
 addstr 1 some text\nand more of it, past the end
 addstr 3 some text in a pad
 bkgdset 1 04 .
@@ -73,6 +71,8 @@ untouchwin 3
 addstr 0 on the screen
 update_panels
 doupdate'
+# shellcheck disable=SC2046
+others=$("$root/bench/lines" 2 $(grep -oE '[a-z_]+' <<< "$others"))$'\n'$others
 
 # Puts out a line some times, with each of its calls on a line of its own.
 repeat() { local i; for ((i = 0; i < $1; i++)); do printf '%s\n' "${2//; /$'\n'}"; done; }

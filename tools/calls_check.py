@@ -1,4 +1,6 @@
-"""What tools/calls writes for check: the names of each call's arguments, and from curses.table what is said of names that are no calls."""
+"""What tools/calls writes for check: the names of each call's arguments, which calls are on windows or panels that no screen has, and from
+curses.table what is said of names that are no calls."""
+import re
 import sys
 
 from calls_table import calls_of
@@ -29,10 +31,22 @@ def refuse(row, why):
     sys.exit(f'calls: curses.table, line {row.number}: {why}')
 
 
+def without_calls(text, calls):
+    """The text of the table without names that are calls by now, and without rows that have no other."""
+    words = {call.word for call in calls}
+    for line in text.split('\n'):
+        names, colon, rest = line.partition(':')
+        kept = [name for name in names.split() if name not in words]
+        if line.startswith(('#', '== ')) or not colon or kept == names.split():
+            yield line
+        elif kept:
+            yield ' '.join(kept) + colon + rest
+
+
 def read_rows(path, calls):
     """The rows by part, each part with its title."""
     words, seen, parts = {call.word for call in calls}, {}, []
-    for number, line in enumerate(path.read_text().split('\n'), 1):
+    for number, line in enumerate(without_calls(path.read_text(), calls), 1):
         if line.startswith('== '):
             parts.append((line[3:], []))
         elif line and not line.startswith('#'):
@@ -43,8 +57,6 @@ def read_rows(path, calls):
 def look_at(row, rows, words, seen):
     """Adds a row to those of its part, if it is right."""
     for name in row.names:
-        if name in words:
-            refuse(row, f'{name} is a call')
         if name in seen:
             refuse(row, f'{name} stands in line {seen[name]} too')
         if name != name.lower() or len(name) > NAME_ROOM:
@@ -125,6 +137,62 @@ use script::{{{words}}};
 '''
 
 
+# How many calls an arm has at most, since a proof over many together takes much longer.
+ARM = 10
+
+
+def of_numbers(call):
+    """The call for each of its windows and panels by whose number it is refused first: with that refusal, the number's place, its test and the
+    call's pattern."""
+    for refusal, kinds, test in (('NoSuchPanel', ('panel', 'panel_or_none'), 'is_no_panel(panel)'), ('NoSuchWindow', ('window',), 'is_no_window(win)')):
+        if re.match(r'(NoSuchPanel, )?' + refusal, call.refusals):
+            bound, rest = test[:-1].split('(')[1], ', ..' if len(call.arguments) > 1 else ''
+            for place, (name, kind) in enumerate(it for it in call.arguments if it[1] in kinds):
+                taken = f'{name}: Some({bound})' if kind == 'panel_or_none' else bound if name == bound else f'{name}: {bound}'
+                yield (refusal, place, test), f'{call.group}::{call.variant} {{ {taken}{rest} }}'
+
+
+def missing(group, calls):
+    """The function that refuses a group's calls on windows and panels that no screen has."""
+    arms = {}
+    for what, pattern in (it for call in calls for it in of_numbers(call)):
+        arms.setdefault(what, []).append(pattern)
+    lines = [fill(' | '.join(it.replace(' ', '\xa0') for it in patterns[at:at + ARM]) + f' if\xa0{test} => Some({refusal}),', '        ', 150).replace('\xa0', ' ')
+             for (refusal, _, test), patterns in sorted(arms.items()) for at in range(0, len(patterns), ARM)]
+    texts = "<'_>" if any(call.has('text') for call in calls) else ''
+    return '\n'.join(['#[rattlefmt::skip]', f'fn of_{group.lower()}(call: &{group}{texts}) -> Option<Refusal>',
+                      f'    ensures {{ IfSome result (IsRefusedEverywhere (calls.{group} call.now)) }}', '{', '    match *call {', *lines,
+                      '        _ => None,', '    }', '}'])
+
+
+def file_of_missing(groups):
+    """The file of the calls on windows and panels that no screen has."""
+    arms = '\n'.join(f'        Call::{group}(call) => of_{group.lower()}(call),' for group in groups)
+    each = '\n\n'.join(missing(group, calls) for group, (_, calls) in groups.items())
+    return f'''//! The calls on windows and panels that no screen has, by their numbers. Written by tools/calls from calls.table.
+
+ghost use Rattle.std.specs.Prelude.{{IfSome}};
+ghost use Rattle.checks.specs.Everywhere.{{IsRefusedEverywhere}};
+ghost use Rattle.world.specs.declared.call.Call.TheVariants as calls;
+
+use crate::everywhere::{{is_no_panel, is_no_window}};
+use Refusal::*;
+use cell::Refusal;
+use world::{{{", ".join(sorted(["Call", *groups]))}}};
+
+{each}
+
+/// Why every screen refuses a call, where it is on a window or a panel of a number that none has.
+pub(crate) fn refusal_by_number(call: &Call<'_>) -> Option<Refusal>
+    ensures {{ IfSome result (IsRefusedEverywhere call.now) }}
+{{
+    match call {{
+{arms}
+    }}
+}}
+'''
+
+
 def file_of_curses(rows, calls, groups):
     """The file of what is said of names that are no calls."""
     uses = ''.join(f'use script::{it}::*;\n' for it in sorted(['Word', *(f'{group}Word' for group in groups)]))
@@ -140,7 +208,9 @@ def files(path, groups):
     """The text of each file, by its path."""
     calls = calls_of(groups)
     rows = read_rows(path, calls)
+    yield path.name, '\n'.join(without_calls(path.read_text(), calls))
     yield 'crates/checks/src/written_names.rt', file_of_names(groups)
+    yield 'crates/checks/src/written_missing.rt', file_of_missing(groups)
     yield 'crates/checks/src/written_curses.rt', file_of_curses(rows, calls, groups)
     yield 'cases/check/names_of_curses_that_are_no_calls.case', case(rows)
 

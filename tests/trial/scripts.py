@@ -26,7 +26,7 @@ def themes():
 
 
 GROUPS = themes()
-PLACED = ('addch', 'addstr', 'insch', 'delch', 'insertln', 'deleteln', 'clrtoeol', 'clrtobot', 'inch')   # at the cursor
+PLACED = [word for word, call in TABLE.items() if call.draws and word not in ('erase', 'clear', 'scrl')] + ['inch']     # at the cursor
 WITH_EFFECTS = COPIES + GROUPS['settings']   # of which a window then shows what they did
 UP = (b'update_panels', b'doupdate')
 ESCAPED = {10: b'\\n', 13: b'\\r', 8: b'\\b', 92: b'\\\\'}

@@ -1,6 +1,6 @@
 -- The calls that every screen refuses, whatever its size, and whatever was called on it before.
 use Rattle.std.specs.Prelude.{◌≡◌, ℕ, ◌+◌, ◌⊎◌, ◌==◌, ◌&&◌, ◌||◌, not, nat_le, nat_lt, Bool, true, List, [], ◌∷◌, if◌then◌else◌}
-use Rattle.cell.specs.declared.limits.TheConstants.{LARGEST_PAD, LARGEST_SCREEN, MOST_PANELS}
+use Rattle.cell.specs.declared.limits.TheConstants.{LARGEST_PAD, LARGEST_SCREEN, MOST_PANELS, MOST_WINDOWS}
 use Rattle.cell.specs.declared.refusal.Refusal.{Refusal}
 use Rattle.world.specs.Panels.{standard_screen}
 use Rattle.world.specs.Sound.{IsSound}
@@ -40,6 +40,10 @@ are_past w y n = not (nat_lt y (most_of w) && nat_le (y + n) (most_of w))
 -- of so many lines and columns none has such a part
 abbrev pub is_too_great : ℕ → ℕ → ℕ → ℕ → ℕ → Bool
 is_too_great most nlines ncols y x = not (is_inside nlines most y && is_inside ncols most x)
+
+-- no screen has such a window or pad
+abbrev pub is_no_window : ℕ → Bool
+is_no_window w = nat_lt MOST_WINDOWS w
 
 -- no screen has such a panel
 abbrev pub is_no_panel : ℕ → Bool

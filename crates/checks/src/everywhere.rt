@@ -2,17 +2,32 @@
 
 ghost use Rattle.std.specs.Prelude.{◌≡◌, ◌+◌, ◌-◌, IfSome};
 ghost use Rattle.std.specs.List.{list_any};
-ghost use Rattle.checks.specs.Everywhere.{IsRefusedEverywhere, are_past, is_no_panel, is_past, is_too_great, most_of};
+ghost use Rattle.checks.specs.Everywhere.{IsRefusedEverywhere, are_past, is_no_panel, is_no_window, is_past, is_too_great, most_of};
 ghost use Rattle.world.specs.calls.Making.{is_inside};
 ghost use Rattle.world.specs.calls.Writing.{is_bad_character};
 ghost use Rattle.world.specs.declared.call.Call.TheVariants as calls;
 
+use crate::written_missing::refusal_by_number;
 use Refusal::*;
 use cell::{
     LARGEST_PAD, LARGEST_SCREEN, LAST_COLOUR, LAST_PAIR, MOST_PANELS, MOST_WINDOWS, Refusal, WinId,
     is_no_size, is_printable,
 };
 use world::{Call, Copying, Making, PanelId, Query, Refresh, Stacking, Writing};
+
+/// Whether no screen has such a window or pad.
+pub(crate) fn is_no_window(win: WinId) -> bool
+    ensures { result ≡ is_no_window win.0 }
+{
+    MOST_WINDOWS < win.0
+}
+
+/// Whether no screen has such a panel.
+pub(crate) fn is_no_panel(panel: PanelId) -> bool
+    ensures { result ≡ is_no_panel panel.0 }
+{
+    panel.0 == 0 || MOST_PANELS < panel.0
+}
 
 /// How many lines and columns a window has at most.
 fn most_of(win: WinId) -> u16
@@ -85,8 +100,6 @@ fn of_making(making: &Making) -> Option<Refusal>
     match *making {
         Making::Newwin { lines, columns, y, x } if is_too_great(LARGEST_SCREEN, lines, columns, y, x) => Some(OffScreen),
         Making::Newpad { lines, columns } if is_no_size(LARGEST_PAD, lines) || is_no_size(LARGEST_PAD, columns) => Some(BadSize),
-        Making::Subwin { win, .. } | Making::Derwin { win, .. } | Making::Subpad { pad: win, .. } | Making::Delwin { win }
-        | Making::Mvwin { win, .. } | Making::Mvderwin { win, .. } if win.0 > MOST_WINDOWS => Some(NoSuchWindow),
         Making::Subwin { lines, columns, y, x, .. } if is_too_great(LARGEST_SCREEN, lines, columns, y, x) => Some(OutsideParent),
         Making::Derwin { lines, columns, y, x, .. } if is_too_great(LARGEST_SCREEN, lines, columns, y, x) => Some(OutsideParent),
         Making::Subpad { pad, .. } if pad.0 == 0 => Some(NotPad),
@@ -104,12 +117,6 @@ fn of_writing(writing: &Writing<'_>) -> Option<Refusal>
     ensures { IfSome result (IsRefusedEverywhere (calls.Writing writing.now)) }
 {
     match *writing {
-        Writing::Move { win, .. } | Writing::Addch { win, .. } | Writing::Addstr { win, .. } | Writing::Insch { win, .. } | Writing::Delch { win }
-        | Writing::Insertln { win } | Writing::Deleteln { win } | Writing::Erase { win } | Writing::Clear { win } | Writing::Clrtoeol { win }
-        | Writing::Clrtobot { win } if win.0 > MOST_WINDOWS => Some(NoSuchWindow),
-        Writing::Scrl { win, .. } | Writing::Setscrreg { win, .. } | Writing::Scrollok { win, .. } | Writing::Clearok { win, .. }
-        | Writing::Attrset { win, .. } | Writing::Attron { win, .. } | Writing::Attroff { win, .. } | Writing::Bkgdset { win, .. }
-        | Writing::ColorSet { win, .. } | Writing::Bkgdpair { win, .. } if win.0 > MOST_WINDOWS => Some(NoSuchWindow),
         Writing::Move { win, y, x } if is_past(win, u32::from(y), u32::from(x)) => Some(OutsideWindow),
         Writing::Addch { ch, .. } if is_bad_character(ch) => Some(BadCharacter),
         Writing::Addstr { text, .. } if text.iter().any(|ch| is_bad_character(*ch)) => Some(BadCharacter),
@@ -125,11 +132,6 @@ fn of_copying(copying: &Copying) -> Option<Refusal>
     ensures { IfSome result (IsRefusedEverywhere (calls.Copying copying.now)) }
 {
     match *copying {
-        Copying::Overlay { src, dst } | Copying::Overwrite { src, dst } | Copying::Copywin { src, dst, .. }
-            if MOST_WINDOWS < src.0.max(dst.0) => Some(NoSuchWindow),
-        Copying::Touchwin { win } | Copying::Untouchwin { win } | Copying::Touchline { win, .. } | Copying::Touchln { win, .. }
-        | Copying::Syncup { win } | Copying::Syncdown { win } | Copying::IsLinetouched { win, .. } | Copying::IsWintouched { win }
-            if win.0 > MOST_WINDOWS => Some(NoSuchWindow),
         Copying::Copywin { dminrow, dmincol, dmaxrow, dmaxcol, .. } if dmaxrow < dminrow || dmaxcol < dmincol => Some(BadRectangle),
         Copying::Copywin { dst, dmaxrow, dmaxcol, .. } if is_past(dst, u32::from(dmaxrow), u32::from(dmaxcol)) => Some(OutsideWindow),
         Copying::Copywin { src, sminrow, smincol, dminrow, dmincol, dmaxrow, dmaxcol, .. }
@@ -145,18 +147,9 @@ fn of_query(query: &Query) -> Option<Refusal>
     ensures { IfSome result (IsRefusedEverywhere (calls.Query query.now)) }
 {
     match *query {
-        Query::Getyx { win } | Query::Getbegyx { win } | Query::Getmaxyx { win } | Query::Getparyx { win } | Query::Inch { win }
-            if win.0 > MOST_WINDOWS => Some(NoSuchWindow),
         Query::Getparyx { win } if win.0 == 0 => Some(NotDerived),
         _ => None,
     }
-}
-
-/// Whether no screen has such a panel.
-fn is_no_panel(panel: PanelId) -> bool
-    ensures { result ≡ is_no_panel panel.0 }
-{
-    panel.0 == 0 || MOST_PANELS < panel.0
 }
 
 #[rattlefmt::skip]
@@ -164,12 +157,6 @@ fn of_stacking(stacking: &Stacking) -> Option<Refusal>
     ensures { IfSome result (IsRefusedEverywhere (calls.Stacking stacking.now)) }
 {
     match *stacking {
-        Stacking::DelPanel { panel } | Stacking::ShowPanel { panel } | Stacking::HidePanel { panel } | Stacking::TopPanel { panel }
-        | Stacking::BottomPanel { panel } | Stacking::MovePanel { panel, .. } | Stacking::ReplacePanel { panel, .. }
-        | Stacking::PanelWindow { panel } | Stacking::PanelHidden { panel } | Stacking::PanelAbove { panel: Some(panel) }
-        | Stacking::PanelBelow { panel: Some(panel) }
-            if is_no_panel(panel) => Some(NoSuchPanel),
-        Stacking::NewPanel { win } | Stacking::ReplacePanel { win, .. } if win.0 > MOST_WINDOWS => Some(NoSuchWindow),
         Stacking::NewPanel { win } | Stacking::ReplacePanel { win, .. } if win.0 == 0 => Some(StandardScreen),
         Stacking::MovePanel { y, x, .. } if y >= LARGEST_SCREEN || x >= LARGEST_SCREEN => Some(OffScreen),
         _ => None,
@@ -181,7 +168,6 @@ fn of_refresh(refresh: &Refresh) -> Option<Refusal>
     ensures { IfSome result (IsRefusedEverywhere (calls.Refresh refresh.now)) }
 {
     match *refresh {
-        Refresh::Noutrefresh { win } | Refresh::Pnoutrefresh { pad: win, .. } if win.0 > MOST_WINDOWS => Some(NoSuchWindow),
         Refresh::Pnoutrefresh { pad, .. } if pad.0 == 0 => Some(NotPad),
         Refresh::Pnoutrefresh { sminrow, smincol, smaxrow, smaxcol, .. } if smaxrow < sminrow || smaxcol < smincol => Some(BadRectangle),
         Refresh::Pnoutrefresh { pad, pminrow, pmincol, sminrow, smincol, smaxrow, smaxcol }
@@ -197,6 +183,9 @@ fn of_refresh(refresh: &Refresh) -> Option<Refusal>
 pub fn refusal_everywhere(call: &Call<'_>) -> Option<Refusal>
     ensures { IfSome result (IsRefusedEverywhere call.now) }
 {
+    if let Some(why) = refusal_by_number(call) {
+        return Some(why);
+    }
     match call {
         Call::Making(making) => of_making(making),
         Call::Writing(writing) => of_writing(writing),

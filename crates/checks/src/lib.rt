@@ -5,7 +5,7 @@
 //! - `findings`, `report`: the line about a fault, and about such a call, and the lines about a script
 //! - `said`: the text of such a line, as it is gathered
 //! - `suggest`: the calls to see in place of a word that is none
-//! - `written_curses`, `written_names`: what `tools/calls` writes
+//! - `written_curses`, `written_missing`, `written_names`: what `tools/calls` writes
 #![tactic(auto)]
 
 mod arguments;
@@ -16,6 +16,7 @@ mod report;
 mod said;
 mod suggest;
 mod written_curses;
+mod written_missing;
 mod written_names;
 
 pub use report::check_script;

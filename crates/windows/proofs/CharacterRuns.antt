@@ -24,7 +24,7 @@ use Rattle.grids.specs.Inks.{printed_cell}
 use Rattle.windows.specs.steps.State.{IsStateOf}
 use Rattle.windows.specs.declared.state.WindowState.{WindowState}
 use Rattle.windows.proofs.Calls.{with_state}
-use Rattle.windows.proofs.Rectangles.{frame-at_place}
+use Rattle.windows.proofs.AtPlace.{frame-at_place}
 use Rattle.windows.proofs.States.{spot-of, window-put}
 use Rattle.windows.proofs.TextFrames.{frame-append, frame-first, frame-nothing, frame_of_character, text_frame}
 use Rattle.windows.proofs.Texts.{HasSame, same-typed, joined-none, joined-joined}

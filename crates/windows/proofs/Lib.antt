@@ -1,13 +1,22 @@
 -- the lines of a drawing above a line, and those from it on, for clear_all, clear_below, move_up and move_down
 pub mod LineDrawings
--- the rectangles of the drawings, for the frames that calls answer
+-- drawings that write a rectangle, or nothing, for the frames that calls answer
 pub mod Rectangles
 -- what a window of a known state keeps, for state_of and what writes a line
 pub mod States
--- one more write of a line, for clear_below, clear_rest, insert_cell, delete_cell, move_up and move_down
+-- one more write of a line, for the drawings
 pub mod NextWrites
 -- what calls do to a window of a known state, for the calls that edit and the copies
 pub mod Calls
+-- each drawing: its rectangle, its writes, and the frame of the call that draws it
+pub mod AtPlace
+pub mod CharacterInserted
+pub mod CharacterDeleted
+pub mod ToEndOfLine
+pub mod ToBottom
+pub mod Everywhere
+pub mod LinesUp
+pub mod LinesDown
 -- one character, for waddch and type_first
 pub mod Typing
 -- one character after another, and that printed ones are accepted, for type_text and has_bad_character

@@ -1,11 +1,10 @@
 -- What one more write of a line adds to a drawing, for a window of a known state.
-use Rattle.std.proofs.Common.{◌≡◌, ℕ, ◌+◌, ◌-◌, ◌<◌, ◌≤◌, false, Some, None, arith, sym, inl, inr}
-use Rattle.std.proofs.lemmas.Bool.{cases_eq, cases_lt}
+use Rattle.std.proofs.Common.{◌≡◌, ℕ, ◌+◌, ◌-◌, ◌<◌, ◌≤◌, false, Some, None, arith, sym}
+use Rattle.std.proofs.lemmas.Bool.{cases_eq}
 use Rattle.std.proofs.lemmas.Bool.Decides.{nat_tests}
 use Rattle.cell.specs.Glyphs.{Glyph}
 use Rattle.world.specs.Windows.{WindowMap, Windows, Drawing, cell_at, put, over}
 use Rattle.world.specs.Rows.{filled_cells, copied_cells}
-use Rattle.world.specs.Drawings.{at_place, character_inserted, character_deleted, to_end_of_line, to_bottom, everywhere, lines_up, lines_down}
 use Rattle.windows.specs.steps.State.{IsStateOf}
 use Rattle.windows.specs.declared.state.WindowState.{WindowState}
 use Rattle.windows.proofs.States.{spot-of}
@@ -18,34 +17,18 @@ with_map windows u v e = λ i. record windows { window = e i }
 
 module _ (windows : Windows) (w : ℕ) (s : WindowState) (h : IsStateOf windows w s) where
   -- a write of a drawing that is the same in the window, and two writes that are one
-  once : (f g : Drawing) (new : Windows) → AreSame h.window f g → new ≡ put windows w f → new ≡ put windows w g
+  pub once : (f g : Drawing) (new : Windows) → AreSame h.window f g → new ≡ put windows w f → new ≡ put windows w g
   once f g new same is = rw is (with_map windows _ _ (put-same windows.window w h.window f g h.there same))
 
-  twice : (f g both : Drawing) (now new : Windows) → AreSame h.window (over g f) both → now ≡ put windows w f → new ≡ put now w g → new ≡ put windows w both
+  pub twice : (f g both : Drawing) (now new : Windows) → AreSame h.window (over g f) both → now ≡ put windows w f → new ≡ put now w g → new ≡ put windows w both
   twice f g both now new same before after = rw (after, before) (with_map windows _ _ (put-then windows.window w h.window f g both h.there same))
 
-  nothing : (f : Drawing) → ((y x : ℕ) → f y x ≡ None) → windows ≡ put windows w f
+  pub nothing : (f : Drawing) → ((y x : ℕ) → f y x ≡ None) → windows ≡ put windows w f
   nothing f none = sym (with_map windows _ _ (put-nothing windows.window w f none))
 
   -- a place that is not written
-  kept : (f : Drawing) (now : Windows) (y x : ℕ) → now ≡ put windows w f → f y x ≡ None → y < s.lines → x < s.columns → cell_at now.window w y x ≡ cell_at windows.window w y x
+  pub kept : (f : Drawing) (now : Windows) (y x : ℕ) → now ≡ put windows w f → f y x ≡ None → y < s.lines → x < s.columns → cell_at now.window w y x ≡ cell_at windows.window w y x
   kept f now y x is none below on = let spot = spot-of windows w s h in grind (arith, (shown-put windows.window w h.window spot.0 f y x))
-
-  -- ---- one line
-
-  pub one_cell : (new : Windows) (y x : ℕ) (c : Glyph) → new ≡ put windows w (filled_cells y x x c) → new ≡ put windows w (at_place (y, x) c)
-  one_cell new y x c is = once _ _ new (λ v u below on. grind (arith, cases_eq, nat_tests)) is
-
-  pub rest_of_line : (new : Windows) (y left : ℕ) (c : Glyph) → new ≡ put windows w (filled_cells y left (s.columns - 1) c) → new ≡ put windows w (to_end_of_line (y, left) c)
-  rest_of_line new y left c is = once _ _ new (λ v u below on. grind (arith, nat_tests)) is
-
-  pub inserted : (now new : Windows) (y x : ℕ) (c : Glyph) → x < s.columns → now ≡ put windows w (copied_cells windows.window w y x y (x + 1) (s.columns - 1 - x) false)
-      → new ≡ put now w (filled_cells y x x c) → new ≡ put windows w (character_inserted windows.window w (y, x) c)
-  inserted now new y x c on first second = twice _ _ _ now new (λ v u in_lines left. grind (arith, cases_eq, nat_tests)) first second
-
-  pub deleted : (now new : Windows) (y x : ℕ) (c : Glyph) → x < s.columns → now ≡ put windows w (copied_cells windows.window w y (x + 1) y x (s.columns - 1 - x) false)
-      → new ≡ put now w (filled_cells y (s.columns - 1) (s.columns - 1) c) → new ≡ put windows w (character_deleted windows.window w (y, x) (s.columns - 1) c)
-  deleted now new y x c on first second = twice _ _ _ now new (λ v u in_lines left. grind (arith, cases_eq, nat_tests)) first second
 
   -- ---- line after line, downwards
 
@@ -80,52 +63,3 @@ module _ (windows : Windows) (w : ℕ) (s : WindowState) (h : IsStateOf windows 
       → now ≡ put windows w (from (k + 1) f) → new ≡ put now w (copied_cells now.window w sy 0 k 0 s.columns false) → new ≡ put windows w (from k f)
   line_taken_above f sy k now new ordered below is before after = twice (from (k + 1) f) _ (from k f) now new
       (λ y x in_lines on. let same = kept (from (k + 1) f) now sy x before (grind (arith, nat_tests)) below (omega (arith, h.columns)) in grind (arith, cases_eq, nat_tests)) before after
-
-  -- ---- all lines, and those from a place on
-
-  pub all_cleared : (c : Glyph) (now : Windows) (k : ℕ) → s.lines ≤ k → now ≡ put windows w (above k (everywhere c)) → now ≡ put windows w (everywhere c)
-  all_cleared c now k all is = ends_above (everywhere c) k now (λ y x beyond below. absurd (omega arith)) is
-
-  pub bottom_started : (y left : ℕ) (c : Glyph) (new : Windows) → new ≡ put windows w (filled_cells y left (s.columns - 1) c) → new ≡ put windows w (above (y + 1) (to_bottom (y, left) c))
-  bottom_started y left c new is = once _ (above (y + 1) (to_bottom (y, left) c)) new (λ v x below on. grind (arith, cases_eq, nat_tests)) is
-
-  pub bottom_cleared : (y left : ℕ) (c : Glyph) (now : Windows) (k : ℕ) → s.lines ≤ k → now ≡ put windows w (above k (to_bottom (y, left) c))
-      → now ≡ put windows w (to_bottom (y, left) c)
-  bottom_cleared y left c now k all is = ends_above (to_bottom (y, left) c) k now (λ y x beyond below. absurd (omega arith)) is
-
-  -- ---- lines up
-
-  module _ (top bottom n : ℕ) (c : Glyph) (ordered : top ≤ bottom) (below : bottom < s.lines) where
-    pub up_started : windows ≡ put windows w (above top (lines_up windows.window w top bottom n c))
-    up_started = starts_above (lines_up windows.window w top bottom n c) top (λ y x before. grind (arith, nat_tests))
-
-    pub up_more : (k : ℕ) (now new : Windows) → top ≤ k → k ≤ bottom → now ≡ put windows w (above k (lines_up windows.window w top bottom n c))
-        → (k + n ≤ bottom → new ≡ put now w (copied_cells now.window w (k + n) 0 k 0 s.columns false))
-        → (bottom < k + n → new ≡ put now w (filled_cells k 0 (s.columns - 1) c))
-        → new ≡ put windows w (above (k + 1) (lines_up windows.window w top bottom n c))
-    up_more k now new from_top to_end before copies clears = elim (cases_lt bottom (k + n)) [
-      | inl past ↦ line_cleared (lines_up windows.window w top bottom n c) k c now new (λ x. grind (arith, nat_tests)) before (clears past)
-      | inr within ↦ line_taken_below (lines_up windows.window w top bottom n c) (k + n) k now new (omega arith) (omega arith) (λ x. grind (arith, nat_tests)) before (copies (omega arith))
-    ]
-
-    pub up_ended : (k : ℕ) (now : Windows) → bottom < k → now ≡ put windows w (above k (lines_up windows.window w top bottom n c))
-        → now ≡ put windows w (lines_up windows.window w top bottom n c)
-    up_ended k now past is = ends_above (lines_up windows.window w top bottom n c) k now (λ y x beyond below. grind (arith, nat_tests)) is
-
-    -- ---- lines down
-
-    pub down_started : windows ≡ put windows w (from (bottom + 1) (lines_down windows.window w top bottom n c))
-    down_started = starts_below (lines_down windows.window w top bottom n c) (bottom + 1) (λ y x beyond. grind (arith, nat_tests))
-
-    pub down_more : (k : ℕ) (now new : Windows) → top ≤ k → k ≤ bottom → now ≡ put windows w (from (k + 1) (lines_down windows.window w top bottom n c))
-        → (top + n ≤ k → new ≡ put now w (copied_cells now.window w (k - n) 0 k 0 s.columns false))
-        → (k < top + n → new ≡ put now w (filled_cells k 0 (s.columns - 1) c))
-        → new ≡ put windows w (from k (lines_down windows.window w top bottom n c))
-    down_more k now new from_top to_end before copies clears = elim (cases_lt k (top + n)) [
-      | inl past ↦ line_cleared_before (lines_down windows.window w top bottom n c) k c now new (λ x. grind (arith, nat_tests)) before (clears past)
-      | inr within ↦ line_taken_above (lines_down windows.window w top bottom n c) (k - n) k now new (omega arith) (omega arith) (λ x. grind (arith, nat_tests)) before (copies (omega arith))
-    ]
-
-    pub down_ended : (k : ℕ) (now : Windows) → k ≤ top → now ≡ put windows w (from k (lines_down windows.window w top bottom n c))
-        → now ≡ put windows w (lines_down windows.window w top bottom n c)
-    down_ended k now past is = ends_below (lines_down windows.window w top bottom n c) k now (λ y x before. grind (arith, nat_tests)) is

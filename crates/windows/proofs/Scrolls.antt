@@ -7,7 +7,9 @@ use Rattle.cell.specs.declared.window.Rect.{Rect}
 use Rattle.world.proofs.WindowLaws.{put-nothing}
 use Rattle.windows.specs.steps.State.{IsStateOf, window_in_state}
 use Rattle.windows.specs.declared.state.WindowState.{WindowState}
-use Rattle.windows.proofs.Rectangles.{frame-lines_up, frame-lines_down, frame-nothing}
+use Rattle.windows.proofs.LinesUp.{frame-lines_up}
+use Rattle.windows.proofs.LinesDown.{frame-lines_down}
+use Rattle.windows.proofs.Rectangles.{frame-nothing}
 
 module _ (windows : Windows) (w : ℕ) (s : WindowState) (n : ℤ) where
   -- by none

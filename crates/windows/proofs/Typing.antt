@@ -16,7 +16,9 @@ use Rattle.windows.specs.steps.State.{IsStateOf, window_in_state}
 use Rattle.windows.specs.declared.state.WindowState.{WindowState}
 use Rattle.world.proofs.EditLaws.{frame-if-there}
 use Rattle.world.proofs.FrameLaws.{frame-over, frame_of-none}
-use Rattle.windows.proofs.Rectangles.{frame-at_place, frame-to_end_of_line, frame-lines_up}
+use Rattle.windows.proofs.AtPlace.{frame-at_place}
+use Rattle.windows.proofs.ToEndOfLine.{frame-to_end_of_line}
+use Rattle.windows.proofs.LinesUp.{frame-lines_up}
 use Rattle.windows.proofs.Calls.{call-is, frame-is}
 use Rattle.windows.proofs.TextFrames.{frame_of_character}
 use Rattle.windows.proofs.States.{either-few, valid_attributes-small}

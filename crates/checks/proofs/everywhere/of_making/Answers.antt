@@ -4,8 +4,8 @@ use Rattle.std.proofs.lemmas.Bool.Decides.{nat_tests}
 use Rattle.checks.proofs.SoundLemmas.{outside, outside_from, outside_pad}
 use Rattle.checks.proofs.everywhere.of_making.Goals as goal
 
-pub returns-in-Subwin-2 : goal.returns-in-Subwin-2
-returns-in-Subwin-2 c = λ world sound. grind (arith, nat_tests, outside_from world sound, c.in-Subwin-2.is)
+pub returns-in-Subwin : goal.returns-in-Subwin
+returns-in-Subwin c = λ world sound. grind (arith, nat_tests, outside_from world sound, c.in-Subwin.is)
 
 pub returns-in-Derwin : goal.returns-in-Derwin
 returns-in-Derwin c = λ world sound. grind (arith, nat_tests, outside world sound, c.in-Derwin.is)

@@ -3,7 +3,8 @@ use Rattle.std.proofs.Common.{rules, arith}
 use Rattle.world.specs.Drawings.{everywhere}
 use Rattle.grids.specs.Tables.{windows}
 use Rattle.windows.proofs.States.{state-written}
-use Rattle.windows.proofs.NextWrites.{starts_above, line_cleared, all_cleared}
+use Rattle.windows.proofs.NextWrites.{starts_above, line_cleared}
+use Rattle.windows.proofs.Everywhere.{all_cleared}
 use Rattle.windows.proofs.drawing.clear_all.Goals as goal
 
 pub loop-line-init : goal.loop-line-init

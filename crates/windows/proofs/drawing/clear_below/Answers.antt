@@ -3,7 +3,8 @@ use Rattle.std.proofs.Common.{arith, rules}
 use Rattle.std.proofs.lemmas.Bool.Decides.{nat_tests}
 use Rattle.world.specs.Drawings.{to_bottom}
 use Rattle.windows.proofs.States.{state-written}
-use Rattle.windows.proofs.NextWrites.{bottom_started, line_cleared, bottom_cleared}
+use Rattle.windows.proofs.ToBottom.{bottom_started, bottom_cleared}
+use Rattle.windows.proofs.NextWrites.{line_cleared}
 use Rattle.windows.proofs.drawing.clear_below.Goals as goal
 
 pub loop-line-init : goal.loop-line-init

@@ -1,6 +1,6 @@
 -- Each round takes one line more from above, from the last on.
 use Rattle.std.proofs.Common.{◌≡◌, ◌+◌, ◌-◌, arith}
-use Rattle.windows.proofs.NextWrites.{down_started, down_more, down_ended}
+use Rattle.windows.proofs.LinesDown.{down_started, down_more, down_ended}
 use Rattle.windows.proofs.drawing.move_down.Goals as goal
 
 pub loop-moved-init : goal.loop-moved-init

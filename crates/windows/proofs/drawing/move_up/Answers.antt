@@ -1,6 +1,6 @@
 -- Each round takes one line more from below, from the first on.
 use Rattle.std.proofs.Common.{arith}
-use Rattle.windows.proofs.NextWrites.{up_started, up_more, up_ended}
+use Rattle.windows.proofs.LinesUp.{up_started, up_more, up_ended}
 use Rattle.windows.proofs.drawing.move_up.Goals as goal
 
 pub loop-line-init : goal.loop-line-init

@@ -1,6 +1,7 @@
 -- The rest of the cursor's line is cleared.
 use Rattle.std.proofs.Common.{rules}
-use Rattle.windows.proofs.Calls.{clrtoeol_frame-is, drew}
+use Rattle.windows.proofs.ToEndOfLine.{clrtoeol_frame-is}
+use Rattle.windows.proofs.Calls.{drew}
 use Rattle.windows.proofs.table.Windows.wclrtoeol.Goals as goal
 
 pub returns : goal.returns

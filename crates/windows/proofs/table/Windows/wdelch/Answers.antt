@@ -3,7 +3,8 @@ use Rattle.std.proofs.Common.{refl, sym, ◌∙◌, rules}
 use Rattle.world.specs.Windows.{put}
 use Rattle.world.specs.calls.Writing.{delch_drawing}
 use Rattle.grids.specs.Tables.{windows}
-use Rattle.windows.proofs.Calls.{call-is, character_deleted_frame, drew}
+use Rattle.windows.proofs.Calls.{call-is, drew}
+use Rattle.windows.proofs.CharacterDeleted.{character_deleted_frame}
 use Rattle.windows.proofs.table.Windows.wdelch.Goals as goal
 
 pub returns : goal.returns

@@ -3,7 +3,8 @@ use Rattle.std.proofs.Common.{refl, sym, ◌∙◌, rules}
 use Rattle.world.specs.Windows.{put}
 use Rattle.world.specs.calls.Writing.{insch_drawing}
 use Rattle.grids.specs.Tables.{windows}
-use Rattle.windows.proofs.Calls.{call-is, character_inserted_frame, drew}
+use Rattle.windows.proofs.Calls.{call-is, drew}
+use Rattle.windows.proofs.CharacterInserted.{character_inserted_frame}
 use Rattle.windows.proofs.table.Windows.winsch.Goals as goal
 
 pub returns : goal.returns

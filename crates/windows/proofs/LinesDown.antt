@@ -1,0 +1,48 @@
+-- Lines moved down: their rectangle, what the call that inserts a line does and answers, and the writes, upwards.
+use Rattle.std.proofs.Common.{◌≡◌, ℕ, ◌+◌, ◌-◌, ◌<◌, ◌≤◌, false, Some, None, arith, inl, inr}
+use Rattle.std.proofs.lemmas.Bool.{cases_lt}
+use Rattle.std.proofs.lemmas.Bool.Decides.{nat_tests}
+use Rattle.cell.specs.Glyphs.{Glyph}
+use Rattle.cell.specs.declared.window.Rect.{Rect}
+use Rattle.world.specs.Windows.{WindowMap, Windows, Window, put}
+use Rattle.world.specs.Rows.{filled_cells, copied_cells}
+use Rattle.world.specs.Drawings.{lines_down}
+use Rattle.world.specs.Frames.{frame_of}
+use Rattle.world.specs.Effects.{drawing_frame, after_edit, draws}
+use Rattle.world.specs.calls.Writing.{insertln_drawing}
+use Rattle.windows.specs.steps.State.{IsStateOf}
+use Rattle.windows.specs.declared.state.WindowState.{WindowState}
+use Rattle.windows.proofs.LineDrawings.{from}
+use Rattle.windows.proofs.NextWrites.{starts_below, ends_below, line_cleared_before, line_taken_above}
+use Rattle.windows.proofs.Rectangles.{block}
+use Rattle.windows.proofs.Calls.{call-is, frame-is}
+
+module _ (a : Window) (top bottom : ℕ) (ordered : top ≤ bottom) (below : bottom < a.lines) (on : 0 < a.columns) where
+  pub frame-lines_down : (window : WindowMap) (w n : ℕ) (c : Glyph) → frame_of a (lines_down window w top bottom n c) ≡ Some (record { top = top; left = 0; bottom = bottom; right = a.columns - 1 })
+  frame-lines_down window w n c = block a (lines_down window w top bottom n c) _ ordered below (omega arith) (omega arith) (λ v u h k. grind (arith, nat_tests))
+
+module _ (windows : Windows) (w : ℕ) (s : WindowState) (h : IsStateOf windows w s) where
+  pub line_inserted : (new : Windows) → new ≡ put windows w (lines_down windows.window w s.settings.cursor.0 (s.lines - 1) 1 s.settings.background)
+      → new ≡ after_edit windows (draws w (insertln_drawing windows.window w) None)
+  line_inserted new e = grind (arith, call-is)
+
+  pub line_inserted_frame : (r : Rect) → r ≡ record { top = s.settings.cursor.0; left = 0; bottom = s.lines - 1; right = s.columns - 1 }
+      → Some r ≡ drawing_frame windows w (insertln_drawing windows.window w)
+  line_inserted_frame r e = grind (arith, frame-lines_down, frame-is)
+
+  module _ (top bottom n : ℕ) (c : Glyph) (ordered : top ≤ bottom) (below : bottom < s.lines) where
+    pub down_started : windows ≡ put windows w (from (bottom + 1) (lines_down windows.window w top bottom n c))
+    down_started = starts_below windows w s h (lines_down windows.window w top bottom n c) (bottom + 1) (λ y x beyond. grind (arith, nat_tests))
+
+    pub down_more : (k : ℕ) (now new : Windows) → top ≤ k → k ≤ bottom → now ≡ put windows w (from (k + 1) (lines_down windows.window w top bottom n c))
+        → (top + n ≤ k → new ≡ put now w (copied_cells now.window w (k - n) 0 k 0 s.columns false))
+        → (k < top + n → new ≡ put now w (filled_cells k 0 (s.columns - 1) c))
+        → new ≡ put windows w (from k (lines_down windows.window w top bottom n c))
+    down_more k now new from_top to_end before copies clears = elim (cases_lt k (top + n)) [
+      | inl past ↦ line_cleared_before windows w s h (lines_down windows.window w top bottom n c) k c now new (λ x. grind (arith, nat_tests)) before (clears past)
+      | inr within ↦ line_taken_above windows w s h (lines_down windows.window w top bottom n c) (k - n) k now new (omega arith) (omega arith) (λ x. grind (arith, nat_tests)) before (copies (omega arith))
+    ]
+
+    pub down_ended : (k : ℕ) (now : Windows) → k ≤ top → now ≡ put windows w (from k (lines_down windows.window w top bottom n c))
+        → now ≡ put windows w (lines_down windows.window w top bottom n c)
+    down_ended k now past is = ends_below windows w s h (lines_down windows.window w top bottom n c) k now (λ y x before. grind (arith, nat_tests)) is

@@ -1,0 +1,48 @@
+-- Lines moved up: their rectangle, what the call that deletes a line does and answers, and the writes, downwards.
+use Rattle.std.proofs.Common.{◌≡◌, ℕ, ◌+◌, ◌-◌, ◌<◌, ◌≤◌, false, Some, None, arith, inl, inr}
+use Rattle.std.proofs.lemmas.Bool.{cases_lt}
+use Rattle.std.proofs.lemmas.Bool.Decides.{nat_tests}
+use Rattle.cell.specs.Glyphs.{Glyph}
+use Rattle.cell.specs.declared.window.Rect.{Rect}
+use Rattle.world.specs.Windows.{WindowMap, Windows, Window, put}
+use Rattle.world.specs.Rows.{filled_cells, copied_cells}
+use Rattle.world.specs.Drawings.{lines_up}
+use Rattle.world.specs.Frames.{frame_of}
+use Rattle.world.specs.Effects.{drawing_frame, after_edit, draws}
+use Rattle.world.specs.calls.Writing.{deleteln_drawing}
+use Rattle.windows.specs.steps.State.{IsStateOf}
+use Rattle.windows.specs.declared.state.WindowState.{WindowState}
+use Rattle.windows.proofs.LineDrawings.{above}
+use Rattle.windows.proofs.NextWrites.{starts_above, ends_above, line_cleared, line_taken_below}
+use Rattle.windows.proofs.Rectangles.{block}
+use Rattle.windows.proofs.Calls.{call-is, frame-is}
+
+module _ (a : Window) (top bottom : ℕ) (ordered : top ≤ bottom) (below : bottom < a.lines) (on : 0 < a.columns) where
+  pub frame-lines_up : (window : WindowMap) (w n : ℕ) (c : Glyph) → frame_of a (lines_up window w top bottom n c) ≡ Some (record { top = top; left = 0; bottom = bottom; right = a.columns - 1 })
+  frame-lines_up window w n c = block a (lines_up window w top bottom n c) _ ordered below (omega arith) (omega arith) (λ v u h k. grind (arith, nat_tests))
+
+module _ (windows : Windows) (w : ℕ) (s : WindowState) (h : IsStateOf windows w s) where
+  pub line_deleted : (new : Windows) → new ≡ put windows w (lines_up windows.window w s.settings.cursor.0 (s.lines - 1) 1 s.settings.background)
+      → new ≡ after_edit windows (draws w (deleteln_drawing windows.window w) None)
+  line_deleted new e = grind (arith, call-is)
+
+  pub line_deleted_frame : (r : Rect) → r ≡ record { top = s.settings.cursor.0; left = 0; bottom = s.lines - 1; right = s.columns - 1 }
+      → Some r ≡ drawing_frame windows w (deleteln_drawing windows.window w)
+  line_deleted_frame r e = grind (arith, frame-lines_up, frame-is)
+
+  module _ (top bottom n : ℕ) (c : Glyph) (ordered : top ≤ bottom) (below : bottom < s.lines) where
+    pub up_started : windows ≡ put windows w (above top (lines_up windows.window w top bottom n c))
+    up_started = starts_above windows w s h (lines_up windows.window w top bottom n c) top (λ y x before. grind (arith, nat_tests))
+
+    pub up_more : (k : ℕ) (now new : Windows) → top ≤ k → k ≤ bottom → now ≡ put windows w (above k (lines_up windows.window w top bottom n c))
+        → (k + n ≤ bottom → new ≡ put now w (copied_cells now.window w (k + n) 0 k 0 s.columns false))
+        → (bottom < k + n → new ≡ put now w (filled_cells k 0 (s.columns - 1) c))
+        → new ≡ put windows w (above (k + 1) (lines_up windows.window w top bottom n c))
+    up_more k now new from_top to_end before copies clears = elim (cases_lt bottom (k + n)) [
+      | inl past ↦ line_cleared windows w s h (lines_up windows.window w top bottom n c) k c now new (λ x. grind (arith, nat_tests)) before (clears past)
+      | inr within ↦ line_taken_below windows w s h (lines_up windows.window w top bottom n c) (k + n) k now new (omega arith) (omega arith) (λ x. grind (arith, nat_tests)) before (copies (omega arith))
+    ]
+
+    pub up_ended : (k : ℕ) (now : Windows) → bottom < k → now ≡ put windows w (above k (lines_up windows.window w top bottom n c))
+        → now ≡ put windows w (lines_up windows.window w top bottom n c)
+    up_ended k now past is = ends_above windows w s h (lines_up windows.window w top bottom n c) k now (λ y x beyond below. grind (arith, nat_tests)) is
