@@ -1,19 +1,18 @@
--- What clap says of this program's command line, and of the number of an option.
-use Rattle.std.proofs.Common.{◌≡◌, ◌⊎◌, ◌||◌, ℕ, Bool, List, Option, None, Some, Ok, Err, Result, true, false, refl, sym, ap, subst, inl, inr, option_map, ◌∙◌, arith}
+-- What clap says of this program's command line.
+use Rattle.std.proofs.Common.{◌≡◌, ◌⊎◌, ◌||◌, Bool, List, Option, None, Some, Ok, Err, Result, true, false, refl, ap, subst, inl, inr, option_map, ◌∙◌, arith}
 use Rattle.std.specs.Borrow.{Bor}
-use Rattle.std.specs.Prelude.{IfErr, MatchOption}
-use Rattle.std.specs.Str.Parse.{ParsesUnsigned}
+use Rattle.std.specs.Prelude.{IfErr}
 use Rattle.clap.specs.Words.{App, FailsBy, HasMatchesOf, Row, Text, fault_of}
-use Rattle.clap.specs.Words.{first_of, first_value, has_subcommand, is_simple, is_simple_and_free, kind_of, one_of, one_text, rows_of}
+use Rattle.clap.specs.Words.{first_of, first_value, has_subcommand, is_simple, is_simple_and_free, kind_of, rows_of}
 use Rattle.clap.specs.Words.{subcommand_of, subcommand_rows_of}
-use Rattle.clap.specs.Matches.{ReadsOne, subcommand_name_of}
+use Rattle.clap.specs.Matches.{subcommand_name_of}
 use Rattle.clap.specs.declared.error.Error.{Error}
 use Rattle.clap.specs.declared.error.kind.ErrorKind.TheVariants.{OutOfMemory}
 use Rattle.clap.specs.declared.parser.matches.ArgMatches.{ArgMatches}
 use Rattle.clap.specs.declared.parser.matches.Found.{Found}
 use Rattle.clap.proofs.OnLiterals.{clap_on_literals}
-use Rattle.clap.proofs.WalkLemmas.{first_value-rows, one_text-rows}
-use Rattle.commands.specs.CommandLine.{IsRefused, ReadsNone, ReadsNumber, Sizes, curspan, text_of}
+use Rattle.clap.proofs.WalkLemmas.{first_value-rows}
+use Rattle.commands.specs.CommandLine.{IsRefused, Sizes, curspan, text_of}
 
 curspan_is_simple : is_simple curspan ≡ true
 unfolding clap_on_literals
@@ -54,22 +53,3 @@ text_read f id o e = e ∙ first_value-rows f id
 -- no argument is global after one that isn't
 pub still_local : (old new global : Bool) → new ≡ (old || global) → global ≡ false → new ≡ old
 still_local old new global is local = grind arith
-
-module _ {E : Type 0} (gives : List ℕ → Result ℕ E → Type 0) (reads : (t : List ℕ) (r : Result ℕ E) → gives t r → ParsesUnsigned {E = E} 16 10 t r) where
-  -- what was read of an option
-  abbrev pub IsRead : Text → List Row → Option ℕ → Type 0
-  IsRead id rows r = MatchOption r (ReadsNone id rows) (ReadsNumber id rows)
-
-  number_of_text : (id : Text) (rows : List Row) (o : Option Text) (r : Option ℕ) → one_of id rows ≡ o → (o ≡ None → r ≡ None)
-      → ((t : List ℕ) → o ≡ Some t → ReadsOne gives t r) → IsRead id rows r
-  number_of_text id rows None None e none value = λ t is_text number. let never : Some t ≡ None = sym is_text ∙ e in cc
-  number_of_text id rows None (Some n) e none value = let never : Some n ≡ None = none refl in cc
-  number_of_text id rows (Some t) None e none value = grind arith
-  number_of_text id rows (Some t) (Some n) e none value =
-      let parsed = reads t (Ok n) (value t refl) in
-      record { text = t; is_text = e; is_number = parsed.0; value = parsed.1 }
-
-  -- what `get_one` reads
-  pub number_read : (f : Found) (id : Text) (r : Option ℕ) → (one_text f id ≡ None → r ≡ None) → ((t : List ℕ) → one_text f id ≡ Some t → ReadsOne gives t r)
-      → IsRead id (rows_of f) r
-  number_read f id r none value = grind (arith, number_of_text, one_text-rows)

@@ -1,15 +1,27 @@
 -- Where clap refuses nothing of the words, the subcommand at which its walk stops is one of the program's.
 use Rattle.std.proofs.Common.{◌≡◌, ◌⊎◌, ◌∷◌, ℕ, Bool, true, false, cond, List, [], Option, Some, None, refl, codes, inl, inr, arith}
 use Rattle.std.specs.Prelude.{IfSome, fold, option_map}
-use Rattle.clap.specs.Faults.{other_fault, turn_fault, walk_fault, word_fault}
+use Rattle.clap.specs.Faults.{check_fault, level_fault, other_fault, turn_fault, walk_fault, word_fault}
+use Rattle.clap.specs.Kinds.{Kinds, or_else}
 use Rattle.clap.specs.Simple.{Shape}
-use Rattle.clap.specs.Walk.{Held, Names, Outcome, Rule, Step, Text, Waiting, Walk, after_flag, after_step, answers_to, idle, long_or_other, next, option, plain_word}
-use Rattle.clap.specs.Walk.{positional, subcommand, subcommand_met, subcommand_or_other, trailing, value, walked, word_met}
+use Rattle.clap.specs.Walk.{Held, Names, Outcome, Rule, Step, Text, Waiting, Walk, after_flag, after_step, answers_to, finished, idle, long_or_other, next, nothing_held, option, plain_word}
+use Rattle.clap.specs.Walk.{positional, subcommand, subcommand_met, subcommand_or_other, trailing, value, walk, walk_from, walked, word_met}
 use Rattle.clap.specs.declared.error.kind.ErrorKind.TheVariants as kind
 use Rattle.commands.specs.CommandLine.{check_text, kind_text}
 use Rattle.commands.specs.declared.requests.Kind.{Kind}
 use Rattle.commands.specs.declared.requests.Kind.TheVariants.{Run, Paint, Show}
-use Rattle.commands.proofs.KeptRows.{both_none}
+
+both_none : (a b : Kinds) → or_else a b ≡ [] → (a ≡ []) × (b ≡ [])
+both_none a b e = grind arith
+
+-- Nothing that clap looks at on a level has a fault.
+pub record PassesLevel (s : Shape) (names : Names) (words : List Text) (has_subcommand : Bool) : Type 0 where
+  pub walks : walk_fault s names (walk_from nothing_held) words ≡ []
+  pub checks : check_fault s (finished s.rules (walk s.rules names nothing_held words).held) has_subcommand ≡ []
+
+pub level_passes : (s : Shape) (names : Names) (words : List Text) (has_subcommand : Bool) (below : Kinds) → level_fault s names nothing_held words has_subcommand below ≡ []
+    → PassesLevel s names words has_subcommand
+level_passes s names words has_subcommand below none = grind (arith, both_none)
 
 -- the subcommand that a word was
 abbrev step_name : Step → Option Text

@@ -1,14 +1,12 @@
 -- What the definition of the command line says of some words, for its reader
 pub mod Examples
--- What clap says of this program's command line, and of the number of an option; for `command`, `job`, `number`
+-- What clap says of this program's command line; for `command`, `job` and others
 pub mod JobLemmas
--- Where clap refuses nothing of the words, each row that a subcommand's options for a size leave holds a size of a screen; for `KindIsNamed`, `TakenLemmas`
-pub mod KeptRows
 -- A text is written piece by piece; for `print`, `put`, `put_lines` and others, and for `checks`
 pub mod PutLemmas
 -- Where clap refuses nothing of the words, the subcommand at which its walk stops is one of the program's; for `TakenLemmas`
 pub mod KindIsNamed
--- Where clap refuses nothing of the words, they name a subcommand, and each number that they give is a size; for `job`
+-- Where clap refuses nothing of the words, they name a subcommand; for `job`
 pub mod TakenLemmas
 -- The text of a picture around one of its lines; for `put_lines`
 pub mod PictureTexts

@@ -1,10 +1,10 @@
 -- The command line, in the words of clap's definition of a simple command.
-use Rattle.std.specs.Prelude.{◌≡◌, ◌⊎◌, ◌∷◌, ◌<◌, ◌^◌, ℕ, Bool, List, [], true, false, fold, pos, codes, Option, Some, None, option_and_then, option_map, if◌then◌else◌}
+use Rattle.std.specs.Prelude.{◌≡◌, ◌⊎◌, ◌∷◌, ◌<◌, ◌^◌, ℕ, Bool, List, [], true, false, fold, pos, codes, Option, Some, None, IsSomeAnd, option_and_then, option_map, if◌then◌else◌}
 use Rattle.std.specs.Borrow.{Bor}
-use Rattle.std.specs.Option.{option_map_or}
+use Rattle.std.specs.Option.{option_map_or, option_or}
 use Rattle.std.specs.Str.{bytes_eq}
 use Rattle.std.specs.Str.Parse.{IsNumeral, digits_value, without_leading_plus}
-use Rattle.clap.specs.Words.{App, IsAmong, Row, Rule, Text, fault_of, first_of, new_app, new_rule, one_of, subcommand_of, with_rule, with_subcommand}
+use Rattle.clap.specs.Words.{App, IsAmong, Row, Rule, Text, fault_of, first_of, new_app, new_rule, subcommand_of, with_rule, with_subcommand}
 use Rattle.clap.specs.declared.builder.action.ArgAction.TheVariants.{Set, SetTrue}
 use Rattle.clap.specs.declared.builder.value_parser.ValueParser.TheVariants as parsers
 use Rattle.clap.specs.declared.error.kind.ErrorKind.{ErrorKind}
@@ -94,17 +94,6 @@ IsNumber text = IsNumeral 10 (without_leading_plus text) × (digits_value 10 (wi
 abbrev pub IsSize : ℕ → Type 0
 IsSize n = is_no_size LARGEST_SCREEN n ≡ false
 
--- the number that `u16` reads from the text of an option
-pub record ReadsNumber (option : Text) (rows : List Row) (n : ℕ) : Type 0 where
-  pub text : Text
-  pub is_text : one_of option rows ≡ Some text
-  pub is_number : IsNumber text
-  pub value : n ≡ digits_value 10 (without_leading_plus text)
-
--- the option has no text, or one from which no number is read
-abbrev pub ReadsNone : Text → List Row → Type 0
-ReadsNone option rows = (text : Text) → one_of option rows ≡ Some text → IsNumber text → ⊥
-
 -- a text says a size, in decimal digits, before which a plus may stand
 pub record SaysSize (text : Text) (n : ℕ) : Type 0 where
   pub is_number : IsNumber text
@@ -123,24 +112,27 @@ pub record Sizes : Type 0 where
 abbrev pub sizes_of : Variables → Sizes
 sizes_of v = record { lines = text_of v.lines; columns = text_of v.columns }
 
--- The size is the number of the option; or that of the variable, where the option gives none.
-abbrev pub GivesSize : Option Text → Text → List Row → ℕ → Type 0
-GivesSize variable option rows n =
-    ReadsNumber option rows n ⊎ (ReadsNone option rows × (text : Text) × (variable ≡ Some text) × SaysSize text n)
+-- the text of an option for a size, or where it is left out that of its variable
+abbrev pub size_text : Option Text → Text → List Row → Option Text
+size_text variable option rows = option_or (first_of option rows) variable
 
--- The option gives no number, and the variable isn't there, or is no size; by the kind of error that says so.
-abbrev pub LacksSize : Option Text → Text → List Row → ErrorKind → Type 0
-LacksSize None option rows kind = ReadsNone option rows × (kind ≡ errors.MissingRequiredArgument)
-LacksSize (Some text) option rows kind = ReadsNone option rows × ((n : ℕ) → SaysSize text n → ⊥) × (kind ≡ errors.ValueValidation)
+-- The text is there, and says the size.
+abbrev pub GivesSize : Option Text → ℕ → Type 0
+GivesSize text n = IsSomeAnd text (λ said. SaysSize said n)
+
+-- The text isn't there, or says no size; by the kind of error that says so.
+abbrev pub LacksSize : Option Text → ErrorKind → Type 0
+LacksSize None kind = kind ≡ errors.MissingRequiredArgument
+LacksSize (Some text) kind = ((n : ℕ) → SaysSize text n → ⊥) × (kind ≡ errors.ValueValidation)
 
 -- the lines and the columns of a job are those of the options or the variables
 pub record SizesOf (sizes : Sizes) (rows : List Row) (job : Job) : Type 0 where
-  pub lines : GivesSize sizes.lines (codes "lines") rows job.lines
-  pub cols : GivesSize sizes.columns (codes "cols") rows job.cols
+  pub lines : GivesSize (size_text sizes.lines (codes "lines") rows) job.lines
+  pub cols : GivesSize (size_text sizes.columns (codes "cols") rows) job.cols
 
 -- the lines or the columns aren't given
 abbrev pub LacksSizes : Sizes → List Row → ErrorKind → Type 0
-LacksSizes sizes rows kind = LacksSize sizes.lines (codes "lines") rows kind ⊎ LacksSize sizes.columns (codes "cols") rows kind
+LacksSizes sizes rows kind = LacksSize (size_text sizes.lines (codes "lines") rows) kind ⊎ LacksSize (size_text sizes.columns (codes "cols") rows) kind
 
 -- ---- files
 

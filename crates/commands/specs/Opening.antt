@@ -7,12 +7,14 @@ use Rattle.commands.specs.Statuses.{no_memory_line}
 use Rattle.commands.specs.Written.{TriesToLog}
 use Rattle.commands.specs.declared.status.Need.TheVariants.{Streams}
 use Rattle.commands.specs.declared.opening.OpenFault.{OpenFault}
-use Rattle.commands.specs.declared.opening.OpenFault.TheVariants.{Missing, Denied, Folder, NoMemory, Refused}
+use Rattle.commands.specs.declared.opening.OpenFault.TheVariants.{Missing, Denied, Folder, InFile, IsRead, NoMemory, Refused}
 
 abbrev pub reason : OpenFault → List ℕ
 reason Missing = codes "there is no such file or folder"
 reason Denied = codes "permission denied"
 reason Folder = codes "it is a folder"
+reason InFile = codes "a file is named as a folder"
+reason IsRead = codes "it is the file that is read"
 reason NoMemory = codes "no memory"
 reason Refused = codes "the system refuses it"
 

@@ -111,6 +111,7 @@ fn job_of(
 {
     let lines = size_of(found, "lines", variables.lines);
     let cols = size_of(found, "cols", variables.columns);
+    // clap refused what an option says that is no size, so a bad one is a variable's.
     match (lines, cols) {
         (Ok(lines), Ok(cols)) => Ok(Job { kind, lines, cols }),
         (Err(NoSize::Bad), _) => Err(bad_variable(alloc, kind, "LINES", variables.lines)?),

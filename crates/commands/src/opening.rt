@@ -18,6 +18,10 @@ pub enum OpenFault {
     Denied,
     /// It is a folder.
     Folder,
+    /// Its name goes on after that of a file, as in a folder.
+    InFile,
+    /// It is to be written, and is the file that is read.
+    IsRead,
     /// There is no memory for its buffer.
     NoMemory,
     /// The system says another reason.
@@ -32,6 +36,8 @@ fn reason(fault: OpenFault) -> &'static str
         OpenFault::Missing => "there is no such file or folder",
         OpenFault::Denied => "permission denied",
         OpenFault::Folder => "it is a folder",
+        OpenFault::InFile => "a file is named as a folder",
+        OpenFault::IsRead => "it is the file that is read",
         OpenFault::NoMemory => "no memory",
         OpenFault::Refused => "the system refuses it",
     }

@@ -1,11 +1,11 @@
 //! The size of a screen: by an option, or else by a variable of the environment.
 
 ghost use Rattle.std.specs.Prelude.{ℕ, MatchOption, MatchResult};
+ghost use Rattle.std.specs.Option.{option_or};
 ghost use Rattle.clap.specs.Words.{found_of, rows_of};
-ghost use Rattle.commands.specs.CommandLine.{GivesSize, ReadsNone, ReadsNumber, SaysSize, text_of};
+ghost use Rattle.commands.specs.CommandLine.{GivesSize, SaysSize, size_text, text_of};
 ghost use Rattle.commands.specs.steps.Sizing.{HasNoSize};
 
-use crate::requests::Variables;
 use cell::{LARGEST_SCREEN, is_no_size};
 use clap::ArgMatches;
 
@@ -14,15 +14,8 @@ use clap::ArgMatches;
 pub enum NoSize {
     /// Neither the option nor the variable is there.
     Missing,
-    /// The option isn't there, and the variable's text is no such number.
+    /// The text is no such number.
     Bad,
-}
-
-/// The number of an option of the matches.
-fn number(found: &ArgMatches<'_>, option: &str) -> Option<u16>
-    ensures { MatchOption result (ReadsNone option.now (rows_of (found_of found.now))) (λ n. ReadsNumber option.now (rows_of (found_of found.now)) n) }
-{
-    found.get_one::<u16>(option)
 }
 
 /// The size of a screen that a text says.
@@ -35,16 +28,21 @@ fn size_in(text: &str) -> Option<u16>
     }
 }
 
-/// The number of an option of the matches, or else that of a variable.
-pub fn size_of(found: &ArgMatches<'_>, option: &str, variable: Option<&str>) -> Result<u16, NoSize>
-    ensures { MatchResult result (λ n. GivesSize (text_of variable.entry) option.now (rows_of (found_of found.now)) n)
-        (λ fault. HasNoSize (text_of variable.entry) option.now (rows_of (found_of found.now)) fault) }
+/// The size that the text of an option says, or where there is none that of a variable.
+fn size_by(option: Option<&str>, variable: Option<&str>) -> Result<u16, NoSize>
+    ensures { MatchResult result (GivesSize (option_or (text_of option.entry) (text_of variable.entry)))
+        (HasNoSize (option_or (text_of option.entry) (text_of variable.entry))) }
 {
-    if let Some(n) = number(found, option) {
-        return Ok(n);
+    match (option, variable) {
+        (Some(text), _) | (None, Some(text)) => size_in(text).ok_or(NoSize::Bad),
+        (None, None) => Err(NoSize::Missing),
     }
-    match variable {
-        Some(text) => size_in(text).ok_or(NoSize::Bad),
-        None => Err(NoSize::Missing),
-    }
+}
+
+/// The size that an option of the matches says, or where it is left out a variable.
+pub fn size_of(found: &ArgMatches<'_>, option: &str, variable: Option<&str>) -> Result<u16, NoSize>
+    ensures { MatchResult result (GivesSize (size_text (text_of variable.entry) option.now (rows_of (found_of found.now))))
+        (HasNoSize (size_text (text_of variable.entry) option.now (rows_of (found_of found.now)))) }
+{
+    size_by(found.get_str(option), variable)
 }

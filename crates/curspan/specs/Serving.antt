@@ -166,18 +166,18 @@ module _ {W V : Type 0} (seen : W → Seen) (closed : W → Bool) (discarded : V
       ⊎ ((opened : SourceSeen) × IsOpened opens (text_of invocation.script) input opened
       × Does seen closed discarded unheard invocation.is_quiet invocation.request opened rest old new status × KeepsLog old.log new.log status)
 
-  -- The log that is named can't be made, and nothing was read or sent; or it was made, or none is named, and what is
+  -- The log that is named can't be made beside the script, and nothing was read or sent; or it was made, or none is named, and what is
   -- asked for was done with the script and this log.
-  abbrev pub ServesInvocation : (Text → Seen → Type 0) → (Text → OpenFault → Type 0) → Invocation → SourceSeen → SourceSeen → Outputs → Outputs → ℕ → Type 0
+  abbrev pub ServesInvocation : (Text → Seen → Type 0) → (Text → Option Text → OpenFault → Type 0) → Invocation → SourceSeen → SourceSeen → Outputs → Outputs → ℕ → Type 0
   ServesInvocation creates uncreated invocation input rest old new status =
-      (IsUnopened uncreated (text_of invocation.log) old.log new.log status × (new.output ≡ old.output) × (rest ≡ input))
+      (IsUnopened (λ name. uncreated name (text_of invocation.script)) (text_of invocation.log) old.log new.log status × (new.output ≡ old.output) × (rest ≡ input))
       ⊎ ((log : Seen) × IsCreated creates (text_of invocation.log) old.log log
       × ServesScript invocation input rest (outputs old.output old.closed log) new status)
 
   -- ---- the program
 
   -- The words are refused, and nothing is read; or they ask for something, and it was done.
-  abbrev pub Serves : (Text → Seen → Type 0) → (Text → OpenFault → Type 0) → Sizes → List Text → SourceSeen → SourceSeen → Outputs → Outputs → ℕ → Type 0
+  abbrev pub Serves : (Text → Seen → Type 0) → (Text → Option Text → OpenFault → Type 0) → Sizes → List Text → SourceSeen → SourceSeen → Outputs → Outputs → ℕ → Type 0
   Serves creates uncreated sizes words input rest old new status =
       (Refuses sizes words old new status × (rest ≡ input) × KeepsLog old.log new.log status)
       ⊎ ((invocation : Invocation) × Asks sizes words invocation × ServesInvocation creates uncreated invocation input rest old new status)

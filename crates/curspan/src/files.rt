@@ -9,9 +9,10 @@ ghost use Rattle.curspan.specs.steps.Places.{at_place};
 use crate::opening::{FileSink, FileSource};
 use commands::OpenFault;
 use desk::{Counted, CountedReader, Sink, Source};
-use std::fs::File;
-use std::io;
+use std::fs::{File, Metadata, OpenOptions};
 use std::io::{BufReader, ErrorKind, Read, Write};
+use std::os::unix::fs::MetadataExt;
+use std::{fs, io};
 use streams::Patient;
 
 /// How many bytes are read at once.
@@ -79,6 +80,7 @@ fn open_fault(error: io::Error) -> OpenFault
         ErrorKind::NotFound => OpenFault::Missing,
         ErrorKind::PermissionDenied => OpenFault::Denied,
         ErrorKind::IsADirectory => OpenFault::Folder,
+        ErrorKind::NotADirectory => OpenFault::InFile,
         ErrorKind::OutOfMemory => OpenFault::NoMemory,
         _ => OpenFault::Refused,
     }
@@ -89,6 +91,38 @@ fn open_to_read(rt: &HostRuntime, name: &str) -> io::Result<File> {
     let file = File::open(rt, name)?;
     if file.metadata()?.is_dir() {
         return Err(io::Error::from(ErrorKind::IsADirectory));
+    }
+    Ok(file)
+}
+
+/// Why no file of that name can be opened to be written. To the system each name that ends with a slash is a folder's,
+/// so it is asked what has that name.
+fn create_fault(rt: &HostRuntime, name: &str, error: io::Error) -> OpenFault {
+    match fs::metadata(rt, name) {
+        Err(of_name) if error.kind() == ErrorKind::IsADirectory => open_fault(of_name),
+        _ => open_fault(error),
+    }
+}
+
+/// Whether a file is the one that is read: that of a name, or else standard input.
+fn is_read(rt: &HostRuntime, read: Option<&str>, file: &Metadata) -> bool {
+    match fs::metadata(rt, read.unwrap_or("/dev/stdin")) {
+        Ok(other) => other.dev() == file.dev() && other.ino() == file.ino(),
+        Err(_) => false,
+    }
+}
+
+/// Opens a file to be written, and empties it once it is known that it isn't the one that is read.
+fn create_file(rt: &HostRuntime, name: &str, read: Option<&str>) -> Result<File, OpenFault> {
+    let opened = OpenOptions::new().write(true).create(true).open(rt, name);
+    let file = opened.map_err(|error| create_fault(rt, name, error))?;
+    let is = file.metadata().map_err(open_fault)?;
+    // A device or a pipe keeps nothing that could be lost.
+    if is.is_file() {
+        if is_read(rt, read, &is) {
+            return Err(OpenFault::IsRead);
+        }
+        file.set_len(0).map_err(open_fault)?;
     }
     Ok(file)
 }
@@ -185,11 +219,11 @@ impl<S: Write + Drop> FileSink for Log<'_, S> {
     ghost creates = { λ s name seen. seen.taken ≡ None };
 
     // nothing is known of what the system refuses
-    ghost uncreated = { λ s name fault. Unit {0} };
+    ghost uncreated = { λ s name read fault. Unit {0} };
 
-    fn create(&mut self, name: &str) -> Result<(), OpenFault> {
+    fn create(&mut self, name: &str, read: Option<&str>) -> Result<(), OpenFault> {
         let folders = folders(self.rt);
-        let file = File::create(self.rt, name).map_err(open_fault)?;
+        let file = create_file(self.rt, name, read)?;
         let named = Named { file, folders };
         self.writer = Counted::new(Patient {
             stream: Place::File(named),

@@ -1,6 +1,7 @@
 //! Streams that a named file can take the place of.
 
-ghost use Rattle.std.specs.Prelude.{◌≡◌, ℕ, List, IfErr, IfOk};
+ghost use Rattle.std.specs.Prelude.{◌≡◌, ℕ, List, Option, IfErr, IfOk};
+ghost use Rattle.commands.specs.CommandLine.{text_of};
 ghost use Rattle.commands.specs.declared.opening.OpenFault.{OpenFault};
 ghost use Rattle.curspan.specs.Files.{IsUnread, IsUnwritten};
 ghost use Rattle.streams.specs.Sinks.{Seen};
@@ -30,13 +31,14 @@ pub trait FileSink: Sink {
     // What is seen of it once it is on the new file of a name.
     ghost creates: { Self → List ℕ → Seen → Type 0 };
 
-    // Why a file of a name can't be made.
-    ghost uncreated: { Self → List ℕ → OpenFault → Type 0 };
+    // Why a file of a name can't be made, where one of another name is read, or standard input.
+    ghost uncreated: { Self → List ℕ → Option (List ℕ) → OpenFault → Type 0 };
 
-    /// Goes on with a file of that name, made anew. Where that can't be made, all stays as it was.
-    fn create(&mut self, name: &str) -> Result<(), OpenFault>
+    /// Goes on with a file of that name, made anew, unless it is the one that is read. Where that can't be made, all
+    /// stays as it was.
+    fn create(&mut self, name: &str, read: Option<&str>) -> Result<(), OpenFault>
         ensures created { IfOk result (λ _. creates self.old name.now (Self.seen self.new)) }
         ensures unwritten { IfOk result (λ _. IsUnwritten (Self.seen self.new)) }
-        ensures refused { IfErr result (λ fault. uncreated self.old name.now fault) }
+        ensures refused { IfErr result (λ fault. uncreated self.old name.now (text_of read.entry) fault) }
         ensures kept { IfErr result (λ _. Self.seen self.new ≡ Self.seen self.old) };
 }

@@ -244,17 +244,17 @@ fn open_script<R: FileSource, L: Sink>(
     }
 }
 
-/// Goes on with the log that is named, if one is. Where it can't be made, the log that is there says so, and the status
-/// is answered.
-fn open_log<L: FileSink>(name: Option<&str>, log: &mut L) -> Result<(), u8>
+/// Goes on with the log that is named, if one is. Where it can't be made, or is the file that is read, the log that is
+/// there says so, and the status is answered.
+fn open_log<L: FileSink>(name: Option<&str>, read: Option<&str>, log: &mut L) -> Result<(), u8>
     ensures { MatchResult result
         (λ _. IsCreated (L.creates log.old) (text_of name.entry) (L.seen log.old) (L.seen log.new))
-        (λ status. IsUnopened (L.uncreated log.old) (text_of name.entry) (L.seen log.old) (L.seen log.new) status) }
+        (λ status. IsUnopened (λ log_name. L.uncreated log.old log_name (text_of read.entry)) (text_of name.entry) (L.seen log.old) (L.seen log.new) status) }
 {
     let Some(name) = name else {
         return Ok(());
     };
-    match log.create(name) {
+    match log.create(name, read) {
         Ok(()) => Ok(()),
         Err(fault) => Err(log_unopened(log, name, fault)),
     }
@@ -298,7 +298,7 @@ fn perform_invocation<'a, R: FileSource, O: Closable, L: FileSink>(
         (R.seen input.old) (R.seen input.new)
         (outputs (O.seen out.old) (O.closed out.old) (L.seen log.old)) (outputs (O.seen out.new) (O.closed out.new) (L.seen log.new)) result }
 {
-    match open_log(invocation.log, log) {
+    match open_log(invocation.log, invocation.script, log) {
         Ok(()) => perform_on_script(alloc, invocation, input, out, log),
         Err(status) => status,
     }

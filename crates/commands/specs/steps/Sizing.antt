@@ -16,9 +16,9 @@ abbrev pub error_kind : NoSize → ErrorKind
 error_kind Missing = errors.MissingRequiredArgument
 error_kind Bad = errors.ValueValidation
 
--- The option and the variable give no size, for this reason.
-abbrev pub HasNoSize : Option Text → Text → List Row → NoSize → Type 0
-HasNoSize variable option rows fault = LacksSize variable option rows (error_kind fault)
+-- The text gives no size, for this reason.
+abbrev pub HasNoSize : Option Text → NoSize → Type 0
+HasNoSize text fault = LacksSize text (error_kind fault)
 
 -- A job was asked for, by what the rows say; or the name is none of a job.
 abbrev pub RequestBy : Sizes → Text → List Row → Request → Type 0

@@ -1,6 +1,6 @@
 -- Why a file of the system can't be opened.
 use Rattle.std.specs.declared.io.ErrorKind.{ErrorKind}
-use Rattle.std.specs.declared.io.ErrorKind.TheVariants.{NotFound, PermissionDenied, IsADirectory, OutOfMemory}
+use Rattle.std.specs.declared.io.ErrorKind.TheVariants.{NotFound, PermissionDenied, IsADirectory, NotADirectory, OutOfMemory}
 use Rattle.commands.specs.declared.opening.OpenFault.{OpenFault}
 use Rattle.commands.specs.declared.opening.OpenFault.TheVariants as faults
 
@@ -9,5 +9,6 @@ abbrev pub fault_of_kind : ErrorKind → OpenFault
 fault_of_kind NotFound = faults.Missing
 fault_of_kind PermissionDenied = faults.Denied
 fault_of_kind IsADirectory = faults.Folder
+fault_of_kind NotADirectory = faults.InFile
 fault_of_kind OutOfMemory = faults.NoMemory
 fault_of_kind kind = faults.Refused

@@ -4,7 +4,7 @@ use Rattle.streams.specs.Sinks.{Seen}
 use Rattle.commands.specs.Opening.{SaysUnopened, unopened_line}
 use Rattle.commands.specs.Written.{WritingEnds}
 use Rattle.commands.specs.declared.opening.OpenFault.{OpenFault}
-use Rattle.commands.specs.declared.opening.OpenFault.TheVariants.{Denied, Folder, Missing, NoMemory, Refused}
+use Rattle.commands.specs.declared.opening.OpenFault.TheVariants.{Denied, Folder, InFile, IsRead, Missing, NoMemory, Refused}
 use Rattle.commands.specs.Written.{TriesToLog}
 use Rattle.commands.proofs.opening.log_unopened.Goals as goal
 
@@ -16,6 +16,8 @@ named : (name : List ℕ) (fault : OpenFault) (log after : Seen) → (fault ≡ 
 named name Missing log after other line = (refl, line)
 named name Denied log after other line = (refl, line)
 named name Folder log after other line = (refl, line)
+named name InFile log after other line = (refl, line)
+named name IsRead log after other line = (refl, line)
 named name NoMemory log after other line = absurd (other refl)
 named name Refused log after other line = (refl, line)
 

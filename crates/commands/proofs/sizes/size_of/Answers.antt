@@ -1,0 +1,15 @@
+-- `size_of`: the first text of an argument (`JobLemmas`).
+use Rattle.std.proofs.Common.{Option, subst}
+use Rattle.std.specs.Prelude.{MatchResult}
+use Rattle.std.specs.Option.{option_or}
+use Rattle.clap.specs.Words.{Text, found_of}
+use Rattle.commands.specs.CommandLine.{GivesSize, text_of}
+use Rattle.commands.specs.steps.Sizing.{HasNoSize}
+use Rattle.commands.proofs.JobLemmas.{text_read}
+use Rattle.commands.proofs.sizes.size_of.Goals as goal
+
+pub returns : goal.returns
+returns c =
+    let variable = text_of c.args.variable in
+    subst (λ (o : Option Text). MatchResult c.size_by.result (GivesSize (option_or o variable)) (HasNoSize (option_or o variable)))
+    (text_read (found_of c.args.found.now) c.args.option.now _ c.get_str.ensures) c.size_by.ensures
