@@ -8,7 +8,7 @@ use Rattle.world.specs.Effects.{under_number}
 use Rattle.slots.specs.Kept.{Kept, IsKept, window_of}
 use Rattle.grids.specs.Tables.{WindowTable, IsWindowTable, windows}
 use Rattle.slots.specs.Slots.{slot_at, window_map, AreOrigins, HasParentIn, IsChained}
-use Rattle.slots.specs.Changes.{Changed, SetAt}
+use Rattle.slots.specs.Changes.{Changed, ChangedBy, SetAt, StaysInPlace}
 use Rattle.slots.proofs.Chain.{each_at, some_and, own_source, own_alone}
 use Rattle.slots.proofs.OneSlot.{SetAt-set, slot_below, each_set, KeepsShape, chained_set, parent_too}
 use Rattle.slots.proofs.Origins.{HasOrigin, origins-changed, origins-filled}
@@ -40,6 +40,11 @@ IsWindowTable-filled t new at k s set free kept chained placed from_one origin =
 
 -- ---- one slot's window was changed
 
+-- by what is done with it where it is
+abbrev pub changed_by : {R : Type 0} {relation : Kept → R → Kept → Type 0} {old new : List (Option Kept)} {at : ℕ} {answer : R} {change : Window → Window} → (h : ChangedBy relation old new at answer)
+    → window_of h.after ≡ change (window_of h.before) → StaysInPlace h.before h.after → Changed old new at change
+changed_by h window stays = record { before = h.before; after = h.after; was = h.was; set = h.set; window = window; stays = stays }
+
 module _ {t : WindowTable} {new : List (Option Kept)} {at : ℕ} {change : Window → Window} (s : IsWindowTable t) (h : Changed t.slots new at change) where
   set_at : SetAt t.slots new at (Some h.after)
   set_at = rw h.set (SetAt-set t.slots at (Some h.after) s.few_slots (slot_below t.slots at h.before h.was))
@@ -53,15 +58,18 @@ module _ {t : WindowTable} {new : List (Option Kept)} {at : ℕ} {change : Windo
   same_place : ((a : Window) → (change a).place ≡ a.place) → h.after.place ≡ h.before.place
   same_place keeps = grind arith
 
-  standard_too : ((a : Window) → (change a).place ≡ a.place) → at ≡ 0 → IsStandardOf t h.after
-  standard_too keeps same = grind (arith, some_and, own_source, own_alone, same_place)
+  standard_too : h.after.place ≡ h.before.place → at ≡ 0 → IsStandardOf t h.after
+  standard_too there same = grind (arith, some_and, own_source, own_alone)
 
-  placed_too : ((a : Window) → (change a).place ≡ a.place) → IsOnScreen t.lines t.columns (window_of h.after)
-  placed_too keeps = grind (arith, same_place)
+  placed_too : h.after.place ≡ h.before.place → IsOnScreen t.lines t.columns (window_of h.after)
+  placed_too there = grind arith
 
   -- it stays where it is
+  pub IsWindowTable-stays : h.after.place ≡ h.before.place → IsWindowTable (record t { slots = new })
+  IsWindowTable-stays there = IsWindowTable-change (placed_too there) (standard_too there)
+
   pub IsWindowTable-changed : ((a : Window) → (change a).place ≡ a.place) → IsWindowTable (record t { slots = new })
-  IsWindowTable-changed keeps = IsWindowTable-change (placed_too keeps) (standard_too keeps)
+  IsWindowTable-changed keeps = IsWindowTable-stays (same_place keeps)
 
   -- it is moved, and isn't the standard screen
   pub IsWindowTable-moved : IsOnScreen t.lines t.columns (change (window_of h.before)) → at ≢ 0 → IsWindowTable (record t { slots = new })

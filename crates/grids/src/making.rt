@@ -12,9 +12,7 @@ ghost use Rattle.grids.specs.Tables.{windows};
 
 use crate::table::Grids;
 use cell::{LARGEST_PAD, Refusal, WinId, is_no_size};
-use slots::list::{
-    fill_slot_at, free_number, free_slot, has_derived, origin_of, place_slot, shift_slot,
-};
+use slots::list::{change_slot, fill_slot_at, free_number, free_slot, has_derived, origin_of};
 use slots::parents::settle;
 use slots::{Part, Slot};
 
@@ -169,7 +167,7 @@ impl Grids {
         if !(fits(slot.lines(), y, self.lines) && fits(slot.columns(), x, self.columns)) {
             return Err(Refusal::OffScreen);
         }
-        place_slot(&mut self.slots, win.0, y, x);
+        change_slot(&mut self.slots, win.0, |slot| slot.set_place(y, x));
         Ok(())
     }
 
@@ -189,7 +187,7 @@ impl Grids {
         {
             return Err(Refusal::OutsideParent);
         }
-        shift_slot(&mut self.slots, win.0, par_y, par_x);
+        change_slot(&mut self.slots, win.0, |slot| slot.shift(par_y, par_x));
         settle(&mut self.slots);
         Ok(())
     }

@@ -15,7 +15,7 @@ use crate::frame::{frame_of_two, place};
 use crate::table::Grids;
 use cell::{Cell, Rect, WinId};
 use slots::Place;
-use slots::list::{columns_of, fill_row, origin_of, print_row, put_row, row_in, touch_row};
+use slots::list::{change_slot, columns_of, origin_of, row_in};
 
 /// How many cells are held at most while they are copied.
 const PIECE: u16 = 128;
@@ -58,15 +58,15 @@ impl Grids {
         ensures sound { AreSoundWindows (windows self.new) }
     {
         let origin = origin_of(&self.slots, win.0);
-        fill_row(
+        let line = origin.line + y;
+        let start = origin.column + left;
+        let end = origin.column + right;
+        change_slot(
             &mut self.slots,
             origin.grid,
-            origin.line + y,
-            origin.column + left,
-            origin.column + right,
-            cell,
+            |slot| slot.fill(line, start, end, cell),
         );
-        touch_row(&mut self.slots, win.0, y, left, right);
+        change_slot(&mut self.slots, win.0, |slot| slot.touch(y, left, right));
     }
 
     /// Sets the cell of a window at line `y` and column `x`. The place must exist.
@@ -78,15 +78,13 @@ impl Grids {
     {
         let origin = origin_of(&self.slots, win.0);
         let column = origin.column + x;
-        fill_row(
+        let line = origin.line + y;
+        change_slot(
             &mut self.slots,
             origin.grid,
-            origin.line + y,
-            column,
-            column,
-            cell,
+            |slot| slot.fill(line, column, column, cell),
         );
-        touch_row(&mut self.slots, win.0, y, x, x);
+        change_slot(&mut self.slots, win.0, |slot| slot.touch(y, x, x));
     }
 
     /// Prints characters from 32 to 126 in line `y` of a window, from column `left` on, each with the attributes and
@@ -101,15 +99,14 @@ impl Grids {
     {
         let origin = origin_of(&self.slots, win.0);
         let end = left + text.len() as u16;
-        print_row(
+        let line = origin.line + y;
+        let start = origin.column + left;
+        change_slot(
             &mut self.slots,
             origin.grid,
-            origin.line + y,
-            origin.column + left,
-            text,
-            pen,
+            |slot| slot.print(line, start, text, pen),
         );
-        touch_row(&mut self.slots, win.0, y, left, end - 1);
+        change_slot(&mut self.slots, win.0, |slot| slot.touch(y, left, end - 1));
     }
 
     /// Sets `n` cells of line `dy` of `dst` from column `dx` on to those that line `sy` of `src` has from column `sx`
@@ -207,15 +204,19 @@ impl Grids {
             source.column + from.column,
             n,
         ));
-        put_row(
+        let line = target.line + to.line;
+        let start = target.column + to.column;
+        change_slot(
             &mut self.slots,
             target.grid,
-            target.line + to.line,
-            target.column + to.column,
-            piece,
+            |slot| slot.put_row(line, start, piece),
         );
         let right = to.column + n - 1;
-        touch_row(&mut self.slots, to.win.0, to.line, to.column, right);
+        change_slot(
+            &mut self.slots,
+            to.win.0,
+            |slot| slot.touch(to.line, to.column, right),
+        );
         Some(Rect {
             top: to.line,
             left: to.column,

@@ -17,7 +17,7 @@ ghost use Rattle.grids.specs.steps.Syncs.{EndsWithin, touched_shown};
 use crate::table::Grids;
 use cell::{Refusal, WinId};
 use slots::Place;
-use slots::list::touch_row;
+use slots::list::change_slot;
 use world::Columns;
 
 impl Grids {
@@ -153,7 +153,11 @@ impl Grids {
         } }
         ensures depths { (u : ℕ) → depth_at self.new.slots u ≡ depth_at self.old.slots u }
     {
-        touch_row(&mut self.slots, win, y, columns.first, columns.last);
+        change_slot(
+            &mut self.slots,
+            win,
+            |slot| slot.touch(y, columns.first, columns.last),
+        );
     }
 }
 

@@ -10,10 +10,14 @@ ghost use Rattle.world.specs.World.{first_world};
 ghost use Rattle.world.specs.calls.Making.{new_refusal};
 ghost use Rattle.grids.specs.Tables.{windows, WindowTable, IsWindowTable};
 ghost use Rattle.slots.specs.Slots.{slot_at};
+ghost use Rattle.slots.specs.Kept.{Kept, window_of};
+ghost use Rattle.slots.specs.Changes.{ChangedBy, StaysInPlace};
+ghost use Rattle.std.specs.Fn.{FnOnceReturnsAtMut, FnOnceTakesAtMut};
+ghost use Rattle.world.specs.Windows.{Window, with_change};
 
 use cell::{LARGEST_SCREEN, Refusal, WinId, is_no_size};
 use slots::Slot;
-use slots::list::{set_slot, set_slot_cursor};
+use slots::list::change_slot;
 use std::alloc::Global;
 use std::marker::Model;
 use world::Settings;
@@ -77,6 +81,20 @@ impl Grids {
         }
     }
 
+    /// Changes a window where it is. It stays in its place.
+    #[inline(always)]
+    pub(crate) fn change<R, F: FnOnce(&mut Slot) -> R>(&mut self, win: WinId, change: F) -> R
+        requires taken { IsSomeAnd (slot_at self.old.slots win.0) (FnOnceTakesAtMut F.FnOnce change) }
+        requires stays { (k : Kept) (r : R) (made : Kept) → FnOnceReturnsAtMut F.FnOnce change k r made → StaysInPlace k made × (made.place ≡ k.place) }
+        ensures changed { ChangedBy (FnOnceReturnsAtMut F.FnOnce change) self.old.slots self.new.slots win.0 result }
+        ensures windows { (f : Window → Window)
+            → ((k : Kept) (r : R) (made : Kept) → FnOnceReturnsAtMut F.FnOnce change k r made → window_of made ≡ f (window_of k))
+            → windows self.new ≡ record (windows self.old) { window = with_change (windows self.old).window win.0 f } }
+        ensures sound { AreSoundWindows (windows self.new) }
+    {
+        change_slot(&mut self.slots, win.0, change)
+    }
+
     /// The settings of a window, which must exist.
     pub fn settings(&self, win: WinId) -> Settings
         requires { IsSome ((windows self.now).window win.0) }
@@ -98,7 +116,7 @@ impl Grids {
         ensures set { windows self.new ≡ after_set_settings (windows self.old) win.0 settings }
         ensures sound { AreSoundWindows (windows self.new) }
     {
-        set_slot(&mut self.slots, win.0, settings);
+        self.change(win, |slot| slot.set_settings(settings));
     }
     /// Moves the cursor of a window, which must hold the place.
     pub fn set_cursor(&mut self, win: WinId, y: u16, x: u16)
@@ -106,6 +124,6 @@ impl Grids {
         ensures set { windows self.new ≡ set (windows self.old) win.0 (with_cursor (y, x)) }
         ensures sound { AreSoundWindows (windows self.new) }
     {
-        set_slot_cursor(&mut self.slots, win.0, y, x);
+        self.change(win, |slot| slot.set_cursor(y, x));
     }
 }

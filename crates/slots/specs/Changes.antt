@@ -35,6 +35,14 @@ pub record Changed (old new : List (Option Kept)) (at : ℕ) (change : Window �
   pub window : window_of after ≡ change (window_of before)
   pub stays : StaysInPlace before after
 
+-- one slot was changed, from what it was to what it is by a relation, in which an answer takes part
+pub record ChangedBy {R : Type 0} (relation : Kept → R → Kept → Type 0) (old new : List (Option Kept)) (at : ℕ) (answer : R) : Type 0 where
+  pub before : Kept
+  pub after : Kept
+  pub was : slot_at old at ≡ Some before
+  pub set : new ≡ slice_set old at (Some after)
+  pub changed : relation before answer after
+
 -- another offset of a derived window in its parent
 abbrev pub with_new_offset : ℕ → ℕ → Cells → Cells
 with_new_offset y x (Own sheet) = Own sheet

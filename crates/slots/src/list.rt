@@ -14,7 +14,8 @@ ghost use Rattle.world.specs.calls.Making.{has_derived, new_number};
 ghost use Rattle.slots.specs.Kept.{window_of};
 ghost use Rattle.slots.specs.Inks.{printed_cell};
 ghost use Rattle.slots.specs.Slots.{slot_at, window_map, grid_place, AreOrigins, IsChained, IsRoot, part_in, lines_at, columns_at, names_parent};
-ghost use Rattle.slots.specs.Changes.{Changed, Shifted, SetAt, IsFree, with_touched, with_drawing};
+ghost use Rattle.std.specs.Fn.{FnOnceReturnsAtMut, FnOnceTakesAtMut};
+ghost use Rattle.slots.specs.Changes.{Changed, ChangedBy, Shifted, SetAt, IsFree, with_touched, with_drawing};
 
 use crate::slot::{Origin, Slot};
 use cell::{Cell, LARGEST_PAD, MOST_WINDOWS};
@@ -129,140 +130,17 @@ pub fn free_slot(slots: &mut Vec<Option<Slot>>, at: u16)
     slots[usize::from(at)] = None;
 }
 
-/// Sets a row of the grid of a slot.
-#[inline(always)]
-pub fn fill_row(
+/// Changes a slot's window where it is.
+pub fn change_slot<R, F: FnOnce(&mut Slot) -> R>(
     slots: &mut Vec<Option<Slot>>,
     at: u16,
-    line: u16,
-    left: u16,
-    right: u16,
-    cell: Cell,
-)
-    requires ordered { left ≤ right }
-    requires taken { IsSome (slot_at slots.old.items at) }
-    requires line_in { line < lines_at slots.old.items at }
-    requires right_in { right < columns_at slots.old.items at }
-    ensures { Changed slots.old.items slots.new.items at (with_drawing (filled_cells line left right cell)) }
-{
-    if let Some(slot) = &mut slots[usize::from(at)] {
-        slot.fill(line, left, right, cell);
-    }
-}
-
-/// Puts cells into a row of the grid of a slot.
-pub fn put_row(slots: &mut Vec<Option<Slot>>, at: u16, line: u16, left: u16, row: &[Cell])
-    requires grid { IsSomeAnd (slot_at slots.old.items at) (λ k. part_in k.cells ≡ None) }
-    requires line_in { line < lines_at slots.old.items at }
-    requires columns_in { left + length row.now ≤ columns_at slots.old.items at }
-    requires cells { AllByRecursion IsCell row.now }
-    ensures { Changed slots.old.items slots.new.items at (with_drawing (listed_cells line left row.now)) }
-{
-    if let Some(slot) = &mut slots[usize::from(at)] {
-        slot.put_row(line, left, row);
-    }
-}
-
-/// Prints characters in a row of the grid of a slot.
-pub fn print_row(
-    slots: &mut Vec<Option<Slot>>,
-    at: u16,
-    line: u16,
-    left: u16,
-    text: &[u8],
-    pen: Cell,
-)
-    requires grid { IsSomeAnd (slot_at slots.old.items at) (λ k. part_in k.cells ≡ None) }
-    requires line_in { line < lines_at slots.old.items at }
-    requires columns_in { left + length text.now ≤ columns_at slots.old.items at }
-    requires printable { EachIndex text.now (λ k. is_printable (slice_index text.now k) ≡ true) }
-    ensures { Changed slots.old.items slots.new.items at (with_drawing (listed_cells line left (map (printed_cell pen) text.now))) }
-{
-    if let Some(slot) = &mut slots[usize::from(at)] {
-        slot.print(line, left, text, pen);
-    }
-}
-
-/// Touches a row of a slot's window.
-#[inline(always)]
-pub fn touch_row(slots: &mut Vec<Option<Slot>>, at: u16, line: u16, left: u16, right: u16)
-    requires ordered { left ≤ right }
-    requires taken { IsSome (slot_at slots.old.items at) }
-    requires line_in { line < lines_at slots.old.items at }
-    requires right_in { right < columns_at slots.old.items at }
-    ensures { Changed slots.old.items slots.new.items at (with_touched line left right) }
-{
-    if let Some(slot) = &mut slots[usize::from(at)] {
-        slot.touch(line, left, right);
-    }
-}
-
-/// Gives a slot's window other settings.
-pub fn set_slot(slots: &mut Vec<Option<Slot>>, at: u16, settings: Settings)
-    requires taken { IsSome (slot_at slots.old.items at) }
-    requires cursor_line { settings.cursor.0 < lines_at slots.old.items at }
-    requires cursor_column { settings.cursor.1 < columns_at slots.old.items at }
-    requires region_order { settings.region.0 ≤ settings.region.1 }
-    requires region_end { settings.region.1 < lines_at slots.old.items at }
-    ensures { Changed slots.old.items slots.new.items at (with_settings settings) }
-{
-    if let Some(slot) = &mut slots[usize::from(at)] {
-        slot.set_settings(settings);
-    }
-}
-
-/// Moves the cursor of a slot's window.
-#[inline(always)]
-pub fn set_slot_cursor(slots: &mut Vec<Option<Slot>>, at: u16, y: u16, x: u16)
-    requires taken { IsSome (slot_at slots.old.items at) }
-    requires line { y < lines_at slots.old.items at }
-    requires column { x < columns_at slots.old.items at }
-    ensures { Changed slots.old.items slots.new.items at (set_in (with_cursor (y, x))) }
-{
-    if let Some(slot) = &mut slots[usize::from(at)] {
-        slot.set_cursor(y, x);
-    }
-}
-
-/// Untouches all of a slot's window, which asks for a clear screen no more. It answers whether it asked for one.
-pub fn unmark_slot(slots: &mut Vec<Option<Slot>>, at: u16) -> bool
-    requires { IsSome (slot_at slots.old.items at) }
-    ensures asked { IsSomeAnd (slot_at slots.old.items at) (λ k. result ≡ k.settings.clear) }
-    ensures unmarked { Changed slots.old.items slots.new.items at without_marks }
+    change: F,
+) -> R
+    requires { IsSomeAnd (slot_at slots.old.items at) (FnOnceTakesAtMut F.FnOnce change) }
+    ensures { ChangedBy (FnOnceReturnsAtMut F.FnOnce change) slots.old.items slots.new.items at result }
 {
     match &mut slots[usize::from(at)] {
-        Some(slot) => slot.unmark(),
-        None => false,
-    }
-}
-
-/// Touches lines of a slot's window from their first column to their last, from one on, or untouches them.
-pub fn mark_slot(slots: &mut Vec<Option<Slot>>, at: u16, first: u16, n: u16, flag: bool)
-    requires taken { IsSome (slot_at slots.old.items at) }
-    requires lines { first + n ≤ lines_at slots.old.items at }
-    ensures { Changed slots.old.items slots.new.items at (lines_marked first n flag) }
-{
-    if let Some(slot) = &mut slots[usize::from(at)] {
-        slot.mark(first, n, flag);
-    }
-}
-
-/// Moves a slot's window to a place of the screen.
-pub fn place_slot(slots: &mut Vec<Option<Slot>>, at: u16, y: u16, x: u16)
-    requires { IsSomeAnd (slot_at slots.old.items at) (λ k. IsSome k.place) }
-    ensures { Changed slots.old.items slots.new.items at (with_place y x) }
-{
-    if let Some(slot) = &mut slots[usize::from(at)] {
-        slot.set_place(y, x);
-    }
-}
-
-/// Moves a slot's derived window to another offset in its parent.
-pub fn shift_slot(slots: &mut Vec<Option<Slot>>, at: u16, y: u16, x: u16)
-    requires { IsSome (slot_at slots.old.items at) }
-    ensures { Shifted slots.old.items slots.new.items at y x }
-{
-    if let Some(slot) = &mut slots[usize::from(at)] {
-        slot.shift(y, x);
+        Some(slot) => change(slot),
+        None => unreachable!(),
     }
 }

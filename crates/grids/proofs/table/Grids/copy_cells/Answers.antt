@@ -1,8 +1,10 @@
 -- The row that was read is one write in the other window, which touches the columns written.
-use Rattle.std.proofs.Common.{◌+◌, ◌-◌, arith, refl}
+use Rattle.std.proofs.Common.{◌+◌, ◌-◌, arith, refl, rules}
 use Rattle.grids.specs.contracts.table.Grids.{the_view}
 use Rattle.grids.specs.Tables.{windows}
-use Rattle.grids.proofs.Changes.{IsWindowTable-twice}
+use Rattle.world.specs.Rows.{listed_cells}
+use Rattle.slots.specs.Changes.{Changed, with_drawing, with_touched}
+use Rattle.grids.proofs.Changes.{IsWindowTable-twice, changed_by}
 use Rattle.grids.proofs.Showing.{piece-read, column_below}
 use Rattle.std.proofs.lemmas.Grind.{common_steps}
 use Rattle.grids.proofs.Writes.{windows-copied}
@@ -21,8 +23,8 @@ copy_from_slice-requires c =
       column_below t.slots a.from.win.0 a.from.line (a.from.column + a.n - 1),
     )
 
-pub put_row-requires-clause-columns_in : goal.put_row-requires-clause-columns_in
-put_row-requires-clause-columns_in c =
+pub change_slot-requires : goal.change_slot-requires
+change_slot-requires c =
     let a = c.args in
     let t = the_view c.self.inside in
     let o = c.origin_of-source in
@@ -34,7 +36,12 @@ put_row-requires-clause-columns_in c =
     )
 
 pub invariant_of-self : goal.invariant_of-self
-invariant_of-self c = IsWindowTable-twice c.self.invariant c.put_row.ensures c.touch_row.ensures (λ a. refl) (λ a. refl)
+invariant_of-self c =
+    let a = c.args in
+    let d = c.origin_of-target.result in
+    IsWindowTable-twice c.self.invariant
+    (changed_by {change = with_drawing (listed_cells (d.line + a.to.line) (d.column + a.to.column) c.row_in.result.now)} c.change_slot.ensures (search rules) (search rules))
+    (changed_by {change = with_touched a.to.line a.to.column (a.to.column + a.n - 1)} c.change_slot-2.ensures (search rules) (search rules)) (λ a. refl) (λ a. refl)
 
 pub returns : goal.returns
 returns c =
@@ -42,13 +49,17 @@ returns c =
     let t = the_view c.self.inside in
     let o = c.origin_of-source in
     let d = c.origin_of-target in
+    let drawn = changed_by {change = with_drawing (listed_cells (d.result.line + a.to.line) (d.result.column + a.to.column) c.row_in.result.now)} c.change_slot.ensures (search rules) (search rules) in
+    let marked = changed_by {change = with_touched a.to.line a.to.column (a.to.column + a.n - 1)} c.change_slot-2.ensures (search rules) (search rules) in
     let held = piece-read t.slots a.from.win.0 a.from.line a.from.column a.n (record { grid = o.result.grid; line = o.result.line; column = o.result.column }) c.row_in.result.now
     (rw c.deref.ensures.value at o.ensures.leads) (grind (arith, common_steps)) in
     record {
       written = grind (
         arith,
         common_steps,
-        windows-copied t c.put_row.new.slots.items c.touch_row.new.slots.items a.from.win.0 a.to.win.0
+        drawn,
+        marked,
+        windows-copied t c.change_slot.new.slots.items c.change_slot-2.new.slots.items a.from.win.0 a.to.win.0
             (record { grid = d.result.grid; line = d.result.line; column = d.result.column }) a.from.line a.from.column a.to.line a.to.column a.n c.row_in.result.now,
       );
       frame = grind (arith, common_steps, whole-frame (windows a.self.now) a.from.win.0 a.to.win.0 a.from.line a.from.column a.to.line a.to.column a.n);

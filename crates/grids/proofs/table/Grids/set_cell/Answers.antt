@@ -1,13 +1,19 @@
 -- One cell is a line of one column, which is touched.
-use Rattle.std.proofs.Common.{refl, arith}
+use Rattle.std.proofs.Common.{◌+◌, refl, arith, rules}
 use Rattle.grids.specs.contracts.table.Grids.{the_view}
-use Rattle.grids.proofs.Changes.{IsWindowTable-twice}
+use Rattle.world.specs.Rows.{filled_cells}
+use Rattle.slots.specs.Changes.{with_drawing, with_touched}
+use Rattle.grids.proofs.Changes.{IsWindowTable-twice, changed_by}
 use Rattle.grids.proofs.Writes.{windows-put_row}
 use Rattle.grids.proofs.Sounds.{sound}
 use Rattle.grids.proofs.table.Grids.set_cell.Goals as goal
 
 pub invariant_of-self : goal.invariant_of-self
-invariant_of-self c = IsWindowTable-twice c.self.invariant c.fill_row.ensures c.touch_row.ensures (λ a. refl) (λ a. refl)
+invariant_of-self c =
+    let o = c.origin_of-origin.result in
+    IsWindowTable-twice c.self.invariant
+    (changed_by {change = with_drawing (filled_cells (o.line + c.args.y) (o.column + c.args.x) (o.column + c.args.x) c.args.cell)} c.change_slot.ensures (search rules) (search rules))
+    (changed_by {change = with_touched c.args.y c.args.x c.args.x} c.change_slot-2.ensures (search rules) (search rules)) (λ a. refl) (λ a. refl)
 
 pub returns-clause-written : goal.returns-clause-written
 returns-clause-written c =
@@ -16,8 +22,8 @@ returns-clause-written c =
     let t = the_view c.self.inside in
     let there = rw (← c.self.view_is) at c.requires in
     let leads = rw c.deref.ensures.value at o.ensures.leads in
-    rw (← c.self.view_is) (windows-put_row t c.fill_row.new.slots.items c.touch_row.new.slots.items a.win.0 _ a.y a.x a.x a.cell
-    there (omega arith) leads c.fill_row.ensures c.touch_row.ensures)
+    rw (← c.self.view_is) (windows-put_row t c.change_slot.new.slots.items c.change_slot-2.new.slots.items a.win.0 _ a.y a.x a.x a.cell
+    there (omega arith) leads (changed_by c.change_slot.ensures (search rules) (search rules)) (changed_by c.change_slot-2.ensures (search rules) (search rules)))
 
 pub returns-clause-sound : goal.returns-clause-sound
 returns-clause-sound c = sound _ (invariant_of-self c)
