@@ -5,13 +5,13 @@ use Rattle.std.proofs.lemmas.Bool.{cases_eq}
 use Rattle.world.specs.Windows.{Window, WindowMap, with_change, with_window}
 use Rattle.world.specs.Sound.{IsOnScreen, IsStandardScreen}
 use Rattle.world.specs.Effects.{under_number}
-use Rattle.slots.specs.Kept.{Kept, IsKept, window_of}
+use Rattle.grids.specs.Kept.{Kept, IsKept, window_of}
 use Rattle.grids.specs.Tables.{WindowTable, IsWindowTable, windows}
-use Rattle.slots.specs.Slots.{slot_at, window_map, AreOrigins, HasParentIn, IsChained}
-use Rattle.slots.specs.Changes.{Changed, ChangedBy, SetAt, StaysInPlace}
-use Rattle.slots.proofs.Chain.{each_at, some_and, own_source, own_alone}
-use Rattle.slots.proofs.OneSlot.{SetAt-set, slot_below, each_set, KeepsShape, chained_set, parent_too}
-use Rattle.slots.proofs.Origins.{HasOrigin, origins-changed, origins-filled}
+use Rattle.grids.specs.Slots.{slot_at, window_map, AreOrigins, HasParentIn, IsChained}
+use Rattle.grids.specs.Changes.{Changed, ChangedBy, SetAt, StaysInPlace}
+use Rattle.grids.proofs.Chain.{each_at, some_and, own_source, own_alone}
+use Rattle.grids.proofs.OneSlot.{SetAt-set, slot_below, each_set, KeepsShape, chained_set, parent_too}
+use Rattle.grids.proofs.Origins.{HasOrigin, origins-changed, origins-filled}
 
 -- the windows after it
 pub windows-set : (t : WindowTable) (new : List (Option Kept)) (at : ℕ) (o : Option Kept) → SetAt t.slots new at o

@@ -4,13 +4,13 @@ use Rattle.std.specs.Option.{option_map}
 use Rattle.world.specs.Windows.{WindowMap, with_change}
 use Rattle.world.specs.Sound.{IsOnScreen}
 use Rattle.world.specs.Effects.{with_part}
-use Rattle.slots.specs.declared.slot.Part.{Part}
-use Rattle.slots.specs.Kept.{IsKept, Kept, window_of}
+use Rattle.grids.specs.declared.slot.Part.{Part}
+use Rattle.grids.specs.Kept.{IsKept, Kept, window_of}
 use Rattle.grids.specs.Tables.{WindowTable, IsWindowTable, windows}
-use Rattle.slots.specs.Slots.{slot_at, window_map, IsChained, part_in}
-use Rattle.slots.specs.Changes.{ChangedBy, SameShape, Settled, Shifted, SetAt, with_new_offset}
-use Rattle.slots.proofs.Chain.{parent_at, some_and, shared_of, own_alone}
-use Rattle.slots.proofs.OneSlot.{SetAt-set, slot_below, each_set, chained_set}
+use Rattle.grids.specs.Slots.{slot_at, window_map, IsChained, part_in}
+use Rattle.grids.specs.Changes.{ChangedBy, SameShape, Settled, Shifted, SetAt, with_new_offset}
+use Rattle.grids.proofs.Chain.{parent_at, some_and, shared_of, own_alone}
+use Rattle.grids.proofs.OneSlot.{SetAt-set, slot_below, each_set, chained_set}
 use Rattle.grids.proofs.Changes.{windows-set, replaced-changed}
 
 -- by what is done with it where it is

@@ -8,14 +8,14 @@ use Rattle.cell.specs.Glyphs.{IsCell, blank}
 use Rattle.cell.specs.Pictures.{Sheet, line_of, glyph_at, AreCells, HasSize}
 use Rattle.world.specs.Sound.{HasCells, IsPartOf, IsSoundWindow, AreSoundWindows}
 use Rattle.cell.proofs.PictureLemmas.{length-line}
-use Rattle.slots.specs.declared.slot.Part.{Part}
-use Rattle.slots.specs.declared.slot.Cells.{Cells}
-use Rattle.slots.specs.declared.slot.Cells.TheVariants.{Own, Shared}
-use Rattle.slots.specs.Kept.{Kept, IsGridOf, window_of, backing_of}
+use Rattle.grids.specs.declared.slot.Part.{Part}
+use Rattle.grids.specs.declared.slot.Cells.{Cells}
+use Rattle.grids.specs.declared.slot.Cells.TheVariants.{Own, Shared}
+use Rattle.grids.specs.Kept.{Kept, IsGridOf, window_of, backing_of}
 use Rattle.grids.specs.Tables.{WindowTable, IsWindowTable, windows}
-use Rattle.slots.specs.Slots.{slot_at, window_map, FitsIn, HasParentIn}
-use Rattle.slots.proofs.Chain.{each_at, chain_ends}
-use Rattle.slots.proofs.OneSlot.{slot_below}
+use Rattle.grids.specs.Slots.{slot_at, window_map, FitsIn, HasParentIn}
+use Rattle.grids.proofs.Chain.{each_at, chain_ends}
+use Rattle.grids.proofs.OneSlot.{slot_below}
 
 cell_in : (picture : Sheet) (lines columns y x : ℕ) → HasSize lines columns picture → AreCells picture → y < lines → x < columns → IsCell (glyph_at picture (y, x))
 cell_in picture lines columns y x size cells below left =

@@ -10,9 +10,9 @@ use Rattle.cell.specs.declared.limits.TheConstants.{LARGEST_PAD}
 use Rattle.world.specs.Windows.{Window, WindowMap, Windows, with_change, touched_below, joined_columns}
 use Rattle.world.specs.calls.Copying.{with_touches}
 use Rattle.world.specs.declared.settings.Columns.{Columns}
-use Rattle.slots.specs.Changes.{with_touched}
+use Rattle.grids.specs.Changes.{with_touched}
 use Rattle.grids.specs.steps.Syncs.{EndsWithin}
-use Rattle.slots.proofs.Chain.{some_and}
+use Rattle.grids.proofs.Chain.{some_and}
 use Rattle.grids.proofs.Writes.{touched-none, touched-past}
 
 -- ---- one window changed twice, and not at all

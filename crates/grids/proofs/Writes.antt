@@ -11,11 +11,11 @@ use Rattle.world.specs.Windows.{GridPlace, Window, Drawing, within, grid_drawing
 use Rattle.world.specs.Windows.{HasPlace, own, cell_at}
 use Rattle.world.specs.Rows.{filled_cells, listed_cells, copied_cells}
 use Rattle.world.specs.declared.settings.Columns.{Columns}
-use Rattle.slots.specs.Kept.{Kept, window_of}
+use Rattle.grids.specs.Kept.{Kept, window_of}
 use Rattle.grids.specs.Tables.{WindowTable, windows}
-use Rattle.slots.specs.Slots.{slot_at, window_map}
-use Rattle.slots.specs.Changes.{Changed, with_touched, with_drawing}
-use Rattle.slots.proofs.OneSlot.{slot_below}
+use Rattle.grids.specs.Slots.{slot_at, window_map}
+use Rattle.grids.specs.Changes.{Changed, with_touched, with_drawing}
+use Rattle.grids.proofs.OneSlot.{slot_below}
 
 -- touching column after column
 

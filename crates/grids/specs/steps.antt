@@ -1,1 +1,3 @@
+pub mod Origins
+pub mod Ends
 pub mod Syncs

@@ -10,11 +10,11 @@ ghost use Rattle.world.specs.declared.call.Making.{Making};
 ghost use Rattle.grids.specs.Calls.{Changed, Made};
 ghost use Rattle.grids.specs.Tables.{windows};
 
+use crate::list::{change_slot, fill_slot_at, free_number, free_slot, has_derived, origin_of};
+use crate::parents::settle;
+use crate::slot::{Part, Slot};
 use crate::table::Grids;
 use cell::{LARGEST_PAD, Refusal, WinId, is_no_size};
-use slots::list::{change_slot, fill_slot_at, free_number, free_slot, has_derived, origin_of};
-use slots::parents::settle;
-use slots::{Part, Slot};
 
 impl Grids {
     /// Makes a window at a place of the screen, with a blank grid of its own. A size of 0 reaches to the edge of the

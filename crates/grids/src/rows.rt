@@ -3,7 +3,7 @@
 ghost use Rattle.std.specs.Prelude.{◌≡◌, ◌<◌, ◌≤◌, ◌+◌, ◌-◌, is_some, length, map, slice_index, EachIndex, true, false};
 ghost use Rattle.std.specs.List.{AllByRecursion};
 ghost use Rattle.cell.specs.Glyphs.{IsCell, is_printable};
-ghost use Rattle.slots.specs.Inks.{printed_cell};
+ghost use Rattle.grids.specs.Inks.{printed_cell};
 ghost use Rattle.world.specs.Windows.{HasPlace, cell_at, put};
 ghost use Rattle.world.specs.Sound.{AreSoundWindows};
 ghost use Rattle.world.specs.Rows.{filled_cells, listed_cells, overlaid_cell, copied_cells, line_shown};
@@ -12,10 +12,10 @@ ghost use Rattle.grids.specs.Tables.{windows};
 ghost use Rattle.grids.specs.declared.rows.TheConstants.{PIECE};
 
 use crate::frame::{frame_of_two, place};
+use crate::list::{change_slot, columns_of, origin_of, row_in};
+use crate::place::Place;
 use crate::table::Grids;
 use cell::{Cell, Rect, WinId};
-use slots::Place;
-use slots::list::{change_slot, columns_of, origin_of, row_in};
 
 /// How many cells are held at most while they are copied.
 const PIECE: u16 = 128;

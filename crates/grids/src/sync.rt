@@ -10,14 +10,14 @@ ghost use Rattle.world.specs.calls.Refresh.{among};
 ghost use Rattle.world.specs.declared.call.Copying.{Copying};
 ghost use Rattle.grids.specs.Calls.{Marked};
 ghost use Rattle.grids.specs.Tables.{windows};
-ghost use Rattle.slots.specs.Changes.{with_touched};
-ghost use Rattle.slots.specs.Slots.{depth_at};
+ghost use Rattle.grids.specs.Changes.{with_touched};
+ghost use Rattle.grids.specs.Slots.{depth_at};
 ghost use Rattle.grids.specs.steps.Syncs.{EndsWithin, touched_shown};
 
+use crate::list::change_slot;
+use crate::place::Place;
 use crate::table::Grids;
 use cell::{Refusal, WinId};
-use slots::Place;
-use slots::list::change_slot;
 use world::Columns;
 
 impl Grids {

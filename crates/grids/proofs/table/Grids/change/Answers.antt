@@ -1,6 +1,6 @@
 -- One slot is changed, and its window stays in its place.
 use Rattle.std.proofs.Common.{refl}
-use Rattle.slots.specs.Kept.{window_of}
+use Rattle.grids.specs.Kept.{window_of}
 use Rattle.grids.proofs.Changes.{IsWindowTable-stays, changed_by, windows-changed}
 use Rattle.grids.proofs.Sounds.{sound}
 use Rattle.grids.proofs.table.Grids.change.Goals as goal

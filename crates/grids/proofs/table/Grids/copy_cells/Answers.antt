@@ -3,7 +3,7 @@ use Rattle.std.proofs.Common.{◌+◌, ◌-◌, arith, refl, rules}
 use Rattle.grids.specs.contracts.table.Grids.{the_view}
 use Rattle.grids.specs.Tables.{windows}
 use Rattle.world.specs.Rows.{listed_cells}
-use Rattle.slots.specs.Changes.{Changed, with_drawing, with_touched}
+use Rattle.grids.specs.Changes.{Changed, with_drawing, with_touched}
 use Rattle.grids.proofs.Changes.{IsWindowTable-twice, changed_by}
 use Rattle.grids.proofs.Showing.{piece-read, column_below}
 use Rattle.std.proofs.lemmas.Grind.{common_steps}

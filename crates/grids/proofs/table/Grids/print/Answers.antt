@@ -4,9 +4,9 @@ use Rattle.std.proofs.Common.{◌≡◌, ◌+◌, ◌-◌, ◌<◌, length, map,
 use Rattle.std.proofs.lemmas.List.{length-map}
 use Rattle.world.specs.Windows.{HasPlace}
 use Rattle.world.specs.Rows.{listed_cells}
-use Rattle.slots.specs.Changes.{Changed, with_drawing, with_touched}
-use Rattle.slots.specs.Slots.{window_map}
-use Rattle.slots.specs.Inks.{printed_cell}
+use Rattle.grids.specs.Changes.{Changed, with_drawing, with_touched}
+use Rattle.grids.specs.Slots.{window_map}
+use Rattle.grids.specs.Inks.{printed_cell}
 use Rattle.grids.specs.contracts.table.Grids.{the_view}
 use Rattle.grids.proofs.Changes.{IsWindowTable-twice, changed_by}
 use Rattle.grids.proofs.Writes.{windows-listed}

@@ -2,7 +2,7 @@
 use Rattle.std.proofs.Common.{◌+◌, refl, arith, rules}
 use Rattle.grids.specs.contracts.table.Grids.{the_view}
 use Rattle.world.specs.Rows.{filled_cells}
-use Rattle.slots.specs.Changes.{with_drawing, with_touched}
+use Rattle.grids.specs.Changes.{with_drawing, with_touched}
 use Rattle.grids.proofs.Changes.{IsWindowTable-twice, changed_by}
 use Rattle.grids.proofs.Writes.{windows-put_row}
 use Rattle.grids.proofs.Sounds.{sound}

@@ -1,6 +1,6 @@
 -- One slot has other touched columns on one line.
 use Rattle.std.proofs.Common.{refl, rules}
-use Rattle.slots.specs.Changes.{with_touched}
+use Rattle.grids.specs.Changes.{with_touched}
 use Rattle.grids.proofs.Changes.{IsWindowTable-changed, changed_by, windows-changed}
 use Rattle.grids.proofs.table.Grids.touch_columns.Goals as goal
 

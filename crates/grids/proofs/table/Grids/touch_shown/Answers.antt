@@ -4,11 +4,11 @@ use Rattle.std.specs.Option.{option_map_or}
 use Rattle.world.specs.Windows.{Window}
 use Rattle.grids.specs.declared.table.Grids.{Grids}
 use Rattle.grids.specs.Tables.{windows}
-use Rattle.slots.specs.Slots.{depth_at}
+use Rattle.grids.specs.Slots.{depth_at}
 use Rattle.grids.specs.steps.Syncs.{shows_touched, touched_shown}
 use Rattle.std.proofs.lemmas.Grind.{common_steps}
 use Rattle.grids.proofs.Touches.{none-before, all-before, at-line, next-none, next-some}
-use Rattle.slots.proofs.Chain.{some_and}
+use Rattle.grids.proofs.Chain.{some_and}
 use Rattle.grids.proofs.table.Grids.touch_shown.Goals as goal
 use Rattle.grids.proofs.table.Grids.touch_shown.Goals.{in-Some, in_default}
 
