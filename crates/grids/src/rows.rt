@@ -4,6 +4,7 @@ ghost use Rattle.std.specs.Prelude.{◌≡◌, ◌<◌, ◌≤◌, ◌+◌, ◌-
 ghost use Rattle.std.specs.List.{AllByRecursion};
 ghost use Rattle.cell.specs.Glyphs.{IsCell, is_printable};
 ghost use Rattle.grids.specs.Inks.{printed_cell};
+ghost use Rattle.world.specs.Settings.{set, with_cursor};
 ghost use Rattle.world.specs.Windows.{HasPlace, cell_at, put};
 ghost use Rattle.world.specs.Sound.{AreSoundWindows};
 ghost use Rattle.world.specs.Rows.{filled_cells, listed_cells, overlaid_cell, copied_cells, line_shown};
@@ -12,7 +13,7 @@ ghost use Rattle.grids.specs.Tables.{windows};
 ghost use Rattle.grids.specs.declared.rows.TheConstants.{PIECE};
 
 use crate::frame::{frame_of_two, place};
-use crate::list::{change_slot, columns_of, origin_of, row_in};
+use crate::list::{columns_of, origin_of, row_in};
 use crate::place::Place;
 use crate::table::Grids;
 use cell::{Cell, Rect, WinId};
@@ -57,16 +58,11 @@ impl Grids {
         ensures written { windows self.new ≡ put (windows self.old) win.0 (filled_cells y left right cell) }
         ensures sound { AreSoundWindows (windows self.new) }
     {
-        let origin = origin_of(&self.slots, win.0);
+        let origin = self.touch(win, y, left, right);
         let line = origin.line + y;
         let start = origin.column + left;
         let end = origin.column + right;
-        change_slot(
-            &mut self.slots,
-            origin.grid,
-            |slot| slot.fill(line, start, end, cell),
-        );
-        change_slot(&mut self.slots, win.0, |slot| slot.touch(y, left, right));
+        self.change(WinId(origin.grid), |slot| slot.fill(line, start, end, cell));
     }
 
     /// Sets the cell of a window at line `y` and column `x`. The place must exist.
@@ -76,37 +72,53 @@ impl Grids {
         ensures written { windows self.new ≡ put (windows self.old) win.0 (filled_cells y x x cell) }
         ensures sound { AreSoundWindows (windows self.new) }
     {
-        let origin = origin_of(&self.slots, win.0);
-        let column = origin.column + x;
+        let origin = self.touch(win, y, x, x);
         let line = origin.line + y;
-        change_slot(
-            &mut self.slots,
-            origin.grid,
+        let column = origin.column + x;
+        self.change(
+            WinId(origin.grid),
             |slot| slot.fill(line, column, column, cell),
         );
-        change_slot(&mut self.slots, win.0, |slot| slot.touch(y, x, x));
+    }
+
+    /// Sets the cell of a window at line `y` and column `x`, and moves the cursor to the next column. Both places must
+    /// exist.
+    #[inline(always)]
+    pub fn type_cell(&mut self, win: WinId, y: u16, x: u16, cell: Cell)
+        requires { HasPlace (windows self.old).window win.0 y (x + 1) }
+        ensures written { windows self.new ≡ set (put (windows self.old) win.0 (filled_cells y x x cell)) win.0 (with_cursor (y, x + 1)) }
+        ensures sound { AreSoundWindows (windows self.new) }
+    {
+        prove!(self.has_window(WinId::STANDARD));
+        let origin = self.touch_to(win, y, x, x + 1);
+        let line = origin.line + y;
+        let column = origin.column + x;
+        self.change(
+            WinId(origin.grid),
+            |slot| slot.fill(line, column, column, cell),
+        );
     }
 
     /// Prints characters from 32 to 126 in line `y` of a window, from column `left` on, each with the attributes and
-    /// the pair of a pen; a space becomes the pen itself. The places must exist.
+    /// the pair of a pen; a space becomes the pen itself. The cursor goes to the column after the last. The places must
+    /// exist.
     #[inline(always)]
     pub fn print(&mut self, win: WinId, y: u16, left: u16, text: &[u8], pen: Cell)
         requires some { 0 < length text.now }
-        requires there { HasPlace (windows self.old).window win.0 y (left + length text.now - 1) }
+        requires there { HasPlace (windows self.old).window win.0 y (left + length text.now) }
         requires printable { EachIndex text.now (λ k. is_printable (slice_index text.now k) ≡ true) }
-        ensures written { windows self.new ≡ put (windows self.old) win.0 (listed_cells y left (map (printed_cell pen) text.now)) }
+        ensures written { windows self.new ≡ set (put (windows self.old) win.0 (listed_cells y left (map (printed_cell pen) text.now)))
+            win.0 (with_cursor (y, left + length text.now)) }
         ensures sound { AreSoundWindows (windows self.new) }
     {
-        let origin = origin_of(&self.slots, win.0);
-        let end = left + text.len() as u16;
+        prove!(self.has_window(WinId::STANDARD));
+        let origin = self.touch_to(win, y, left, left + text.len() as u16);
         let line = origin.line + y;
         let start = origin.column + left;
-        change_slot(
-            &mut self.slots,
-            origin.grid,
+        self.change(
+            WinId(origin.grid),
             |slot| slot.print(line, start, text, pen),
         );
-        change_slot(&mut self.slots, win.0, |slot| slot.touch(y, left, end - 1));
     }
 
     /// Sets `n` cells of line `dy` of `dst` from column `dx` on to those that line `sy` of `src` has from column `sx`
@@ -194,7 +206,6 @@ impl Grids {
         ensures { RowCopied (windows self.old) from to n false result (windows self.new) }
     {
         let source = origin_of(&self.slots, from.win.0);
-        let target = origin_of(&self.slots, to.win.0);
         let mut held = [Cell::BLANK; PIECE as usize];
         let piece = &mut held[..usize::from(n)];
         piece.copy_from_slice(row_in(
@@ -204,19 +215,11 @@ impl Grids {
             source.column + from.column,
             n,
         ));
+        let right = to.column + n - 1;
+        let target = self.touch(to.win, to.line, to.column, right);
         let line = target.line + to.line;
         let start = target.column + to.column;
-        change_slot(
-            &mut self.slots,
-            target.grid,
-            |slot| slot.put_row(line, start, piece),
-        );
-        let right = to.column + n - 1;
-        change_slot(
-            &mut self.slots,
-            to.win.0,
-            |slot| slot.touch(to.line, to.column, right),
-        );
+        self.change(WinId(target.grid), |slot| slot.put_row(line, start, piece));
         Some(Rect {
             top: to.line,
             left: to.column,

@@ -381,16 +381,19 @@ impl Slot {
         }
     }
 
-    /// Touches the columns from `left` to `right` of a line.
+    /// Touches the columns from `left` to `right` of a line. It answers where the window's first place is in a grid.
     #[inline(always)]
-    pub fn touch(&mut self, line: u16, left: u16, right: u16)
+    pub fn touch(&mut self, line: u16, left: u16, right: u16) -> Origin
         requires line_in { line < self.old.lines }
         requires ordered { left ≤ right }
         requires right_in { right < self.old.columns }
+        ensures origin { result ≡ self.old.origin }
         ensures window { window_of self.new ≡ with_touched line left right (window_of self.old) }
         ensures place { StaysInPlace self.old self.new }
     {
+        let origin = self.origin;
         self.touched.touch(line, left, right);
+        origin
     }
 }
 
