@@ -4,12 +4,12 @@ use Rattle.std.specs.Option.{option_map}
 use Rattle.cell.specs.Glyphs.{Glyph}
 use Rattle.world.specs.Windows.{Backing, own_grid, part_of, GridPlace, HasPlace, Window, WindowMap, Windows, ancestors, ancestors_within, derives, own, own_within}
 use Rattle.world.specs.Sound.{AreSoundWindows, IsSoundWindow}
-use Rattle.slots.specs.declared.slot.Part.{Part}
-use Rattle.slots.specs.declared.place.Place.{Place}
-use Rattle.slots.specs.Slots.{in_parent}
+use Rattle.grids.specs.declared.slot.Part.{Part}
+use Rattle.grids.specs.declared.place.Place.{Place}
+use Rattle.grids.specs.Slots.{in_parent}
 use Rattle.grids.specs.steps.Syncs.{part_in_parent}
-use Rattle.slots.proofs.Chain.{from_parent, no_parent, some_and, some_of}
-use Rattle.slots.proofs.LongerWalks.{own_of_part, own-parent}
+use Rattle.grids.proofs.Chain.{from_parent, no_parent, some_and, some_of}
+use Rattle.grids.proofs.LongerWalks.{own_of_part, own-parent}
 
 -- ---- ancestors
 

@@ -1,17 +1,18 @@
 -- What a change of one slot does to the table and to the windows.
-use Rattle.std.proofs.Common.{◌≡◌, ℕ, ◌<◌, ◌≢◌, Option, Some, None, IsSomeAnd, List, ap, arith, sym, ◌∙◌, subst, eq-eqb, ne_eqb}
-use Rattle.std.specs.Option.{option_map}
+use Rattle.std.proofs.Common.{◌≡◌, ℕ, inl, inr, ◌<◌, ◌≢◌, Option, Some, None, IsSomeAnd, List, ap, arith, sym, ◌∙◌, subst, eq-eqb, ne_eqb}
+use Rattle.std.specs.Option.{option_map, option_map_or}
 use Rattle.std.proofs.lemmas.Bool.{cases_eq}
-use Rattle.world.specs.Windows.{Window, WindowMap, with_change, with_window}
+use Rattle.world.specs.Windows.{HasPlace, Window, WindowMap, with_change, with_window}
 use Rattle.world.specs.Sound.{IsOnScreen, IsStandardScreen}
 use Rattle.world.specs.Effects.{under_number}
-use Rattle.slots.specs.Kept.{Kept, IsKept, window_of}
+use Rattle.grids.specs.Kept.{Kept, IsKept, window_of}
 use Rattle.grids.specs.Tables.{WindowTable, IsWindowTable, windows}
-use Rattle.slots.specs.Slots.{slot_at, window_map, AreOrigins, HasParentIn, IsChained}
-use Rattle.slots.specs.Changes.{Changed, SetAt}
-use Rattle.slots.proofs.Chain.{each_at, some_and, own_source, own_alone}
-use Rattle.slots.proofs.OneSlot.{SetAt-set, slot_below, each_set, KeepsShape, chained_set, parent_too}
-use Rattle.slots.proofs.Origins.{HasOrigin, origins-changed, origins-filled}
+use Rattle.grids.specs.Slots.{slot_at, window_map, depth_at, grid_place, AreOrigins, HasParentIn, IsChained}
+use Rattle.grids.specs.steps.Lines.{HasLine}
+use Rattle.grids.specs.Changes.{Changed, ChangedBy, SetAt, StaysInPlace}
+use Rattle.grids.proofs.Chain.{each_at, some_and, own_source, own_alone}
+use Rattle.grids.proofs.OneSlot.{SetAt-set, slot_below, each_set, KeepsShape, chained_set, parent_too}
+use Rattle.grids.proofs.Origins.{HasOrigin, origin-is, origins-changed, origins-filled}
 
 -- the windows after it
 pub windows-set : (t : WindowTable) (new : List (Option Kept)) (at : ℕ) (o : Option Kept) → SetAt t.slots new at o
@@ -40,6 +41,11 @@ IsWindowTable-filled t new at k s set free kept chained placed from_one origin =
 
 -- ---- one slot's window was changed
 
+-- by what is done with it where it is
+abbrev pub changed_by : {R : Type 0} {relation : Kept → R → Kept → Type 0} {old new : List (Option Kept)} {at : ℕ} {answer : R} {change : Window → Window} → (h : ChangedBy relation old new at answer)
+    → window_of h.after ≡ change (window_of h.before) → StaysInPlace h.before h.after → Changed old new at change
+changed_by h window stays = record { before = h.before; after = h.after; was = h.was; set = h.set; window = window; stays = stays }
+
 module _ {t : WindowTable} {new : List (Option Kept)} {at : ℕ} {change : Window → Window} (s : IsWindowTable t) (h : Changed t.slots new at change) where
   set_at : SetAt t.slots new at (Some h.after)
   set_at = rw h.set (SetAt-set t.slots at (Some h.after) s.few_slots (slot_below t.slots at h.before h.was))
@@ -53,24 +59,44 @@ module _ {t : WindowTable} {new : List (Option Kept)} {at : ℕ} {change : Windo
   same_place : ((a : Window) → (change a).place ≡ a.place) → h.after.place ≡ h.before.place
   same_place keeps = grind arith
 
-  standard_too : ((a : Window) → (change a).place ≡ a.place) → at ≡ 0 → IsStandardOf t h.after
-  standard_too keeps same = grind (arith, some_and, own_source, own_alone, same_place)
+  standard_too : h.after.place ≡ h.before.place → at ≡ 0 → IsStandardOf t h.after
+  standard_too there same = grind (arith, some_and, own_source, own_alone)
 
-  placed_too : ((a : Window) → (change a).place ≡ a.place) → IsOnScreen t.lines t.columns (window_of h.after)
-  placed_too keeps = grind (arith, same_place)
+  placed_too : h.after.place ≡ h.before.place → IsOnScreen t.lines t.columns (window_of h.after)
+  placed_too there = grind arith
 
   -- it stays where it is
+  pub IsWindowTable-stays : h.after.place ≡ h.before.place → IsWindowTable (record t { slots = new })
+  IsWindowTable-stays there = IsWindowTable-change (placed_too there) (standard_too there)
+
   pub IsWindowTable-changed : ((a : Window) → (change a).place ≡ a.place) → IsWindowTable (record t { slots = new })
-  IsWindowTable-changed keeps = IsWindowTable-change (placed_too keeps) (standard_too keeps)
+  IsWindowTable-changed keeps = IsWindowTable-stays (same_place keeps)
+
+  -- where its lines are in a grid
+  pub line-kept : h.after.place ≡ h.before.place → (y right : ℕ) → HasPlace (window_map t.slots) at y right → HasLine t.slots new at y right (grid_place h.before.origin)
+  line-kept place y right there =
+      let still = IsWindowTable-stays place in
+      let on = rw h.was at there in
+      record {
+        leads = rw h.was at (s.origins.each at);
+        root = rw h.stays.part.origin at (origin-is new still.chained still.origins still.few_slots at h.after set_at.here);
+        line = subst (λ (o : Option Kept). y < option_map_or (λ k. k.lines) o 0) (sym set_at.here) (rw h.stays.shape.lines on.0);
+        column = subst (λ (o : Option Kept). right < option_map_or (λ k. k.columns) o 0) (sym set_at.here) (rw h.stays.shape.columns on.1);
+      }
+
+  abbrev depth_in : Option Kept → ℕ
+  depth_in o = option_map_or (λ k. k.depth) o 0
+
+  pub depth-kept : (u : ℕ) → depth_at new u ≡ depth_at t.slots u
+  depth-kept u = elim (cases_eq u at) [
+    | inl same ↦
+        subst (λ (v : ℕ). depth_at new v ≡ depth_at t.slots v) (sym same) (ap depth_in set_at.here ∙ h.stays.shape.depth ∙ sym (ap depth_in h.was))
+    | inr other ↦ ap depth_in (set_at.others u other)
+  ]
 
   -- it is moved, and isn't the standard screen
   pub IsWindowTable-moved : IsOnScreen t.lines t.columns (change (window_of h.before)) → at ≢ 0 → IsWindowTable (record t { slots = new })
   IsWindowTable-moved placed other = grind (arith, IsWindowTable-change)
-
--- two windows were changed one after the other, and each stays where it is
-pub IsWindowTable-twice : {t : WindowTable} {mid new : List (Option Kept)} {at win : ℕ} {f g : Window → Window} → IsWindowTable t → Changed t.slots mid at f → Changed mid new win g
-    → ((a : Window) → (f a).place ≡ a.place) → ((a : Window) → (g a).place ≡ a.place) → IsWindowTable (record t { slots = new })
-IsWindowTable-twice {t = t} {mid = mid} s one other keeps too = IsWindowTable-changed {t = record t { slots = mid }} (IsWindowTable-changed s one keeps) other too
 
 pub replaced-changed : (window : WindowMap) (w : ℕ) (change : Window → Window) (a : Window) → window w ≡ Some a → with_window window w (Some (change a)) ≡ with_change window w change
 replaced-changed window w change a e = grind (arith, cases_eq, eq-eqb, ne_eqb)

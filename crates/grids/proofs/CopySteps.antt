@@ -9,8 +9,8 @@ use Rattle.world.specs.Rows.{copied_cells}
 use Rattle.world.specs.Effects.{drawing_frame}
 use Rattle.world.proofs.FrameLaws.{drawing_frame-over, drawing_frame-put}
 use Rattle.world.proofs.WindowLaws.{own-onward, put-put, cell_at-kept, put-nothing}
-use Rattle.slots.specs.declared.place.Place.{Place}
-use Rattle.slots.proofs.Chain.{some_of}
+use Rattle.grids.specs.declared.place.Place.{Place}
+use Rattle.grids.proofs.Chain.{some_of}
 use Rattle.grids.specs.Copies.{AreRectanglesThere, AreRowsThere, AreThere, Drawn, RowCopied}
 use Rattle.grids.proofs.Copies.{copied-same}
 use Rattle.grids.proofs.CopyFrames.{nothing-frame}

@@ -4,16 +4,16 @@ use Rattle.cell.specs.declared.limits.TheConstants.{MOST_WINDOWS}
 use Rattle.world.specs.Windows.{window_limit}
 use Rattle.world.specs.calls.Making.{has_derived}
 use Rattle.world.proofs.Below.{any_below-some}
-use Rattle.slots.specs.declared.slot.Part.{Part}
-use Rattle.slots.specs.declared.slot.Cells.TheVariants.{Shared}
-use Rattle.slots.specs.Kept.{Kept, IsKept}
+use Rattle.grids.specs.declared.slot.Part.{Part}
+use Rattle.grids.specs.declared.slot.Cells.TheVariants.{Shared}
+use Rattle.grids.specs.Kept.{Kept, IsKept}
 use Rattle.grids.specs.Tables.{WindowTable, IsWindowTable}
-use Rattle.slots.specs.Slots.{slot_at, window_map, HasParentIn, names_parent}
-use Rattle.slots.specs.Changes.{SetAt}
-use Rattle.slots.proofs.Chain.{limit-is}
-use Rattle.slots.proofs.OneSlot.{each_set, slot_below}
+use Rattle.grids.specs.Slots.{slot_at, window_map, HasParentIn, names_parent}
+use Rattle.grids.specs.Changes.{SetAt}
+use Rattle.grids.proofs.Chain.{limit-is}
+use Rattle.grids.proofs.OneSlot.{each_set, slot_below}
 use Rattle.grids.proofs.Changes.{standard-still}
-use Rattle.slots.proofs.Origins.{origins-without}
+use Rattle.grids.proofs.Origins.{origins-without}
 
 none_derives : (slots : List (Option Kept)) (at : ℕ) → length slots ≤ MOST_WINDOWS + 1 → has_derived (window_map slots) at ≡ false → (w : ℕ) (k : Kept) (part : Part) → slot_at slots w ≡ Some k
     → k.cells ≡ Shared part → part.parent ≢ at

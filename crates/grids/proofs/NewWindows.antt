@@ -6,15 +6,15 @@ use Rattle.world.specs.Sound.{IsOnScreen}
 use Rattle.world.specs.calls.Making.{extent, derived_window, place_from}
 use Rattle.world.specs.Effects.{under_number}
 use Rattle.world.specs.World.{new_window}
-use Rattle.slots.specs.declared.slot.Part.{Part}
-use Rattle.slots.specs.declared.slot.Cells.{Cells}
-use Rattle.slots.specs.Kept.{Kept, IsKept, window_of}
+use Rattle.grids.specs.declared.slot.Part.{Part}
+use Rattle.grids.specs.declared.slot.Cells.{Cells}
+use Rattle.grids.specs.Kept.{Kept, IsKept, window_of}
 use Rattle.grids.specs.Tables.{WindowTable, IsWindowTable, windows}
-use Rattle.slots.specs.Slots.{slot_at, IsChained, HasParentIn, part_in}
-use Rattle.slots.specs.Changes.{SetAt, IsFree}
-use Rattle.slots.proofs.Chain.{shared_of}
+use Rattle.grids.specs.Slots.{slot_at, IsChained, HasParentIn, part_in}
+use Rattle.grids.specs.Changes.{SetAt, IsFree}
+use Rattle.grids.proofs.Chain.{shared_of}
 use Rattle.grids.proofs.Changes.{windows-set, IsWindowTable-filled}
-use Rattle.slots.proofs.Origins.{HasOrigin}
+use Rattle.grids.proofs.Origins.{HasOrigin}
 
 pub alone_in : (slots : List (Option Kept)) (k : Kept) (cells : Cells) → part_in cells ≡ None → k.depth ≡ 0 → HasParentIn slots k cells
 alone_in slots k cells e h = grind arith

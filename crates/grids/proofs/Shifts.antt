@@ -4,14 +4,21 @@ use Rattle.std.specs.Option.{option_map}
 use Rattle.world.specs.Windows.{WindowMap, with_change}
 use Rattle.world.specs.Sound.{IsOnScreen}
 use Rattle.world.specs.Effects.{with_part}
-use Rattle.slots.specs.declared.slot.Part.{Part}
-use Rattle.slots.specs.Kept.{Kept, window_of}
+use Rattle.grids.specs.declared.slot.Part.{Part}
+use Rattle.grids.specs.Kept.{IsKept, Kept, window_of}
 use Rattle.grids.specs.Tables.{WindowTable, IsWindowTable, windows}
-use Rattle.slots.specs.Slots.{slot_at, window_map, IsChained, part_in}
-use Rattle.slots.specs.Changes.{Settled, Shifted, SetAt}
-use Rattle.slots.proofs.Chain.{parent_at, some_and, shared_of, own_alone}
-use Rattle.slots.proofs.OneSlot.{SetAt-set, slot_below, each_set, chained_set}
+use Rattle.grids.specs.Slots.{slot_at, window_map, IsChained, part_in}
+use Rattle.grids.specs.Changes.{ChangedBy, SameShape, Settled, Shifted, SetAt, with_new_offset}
+use Rattle.grids.proofs.Chain.{parent_at, some_and, shared_of, own_alone}
+use Rattle.grids.proofs.OneSlot.{SetAt-set, slot_below, each_set, chained_set}
 use Rattle.grids.proofs.Changes.{windows-set, replaced-changed}
+
+-- by what is done with it where it is
+pub shifted_by : {R : Type 0} {relation : Kept → R → Kept → Type 0} {old new : List (Option Kept)} {at y x : ℕ} {answer : R} → (h : ChangedBy relation old new at answer)
+    → window_of h.after ≡ with_part y x (window_of h.before) → SameShape h.before h.after → h.after.cells ≡ with_new_offset y x h.before.cells
+    → h.after.origin ≡ h.before.origin → IsKept h.after → Shifted old new at y x
+shifted_by h window shape cells origin kept =
+    record { before = h.before; after = h.after; was = h.was; set = h.set; window = window; shape = shape; cells = cells; origin = origin; kept = kept }
 
 module _ (t : WindowTable) (mid : List (Option Kept)) (at y x : ℕ) (s : IsWindowTable t) (h : Shifted t.slots mid at y x) where
   set_at : SetAt t.slots mid at (Some h.after)

@@ -7,9 +7,9 @@ use Rattle.cell.specs.Glyphs.{Glyph, blank}
 use Rattle.world.specs.Windows.{GridPlace, Window, WindowMap, HasPlace, own, cell_of, cell_at}
 use Rattle.world.specs.Rows.{line_shown}
 use Rattle.world.proofs.WindowLaws.{own-onward}
-use Rattle.slots.specs.Kept.{Kept, window_of}
-use Rattle.slots.specs.Slots.{slot_at, window_map, columns_at}
-use Rattle.slots.proofs.Chain.{some_and}
+use Rattle.grids.specs.Kept.{Kept, window_of}
+use Rattle.grids.specs.Slots.{slot_at, window_map, columns_at}
+use Rattle.grids.proofs.Chain.{some_and}
 use Rattle.grids.specs.Tables.{WindowTable}
 
 is_taken : (o : Option Kept) (y : ℕ) → IsSomeAnd (option_map window_of o) (λ a. (y < a.lines) × (0 < a.columns)) → IsSome o

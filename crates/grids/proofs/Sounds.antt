@@ -6,16 +6,18 @@ use Rattle.std.specs.List.{AllByRecursion}
 use Rattle.std.proofs.lemmas.List.Elements.{All-from_recursion, All-get_or}
 use Rattle.cell.specs.Glyphs.{IsCell, blank}
 use Rattle.cell.specs.Pictures.{Sheet, line_of, glyph_at, AreCells, HasSize}
+use Rattle.cell.specs.declared.limits.TheConstants.{LARGEST_PAD}
+use Rattle.world.specs.Windows.{HasPlace, Windows}
 use Rattle.world.specs.Sound.{HasCells, IsPartOf, IsSoundWindow, AreSoundWindows}
 use Rattle.cell.proofs.PictureLemmas.{length-line}
-use Rattle.slots.specs.declared.slot.Part.{Part}
-use Rattle.slots.specs.declared.slot.Cells.{Cells}
-use Rattle.slots.specs.declared.slot.Cells.TheVariants.{Own, Shared}
-use Rattle.slots.specs.Kept.{Kept, IsGridOf, window_of, backing_of}
+use Rattle.grids.specs.declared.slot.Part.{Part}
+use Rattle.grids.specs.declared.slot.Cells.{Cells}
+use Rattle.grids.specs.declared.slot.Cells.TheVariants.{Own, Shared}
+use Rattle.grids.specs.Kept.{Kept, IsGridOf, window_of, backing_of}
 use Rattle.grids.specs.Tables.{WindowTable, IsWindowTable, windows}
-use Rattle.slots.specs.Slots.{slot_at, window_map, FitsIn, HasParentIn}
-use Rattle.slots.proofs.Chain.{each_at, chain_ends}
-use Rattle.slots.proofs.OneSlot.{slot_below}
+use Rattle.grids.specs.Slots.{slot_at, window_map, FitsIn, HasParentIn}
+use Rattle.grids.proofs.Chain.{each_at, chain_ends}
+use Rattle.grids.proofs.OneSlot.{slot_below}
 
 cell_in : (picture : Sheet) (lines columns y x : ℕ) → HasSize lines columns picture → AreCells picture → y < lines → x < columns → IsCell (glyph_at picture (y, x))
 cell_in picture lines columns y x size cells below left =
@@ -36,3 +38,7 @@ sound t s = grind (arith, each_at, slot_below, cells_of, chain_ends)
 -- each window of a table is sound
 pub each_sound : (t : WindowTable) (w : ℕ) → IsWindowTable t → MatchOption (window_map t.slots w) ⊤ (IsSoundWindow (windows t) w)
 each_sound t w h = (sound t h).each w
+
+-- the columns of a window are few
+pub few_columns : (windows : Windows) (w y x : ℕ) → AreSoundWindows windows → HasPlace windows.window w y x → x < LARGEST_PAD
+few_columns windows w y x sound there = grind arith

@@ -13,12 +13,12 @@ use Rattle.world.specs.declared.call.Copying.TheVariants.{Syncdown, Syncup}
 use Rattle.world.specs.declared.settings.Columns.{Columns}
 use Rattle.world.proofs.Below.{any_below-some, any_below-true}
 use Rattle.world.proofs.WindowLaws.{own-onward, touched-touched}
-use Rattle.slots.specs.declared.place.Place.{Place}
-use Rattle.slots.specs.declared.slot.Part.{Part}
-use Rattle.slots.specs.Slots.{in_parent}
+use Rattle.grids.specs.declared.place.Place.{Place}
+use Rattle.grids.specs.declared.slot.Part.{Part}
+use Rattle.grids.specs.Slots.{in_parent}
 use Rattle.world.specs.calls.Refresh.{among}
 use Rattle.grids.specs.steps.Syncs.{part_in_parent, shows_touched, touched_shown}
-use Rattle.slots.proofs.Chain.{from_parent, no_parent, some_of}
+use Rattle.grids.proofs.Chain.{from_parent, no_parent, some_of}
 use Rattle.grids.proofs.Shared.{shared-in, from-shared}
 use Rattle.grids.proofs.Touches.{changed-here, changed-nothing, changed-other, changed-same, changed-twice, touching-is, touching-none}
 use Rattle.grids.proofs.Ancestors.{Walk, Walk-start, Walk-step, ancestors-none, ancestors-parent, part-none, part-some, sound-there}

@@ -10,9 +10,9 @@ use Rattle.cell.specs.declared.limits.TheConstants.{LARGEST_PAD}
 use Rattle.world.specs.Windows.{Window, WindowMap, Windows, with_change, touched_below, joined_columns}
 use Rattle.world.specs.calls.Copying.{with_touches}
 use Rattle.world.specs.declared.settings.Columns.{Columns}
-use Rattle.slots.specs.Changes.{with_touched}
+use Rattle.grids.specs.Changes.{with_touched}
 use Rattle.grids.specs.steps.Syncs.{EndsWithin}
-use Rattle.slots.proofs.Chain.{some_and}
+use Rattle.grids.proofs.Chain.{some_and}
 use Rattle.grids.proofs.Writes.{touched-none, touched-past}
 
 -- ---- one window changed twice, and not at all
@@ -105,7 +105,7 @@ module _ (w : Windows) (win : ℕ) (test : ℕ → ℕ → Bool) where
       → (now next : Windows) → now ≡ touched_before y → next ≡ record now { window = with_change now.window win (with_touched y first last) } → next ≡ touched_before (y + 1)
   next-some a there y first last below ordered within h now next is step = grind (arith, changed-twice, changed-same, line-some)
 
--- a window that is there, for crates that don't use `slots`
+-- a window that is there
 pub there-and : (o : Option Window) (P : Window → Type 0) → IsSomeAnd o P → (a : Window) × (o ≡ Some a) × P a
 there-and o P h = some_and o P h
 

@@ -1,21 +1,18 @@
 -- A row written through a window is one put.
 use Rattle.std.proofs.Common.{◌≡◌, ℕ, zero, suc, ◌+◌, ◌-◌, ◌<◌, ◌≤◌, Bool, true, false, if◌then◌else◌, ◌==◌, ◌&&◌, nat_le, nat_lt, Option, Some, None, is_some, IsSomeAnd, List, length}
-use Rattle.std.proofs.Common.{get_or, arith, refl, inl, inr, get_or-set_other, get_or-set_same, eq-eqb, ne_eqb, add-zero, add-suc}
+use Rattle.std.proofs.Common.{get_or, ap, ◌∙◌, subst, arith, refl, inl, inr, eq-eqb, ne_eqb, add-zero, add-suc}
 use Rattle.std.specs.Option.{option_map}
 use mathlib.Core.Path.{fun_ext}
 use Rattle.std.proofs.lemmas.Bool.{cases_eq, cases_lt, eqb-true}
-use Rattle.std.proofs.lemmas.Iterator.Adapters.{option_map_id}
 use Rattle.std.proofs.lemmas.Bool.Decides.{nat_tests}
 use Rattle.cell.specs.Glyphs.{Glyph, blank}
-use Rattle.world.specs.Windows.{GridPlace, Window, Drawing, within, grid_drawing, laid_over, joined_columns, touched_below, touched_by, put_windows, put}
-use Rattle.world.specs.Windows.{HasPlace, own, cell_at}
+use Rattle.world.specs.Windows.{GridPlace, Window, WindowMap, Windows, Drawing, within, grid_drawing, laid_over, joined_columns, touched_below, touched_by, put_windows, put}
+use Rattle.world.specs.Windows.{HasPlace, own, cell_at, with_change}
+use Rattle.world.specs.Settings.{set, set_in}
+use Rattle.world.specs.declared.settings.Settings.{Settings}
 use Rattle.world.specs.Rows.{filled_cells, listed_cells, copied_cells}
 use Rattle.world.specs.declared.settings.Columns.{Columns}
-use Rattle.slots.specs.Kept.{Kept, window_of}
-use Rattle.grids.specs.Tables.{WindowTable, windows}
-use Rattle.slots.specs.Slots.{slot_at, window_map}
-use Rattle.slots.specs.Changes.{Changed, with_touched, with_drawing}
-use Rattle.slots.proofs.OneSlot.{slot_below}
+use Rattle.grids.specs.Changes.{with_touched, with_drawing}
 
 -- touching column after column
 
@@ -44,49 +41,64 @@ touched-line a f y left right l in_cols test z = elim (cases_eq z y) [
   | inr other ↦ grind (arith, touched-none, ne_eqb)
 ]
 
--- the windows after one slot was changed
-abbrev changed_at : ℕ → (Window → Window) → ℕ → Window → Window
-changed_at at change u a = if u == at then change a else a
+-- ---- what is written in a line through a window, which touches its columns from left to right, is one put
 
-map-changed : (old new : List (Option Kept)) (at : ℕ) (change : Window → Window) → Changed old new at change → (u : ℕ) → window_map new u ≡ option_map (changed_at at change u) (window_map old u)
-map-changed old new at change h u = grind (arith, cases_eq, eq-eqb, slot_below, get_or-set_same, ne_eqb, get_or-set_other, option_map_id)
+-- one window changed and then another
+changed-both : (o : Option Window) (p q : Bool) (g h : Window → Window) → (if p then option_map g (if q then option_map h o else o) else (if q then option_map h o else o))
+    ≡ option_map (λ b. if p then g (if q then h b else b) else (if q then h b else b)) o
+changed-both None p q g h = grind arith
+changed-both (Some b) p q g h = grind arith
 
--- the grid and the marks, by whether they are this window's
+-- the marks and the grid, by whether they are this window's
 merged_by : (p q : Bool) (b : Window) (f1 f2 : Drawing) (touched : ℕ → Option Columns) (y left right : ℕ) → f2 ≡ f1
     → (q ≡ true → touched ≡ (λ z. if z == y then joined_columns (b.touched z) left right else b.touched z)) →
-    (if q then with_touched y left right (if p then with_drawing f1 b else b) else (if p then with_drawing f1 b else b))
+    (if p then with_drawing f1 (if q then with_touched y left right b else b) else (if q then with_touched y left right b else b))
     ≡ record b { backing = (if p then laid_over f2 b.backing else b.backing); touched = (if q then touched else b.touched) }
 merged_by p q b f1 f2 touched y left right e h = grind arith
 
--- what is written in a line through a window, which touches its columns from left to right, is one put
-pub put-any : (a0 a1 a2 : List (Option Kept)) (win : ℕ) (place : GridPlace) (k : Kept) (f g : Drawing) (y left right : ℕ) →
-    slot_at a0 win ≡ Some k → own (window_map a0) win 0 0 ≡ Some place → grid_drawing place (within (window_of k) f) ≡ g →
-    ((z : ℕ) → touched_by f (window_of k) z ≡ (if z == y then joined_columns ((window_of k).touched z) left right else (window_of k).touched z)) →
-    Changed a0 a1 place.grid (with_drawing g) → Changed a1 a2 win (with_touched y left right) → window_map a2 ≡ put_windows (window_map a0) win f
-put-any a0 a1 a2 win place k f g y left right e leads moved_is touched h1 h2 =
-    let a = window_of k in
-    let marks : touched_by f a ≡ (λ z. if z == y then joined_columns (a.touched z) left right else a.touched z) = fun_ext touched in
-    fun_ext (λ u. grind (
-      arith,
-      eqb-true,
-      map-changed a0 a1 place.grid (with_drawing g) h1 u,
-      map-changed a1 a2 win (with_touched y left right) h2 u,
-      (λ (b : Window). merged_by (u == place.grid) (u == win) b g (grid_drawing place (within a f)) (touched_by f b) y left right),
-    ))
+module _ (window : WindowMap) (win : ℕ) (place : GridPlace) (a : Window) (f g : Drawing) (y left right : ℕ) (there : window win ≡ Some a) (leads : own window win 0 0 ≡ Some place)
+    (moved : grid_drawing place (within a f) ≡ g) (touched : (z : ℕ) → touched_by f a z ≡ (if z == y then joined_columns (a.touched z) left right else a.touched z)) where
+  marks : touched_by f a ≡ (λ z. if z == y then joined_columns (a.touched z) left right else a.touched z)
+  marks = fun_ext touched
 
-some_and : (o : Option Kept) (y x : ℕ) → IsSomeAnd (option_map window_of o) (λ a. (y < a.lines) × (x < a.columns)) → (k : Kept) × (o ≡ Some k) × (y < k.lines) × (x < k.columns)
+  put-any : with_change (with_change window win (with_touched y left right)) place.grid (with_drawing g) ≡ put_windows window win f
+  put-any = fun_ext (λ u. grind (
+    arith,
+    eqb-true,
+    marks,
+    changed-both (window u) (u == place.grid) (u == win) (with_drawing g) (with_touched y left right),
+    (λ (b : Window). merged_by (u == place.grid) (u == win) b g (grid_drawing place (within a f)) (touched_by f b) y left right),
+  ))
+
+set-at : (o : Option Window) (p q : Bool) (change : Settings → Settings) (f : Window → Window) (g : Drawing)
+    → (if p then option_map (with_drawing g) (if q then option_map (λ a. set_in change (f a)) o else o) else (if q then option_map (λ a. set_in change (f a)) o else o))
+    ≡ (if q then option_map (set_in change) (if p then option_map (with_drawing g) (if q then option_map f o else o) else (if q then option_map f o else o))
+    else (if p then option_map (with_drawing g) (if q then option_map f o else o) else (if q then option_map f o else o)))
+set-at None p q change f g = grind arith
+set-at (Some b) p q change f g = grind arith
+
+-- other settings of a window, before the cells of a grid are written or after
+set-before : (window : WindowMap) (win grid : ℕ) (change : Settings → Settings) (f : Window → Window) (g : Drawing)
+    → with_change (with_change window win (λ a. set_in change (f a))) grid (with_drawing g) ≡ with_change (with_change (with_change window win f) grid (with_drawing g)) win (set_in change)
+set-before window win grid change f g = fun_ext (λ u. set-at (window u) (u == grid) (u == win) change f g)
+
+some_and : (o : Option Window) (y x : ℕ) → IsSomeAnd o (λ a. (y < a.lines) × (x < a.columns)) → (a : Window) × (o ≡ Some a) × (y < a.lines) × (x < a.columns)
 some_and o y x h = grind arith
 
-pub windows-put_row : (t : WindowTable) (a1 a2 : List (Option Kept)) (win : ℕ) (place : GridPlace) (y left right : ℕ) (c : Glyph) →
-    HasPlace (window_map t.slots) win y right → left ≤ right → own (window_map t.slots) win 0 0 ≡ Some place →
-    Changed t.slots a1 place.grid (with_drawing (filled_cells (place.line + y) (place.column + left) (place.column + right) c)) →
-    Changed a1 a2 win (with_touched y left right) →
-    windows (record t { slots = a2 }) ≡ put (windows t) win (filled_cells y left right c)
-windows-put_row t a1 a2 win place y left right c there l leads h1 h2 =
-    let k = some_and (slot_at t.slots win) y right there in
-    let touched = touched-line (window_of k.0) (filled_cells y left right c) y left right l k.3 (λ z x. grind (arith, nat_tests)) in
-    rw (put-any t.slots a1 a2 win place k.0 (filled_cells y left right c) (filled_cells (place.line + y) (place.column + left) (place.column + right) c) y left right k.1 leads
-    (grind (arith, nat_tests)) touched h1 h2) refl
+-- the windows after a drawing was laid over a grid, and after a line was touched before
+abbrev pub drawn_over : ℕ → Drawing → Windows → Windows
+drawn_over grid g windows = record windows { window = with_change windows.window grid (with_drawing g) }
+
+abbrev pub touched_and_drawn : Windows → ℕ → ℕ → ℕ → ℕ → ℕ → Drawing → Windows
+touched_and_drawn old win grid y left right g = drawn_over grid g (record old { window = with_change old.window win (with_touched y left right) })
+
+pub put-row : (old : Windows) (win : ℕ) (place : GridPlace) (y left right : ℕ) (c : Glyph) → HasPlace old.window win y right → left ≤ right → own old.window win 0 0 ≡ Some place
+    → touched_and_drawn old win place.grid y left right (filled_cells (place.line + y) (place.column + left) (place.column + right) c) ≡ put old win (filled_cells y left right c)
+put-row old win place y left right c there l leads =
+    let a = some_and (old.window win) y right there in
+    let touched = touched-line a.0 (filled_cells y left right c) y left right l a.3 (λ z x. grind (arith, nat_tests)) in
+    rw (put-any old.window win place a.0 (filled_cells y left right c) (filled_cells (place.line + y) (place.column + left) (place.column + right) c) y left right a.1 leads
+    (grind (arith, nat_tests)) touched) refl
 
 -- cells of a line, in columns side by side
 
@@ -97,33 +109,34 @@ moved-beside : (place : GridPlace) (a : Window) (dy dx n : ℕ) (shown : ℕ →
     ((k : ℕ) → k < n → get_or cells k blank ≡ shown k) → grid_drawing place (within a (side_by_side dy dx n shown)) ≡ listed_cells (place.line + dy) (place.column + dx) cells
 moved-beside place a dy dx n shown cells in_lines in_columns all read = grind (arith, nat_tests)
 
-windows-beside : (t : WindowTable) (a1 a2 : List (Option Kept)) (dst : ℕ) (place : GridPlace) (dy dx n : ℕ) (shown : ℕ → Glyph) (cells : List Glyph) →
-    HasPlace (window_map t.slots) dst dy (dx + n - 1) → 0 < n → own (window_map t.slots) dst 0 0 ≡ Some place → length cells ≡ n →
-    ((k : ℕ) → k < n → get_or cells k blank ≡ shown k) →
-    Changed t.slots a1 place.grid (with_drawing (listed_cells (place.line + dy) (place.column + dx) cells)) →
-    Changed a1 a2 dst (with_touched dy dx (dx + n - 1)) →
-    windows (record t { slots = a2 }) ≡ put (windows t) dst (side_by_side dy dx n shown)
-windows-beside t a1 a2 dst place dy dx n shown cells there some leads all read h1 h2 =
-    let k = some_and (slot_at t.slots dst) dy (dx + n - 1) there in
-    let touched = touched-line (window_of k.0) (side_by_side dy dx n shown) dy dx (dx + n - 1) (omega arith) k.3 (λ z x. grind (arith, nat_tests)) in
-    rw (put-any t.slots a1 a2 dst place k.0 (side_by_side dy dx n shown) (listed_cells (place.line + dy) (place.column + dx) cells) dy dx (dx + n - 1) k.1 leads
-    (moved-beside place (window_of k.0) dy dx n shown cells k.2 (omega (arith, k.3)) all read) touched h1 h2) refl
+put-beside : (old : Windows) (dst : ℕ) (place : GridPlace) (dy dx n : ℕ) (shown : ℕ → Glyph) (cells : List Glyph) →
+    HasPlace old.window dst dy (dx + n - 1) → 0 < n → own old.window dst 0 0 ≡ Some place → length cells ≡ n → ((k : ℕ) → k < n → get_or cells k blank ≡ shown k) →
+    touched_and_drawn old dst place.grid dy dx (dx + n - 1) (listed_cells (place.line + dy) (place.column + dx) cells) ≡ put old dst (side_by_side dy dx n shown)
+put-beside old dst place dy dx n shown cells there some leads all read =
+    let a = some_and (old.window dst) dy (dx + n - 1) there in
+    let touched = touched-line a.0 (side_by_side dy dx n shown) dy dx (dx + n - 1) (omega arith) a.3 (λ z x. grind (arith, nat_tests)) in
+    rw (put-any old.window dst place a.0 (side_by_side dy dx n shown) (listed_cells (place.line + dy) (place.column + dx) cells) dy dx (dx + n - 1) a.1 leads
+    (moved-beside place a.0 dy dx n shown cells a.2 (omega (arith, a.3)) all read) touched) refl
 
 -- copied cells
-pub windows-copied : (t : WindowTable) (a1 a2 : List (Option Kept)) (src dst : ℕ) (place : GridPlace) (sy sx dy dx n : ℕ) (cells : List Glyph) →
-    HasPlace (window_map t.slots) dst dy (dx + n - 1) → 0 < n → own (window_map t.slots) dst 0 0 ≡ Some place → length cells ≡ n →
-    ((k : ℕ) → k < n → get_or cells k blank ≡ cell_at (window_map t.slots) src sy (sx + k)) →
-    Changed t.slots a1 place.grid (with_drawing (listed_cells (place.line + dy) (place.column + dx) cells)) →
-    Changed a1 a2 dst (with_touched dy dx (dx + n - 1)) →
-    windows (record t { slots = a2 }) ≡ put (windows t) dst (copied_cells (window_map t.slots) src sy sx dy dx n false)
-windows-copied t a1 a2 src dst place sy sx dy dx n cells there some leads all read h1 h2 =
-    windows-beside t a1 a2 dst place dy dx n (λ k. cell_at (window_map t.slots) src sy (sx + k)) cells there some leads all read h1 h2
+pub put-copied : (old : Windows) (src dst : ℕ) (place : GridPlace) (sy sx dy dx n : ℕ) (cells : List Glyph) →
+    HasPlace old.window dst dy (dx + n - 1) → 0 < n → own old.window dst 0 0 ≡ Some place → length cells ≡ n →
+    ((k : ℕ) → k < n → get_or cells k blank ≡ cell_at old.window src sy (sx + k)) →
+    touched_and_drawn old dst place.grid dy dx (dx + n - 1) (listed_cells (place.line + dy) (place.column + dx) cells) ≡ put old dst (copied_cells old.window src sy sx dy dx n false)
+put-copied old src dst place sy sx dy dx n cells there some leads all read =
+    put-beside old dst place dy dx n (λ k. cell_at old.window src sy (sx + k)) cells there some leads all read
 
 -- cells of a list
-pub windows-listed : (t : WindowTable) (a1 a2 : List (Option Kept)) (win : ℕ) (place : GridPlace) (y left : ℕ) (cells : List Glyph) →
-    HasPlace (window_map t.slots) win y (left + length cells - 1) → 0 < length cells → own (window_map t.slots) win 0 0 ≡ Some place →
-    Changed t.slots a1 place.grid (with_drawing (listed_cells (place.line + y) (place.column + left) cells)) →
-    Changed a1 a2 win (with_touched y left (left + length cells - 1)) →
-    windows (record t { slots = a2 }) ≡ put (windows t) win (listed_cells y left cells)
-windows-listed t a1 a2 win place y left cells there some leads h1 h2 =
-    windows-beside t a1 a2 win place y left (length cells) (λ k. get_or cells k blank) cells there some leads refl (λ k below. refl) h1 h2
+pub put-listed : (old : Windows) (win : ℕ) (place : GridPlace) (y left n : ℕ) (cells : List Glyph) → length cells ≡ n →
+    HasPlace old.window win y (left + n - 1) → 0 < n → own old.window win 0 0 ≡ Some place →
+    touched_and_drawn old win place.grid y left (left + n - 1) (listed_cells (place.line + y) (place.column + left) cells) ≡ put old win (listed_cells y left cells)
+put-listed old win place y left n cells all there some leads =
+    subst (λ (m : ℕ). HasPlace old.window win y (left + m - 1) → 0 < m →
+    touched_and_drawn old win place.grid y left (left + m - 1) (listed_cells (place.line + y) (place.column + left) cells) ≡ put old win (listed_cells y left cells)) all
+    (λ here more. put-beside old win place y left (length cells) (λ k. get_or cells k blank) cells here more leads refl (λ k below. refl)) there some
+
+-- a line was touched up to where the cursor went, and then written
+pub put-typed : (old after : Windows) (win grid y left right : ℕ) (change : Settings → Settings) (g : Drawing) → touched_and_drawn old win grid y left right g ≡ after
+    → drawn_over grid g (record old { window = with_change old.window win (λ a. set_in change (with_touched y left right a)) }) ≡ set after win change
+put-typed old after win grid y left right change g is =
+    ap (λ (map : WindowMap). record old { window = map }) (set-before old.window win grid change (with_touched y left right) g) ∙ ap (λ (v : Windows). set v win change) is

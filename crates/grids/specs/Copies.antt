@@ -5,7 +5,7 @@ use Rattle.world.specs.Windows.{Drawing, HasPlace, WindowMap, Windows, put}
 use Rattle.world.specs.Rows.{copied_cells}
 use Rattle.world.specs.Effects.{drawing_frame}
 use Rattle.world.specs.calls.Copying.{rectangle_copied}
-use Rattle.slots.specs.declared.place.Place.{Place}
+use Rattle.grids.specs.declared.place.Place.{Place}
 use Rattle.grids.specs.declared.rows.TheConstants.{PIECE}
 
 -- both places are there

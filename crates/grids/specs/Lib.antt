@@ -1,7 +1,8 @@
-pub use Rattle.slots.specs.Kept
-pub use Rattle.slots.specs.Slots
-pub use Rattle.slots.specs.Changes
-pub use Rattle.slots.specs.Inks
+pub mod Kept
+pub mod Slots
+pub mod Changes
+pub mod Touches
+pub mod Inks
 pub mod Tables
 pub mod Calls
 pub mod Questions

@@ -4,8 +4,8 @@ use Rattle.cell.specs.declared.limits.TheConstants.{LARGEST_SCREEN, MOST_WINDOWS
 use Rattle.world.specs.Windows.{Windows}
 use Rattle.world.specs.Panels.{standard_screen}
 use Rattle.world.specs.Sound.{IsOnScreen, IsStandardScreen}
-use Rattle.slots.specs.Kept.{Kept, window_of}
-use Rattle.slots.specs.Slots.{slot_at, window_map, AreOrigins, IsChained}
+use Rattle.grids.specs.Kept.{Kept, window_of}
+use Rattle.grids.specs.Slots.{slot_at, window_map, AreOrigins, IsChained}
 
 -- a screen of this size, and a slot for each number from 0 on that was given so far
 pub record WindowTable : Type 0 where

@@ -1,1 +1,4 @@
+pub mod Origins
+pub mod Ends
 pub mod Syncs
+pub mod Lines

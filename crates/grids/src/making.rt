@@ -10,13 +10,11 @@ ghost use Rattle.world.specs.declared.call.Making.{Making};
 ghost use Rattle.grids.specs.Calls.{Changed, Made};
 ghost use Rattle.grids.specs.Tables.{windows};
 
+use crate::list::{change_slot, fill_slot_at, free_number, free_slot, has_derived, origin_of};
+use crate::parents::settle;
+use crate::slot::{Part, Slot};
 use crate::table::Grids;
 use cell::{LARGEST_PAD, Refusal, WinId, is_no_size};
-use slots::list::{
-    fill_slot_at, free_number, free_slot, has_derived, origin_of, place_slot, shift_slot,
-};
-use slots::parents::settle;
-use slots::{Part, Slot};
 
 impl Grids {
     /// Makes a window at a place of the screen, with a blank grid of its own. A size of 0 reaches to the edge of the
@@ -169,7 +167,7 @@ impl Grids {
         if !(fits(slot.lines(), y, self.lines) && fits(slot.columns(), x, self.columns)) {
             return Err(Refusal::OffScreen);
         }
-        place_slot(&mut self.slots, win.0, y, x);
+        change_slot(&mut self.slots, win.0, |slot| slot.set_place(y, x));
         Ok(())
     }
 
@@ -189,7 +187,7 @@ impl Grids {
         {
             return Err(Refusal::OutsideParent);
         }
-        shift_slot(&mut self.slots, win.0, par_y, par_x);
+        change_slot(&mut self.slots, win.0, |slot| slot.shift(par_y, par_x));
         settle(&mut self.slots);
         Ok(())
     }

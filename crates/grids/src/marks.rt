@@ -13,7 +13,6 @@ ghost use Rattle.grids.specs.Tables.{windows};
 
 use crate::table::Grids;
 use cell::{Refusal, WinId};
-use slots::list::{mark_slot, unmark_slot};
 use world::Columns;
 
 impl Grids {
@@ -36,7 +35,7 @@ impl Grids {
         ensures unmarked { windows self.new ≡ record (windows self.old) { window = with_change (windows self.old).window win.0 without_marks } }
         ensures sound { AreSoundWindows (windows self.new) }
     {
-        self.has_window(win) && unmark_slot(&mut self.slots, win.0)
+        self.has_window(win) && self.change(win, |slot| slot.unmark())
     }
 
     /// Touches all of a window.
@@ -94,7 +93,7 @@ impl Grids {
         ensures touched { windows self.new ≡ record (windows self.old) { window = with_change (windows self.old).window win.0 (lines_marked first n flag) } }
         ensures sound { AreSoundWindows (windows self.new) }
     {
-        mark_slot(&mut self.slots, win.0, first, n, flag);
+        self.change(win, |slot| slot.mark(first, n, flag));
     }
 
     /// Whether line `y` of a window is touched.

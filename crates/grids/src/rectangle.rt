@@ -6,10 +6,10 @@ ghost use Rattle.grids.specs.Copies.{AreRectanglesThere, RectangleCopied};
 ghost use Rattle.grids.specs.Tables.{windows};
 
 use crate::frame::frame_of_two;
+use crate::list::origin_of;
+use crate::place::Place;
 use crate::table::Grids;
 use cell::{Rect, WinId};
-use slots::Place;
-use slots::list::origin_of;
 
 impl Grids {
     /// Sets the cells of `lines` lines and `columns` columns of `dst`, from line `dy` and column `dx` on, to those that

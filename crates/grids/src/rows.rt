@@ -3,7 +3,8 @@
 ghost use Rattle.std.specs.Prelude.{◌≡◌, ◌<◌, ◌≤◌, ◌+◌, ◌-◌, is_some, length, map, slice_index, EachIndex, true, false};
 ghost use Rattle.std.specs.List.{AllByRecursion};
 ghost use Rattle.cell.specs.Glyphs.{IsCell, is_printable};
-ghost use Rattle.slots.specs.Inks.{printed_cell};
+ghost use Rattle.grids.specs.Inks.{printed_cell};
+ghost use Rattle.world.specs.Settings.{set, with_cursor};
 ghost use Rattle.world.specs.Windows.{HasPlace, cell_at, put};
 ghost use Rattle.world.specs.Sound.{AreSoundWindows};
 ghost use Rattle.world.specs.Rows.{filled_cells, listed_cells, overlaid_cell, copied_cells, line_shown};
@@ -12,10 +13,10 @@ ghost use Rattle.grids.specs.Tables.{windows};
 ghost use Rattle.grids.specs.declared.rows.TheConstants.{PIECE};
 
 use crate::frame::{frame_of_two, place};
+use crate::list::{columns_of, origin_of, row_in};
+use crate::place::Place;
 use crate::table::Grids;
 use cell::{Cell, Rect, WinId};
-use slots::Place;
-use slots::list::{columns_of, fill_row, origin_of, print_row, put_row, row_in, touch_row};
 
 /// How many cells are held at most while they are copied.
 const PIECE: u16 = 128;
@@ -57,16 +58,11 @@ impl Grids {
         ensures written { windows self.new ≡ put (windows self.old) win.0 (filled_cells y left right cell) }
         ensures sound { AreSoundWindows (windows self.new) }
     {
-        let origin = origin_of(&self.slots, win.0);
-        fill_row(
-            &mut self.slots,
-            origin.grid,
-            origin.line + y,
-            origin.column + left,
-            origin.column + right,
-            cell,
-        );
-        touch_row(&mut self.slots, win.0, y, left, right);
+        let origin = self.touch(win, y, left, right);
+        let line = origin.line + y;
+        let start = origin.column + left;
+        let end = origin.column + right;
+        self.change(WinId(origin.grid), |slot| slot.fill(line, start, end, cell));
     }
 
     /// Sets the cell of a window at line `y` and column `x`. The place must exist.
@@ -76,40 +72,53 @@ impl Grids {
         ensures written { windows self.new ≡ put (windows self.old) win.0 (filled_cells y x x cell) }
         ensures sound { AreSoundWindows (windows self.new) }
     {
-        let origin = origin_of(&self.slots, win.0);
+        let origin = self.touch(win, y, x, x);
+        let line = origin.line + y;
         let column = origin.column + x;
-        fill_row(
-            &mut self.slots,
-            origin.grid,
-            origin.line + y,
-            column,
-            column,
-            cell,
+        self.change(
+            WinId(origin.grid),
+            |slot| slot.fill(line, column, column, cell),
         );
-        touch_row(&mut self.slots, win.0, y, x, x);
+    }
+
+    /// Sets the cell of a window at line `y` and column `x`, and moves the cursor to the next column. Both places must
+    /// exist.
+    #[inline(always)]
+    pub fn type_cell(&mut self, win: WinId, y: u16, x: u16, cell: Cell)
+        requires { HasPlace (windows self.old).window win.0 y (x + 1) }
+        ensures written { windows self.new ≡ set (put (windows self.old) win.0 (filled_cells y x x cell)) win.0 (with_cursor (y, x + 1)) }
+        ensures sound { AreSoundWindows (windows self.new) }
+    {
+        prove!(self.has_window(WinId::STANDARD));
+        let origin = self.touch_to(win, y, x, x + 1);
+        let line = origin.line + y;
+        let column = origin.column + x;
+        self.change(
+            WinId(origin.grid),
+            |slot| slot.fill(line, column, column, cell),
+        );
     }
 
     /// Prints characters from 32 to 126 in line `y` of a window, from column `left` on, each with the attributes and
-    /// the pair of a pen; a space becomes the pen itself. The places must exist.
+    /// the pair of a pen; a space becomes the pen itself. The cursor goes to the column after the last. The places must
+    /// exist.
     #[inline(always)]
     pub fn print(&mut self, win: WinId, y: u16, left: u16, text: &[u8], pen: Cell)
         requires some { 0 < length text.now }
-        requires there { HasPlace (windows self.old).window win.0 y (left + length text.now - 1) }
+        requires there { HasPlace (windows self.old).window win.0 y (left + length text.now) }
         requires printable { EachIndex text.now (λ k. is_printable (slice_index text.now k) ≡ true) }
-        ensures written { windows self.new ≡ put (windows self.old) win.0 (listed_cells y left (map (printed_cell pen) text.now)) }
+        ensures written { windows self.new ≡ set (put (windows self.old) win.0 (listed_cells y left (map (printed_cell pen) text.now)))
+            win.0 (with_cursor (y, left + length text.now)) }
         ensures sound { AreSoundWindows (windows self.new) }
     {
-        let origin = origin_of(&self.slots, win.0);
-        let end = left + text.len() as u16;
-        print_row(
-            &mut self.slots,
-            origin.grid,
-            origin.line + y,
-            origin.column + left,
-            text,
-            pen,
+        prove!(self.has_window(WinId::STANDARD));
+        let origin = self.touch_to(win, y, left, left + text.len() as u16);
+        let line = origin.line + y;
+        let start = origin.column + left;
+        self.change(
+            WinId(origin.grid),
+            |slot| slot.print(line, start, text, pen),
         );
-        touch_row(&mut self.slots, win.0, y, left, end - 1);
     }
 
     /// Sets `n` cells of line `dy` of `dst` from column `dx` on to those that line `sy` of `src` has from column `sx`
@@ -197,7 +206,6 @@ impl Grids {
         ensures { RowCopied (windows self.old) from to n false result (windows self.new) }
     {
         let source = origin_of(&self.slots, from.win.0);
-        let target = origin_of(&self.slots, to.win.0);
         let mut held = [Cell::BLANK; PIECE as usize];
         let piece = &mut held[..usize::from(n)];
         piece.copy_from_slice(row_in(
@@ -207,15 +215,11 @@ impl Grids {
             source.column + from.column,
             n,
         ));
-        put_row(
-            &mut self.slots,
-            target.grid,
-            target.line + to.line,
-            target.column + to.column,
-            piece,
-        );
         let right = to.column + n - 1;
-        touch_row(&mut self.slots, to.win.0, to.line, to.column, right);
+        let target = self.touch(to.win, to.line, to.column, right);
+        let line = target.line + to.line;
+        let start = target.column + to.column;
+        self.change(WinId(target.grid), |slot| slot.put_row(line, start, piece));
         Some(Rect {
             top: to.line,
             left: to.column,

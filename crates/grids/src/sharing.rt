@@ -6,15 +6,15 @@ ghost use Rattle.world.specs.Sharing.{SharesPart};
 ghost use Rattle.world.specs.Sound.{AreSoundWindows};
 ghost use Rattle.world.specs.Windows.{HasPlace, derives};
 ghost use Rattle.grids.specs.Tables.{windows};
-ghost use Rattle.slots.specs.Slots.{depth_at, in_parent};
+ghost use Rattle.grids.specs.Slots.{depth_at, in_parent};
 ghost use Rattle.grids.specs.steps.Syncs.{part_in_parent};
 
+use crate::list::origin_of;
+use crate::parents::place_in_parent;
+use crate::place::Place;
 use crate::sync::clip;
 use crate::table::Grids;
 use cell::{Rect, WinId};
-use slots::Place;
-use slots::list::origin_of;
-use slots::parents::place_in_parent;
 use world::Columns;
 
 impl Grids {

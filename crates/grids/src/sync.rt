@@ -10,14 +10,12 @@ ghost use Rattle.world.specs.calls.Refresh.{among};
 ghost use Rattle.world.specs.declared.call.Copying.{Copying};
 ghost use Rattle.grids.specs.Calls.{Marked};
 ghost use Rattle.grids.specs.Tables.{windows};
-ghost use Rattle.slots.specs.Changes.{with_touched};
-ghost use Rattle.slots.specs.Slots.{depth_at};
+ghost use Rattle.grids.specs.Slots.{depth_at};
 ghost use Rattle.grids.specs.steps.Syncs.{EndsWithin, touched_shown};
 
+use crate::place::Place;
 use crate::table::Grids;
 use cell::{Refusal, WinId};
-use slots::Place;
-use slots::list::touch_row;
 use world::Columns;
 
 impl Grids {
@@ -88,7 +86,7 @@ impl Grids {
         let lines = self.size(win).0;
         for y in 0..lines {
             if let Some(columns) = self.shown_columns(source, from, win, to, y) {
-                self.touch_columns(win, y, columns);
+                self.touch(WinId(win), y, columns.first, columns.last);
             }
         }
     }
@@ -141,19 +139,6 @@ impl Grids {
             Some(slot) => (slot.lines(), slot.columns()),
             None => unreachable!(),
         }
-    }
-
-    /// Touches columns of a line of a window.
-    fn touch_columns(&mut self, win: u16, y: u16, columns: Columns)
-        requires ordered { columns.first ≤ columns.last }
-        requires there { HasPlace (windows self.old).window win y columns.last }
-        ensures touched { windows self.new ≡ record (windows self.old) {
-          window = with_change (windows self.old).window win
-              (with_touched y columns.first columns.last);
-        } }
-        ensures depths { (u : ℕ) → depth_at self.new.slots u ≡ depth_at self.old.slots u }
-    {
-        touch_row(&mut self.slots, win, y, columns.first, columns.last);
     }
 }
 

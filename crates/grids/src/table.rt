@@ -1,19 +1,24 @@
 //! The windows and pads of a screen.
 
-ghost use Rattle.std.specs.Prelude.{◌≡◌, ◌<◌, ◌≤◌, None, IsSome, IsSomeAnd, MatchResult, IfOk, Some};
+ghost use Rattle.std.specs.Prelude.{◌≡◌, ℕ, ◌<◌, ◌≤◌, ◌-◌, None, IsSome, IsSomeAnd, MatchResult, IfOk, Some};
 ghost use Rattle.std.specs.Option.{option_map};
 ghost use Rattle.cell.specs.Refusals.{RefusedBy};
-ghost use Rattle.world.specs.Settings.{after_set_settings, set, with_cursor};
+ghost use Rattle.world.specs.Settings.{after_set_settings, set, set_in, with_cursor};
 ghost use Rattle.world.specs.Sound.{AreSoundWindows};
 ghost use Rattle.world.specs.Windows.{HasPlace};
 ghost use Rattle.world.specs.World.{first_world};
 ghost use Rattle.world.specs.calls.Making.{new_refusal};
 ghost use Rattle.grids.specs.Tables.{windows, WindowTable, IsWindowTable};
-ghost use Rattle.slots.specs.Slots.{slot_at};
+ghost use Rattle.grids.specs.Slots.{slot_at, depth_at, grid_place};
+ghost use Rattle.grids.specs.steps.Lines.{HasLine};
+ghost use Rattle.grids.specs.Kept.{Kept, window_of};
+ghost use Rattle.grids.specs.Changes.{ChangedBy, StaysInPlace, with_touched};
+ghost use Rattle.std.specs.Fn.{FnOnceReturnsAtMut, FnOnceTakesAtMut};
+ghost use Rattle.world.specs.Windows.{Window, with_change};
 
+use crate::list::change_slot;
+use crate::slot::{Origin, Slot};
 use cell::{LARGEST_SCREEN, Refusal, WinId, is_no_size};
-use slots::Slot;
-use slots::list::{set_slot, set_slot_cursor};
 use std::alloc::Global;
 use std::marker::Model;
 use world::Settings;
@@ -77,6 +82,68 @@ impl Grids {
         }
     }
 
+    /// Changes a window where it is. It stays in its place.
+    #[inline(always)]
+    pub(crate) fn change<R, F: FnOnce(&mut Slot) -> R>(&mut self, win: WinId, change: F) -> R
+        requires taken { IsSomeAnd (slot_at self.old.slots win.0) (FnOnceTakesAtMut F.FnOnce change) }
+        requires stays { (k : Kept) (r : R) (made : Kept) → FnOnceReturnsAtMut F.FnOnce change k r made → StaysInPlace k made × (made.place ≡ k.place) }
+        ensures changed { ChangedBy (FnOnceReturnsAtMut F.FnOnce change) self.old.slots self.new.slots win.0 result }
+        ensures windows { (f : Window → Window)
+            → ((k : Kept) (r : R) (made : Kept) → FnOnceReturnsAtMut F.FnOnce change k r made → window_of made ≡ f (window_of k))
+            → windows self.new ≡ record (windows self.old) { window = with_change (windows self.old).window win.0 f } }
+        ensures line { (y right : ℕ) → HasPlace (windows self.old).window win.0 y right
+            → IsSomeAnd (slot_at self.old.slots win.0) (λ k. HasLine self.old.slots self.new.slots win.0 y right (grid_place k.origin)) }
+        ensures depths { (u : ℕ) → depth_at self.new.slots u ≡ depth_at self.old.slots u }
+        ensures sound { AreSoundWindows (windows self.new) }
+    {
+        change_slot(&mut self.slots, win.0, change)
+    }
+
+    /// Touches columns of a line of a window, and answers where its first place is in a grid.
+    #[inline(always)]
+    pub(crate) fn touch(&mut self, win: WinId, y: u16, left: u16, right: u16) -> Origin
+        requires ordered { left ≤ right }
+        requires there { HasPlace (windows self.old).window win.0 y right }
+        ensures touched { windows self.new ≡ record (windows self.old) { window = with_change (windows self.old).window win.0 (with_touched y left right) } }
+        ensures line { HasLine self.old.slots self.new.slots win.0 y right (grid_place result) }
+        ensures depths { (u : ℕ) → depth_at self.new.slots u ≡ depth_at self.old.slots u }
+        ensures sound { AreSoundWindows (windows self.new) }
+    {
+        self.change(win, |slot| slot.touch(y, left, right))
+    }
+
+    /// Touches the columns of a line of a window from `left` up to `end`, where its cursor goes, and answers where its
+    /// first place is in a grid.
+    #[inline(always)]
+    pub(crate) fn touch_to(&mut self, win: WinId, y: u16, left: u16, end: u16) -> Origin
+        requires some { left < end }
+        requires there { HasPlace (windows self.old).window win.0 y end }
+        ensures touched { windows self.new ≡ record (windows self.old) {
+          window = with_change (windows self.old).window win.0 (λ a. set_in (with_cursor (y, end)) (with_touched y left (end - 1) a));
+        } }
+        ensures line { HasLine self.old.slots self.new.slots win.0 y (end - 1) (grid_place result) }
+        ensures sound { AreSoundWindows (windows self.new) }
+    {
+        self.change(win, |slot| {
+            slot.set_cursor(y, end);
+            slot.touch(y, left, end - 1)
+        })
+    }
+
+    /// The lines, the columns and the settings of a window.
+    ///
+    /// # Errors
+    /// `NoSuchWindow`.
+    pub fn state(&self, win: WinId) -> Result<(u16, u16, Settings), Refusal>
+        ensures state { MatchResult result
+            (λ s. IsSomeAnd ((windows self.now).window win.0) (λ a. (a.lines ≡ s.0) × (a.columns ≡ s.1) × (a.settings ≡ s.2)))
+            (λ e. ((windows self.now).window win.0 ≡ None) × (e ≡ Refusal.NoSuchWindow)) }
+        ensures sound { AreSoundWindows (windows self.now) }
+    {
+        let slot = self.slot(win)?;
+        Ok((slot.lines(), slot.columns(), slot.settings()))
+    }
+
     /// The settings of a window, which must exist.
     pub fn settings(&self, win: WinId) -> Settings
         requires { IsSome ((windows self.now).window win.0) }
@@ -98,7 +165,7 @@ impl Grids {
         ensures set { windows self.new ≡ after_set_settings (windows self.old) win.0 settings }
         ensures sound { AreSoundWindows (windows self.new) }
     {
-        set_slot(&mut self.slots, win.0, settings);
+        self.change(win, |slot| slot.set_settings(settings));
     }
     /// Moves the cursor of a window, which must hold the place.
     pub fn set_cursor(&mut self, win: WinId, y: u16, x: u16)
@@ -106,6 +173,6 @@ impl Grids {
         ensures set { windows self.new ≡ set (windows self.old) win.0 (with_cursor (y, x)) }
         ensures sound { AreSoundWindows (windows self.new) }
     {
-        set_slot_cursor(&mut self.slots, win.0, y, x);
+        self.change(win, |slot| slot.set_cursor(y, x));
     }
 }

@@ -1,5 +1,5 @@
 -- A window keeps its size and its settings where something is written; and other settings are one change of it.
-use Rattle.std.proofs.Common.{◌≡◌, ℕ, ◌<◌, Option, Some, None, IsSome, arith, refl, ◌∙◌}
+use Rattle.std.proofs.Common.{◌≡◌, ℕ, ◌<◌, Option, Some, None, IsSome, IsSomeAnd, arith, refl, ◌∙◌}
 use Rattle.std.specs.Option.{option_map}
 use Rattle.std.proofs.lemmas.Bool.{eqb-true}
 use Rattle.std.proofs.lemmas.Nat.{and_le_l, and_mask, or_lt}
@@ -8,15 +8,14 @@ use Rattle.std.specs.Int.RustNames.{bit_or}
 use Rattle.world.specs.Windows.{Window, WindowMap, Windows, GridPlace, Drawing, own, after_drawing, put_windows, put, HasPlace}
 use Rattle.world.specs.Settings.{after_set_settings, set}
 use Rattle.world.specs.Sound.{AreSoundWindows}
-use Rattle.world.specs.calls.Queries.{window_size}
 use Rattle.world.specs.declared.settings.Settings.{Settings}
 use Rattle.windows.specs.steps.State.{IsStateOf}
 use Rattle.windows.specs.declared.state.WindowState.{WindowState}
 
 -- a window of a sound world has the state that its size and its settings make
-pub state-from : (windows : Windows) (w lines columns : ℕ) (settings : Settings) → AreSoundWindows windows → window_size windows.window w ≡ Some (lines, columns)
-    → option_map (λ (a : Window). a.settings) (windows.window w) ≡ Some settings → IsStateOf windows w (record { lines = lines; columns = columns; settings = settings })
-state-from windows w lines columns settings sound size_is settings_are = grind arith
+pub state-from : (windows : Windows) (w lines columns : ℕ) (settings : Settings) → AreSoundWindows windows
+    → IsSomeAnd (windows.window w) (λ a. (a.lines ≡ lines) × (a.columns ≡ columns) × (a.settings ≡ settings)) → IsStateOf windows w (record { lines = lines; columns = columns; settings = settings })
+state-from windows w lines columns settings sound there = grind arith
 
 -- ---- after a write
 
@@ -32,7 +31,7 @@ pub window-put : (window : WindowMap) (w : ℕ) (a : Window) (p : GridPlace) (f 
 window-put window w a p f there leads = grind arith
 
 pub state-put : (windows : Windows) (w : ℕ) (s : WindowState) (f : Drawing) → IsStateOf windows w s → AreSoundWindows (put windows w f) → IsStateOf (put windows w f) w s
-state-put windows w s f h sound = let spot = spot-of windows w s h in state-from (put windows w f) w s.lines s.columns s.settings sound (grind (arith, window-put)) (grind (arith, window-put))
+state-put windows w s f h sound = let spot = spot-of windows w s h in state-from (put windows w f) w s.lines s.columns s.settings sound (grind (arith, window-put))
 
 pub state-written : (windows new : Windows) (w : ℕ) (s : WindowState) (f : Drawing) → IsStateOf windows w s → new ≡ put windows w f → AreSoundWindows new → IsStateOf new w s
 state-written windows new w s f h is sound = grind (arith, state-put)

@@ -6,6 +6,7 @@ use Rattle.cell.specs.Attributes.{bits_of, valid_attributes}
 use Rattle.cell.specs.Glyphs.{Glyph}
 use Rattle.cell.specs.Pictures.{Place}
 use Rattle.world.specs.Windows.{Windows, put}
+use Rattle.world.specs.Rows.{filled_cells}
 use Rattle.world.specs.Settings.{set, with_cursor}
 use Rattle.world.specs.Drawings.{written_glyph, at_place, to_end_of_line, lines_up}
 use Rattle.world.specs.Frames.{frame_of, frame_of_two}
@@ -16,7 +17,7 @@ use Rattle.windows.specs.steps.State.{IsStateOf, window_in_state}
 use Rattle.windows.specs.declared.state.WindowState.{WindowState}
 use Rattle.world.proofs.EditLaws.{frame-if-there}
 use Rattle.world.proofs.FrameLaws.{frame-over, frame_of-none}
-use Rattle.windows.proofs.AtPlace.{frame-at_place}
+use Rattle.windows.proofs.AtPlace.{frame-at_place, one_cell}
 use Rattle.windows.proofs.ToEndOfLine.{frame-to_end_of_line}
 use Rattle.windows.proofs.LinesUp.{frame-lines_up}
 use Rattle.windows.proofs.Calls.{call-is, frame-is}
@@ -42,9 +43,16 @@ module _ (windows : Windows) (w : ℕ) (s : WindowState) (h : IsStateOf windows 
   -- ---- a printed character
 
   module _ (character : ℕ) where
-    pub printed_inside : (now new : Windows) → s.settings.cursor.1 + 1 < s.columns → now ≡ put windows w (at_place s.settings.cursor (written_glyph s.settings character))
+    printed-then : (now new : Windows) → s.settings.cursor.1 + 1 < s.columns → now ≡ put windows w (at_place s.settings.cursor (written_glyph s.settings character))
         → new ≡ set now w (with_cursor (s.settings.cursor.0, s.settings.cursor.1 + 1)) → new ≡ character_printed windows w character (window_in_state s)
-    printed_inside now new inside drawn moved = grind (arith, nat_tests)
+    printed-then now new inside drawn moved = grind (arith, nat_tests)
+
+    pub printed_inside : (new : Windows) → s.settings.cursor.1 + 1 < s.columns
+        → new ≡ set (put windows w (filled_cells s.settings.cursor.0 s.settings.cursor.1 s.settings.cursor.1 (written_glyph s.settings character)))
+        w (with_cursor (s.settings.cursor.0, s.settings.cursor.1 + 1))
+        → new ≡ character_printed windows w character (window_in_state s)
+    printed_inside new inside typed =
+        printed-then _ new inside (one_cell windows w s h _ s.settings.cursor.0 s.settings.cursor.1 (written_glyph s.settings character) refl) typed
 
     pub printed_at_end : (now new : Windows) → s.columns ≤ s.settings.cursor.1 + 1 → now ≡ put windows w (at_place s.settings.cursor (written_glyph s.settings character))
         → new ≡ to_next_line now w (window_in_state s) s.settings.cursor → new ≡ character_printed windows w character (window_in_state s)

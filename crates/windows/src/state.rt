@@ -28,11 +28,11 @@ pub fn state_of(table: &Grids, win: WinId) -> Result<WindowState, Refusal>
         (λ refusal. ((windows table.now).window win.0 ≡ None) × (refusal ≡ Refusal.NoSuchWindow)) }
     ensures sound { AreSoundWindows (windows table.now) }
 {
-    let (lines, columns) = table.getmaxyx(win)?;
+    let (lines, columns, settings) = table.state(win)?;
     Ok(WindowState {
         lines,
         columns,
-        settings: table.settings(win),
+        settings,
     })
 }
 

@@ -5,7 +5,7 @@ use Rattle.cell.specs.Pictures.{Place}
 use Rattle.cell.specs.declared.limits.TheConstants.{LARGEST_PAD}
 use Rattle.world.specs.Windows.{Backing, own_grid, part_of, Window, WindowMap}
 use Rattle.world.specs.calls.Refresh.{among}
-use Rattle.slots.specs.declared.slot.Part.{Part}
+use Rattle.grids.specs.declared.slot.Part.{Part}
 
 -- the line is the window's, and the column is touched there
 abbrev pub is_touched_at : Window → ℕ → ℕ → Bool

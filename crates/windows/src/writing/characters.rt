@@ -200,7 +200,6 @@ fn print_run(table: &mut Grids, win: WinId, state: &WindowState, run: &[u8]) -> 
     let (y, x) = state.settings.cursor;
     let end = x + run.len() as u16;
     table.print(win, y, x, run, written_cell(&state.settings, b' '));
-    move_cursor(table, win, state, y, end);
     Rect {
         top: y,
         left: x,
@@ -247,8 +246,7 @@ fn print_inside(table: &mut Grids, win: WinId, state: &WindowState, ch: u8) -> R
     ensures { CharacterPrinted (windows table.old) win.0 state.now ch (windows table.new) (Some result) }
 {
     let (y, x) = state.settings.cursor;
-    set_cell(table, win, state, y, x, written_cell(&state.settings, ch));
-    move_cursor(table, win, state, y, x + 1);
+    table.type_cell(win, y, x, written_cell(&state.settings, ch));
     place(y, x)
 }
 

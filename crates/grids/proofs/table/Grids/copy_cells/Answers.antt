@@ -1,11 +1,12 @@
 -- The row that was read is one write in the other window, which touches the columns written.
-use Rattle.std.proofs.Common.{◌+◌, ◌-◌, arith, refl}
+use Rattle.std.proofs.Common.{ap, ◌∙◌, ◌+◌, ◌-◌, arith, refl, rules}
 use Rattle.grids.specs.contracts.table.Grids.{the_view}
 use Rattle.grids.specs.Tables.{windows}
-use Rattle.grids.proofs.Changes.{IsWindowTable-twice}
+use Rattle.world.specs.Rows.{listed_cells}
+use Rattle.grids.specs.Changes.{with_drawing}
 use Rattle.grids.proofs.Showing.{piece-read, column_below}
 use Rattle.std.proofs.lemmas.Grind.{common_steps}
-use Rattle.grids.proofs.Writes.{windows-copied}
+use Rattle.grids.proofs.Writes.{drawn_over, put-copied}
 use Rattle.grids.proofs.CopyFrames.{whole-frame}
 use Rattle.grids.proofs.table.Grids.copy_cells.Goals as goal
 
@@ -21,8 +22,8 @@ copy_from_slice-requires c =
       column_below t.slots a.from.win.0 a.from.line (a.from.column + a.n - 1),
     )
 
-pub put_row-requires-clause-columns_in : goal.put_row-requires-clause-columns_in
-put_row-requires-clause-columns_in c =
+pub change-requires-clause-taken : goal.change-requires-clause-taken
+change-requires-clause-taken c =
     let a = c.args in
     let t = the_view c.self.inside in
     let o = c.origin_of-source in
@@ -30,26 +31,21 @@ put_row-requires-clause-columns_in c =
       arith,
       common_steps,
       piece-read t.slots a.from.win.0 a.from.line a.from.column a.n (record { grid = o.result.grid; line = o.result.line; column = o.result.column }) c.row_in.result.now,
-      column_below t.slots a.to.win.0 a.to.line (a.to.column + a.n - 1),
     )
-
-pub invariant_of-self : goal.invariant_of-self
-invariant_of-self c = IsWindowTable-twice c.self.invariant c.put_row.ensures c.touch_row.ensures (λ a. refl) (λ a. refl)
 
 pub returns : goal.returns
 returns c =
     let a = c.args in
     let t = the_view c.self.inside in
     let o = c.origin_of-source in
-    let d = c.origin_of-target in
+    let d = c.touch-target in
     let held = piece-read t.slots a.from.win.0 a.from.line a.from.column a.n (record { grid = o.result.grid; line = o.result.line; column = o.result.column }) c.row_in.result.now
     (rw c.deref.ensures.value at o.ensures.leads) (grind (arith, common_steps)) in
+    let drawing = listed_cells (d.result.line + a.to.line) (d.result.column + a.to.column) c.row_in.result.now in
+    let drawn = c.change.ensures.windows (with_drawing drawing) (λ k r made h. search rules) in
     record {
-      written = grind (
-        arith,
-        common_steps,
-        windows-copied t c.put_row.new.slots.items c.touch_row.new.slots.items a.from.win.0 a.to.win.0
-            (record { grid = d.result.grid; line = d.result.line; column = d.result.column }) a.from.line a.from.column a.to.line a.to.column a.n c.row_in.result.now,
-      );
+      written = drawn ∙ ap (drawn_over d.result.grid drawing) d.ensures.touched
+          ∙ put-copied (windows a.self.now) a.from.win.0 a.to.win.0 _ a.from.line a.from.column a.to.line a.to.column a.n c.row_in.result.now
+          (grind (arith, common_steps)) c.requires.some d.ensures.line.leads held.all (λ k below. rw (← c.self.view_is) (held.each k below));
       frame = grind (arith, common_steps, whole-frame (windows a.self.now) a.from.win.0 a.to.win.0 a.from.line a.from.column a.to.line a.to.column a.n);
     }

@@ -2,7 +2,7 @@
 use Rattle.std.proofs.Common.{◌≡◌, false, rules, sym, ◌∙◌}
 use Rattle.world.specs.calls.Making.{has_derived}
 use Rattle.grids.specs.contracts.table.Grids.{the_view}
-use Rattle.slots.specs.Slots.{window_map}
+use Rattle.grids.specs.Slots.{window_map}
 use Rattle.grids.proofs.Deletion.{IsWindowTable-without}
 use Rattle.grids.proofs.table.Grids.delwin.Goals as goal
 

@@ -8,12 +8,12 @@ use Rattle.world.specs.Effects.{under_number}
 use Rattle.world.specs.World.{new_window}
 use Rattle.world.specs.Panels.{standard_screen}
 use Rattle.grids.specs.contracts.table.Grids.{the_view}
-use Rattle.slots.specs.Kept.{window_of}
-use Rattle.slots.specs.Slots.{slot_at, window_map}
+use Rattle.grids.specs.Kept.{window_of}
+use Rattle.grids.specs.Slots.{slot_at, window_map}
 use Rattle.grids.specs.Tables.{windows}
-use Rattle.slots.proofs.Chain.{depth_below}
+use Rattle.grids.proofs.Chain.{depth_below}
 use Rattle.grids.proofs.NewWindows.{IsWindowTable-added, windows-added, derived_in, placed_derived, made_derived}
-use Rattle.slots.proofs.Origins.{origin-derived}
+use Rattle.grids.proofs.Origins.{origin-derived}
 use Rattle.grids.proofs.Sounds.{sound}
 use Rattle.grids.proofs.table.Grids.derive.Goals as goal
 

@@ -1,23 +1,14 @@
 -- The filled line is one write, which touches the columns written.
-use Rattle.std.proofs.Common.{refl}
-use Rattle.grids.specs.contracts.table.Grids.{the_view}
-use Rattle.grids.proofs.Changes.{IsWindowTable-twice}
-use Rattle.grids.proofs.Writes.{windows-put_row}
-use Rattle.grids.proofs.Sounds.{sound}
+use Rattle.std.proofs.Common.{ap, ◌∙◌, ◌+◌, rules}
+use Rattle.world.specs.Rows.{filled_cells}
+use Rattle.grids.specs.Changes.{with_drawing}
+use Rattle.grids.proofs.Writes.{drawn_over, put-row}
 use Rattle.grids.proofs.table.Grids.fill.Goals as goal
-
-pub invariant_of-self : goal.invariant_of-self
-invariant_of-self c = IsWindowTable-twice c.self.invariant c.fill_row.ensures c.touch_row.ensures (λ a. refl) (λ a. refl)
 
 pub returns-clause-written : goal.returns-clause-written
 returns-clause-written c =
     let a = c.args in
-    let o = c.origin_of-origin in
-    let t = the_view c.self.inside in
-    let there = rw (← c.self.view_is) at c.requires.there in
-    let leads = rw c.deref.ensures.value at o.ensures.leads in
-    rw (← c.self.view_is) (windows-put_row t c.fill_row.new.slots.items c.touch_row.new.slots.items a.win.0 _ a.y a.left a.right a.cell
-    there c.requires.ordered leads c.fill_row.ensures c.touch_row.ensures)
-
-pub returns-clause-sound : goal.returns-clause-sound
-returns-clause-sound c = sound _ (invariant_of-self c)
+    let o = c.touch-origin in
+    let drawing = filled_cells (o.result.line + a.y) (o.result.column + a.left) (o.result.column + a.right) a.cell in
+    let drawn = c.change.ensures.windows (with_drawing drawing) (λ k r made h. search rules) in
+    drawn ∙ ap (drawn_over o.result.grid drawing) o.ensures.touched ∙ put-row _ a.win.0 _ a.y a.left a.right a.cell c.requires.there c.requires.ordered o.ensures.line.leads

@@ -2,20 +2,21 @@
 use Rattle.std.proofs.Common.{arith, rules, refl}
 use Rattle.std.proofs.lemmas.Grind.{common_steps}
 use Rattle.std.proofs.lemmas.Bool.Decides.{nat_tests}
-use Rattle.grids.proofs.Changes.{IsWindowTable-moved, windows-changed}
+use Rattle.world.specs.Effects.{with_place}
+use Rattle.grids.proofs.Changes.{IsWindowTable-moved, changed_by, windows-changed}
 use Rattle.grids.proofs.Sounds.{sound}
 use Rattle.grids.proofs.table.Grids.mvwin.Goals as goal
 
 pub invariant_of-self : goal.invariant_of-self
 invariant_of-self c =
-    IsWindowTable-moved c.self.invariant c.place_slot.ensures
+    IsWindowTable-moved c.self.invariant (changed_by {change = with_place c.args.y c.args.x} c.change_slot.ensures (search rules) (search rules))
     (grind (arith, common_steps, nat_tests), grind (arith, common_steps, nat_tests)) (λ e. grind (arith, common_steps, nat_tests))
 
 pub returns : goal.returns
 returns c = record {
   refused = search rules;
   reply = refl;
-  changed = rw (← c.self.view_is) (windows-changed c.self.invariant c.place_slot.ensures);
+  changed = rw (← c.self.view_is) (windows-changed c.self.invariant (changed_by c.change_slot.ensures (search rules) (search rules)));
   unchanged = tt;
   sound = sound _ (invariant_of-self c);
 }

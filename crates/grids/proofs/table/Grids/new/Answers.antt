@@ -1,6 +1,6 @@
 -- A table of the standard screen alone is sound.
 use Rattle.std.proofs.Common.{rules, ◌≡◌, Some, [], ◌∷◌}
-use Rattle.slots.proofs.Origins.{origins-first}
+use Rattle.grids.proofs.Origins.{origins-first}
 use Rattle.grids.proofs.table.Grids.new.Goals as goal
 
 pub invariant_of-grids : goal.invariant_of-grids

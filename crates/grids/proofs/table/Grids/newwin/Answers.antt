@@ -8,7 +8,7 @@ use Rattle.world.specs.Panels.{standard_screen}
 use Rattle.grids.specs.Tables.{windows}
 use Rattle.grids.specs.contracts.table.Grids.{the_view}
 use Rattle.grids.proofs.NewWindows.{IsWindowTable-added, windows-added, alone_in, placed_new}
-use Rattle.slots.proofs.Origins.{origin-alone}
+use Rattle.grids.proofs.Origins.{origin-alone}
 use Rattle.grids.proofs.Sounds.{sound}
 use Rattle.grids.proofs.table.Grids.newwin.Goals as goal
 

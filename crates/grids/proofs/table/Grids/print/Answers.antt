@@ -1,34 +1,33 @@
--- `print`: what a change of one slot does to the table and to the windows (`Changes`); a row written through a window is one put
--- (`Writes`).
-use Rattle.std.proofs.Common.{◌≡◌, ◌+◌, ◌-◌, ◌<◌, length, map, refl, sym, subst}
+-- `print`: a row written through a window is one put (`Writes`).
+use Rattle.std.proofs.Common.{ap, ◌≡◌, ◌∙◌, ◌+◌, ◌-◌, arith, length, map, rules}
+use Rattle.std.proofs.lemmas.Grind.{common_steps}
 use Rattle.std.proofs.lemmas.List.{length-map}
-use Rattle.world.specs.Windows.{HasPlace}
-use Rattle.slots.specs.Changes.{Changed, with_touched}
-use Rattle.slots.specs.Slots.{window_map}
-use Rattle.slots.specs.Inks.{printed_cell}
-use Rattle.grids.specs.contracts.table.Grids.{the_view}
-use Rattle.grids.proofs.Changes.{IsWindowTable-twice}
-use Rattle.grids.proofs.Writes.{windows-listed}
-use Rattle.grids.proofs.Sounds.{sound}
+use Rattle.world.specs.Rows.{listed_cells}
+use Rattle.world.specs.Settings.{with_cursor}
+use Rattle.grids.specs.Changes.{with_drawing}
+use Rattle.grids.specs.Inks.{printed_cell}
+use Rattle.grids.proofs.Sounds.{few_columns}
+use Rattle.grids.proofs.Writes.{drawn_over, put-listed, put-typed}
 use Rattle.grids.proofs.table.Grids.print.Goals as goal
 
-pub invariant_of-self : goal.invariant_of-self
-invariant_of-self c = IsWindowTable-twice c.self.invariant c.print_row.ensures c.touch_row.ensures (λ a. refl) (λ a. refl)
+pub overflow_cast-text : goal.overflow_cast-text
+overflow_cast-text c =
+    let few = few_columns _ c.args.win.0 c.args.y (c.args.left + length c.args.text.now) c.has_window.ensures.sound c.requires.there in
+    grind (arith, common_steps)
+
+pub overflow_add-left : goal.overflow_add-left
+overflow_add-left c =
+    let few = few_columns _ c.args.win.0 c.args.y (c.args.left + length c.args.text.now) c.has_window.ensures.sound c.requires.there in
+    grind (arith, common_steps)
 
 pub returns-clause-written : goal.returns-clause-written
 returns-clause-written c =
     let a = c.args in
-    let o = c.origin_of-origin in
-    let t = the_view c.self.inside in
+    let o = c.touch_to-origin in
+    let n = length a.text.now in
     let cells = map (printed_cell a.pen) a.text.now in
-    let all : length a.text.now ≡ length cells = sym (length-map a.text.now (printed_cell a.pen)) in
-    let there = rw (← c.self.view_is) at c.requires.there in
-    let leads = rw c.deref.ensures.value at o.ensures.leads in
-    rw (← c.self.view_is)
-    (windows-listed t c.print_row.new.slots.items c.touch_row.new.slots.items a.win.0 _ a.y a.left cells
-    (subst (λ n. HasPlace (window_map t.slots) a.win.0 a.y (a.left + n - 1)) all there)
-    (subst (λ n. 0 < n) all c.requires.some) leads c.print_row.ensures
-    (subst (λ n. Changed c.print_row.new.slots.items c.touch_row.new.slots.items a.win.0 (with_touched a.y a.left (a.left + n - 1))) all c.touch_row.ensures))
-
-pub returns-clause-sound : goal.returns-clause-sound
-returns-clause-sound c = sound _ (invariant_of-self c)
+    let drawing = listed_cells (o.result.line + a.y) (o.result.column + a.left) cells in
+    let drawn = c.change.ensures.windows (with_drawing drawing) (λ k r made h. search rules) in
+    drawn ∙ ap (drawn_over o.result.grid drawing) o.ensures.touched
+    ∙ put-typed _ _ a.win.0 _ a.y a.left (a.left + n - 1) (with_cursor (a.y, a.left + n)) drawing
+    (put-listed _ a.win.0 _ a.y a.left n cells (length-map a.text.now (printed_cell a.pen)) (grind (arith, common_steps)) c.requires.some o.ensures.line.leads)

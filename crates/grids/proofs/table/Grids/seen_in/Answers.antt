@@ -7,7 +7,7 @@ use Rattle.grids.specs.Tables.{windows}
 use Rattle.grids.proofs.Sounds.{each_sound}
 use Rattle.grids.proofs.Showing.{leads_shown}
 use Rattle.grids.proofs.Seen.{seen-above, seen-apart, seen-beside, seen-itself, seen-there}
-use Rattle.slots.proofs.Chain.{some_and, some_of}
+use Rattle.grids.proofs.Chain.{some_and, some_of}
 use Rattle.grids.proofs.table.Grids.seen_in.Goals as goal
 
 pub returns-then-eq-clause-seen : goal.returns-then-eq-clause-seen

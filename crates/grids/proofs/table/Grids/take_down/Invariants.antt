@@ -1,6 +1,6 @@
 use Rattle.std.proofs.Common.{◌≤◌}
 use Rattle.grids.specs.Tables.{windows}
-use Rattle.slots.specs.Slots.{depth_at}
+use Rattle.grids.specs.Slots.{depth_at}
 use Rattle.grids.proofs.Syncs.{IsTakenFrom}
 use Rattle.grids.proofs.table.Grids.take_down.Given as goal
 

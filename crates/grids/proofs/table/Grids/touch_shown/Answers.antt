@@ -4,11 +4,11 @@ use Rattle.std.specs.Option.{option_map_or}
 use Rattle.world.specs.Windows.{Window}
 use Rattle.grids.specs.declared.table.Grids.{Grids}
 use Rattle.grids.specs.Tables.{windows}
-use Rattle.slots.specs.Slots.{depth_at}
+use Rattle.grids.specs.Slots.{depth_at}
 use Rattle.grids.specs.steps.Syncs.{shows_touched, touched_shown}
 use Rattle.std.proofs.lemmas.Grind.{common_steps}
 use Rattle.grids.proofs.Touches.{none-before, all-before, at-line, next-none, next-some}
-use Rattle.slots.proofs.Chain.{some_and}
+use Rattle.grids.proofs.Chain.{some_and}
 use Rattle.grids.proofs.table.Grids.touch_shown.Goals as goal
 use Rattle.grids.proofs.table.Grids.touch_shown.Goals.{in-Some, in_default}
 
@@ -23,8 +23,8 @@ shown_columns-requires c =
     let l = at-line _ _ _ _ _ _ _ _ c.requires.other c.requires.window c.size-lines.ensures c.loop-y-test.true c.loop-y.invariant.touched in
     grind (arith, common_steps)
 
-pub touch_columns-requires-clause-there : goal.touch_columns-requires-clause-there
-touch_columns-requires-clause-there c =
+pub touch-requires-clause-there : goal.touch-requires-clause-there
+touch-requires-clause-there c =
     let l = at-line _ _ _ _ _ _ _ _ c.requires.other c.requires.window c.size-lines.ensures c.loop-y-test.true c.loop-y.invariant.touched in
     grind (arith, common_steps)
 
@@ -45,8 +45,8 @@ loop-y-preserved c =
           record {
             touched = ap (λ (g : Grids). windows g) v.self-is
                 ∙ next-some w a.win test l.window l.there c.loop-y.y r.first r.last l.below within.0 within.1 (λ x on. same x ∙ shown x on) cur
-                (windows v.touch_columns.new.self) c.loop-y.invariant.touched v.touch_columns.ensures.touched;
-            depths = λ u. ap (λ (g : Grids). depth_at g.slots u) v.self-is ∙ v.touch_columns.ensures.depths u ∙ c.loop-y.invariant.depths u;
+                (windows v.touch.new.self) c.loop-y.invariant.touched v.touch.ensures.touched;
+            depths = λ u. ap (λ (g : Grids). depth_at g.slots u) v.self-is ∙ v.touch.ensures.depths u ∙ c.loop-y.invariant.depths u;
           }
       | in_default v ↦
           let shown = rw l.here at v.in_default.ensures.shown in

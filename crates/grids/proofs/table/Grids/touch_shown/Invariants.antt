@@ -1,6 +1,6 @@
 use Rattle.std.proofs.Common.{◌≡◌, ℕ}
 use Rattle.grids.specs.Tables.{windows}
-use Rattle.slots.specs.Slots.{depth_at}
+use Rattle.grids.specs.Slots.{depth_at}
 use Rattle.grids.specs.steps.Syncs.{touched_shown}
 use Rattle.grids.proofs.Touches.{touched_before}
 use Rattle.grids.proofs.table.Grids.touch_shown.Given as goal

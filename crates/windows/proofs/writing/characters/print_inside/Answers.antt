@@ -5,7 +5,7 @@ use Rattle.windows.proofs.writing.characters.print_inside.Goals as goal
 
 pub returns : goal.returns
 returns c = record {
-  written = printed_inside _ _ _ c.requires.state c.args.ch _ _ c.requires.inside (rw c.written_cell.ensures at c.set_cell.ensures.written) c.move_cursor.ensures.set;
+  written = printed_inside _ _ _ c.requires.state c.args.ch _ c.requires.inside (rw c.written_cell.ensures at c.type_cell.ensures.written);
   frame = search (rules, printed_inside_frame);
-  sound = c.move_cursor.ensures.sound;
+  sound = c.type_cell.ensures.sound;
 }

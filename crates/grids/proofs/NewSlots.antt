@@ -1,0 +1,77 @@
+-- The cells of a slot, and the lines of a grid.
+use Rattle.std.proofs.Common.{◌≡◌, ℕ, ◌+◌, ◌<◌, ◌≤◌, [], length, take, drop, replicate, get_or, map, Option, None, arith, zero-add, lit≤, lit<}
+use Rattle.std.proofs.lemmas.Bool.{cases_lt}
+use Rattle.std.specs.List.{AllByRecursion, range_with_len}
+use Rattle.std.proofs.lemmas.List.Elements.{All-from_recursion, recursion_from_All, All-get_or, All-take, All-drop}
+use Rattle.std.proofs.lemmas.List.{ext_get_or, get_or-take, get_or-drop, get_or-replicate, get_or_past, length-replicate, length-take-le, length-drop}
+use Rattle.std.proofs.lemmas.List.FromFn.{length-map-range_with_len, get_or-map-range_with_len}
+use mathlib.Core.Path.{fun_ext}
+use Rattle.cell.specs.Glyphs.{blank, IsCell}
+use Rattle.cell.specs.Pictures.{Sheet, Place, AreCells, HasSize, line_of, glyph_at, blank_sheet}
+use Rattle.cell.specs.declared.limits.TheConstants.{LARGEST_PAD}
+use Rattle.world.specs.Windows.{own_grid}
+use Rattle.world.specs.World.{first_settings, blank_grid, new_window}
+use Rattle.cell.proofs.PictureLemmas.{IsCell-blank, HasSize-all_of, EachCell-all_of}
+use Rattle.grids.specs.declared.slot.Cells.{Cells}
+use Rattle.grids.specs.declared.slot.Cells.TheVariants.{Own}
+use Rattle.grids.specs.declared.slot.Origin.{Origin}
+use Rattle.grids.specs.Kept.{Kept, IsKept, IsGridOf, window_of}
+use Rattle.grids.specs.Changes.{StaysInPlace}
+use Rattle.world.specs.declared.settings.Columns.{Columns}
+
+-- a piece of a line
+pub piece-of_line : (sheet : Sheet) (line left len : ℕ) → left + len ≤ length (line_of sheet line)
+    → take len (drop left (line_of sheet line)) ≡ map (λ x. glyph_at sheet (line, left + x)) (range_with_len 0 len)
+piece-of_line sheet line left len fits =
+    ext_get_or blank _ _ (grind (arith, length-take-le, length-drop, length-map-range_with_len))
+    (λ x below. grind (arith, length-take-le, length-drop, get_or-take, get_or-drop, get_or-map-range_with_len, zero-add))
+
+pub cells-of_line : (sheet : Sheet) (line left len : ℕ) → AreCells sheet → line < length sheet → AllByRecursion IsCell (take len (drop left (line_of sheet line)))
+cells-of_line sheet line left len cells below =
+    let row = All-get_or (AllByRecursion IsCell) sheet line [] below (All-from_recursion (AllByRecursion IsCell) sheet cells) in
+    recursion_from_All IsCell _ (All-take IsCell len _ (All-drop IsCell left _ (All-from_recursion IsCell (line_of sheet line) row)))
+
+-- a blank grid
+
+pub grid-blank : (lines columns : ℕ) → own_grid (λ y x. glyph_at (blank_sheet lines columns) (y, x)) ≡ blank_grid
+grid-blank lines columns = grind (arith, cases_lt, get_or-replicate, replicate, get_or_past, length-replicate)
+
+-- no line is touched
+pub touched-none : (n y : ℕ) → get_or (replicate n (let o : Option Columns = None in o)) y None ≡ None
+touched-none n y = grind (arith, cases_lt, get_or-replicate, get_or_past, replicate, length-replicate)
+
+-- a new window with a grid
+
+pub IsKept-new : (lines columns depth : ℕ) (place : Option Place) (origin : Origin) (cells : Cells) → 0 < lines → 0 < columns → lines ≤ LARGEST_PAD → columns ≤ LARGEST_PAD
+    → IsGridOf lines columns cells
+    → IsKept (record { lines = lines; columns = columns; place = place; settings = first_settings lines; touched = replicate lines None; depth = depth; origin = origin; cells = cells })
+IsKept-new lines columns depth place origin cells has_line has_column few_lines few_columns grid = grind (arith, length-replicate, replicate, touched-none, lit<, lit≤)
+
+pub IsGridOf-blank : (lines columns : ℕ) → IsGridOf lines columns (Own (blank_sheet lines columns))
+IsGridOf-blank lines columns = (HasSize-all_of blank lines columns, EachCell-all_of IsCell blank lines columns IsCell-blank)
+
+pub window-blank : (lines columns depth : ℕ) (place : Option Place) (origin : Origin)
+    → window_of (record {
+      lines = lines;
+      columns = columns;
+      place = place;
+      settings = first_settings lines;
+      touched = replicate lines None;
+      depth = depth;
+      origin = origin;
+      cells = Own
+          (blank_sheet lines columns);
+    })
+    ≡ new_window lines columns place blank_grid
+window-blank lines columns depth place origin =
+    let none : (λ y. get_or (replicate lines (let o : Option Columns = None in o)) y None) ≡ (λ y. None) = fun_ext (λ y. touched-none lines y) in
+    λ i. record (new_window lines columns place blank_grid) { touched = none i; backing = grid-blank lines columns i }
+
+-- a slot stays where it is, with another grid of its own or as it was
+
+pub StaysInPlace-grid : (k : Kept) (sheet new : Sheet) → IsKept k → k.cells ≡ Own sheet → (HasSize k.lines k.columns sheet → HasSize k.lines k.columns new) → (AreCells sheet → AreCells new)
+    → StaysInPlace k (record k { cells = Own new })
+StaysInPlace-grid k sheet new s is size cells = grind arith
+
+pub StaysInPlace-same : (k : Kept) → IsKept k → StaysInPlace k k
+StaysInPlace-same k s = grind arith

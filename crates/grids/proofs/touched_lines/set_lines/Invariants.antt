@@ -1,0 +1,10 @@
+use Rattle.std.proofs.Common.{◌≡◌, ℕ, ◌&&◌, nat_le, nat_lt, if◌then◌else◌, None, length}
+use Rattle.std.specs.Prelude.{slice_index_or}
+use Rattle.grids.proofs.touched_lines.set_lines.Given as goal
+
+-- the lines before y are set
+abbrev pub invariant-loop-y : goal.invariant-loop-y
+invariant-loop-y l = record {
+  all : length l.touched.items ≡ length l.fn.touched.items;
+  each : (z : ℕ) → slice_index_or l.touched.items z None ≡ (if nat_le l.start z && nat_lt z l.y then l.columns else slice_index_or l.fn.touched.items z None);
+}

@@ -1,0 +1,90 @@
+-- What changes where one slot changes.
+use Rattle.std.specs.Prelude.{◌≡◌, ◌≢◌, ℕ, ◌+◌, ◌<◌, ◌≤◌, List, length, Option, Some, None, is_some, max, slice_set, if◌then◌else◌, ◌==◌}
+use Rattle.cell.specs.declared.limits.TheConstants.{MOST_WINDOWS}
+use Rattle.world.specs.Windows.{joined_columns, Window, Drawing, laid_over}
+use Rattle.world.specs.Effects.{with_part}
+use Rattle.grids.specs.declared.slot.Cells.{Cells}
+use Rattle.grids.specs.declared.slot.Cells.TheVariants.{Own, Shared}
+use Rattle.grids.specs.Kept.{Kept, IsKept, window_of}
+use Rattle.grids.specs.Slots.{slot_at, window_map, AreOrigins, IsChained, part_in}
+
+-- what a derived window sees of its parent is the same
+pub record SameShape (old new : Kept) : Type 0 where
+  pub lines : new.lines ≡ old.lines
+  pub columns : new.columns ≡ old.columns
+  pub place : is_some new.place ≡ is_some old.place
+  pub depth : new.depth ≡ old.depth
+
+-- the window is the same part of its parent, and leads to the same place
+pub record SamePart (old new : Kept) : Type 0 where
+  pub part : part_in new.cells ≡ part_in old.cells
+  pub origin : new.origin ≡ old.origin
+
+-- the slot keeps its shape, is the same part of its parent, and leads to the same place
+pub record StaysInPlace (old new : Kept) : Type 0 where
+  pub shape : SameShape old new
+  pub part : SamePart old new
+  pub kept : IsKept new
+
+-- one slot's window was changed, and nothing else
+pub record Changed (old new : List (Option Kept)) (at : ℕ) (change : Window → Window) : Type 0 where
+  pub before : Kept
+  pub after : Kept
+  pub was : slot_at old at ≡ Some before
+  pub set : new ≡ slice_set old at (Some after)
+  pub window : window_of after ≡ change (window_of before)
+  pub stays : StaysInPlace before after
+
+-- one slot was changed, from what it was to what it is by a relation, in which an answer takes part
+pub record ChangedBy {R : Type 0} (relation : Kept → R → Kept → Type 0) (old new : List (Option Kept)) (at : ℕ) (answer : R) : Type 0 where
+  pub before : Kept
+  pub after : Kept
+  pub was : slot_at old at ≡ Some before
+  pub set : new ≡ slice_set old at (Some after)
+  pub changed : relation before answer after
+
+-- another offset of a derived window in its parent
+abbrev pub with_new_offset : ℕ → ℕ → Cells → Cells
+with_new_offset y x (Own sheet) = Own sheet
+with_new_offset y x (Shared part) = Shared (record part { line = y; column = x })
+
+-- one derived window's offset was changed, and nothing else
+pub record Shifted (old new : List (Option Kept)) (at y x : ℕ) : Type 0 where
+  pub before : Kept
+  pub after : Kept
+  pub was : slot_at old at ≡ Some before
+  pub set : new ≡ slice_set old at (Some after)
+  pub window : window_of after ≡ with_part y x (window_of before)
+  pub shape : SameShape before after
+  pub cells : after.cells ≡ with_new_offset y x before.cells
+  pub origin : after.origin ≡ before.origin
+  pub kept : IsKept after
+
+-- each slot has its origin, and its window is as it was
+pub record Settled (old new : List (Option Kept)) : Type 0 where
+  pub size : length new ≡ length old
+  pub windows : window_map new ≡ window_map old
+  pub chained : IsChained new
+  pub origins : AreOrigins new
+
+-- one slot has another window, or none, no other slot changed, and the list grew only to hold it
+pub record SetAt (old new : List (Option Kept)) (at : ℕ) (o : Option Kept) : Type 0 where
+  pub here : slot_at new at ≡ o
+  pub others : (w : ℕ) → w ≢ at → slot_at new w ≡ slot_at old w
+  pub size : length new ≡ max (length old) (at + 1)
+  pub few : length new ≤ MOST_WINDOWS + 1
+
+-- the columns from left to right of a line are touched
+abbrev pub with_touched : ℕ → ℕ → ℕ → Window → Window
+with_touched line left right a = record a { touched = λ y. if y == line then joined_columns (a.touched y) left right else a.touched y }
+
+-- a drawing is laid over a window's grid
+abbrev pub with_drawing : Drawing → Window → Window
+with_drawing f a = record a { backing = laid_over f a.backing }
+
+-- the number is free, and the next one at most
+pub record IsFree (slots : List (Option Kept)) (number : ℕ) : Type 0 where
+  pub free : slot_at slots number ≡ None
+  pub from_one : 0 < number
+  pub few : number ≤ MOST_WINDOWS
+  pub next : number ≤ length slots

@@ -1,0 +1,97 @@
+//! Characters printed with a pen.
+
+ghost use Rattle.std.specs.Prelude.{◌≡◌, ℕ, ◌+◌, ◌-◌, ◌<◌, ◌≤◌, ◌==◌, ◌&&◌, nat_le, nat_lt, if◌then◌else◌, length, map, slice_index, slice_index_or};
+ghost use Rattle.std.specs.Prelude.{EachIndex, true};
+ghost use Rattle.cell.specs.Glyphs.{IsCell, blank, is_printable};
+ghost use Rattle.cell.specs.declared.limits.TheConstants.{LARGEST_PAD};
+ghost use Rattle.cell.specs.Pictures.{EachCell, HasSize, cell_or, line_of};
+ghost use Rattle.grids.specs.Inks.{printed_cell};
+
+use cell::{Cell, Grid};
+
+/// How many characters of a text are printed together, and how many of a short text.
+const PIECE: usize = 16;
+
+const SHORT_PIECE: usize = 8;
+
+/// Prints characters in line `y` of a grid, from column `x` on. All lines of the grid are of one width.
+pub(crate) fn print_in(grid: &mut Grid<Cell>, y: usize, x: usize, text: &[u8], pen: Cell)
+    requires line { y < length grid.old }
+    requires even { HasSize (length grid.old) (length (line_of grid.old y)) grid.old }
+    requires columns { x + length text.now ≤ length (line_of grid.old y) }
+    requires short { x + length text.now ≤ LARGEST_PAD }
+    requires printable { EachIndex text.now (λ k. is_printable (slice_index text.now k) ≡ true) }
+    ensures shown { (v u : ℕ) → cell_or blank grid.new (v, u) ≡ (if (v == y) &&
+        (nat_le x u && nat_lt u (x + length text.now)) then slice_index_or (map (printed_cell pen) text.now) (u - x) blank else cell_or blank grid.old (v, u)) }
+    ensures height { length grid.new ≡ length grid.old }
+    ensures size { (lines columns : ℕ) → HasSize lines columns grid.old → HasSize lines columns grid.new }
+    ensures cells { EachCell IsCell grid.old → EachCell IsCell grid.new }
+{
+    if text.len() >= PIECE {
+        print_by(PIECE, grid, y, x, text, pen);
+    } else if text.len() >= SHORT_PIECE {
+        print_by(SHORT_PIECE, grid, y, x, text, pen);
+    } else {
+        print_together(grid, y, x, text, pen);
+    }
+}
+
+/// Prints characters in pieces of one size, the last of which ends with the text, so that where the size is known no
+/// character is printed alone.
+#[inline(always)]
+fn print_by(size: usize, grid: &mut Grid<Cell>, y: usize, x: usize, text: &[u8], pen: Cell)
+    requires some { 0 < size }
+    requires few { size ≤ PIECE }
+    requires room { size ≤ length text.now }
+    requires line { y < length grid.old }
+    requires even { HasSize (length grid.old) (length (line_of grid.old y)) grid.old }
+    requires columns { x + length text.now ≤ length (line_of grid.old y) }
+    requires short { x + length text.now ≤ LARGEST_PAD }
+    requires printable { EachIndex text.now (λ k. is_printable (slice_index text.now k) ≡ true) }
+    ensures shown { (v u : ℕ) → cell_or blank grid.new (v, u) ≡ (if (v == y) &&
+        (nat_le x u && nat_lt u (x + length text.now)) then slice_index_or (map (printed_cell pen) text.now) (u - x) blank else cell_or blank grid.old (v, u)) }
+    ensures height { length grid.new ≡ length grid.old }
+    ensures size { (lines columns : ℕ) → HasSize lines columns grid.old → HasSize lines columns grid.new }
+    ensures cells { EachCell IsCell grid.old → EachCell IsCell grid.new }
+{
+    let last = text.len() - size;
+    let mut done = 0;
+    while done < last {
+        print_together(grid, y, x + done, &text[done..done + size], pen);
+        done += size;
+    }
+    print_together(grid, y, x + last, &text[last..], pen);
+}
+
+/// Prints a few characters in line `y` of a grid, from column `x` on, at once.
+#[inline(always)]
+fn print_together(grid: &mut Grid<Cell>, y: usize, x: usize, text: &[u8], pen: Cell)
+    requires line { y < length grid.old }
+    requires few { length text.now ≤ PIECE }
+    requires columns { x + length text.now ≤ length (line_of grid.old y) }
+    requires printable { EachIndex text.now (λ k. is_printable (slice_index text.now k) ≡ true) }
+    ensures shown { (v u : ℕ) → cell_or blank grid.new (v, u) ≡ (if (v == y) &&
+        (nat_le x u && nat_lt u (x + length text.now)) then slice_index_or (map (printed_cell pen) text.now) (u - x) blank else cell_or blank grid.old (v, u)) }
+    ensures height { length grid.new ≡ length grid.old }
+    ensures size { (lines columns : ℕ) → HasSize lines columns grid.old → HasSize lines columns grid.new }
+    ensures cells { EachCell IsCell grid.old → EachCell IsCell grid.new }
+{
+    let mut held = [Cell::BLANK; PIECE];
+    for k in 0..text.len() {
+        held[k] = printed_cell(pen, text[k]);
+    }
+    grid.put_cells(y, x, &held[..text.len()]);
+}
+
+/// The cell of a printed character.
+fn printed_cell(pen: Cell, ch: u8) -> Cell
+    requires { is_printable ch ≡ true }
+    ensures value { result ≡ printed_cell pen ch }
+    ensures sound { IsCell result }
+{
+    prove!(pen.ch() >= b' ');
+    if ch == b' ' {
+        return pen;
+    }
+    pen.with_character(ch)
+}

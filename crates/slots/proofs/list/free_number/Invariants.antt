@@ -1,9 +1,0 @@
-use Rattle.std.proofs.Common.{◌≡◌}
-use Rattle.world.specs.calls.Making.{new_number}
-use Rattle.slots.specs.Slots.{window_map}
-use Rattle.slots.proofs.FreeNumbers.{search_from}
-use Rattle.slots.proofs.list.free_number.Given as goal
-
--- the search goes on from n
-abbrev pub invariant-loop-n : goal.invariant-loop-n
-invariant-loop-n l = search_from l.slots l.n ≡ new_number (window_map l.slots)

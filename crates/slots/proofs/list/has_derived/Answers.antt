@@ -1,6 +1,0 @@
-use Rattle.std.proofs.Common.{◌∙◌}
-use Rattle.slots.proofs.Derived.{has_derived-list}
-use Rattle.slots.proofs.list.has_derived.Goals as goal
-
-pub returns : goal.returns
-returns c = c.is_named.ensures ∙ has_derived-list c.args.slots.now c.args.win c.requires

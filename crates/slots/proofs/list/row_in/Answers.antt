@@ -1,9 +1,0 @@
-use Rattle.std.proofs.Common.{◌≡◌, Some, arith}
-use Rattle.std.proofs.lemmas.Grind.{common_steps}
-use Rattle.slots.specs.Slots.{slot_at}
-use Rattle.slots.proofs.list.row_in.Goals as goal
-
-pub returns-clause-row : goal.returns-clause-row
-returns-clause-row c =
-    let there : slot_at c.args.slots.now c.args.at ≡ Some c.in-Some.slot = grind (arith, common_steps) in
-    rw there c.row.ensures.row

@@ -1,5 +1,0 @@
-use Rattle.slots.proofs.Settling.{IsSettledBelow}
-use Rattle.slots.proofs.parents.settle.Given as goal
-
-abbrev pub invariant-loop-at : goal.invariant-loop-at
-invariant-loop-at l = IsSettledBelow l.fn.slots.items l.slots.items l.at
