@@ -22,18 +22,19 @@ ghost use Rattle.world.specs.declared.call.Refresh.{Refresh};
 ghost use Rattle.compose.specs.Desks.{damaged_columns, is_damaged_line, world};
 ghost use Rattle.compose.specs.Calling.{Called};
 
-use crate::counted::CountedWindows;
 use crate::damaging::damage_part;
 use crate::damaging_calls::{arrange_damaging, copy_damaging, make_damaging, write_damaging};
 use crate::dispatch::refresh;
+use crate::marks::unmark_composed;
 use crate::queries::{answer, of_window};
-use crate::update::update_panels;
 use crate::virtual_picture::VirtualPicture;
 use calls::Calls;
 use cell::{Cell, Colour, Grid, PairId, Pairs, Refusal, Shown, VirtualScreen, WinId};
 use extents::Extents;
 use grids::Grids;
-use picture::{Owners, Span, TableRows, cell_found, owner_span, window_part};
+use picture::{
+    Owners, Span, TableRows, cell_found, owner_span, show_damaged, wanted_cursor, window_part,
+};
 use stack::Stack;
 use std::alloc::{AllocError, Global};
 use std::marker::Model;
@@ -122,23 +123,27 @@ impl Desk {
     }
 
     /// Takes the picture of windows and panels, and the topmost's cursor, into the virtual screen. It reads windows
-    /// where the screen is damaged, answers how many cells that were, and leaves no damage.
+    /// where the screen is damaged, answers how many cells that were, and leaves no damage. It lends the table: what it
+    /// calls has rows that count, or marks, and so no cell but those that it counts.
     pub(crate) fn compose(&mut self) -> Composed
         ensures { Called self.old (Call.Refresh Refresh.UpdatePanels) (Ok (Reply.Composed result)) self.new }
     {
-        let mut windows = CountedWindows::of(&mut self.windows.table, self.cells_read);
-        let composed = update_panels(
-            &mut windows,
+        let (lines, _) = self.size();
+        let mut rows = TableRows::of(&self.windows.table, self.cells_read);
+        let cells = show_damaged(
+            &mut rows,
             &self.stack,
             &self.pairs,
             &mut self.owners,
+            lines,
             &mut self.damage,
-            &mut self.picture,
-            &mut self.cursor,
-            &mut self.clear,
+            &mut self.picture.cells,
+            &mut self.picture.changes,
         );
-        self.cells_read = windows.cells_read();
-        composed
+        self.cursor = wanted_cursor(&rows, &self.stack);
+        self.cells_read = rows.cells_read();
+        self.clear |= unmark_composed(&mut self.windows.table, &self.stack);
+        Composed { cells }
     }
 
     /// The damaged columns of a line, or none: everywhere else the virtual screen shows what the search from the top

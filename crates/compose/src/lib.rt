@@ -1,7 +1,6 @@
 //! The `Desk`: windows, panels, colour pairs and the virtual screen together, with each call and what it damages of the
 //! screen. The crate is named for its chief work, which is to compose the picture.
 //!
-//! - `counted`: the windows as what composes has them, which counts the cells that are read
 //! - `damaging_calls`: a call with what it damages
 //! - `damaging`: what a call damages
 //! - `desk`: the `Desk` and what can be read of it
@@ -10,12 +9,10 @@
 //! - `panels`: the calls that look at windows and panels together
 //! - `queries`: the calls that only ask
 //! - `refresh`: what a window or a pad puts into the virtual screen
-//! - `update`: the step that composes the picture
 //! - `virtual_picture`: what the virtual screen shows, and what changed of it
 //! - `written_dispatch`: the calls that write in a window, written by a tool
 #![tactic(auto)]
 
-mod counted;
 mod damaging;
 mod damaging_calls;
 mod desk;
@@ -24,7 +21,6 @@ mod marks;
 mod panels;
 mod queries;
 mod refresh;
-mod update;
 mod virtual_picture;
 mod written_dispatch;
 

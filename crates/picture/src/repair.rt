@@ -43,6 +43,7 @@ pub fn show_damaged<'a, R: Rows<'a>>(
     ensures changes { AddsChanges changes.old picture.old changes.new picture.new }
     ensures few { Damages (R.windows rows.old).columns (is_among damage.old) changes.old changes.new }
     ensures count { GrewBy result (R.cells_read rows.old) (R.cells_read rows.new) }
+    ensures same { R.windows rows.new ≡ R.windows rows.old }
 {
     owners.start_over();
     let mut cells = 0;

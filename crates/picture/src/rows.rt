@@ -2,7 +2,7 @@
 
 ghost use Rattle.std.specs.Prelude.{◌≡◌, ◌<◌, ◌≤◌, ◌+◌, ◌-◌, ℕ, true};
 ghost use Rattle.cell.specs.declared.limits.TheConstants.{LARGEST_SCREEN};
-ghost use Rattle.world.specs.Panels.{holds, place_of};
+ghost use Rattle.world.specs.Panels.{cursor_on_screen, holds, place_of};
 ghost use Rattle.world.specs.Windows.{HasPlace, Windows};
 ghost use Rattle.world.specs.calls.Making.{is_no_pad};
 ghost use Rattle.grids.specs.Tables.{windows as windows_of};
@@ -11,6 +11,7 @@ ghost use Rattle.picture.specs.Parts.{IsPiece, frame_holds};
 
 use crate::parts::window_part;
 use crate::piece::piece;
+use crate::search::cursor_on_screen;
 use cell::{Cell, Rect, WinId};
 use grids::Grids;
 
@@ -29,6 +30,10 @@ pub trait Rows<'a> {
         ensures ordered { result.left ≤ result.right }
         ensures within { result.right < LARGEST_SCREEN }
         ensures holds { (y x : ℕ) → frame_holds result y x ≡ holds (windows self.now).window win.0 y x };
+
+    /// Where a window's cursor is on the screen.
+    fn cursor(&self, win: WinId) -> (u16, u16)
+        ensures { result ≡ cursor_on_screen (windows self.now).window win.0 };
 
     /// A piece of line `y` of a window, from its column `left` to its column `right`, both inclusive, which must exist.
     /// The count goes up by the number of its cells, modulo 2^64.
@@ -75,6 +80,10 @@ impl<'a> Rows<'a> for TableRows<'a> {
             Some(frame) => frame,
             None => unreachable!(),
         }
+    }
+
+    fn cursor(&self, win: WinId) -> (u16, u16) {
+        cursor_on_screen(self.table, win)
     }
 
     fn read(&mut self, win: WinId, y: u16, left: u16, right: u16) -> &'a [Cell] {

@@ -7,7 +7,7 @@ ghost use Rattle.world.specs.calls.Stacking.{panel_number};
 ghost use Rattle.grids.specs.Tables.{windows as windows_of};
 ghost use Rattle.stack.specs.Tables.{panels};
 
-use crate::rows::TableRows;
+use crate::rows::{Rows, TableRows};
 use crate::span::owner_span;
 use cell::{Cell, WinId};
 use grids::Grids;
@@ -31,10 +31,10 @@ pub fn cell_found(table: &Grids, stack: &Stack, y: u16, x: u16, columns: u16) ->
 }
 
 /// Where the cursor of the top visible panel's window is on the screen, or of the standard screen if there is none.
-pub fn wanted_cursor(table: &Grids, stack: &Stack) -> (u16, u16)
-    ensures { result ≡ cursor_of_topmost (windows_of table.now).window (panels stack.now) }
+pub fn wanted_cursor<'a, R: Rows<'a>>(rows: &R, stack: &Stack) -> (u16, u16)
+    ensures { result ≡ cursor_of_topmost (R.windows rows.now).window (panels stack.now) }
 {
-    cursor_on_screen(table, window_on_top(stack))
+    rows.cursor(window_on_top(stack))
 }
 
 /// Where a window's cursor is on the screen.

@@ -5,7 +5,6 @@ use Rattle.std.specs.List.{filter_map, list_any}
 use Rattle.world.specs.Panels.{standard_screen, windows_from_top}
 use Rattle.world.specs.Windows.{WindowMap, Windows}
 use Rattle.world.specs.Effects.{asks_for_clear, with_unmarked}
-use Rattle.grids.specs.Tables.{windows}
 use Rattle.stack.specs.Tables.{panels}
 use Rattle.compose.proofs.Unmarking.{asked-first, one-unmarked, still-left}
 use Rattle.compose.proofs.marks.unmark_composed.Goals as goal
@@ -14,10 +13,10 @@ more : {whole : Bool} (before first asked others : Bool) → whole ≡ (first ||
 more before first asked others is one = grind (arith, is, one)
 
 pub loop-panel-init : goal.loop-panel-init
-loop-panel-init c =
+loop-panel-init g c =
     let ps = panels c.args.stack.now in
-    let old = windows c.args.table.now in
-    let now = windows c.unmark-asked.new.self in
+    let old = g.M.Marks.windows c.args.marks.now in
+    let now = g.M.Marks.windows c.unmark-asked.new.self in
     let is : c.into_iter-panel-iterator.result ≡ reverse ps.visible = search rules in
     let unmarked = c.unmark-asked.ensures.unmarked ∙ ap (λ (window : WindowMap). record old { window = window }) (one-unmarked old.window standard_screen) in
     record {
@@ -30,10 +29,10 @@ loop-panel-init c =
     }
 
 pub loop-panel-preserved-in-Ok : goal.loop-panel-preserved-in-Ok
-loop-panel-preserved-in-Ok c =
+loop-panel-preserved-in-Ok g c =
     let ps = panels c.args.stack.now in
-    let now = windows c.loop-panel.table in
-    let new = windows c.unmark-asked-in-Ok.new.self in
+    let now = g.M.Marks.windows c.loop-panel.marks in
+    let new = g.M.Marks.windows c.unmark-asked-in-Ok.new.self in
     let is : c.loop-panel.panel-iterator ≡ c.in-Some.panel.0 ∷ c.next.new.self = search rules in
     let has : ps.window c.in-Some.panel.0 ≡ Some c.in-Ok.win.0 = search rules in
     let ws : filter_map ps.window c.loop-panel.panel-iterator ≡ c.in-Ok.win.0 ∷ filter_map ps.window c.next.new.self = rw (is, has) refl in
