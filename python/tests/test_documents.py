@@ -44,7 +44,7 @@ class Documents(unittest.TestCase):
         said = []
         results = doctest.DocTestRunner(optionflags=doctest.IGNORE_EXCEPTION_DETAIL & 0).run(test, out=said.append)
         self.assertEqual(results.failed, 0, ''.join(said))
-        self.assertGreater(results.attempted, 50)
+        self.assertGreater(results.attempted, 40)
 
     def shows(self, program, text):
         out, said = typed(program)
