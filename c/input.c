@@ -70,7 +70,7 @@ static bool wait_for_input(int milliseconds) {
     while (curspan_wait(curspan_the_tty.in, left, &found) == WAIT_STOPPED) {
         curspan_redraw_after_stop();
         if (queue.keys > 0) return false;
-        if (milliseconds >= 0) left = curspan_left_until(end);
+        left = curspan_left_until(milliseconds, end);
     }
     return found;
 }
