@@ -49,11 +49,15 @@ curspan_note_end() {
     curspan_ended=$1
     [ -n "$curspan_held" ] || curspan_end
 }
-curspan_end() { exit $((128 + $(kill -l "$curspan_ended"))); }
+curspan_end() {
+    curspan_hold
+    exit $((128 + $(kill -l "$curspan_ended")))
+}
 
 # At exit what the script itself wanted then is done after the terminal is given back.
 curspan_at_exit() {
     local status=$?
+    trap '' "${curspan_deadly[@]}"
     curspan_close
     eval "set -- $curspan_at_exit_before"
     [ $# = 0 ] || { (exit "$status"); eval "$3"; }
@@ -222,7 +226,6 @@ curspan_fail() {
     local said
     said=$(printf '%s\n' "$1" | (curspan_run check) 2> /dev/null | head -n 1)
     curspan_complain "${said:-the program has ended}"
-    curspan_held=
     exit 2
 }
 
