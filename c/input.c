@@ -1,12 +1,9 @@
 /* Keys as getch answers them: what was typed and not read, how long getch waits, and what it shows. Nothing here is proved. */
-#define _XOPEN_SOURCE 700
 #include "inside.h"
 #include "terminal.h"
 
 #include <errno.h>
 #include <fcntl.h>
-#include <stdlib.h>
-#include <string.h>
 #include <unistd.h>
 
 int ESCDELAY = 1000;

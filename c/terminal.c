@@ -1,14 +1,11 @@
 /* Terminals: how they are taken and given back, what is written, and curspan_terminal.h. Nothing here is proved. */
-#define _GNU_SOURCE
-#include "curspan_terminal.h"
 #include "terminal.h"
+#include "curspan_terminal.h"
 
 #include <errno.h>
 #include <fcntl.h>
 #include <poll.h>
 #include <pthread.h>
-#include <stdlib.h>
-#include <string.h>
 #include <sys/ioctl.h>
 #include <time.h>
 #include <unistd.h>

@@ -2,10 +2,13 @@
 #ifndef CURSPAN_INSIDE_TERMINAL_H
 #define CURSPAN_INSIDE_TERMINAL_H
 
+#define _GNU_SOURCE
 #include <signal.h>
 #include <stdbool.h>
 #include <stdint.h>
 #include <stdio.h>
+#include <stdlib.h>
+#include <string.h>
 #include <sys/types.h>
 #include <termios.h>
 

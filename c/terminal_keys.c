@@ -1,12 +1,9 @@
 /* Which bytes of a terminal are which key of curspan_terminal.h. Nothing here is proved. */
-#define _XOPEN_SOURCE 700
-#include "curspan_terminal.h"
 #include "inside.h"
+#include "curspan_terminal.h"
 #include "terminal.h"
 
 #include <ctype.h>
-#include <stdlib.h>
-#include <string.h>
 
 enum { ESCAPE = 27, DELETE = 127, LONGEST_SEQUENCE = 32, NO_CHARACTER = 0xfffd };
 
