@@ -2,8 +2,6 @@
 #include "inside.h"
 #include "terminal.h"
 
-#include <string.h>
-
 chtype acs_map[128];
 bool curspan_has_alternates;
 

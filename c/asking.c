@@ -1,8 +1,6 @@
 /* What is asked about windows and of the terminal. Nothing here is proved. */
 #include "inside.h"
 
-#include <stddef.h>
-
 /* ---- windows */
 
 static bool has(const WINDOW *win, bool option) { return is_there(win) == OK && option; }

@@ -1,8 +1,6 @@
 /* Attributes and backgrounds. Nothing here is proved. */
 #include "inside.h"
 
-#include <stddef.h>
-
 int wattrset(WINDOW *win, int attrs) {
     attr_t wanted = (attr_t)attrs & A_ATTRIBUTES;
     if (!curspan_has_alternates) wanted &= ~A_ALTCHARSET;

@@ -1,8 +1,6 @@
 /* Borders and drawn lines, and cells whose rendition is changed where they are. Nothing here is proved. */
 #include "inside.h"
 
-#include <stddef.h>
-
 /* A character with the attributes of its window and those of the background, which a blank takes whole. */
 static chtype rendered(const WINDOW *win, chtype ch) {
     ch = curspan_as_drawn(ch | (win->attrs & A_ALTCHARSET));

@@ -1,8 +1,5 @@
 /* Characters and lines inserted and deleted, and parts cleared. Nothing here is proved. */
-#define _XOPEN_SOURCE 700
 #include "inside.h"
-
-#include <string.h>
 
 /* ---- inserted characters */
 

@@ -1,12 +1,9 @@
 /* Keys as getch answers them: what was typed and not read, how long getch waits, and what it shows. Nothing here is proved. */
-#define _XOPEN_SOURCE 700
 #include "inside.h"
 #include "terminal.h"
 
 #include <errno.h>
 #include <fcntl.h>
-#include <stdlib.h>
-#include <string.h>
 #include <unistd.h>
 
 int ESCDELAY = 1000;
@@ -70,7 +67,7 @@ static bool wait_for_input(int milliseconds) {
     while (curspan_wait(curspan_the_tty.in, left, &found) == WAIT_STOPPED) {
         curspan_redraw_after_stop();
         if (queue.keys > 0) return false;
-        if (milliseconds >= 0) left = curspan_left_until(end);
+        left = curspan_left_until(milliseconds, end);
     }
     return found;
 }

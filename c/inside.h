@@ -2,9 +2,12 @@
 #ifndef CURSPAN_INSIDE_H
 #define CURSPAN_INSIDE_H
 
+#define _GNU_SOURCE
 #include "curses.h"
 
 #include <limits.h>
+#include <stdlib.h>
+#include <string.h>
 
 enum {
     MOST = 1001,     /* windows with the standard screen, and panels with none */

@@ -1,10 +1,6 @@
 /* Which bytes are which key. Nothing here is proved. */
-#define _XOPEN_SOURCE 700
 #include "inside.h"
 #include "terminal.h"
-
-#include <stdlib.h>
-#include <string.h>
 
 /* A sequence of a key, in a list: those that the program defined, and after them those of the table. */
 struct key {

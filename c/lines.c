@@ -1,9 +1,6 @@
 /* Lines that are read and edited, and what is scanned of them. Nothing here is proved. */
-#define _XOPEN_SOURCE 700
 #include "inside.h"
 #include "terminal.h"
-
-#include <string.h>
 
 enum { LONGEST_LINE = 2047 };
 

@@ -1,11 +1,7 @@
 /* The modes of the terminal's line, with flags as ncurses has them, and how keys are read. Nothing here is proved. */
-#define _XOPEN_SOURCE 700
-#define _DEFAULT_SOURCE
 #include "inside.h"
 #include "terminal.h"
 
-#include <stddef.h>
-#include <string.h>
 #include <unistd.h>
 
 struct curspan_modes curspan_modes;

@@ -1,9 +1,6 @@
 /* The names of keys and of bytes. Nothing here is proved. */
-#define _XOPEN_SOURCE 700
 #include "inside.h"
 #include "terminal.h"
-
-#include <stddef.h>
 
 /* Spells a byte: a control character as a caret and a letter, and one of eight bits with M- and the others, where it is wanted so. */
 static void spell(char *name, int byte, bool with_meta) {

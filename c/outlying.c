@@ -1,8 +1,6 @@
 /* Windows that aren't wholly on the screen: pads of curspan.h stand for them. And cursors. Nothing here is proved. */
 #include "inside.h"
 
-#include <stddef.h>
-
 bool curspan_fits(int lines, int columns, int y, int x) {
     return stdscr && y >= 0 && x >= 0 && y + lines <= curspan_lines() && x + columns <= curspan_columns();
 }

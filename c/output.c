@@ -1,9 +1,6 @@
 /* What doupdate and its kin send to the terminal of curses.h. Nothing here is proved. */
-#define _XOPEN_SOURCE 700
 #include "inside.h"
 #include "terminal.h"
-
-#include <stdlib.h>
 
 struct curspan_tty curspan_the_tty = {.in = -1, .out = -1, .line = -1};
 FILE *curspan_stream;

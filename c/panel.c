@@ -2,8 +2,6 @@
 #include "inside.h"
 #include "panel.h"
 
-#include <stddef.h>
-
 /* What curspan.h doesn't keep of a panel; and its window, so that each update_panels asks about those alone whose cursor was moved. */
 struct curspan_panel {
     uint16_t number; /* 0 where it isn't there */

@@ -1,9 +1,6 @@
 /* The bytes of a screen on their way to a terminal: pairs get the program's colours. Nothing here is proved. */
-#include "curspan.h"
 #include "terminal.h"
-
-#include <stdlib.h>
-#include <string.h>
+#include "curspan.h"
 
 enum { EIGHT = 8, SHORTEST = 9 /* what comes before the end of a selection that has colours */ };
 

@@ -1,8 +1,6 @@
 /* How windows come into the virtual screen, and what is touched of them. Nothing here is proved. */
 #include "inside.h"
 
-#include <string.h>
-
 /* ---- marks */
 
 int touchwin(WINDOW *win) { return is_terminal(win) ? clearok(curscr, TRUE) : done(curspan_touchwin(SCREEN_AND(win))); }

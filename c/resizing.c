@@ -1,12 +1,9 @@
 /* Sizes that change, of the screen and of windows. In curspan.h each keeps its own. So windows are made anew, in a
    second screen where the screen's size changes, and take the place of the old ones when all are there: where one is
    refused, nothing has changed. Nothing here is proved. */
-#define _XOPEN_SOURCE 700
 #include "inside.h"
 #include "panel.h"
 #include "terminal.h"
-
-#include <stddef.h>
 
 /* How large a window is, and where: a derived one in its parent, another on the screen. */
 struct shape {

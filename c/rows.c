@@ -1,8 +1,6 @@
 /* Rows of cells, put into windows as they are, and read back. Nothing here is proved. */
 #include "inside.h"
 
-#include <stddef.h>
-
 static bool are_cells(const chtype *cells, int n) {
     while (n > 0 && is_printable(CURSPAN_CHARACTER(cells[n - 1])) && PAIR_NUMBER(cells[n - 1]) <= LAST_PAIR) n--;
     return n <= 0;

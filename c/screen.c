@@ -1,11 +1,8 @@
 /* The one screen: its size, its beginning and its end. Nothing here is proved. */
-#define _XOPEN_SOURCE 700
-#define _DEFAULT_SOURCE
 #include "inside.h"
 #include "terminal.h"
 
 #include <errno.h>
-#include <stdlib.h>
 #include <time.h>
 
 int LINES, COLS;

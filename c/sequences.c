@@ -1,10 +1,7 @@
 /* The sequences of the keys of xterm, tmux, screen, the Linux console and rxvt, as terminfo has them. No sequence is
    that of two keys, but for rxvt's Find and Select, which no keyboard has: these are Home and End here. */
-#define _XOPEN_SOURCE 700
 #include "curses.h"
 #include "terminal.h"
-
-#include <string.h>
 
 enum { OF_LINUX = 3 };
 

@@ -1,14 +1,11 @@
 /* Signals: terminals are given back before one ends or stops the program, and at its exit. Handlers call only what the
    standard allows in them. Nothing here is proved. */
-#define _GNU_SOURCE
-#include "curspan_terminal.h"
 #include "terminal.h"
+#include "curspan_terminal.h"
 
 #include <errno.h>
 #include <poll.h>
 #include <pthread.h>
-#include <stdlib.h>
-#include <string.h>
 #include <unistd.h>
 
 static const int ending[] = {SIGINT, SIGTERM, SIGQUIT, SIGHUP}, faults[] = {SIGSEGV, SIGBUS, SIGFPE, SIGILL, SIGABRT};

@@ -1,14 +1,11 @@
 /* Terminals: how they are taken and given back, what is written, and curspan_terminal.h. Nothing here is proved. */
-#define _GNU_SOURCE
-#include "curspan_terminal.h"
 #include "terminal.h"
+#include "curspan_terminal.h"
 
 #include <errno.h>
 #include <fcntl.h>
 #include <poll.h>
 #include <pthread.h>
-#include <stdlib.h>
-#include <string.h>
 #include <sys/ioctl.h>
 #include <time.h>
 #include <unistd.h>
@@ -105,9 +102,9 @@ long curspan_now(void) {
     return (long)time.tv_sec * 1000 + time.tv_nsec / 1000000;
 }
 
-int curspan_left_until(long end) {
+int curspan_left_until(int milliseconds, long end) {
     long left = end - curspan_now();
-    return left > 0 ? (int)left : 0;
+    return milliseconds < 0 ? -1 : left > 0 ? (int)left : 0;
 }
 
 /* ---- those of curspan_terminal.h */
@@ -135,7 +132,8 @@ const char *curspan_terminal_text(uint32_t status) {
         "done", "there is no terminal", "TERM is dumb: such a terminal has no screen", "the terminal is open already",
         "the terminal is not open", "another terminal owns the signals", "another thread opened the terminal",
         "another process opened the terminal, of which this one is a child", "there is no memory for it",
-        "the screen is closed, or has no such pair or colour", "the system refused it", "the terminal was given back meanwhile",
+        "the screen is closed, or has no such pair or colour", "the system refused it",
+        "the terminal was given back meanwhile",
     };
     return status < sizeof texts / sizeof texts[0] ? texts[status] : "no status";
 }
@@ -301,7 +299,8 @@ uint32_t curspan_terminal_draw(curspan_terminal *terminal, const uint8_t *bytes,
 
 uint32_t curspan_terminal_show(curspan_terminal *terminal, curspan *screen) { WRITE(update(it, screen)); }
 
-uint32_t curspan_terminal_init_pair(curspan_terminal *terminal, curspan *screen, uint32_t pair, int foreground, int background) {
+uint32_t curspan_terminal_init_pair(curspan_terminal *terminal, curspan *screen, uint32_t pair, int foreground,
+                                    int background) {
     struct terminal *it = terminal->at;
     uint32_t status = status_of(terminal);
     bool are_colours = foreground >= OWN_COLOUR && foreground < 8 && background >= OWN_COLOUR && background < 8;
@@ -335,14 +334,14 @@ static uint32_t wait_for_input(struct terminal *it, int milliseconds) {
     bool found = false, owns = it->options & CURSPAN_TERMINAL_SIGNALS;
     long end = curspan_now() + milliseconds;
     for (;;) {
-        int left = milliseconds < 0 ? -1 : curspan_left_until(end), how = WAIT_ENDED;
+        int left = curspan_left_until(milliseconds, end), how = WAIT_ENDED;
         struct pollfd input = {it->tty.in, POLLIN, 0};
         if (owns) how = curspan_wait(it->tty.in, left, &found);
         else if (poll(&input, 1, left < 0 || left > SLICE ? SLICE : left) < 0) how = WAIT_INTERRUPTED;
         if (found || input.revents) return 0;
         if (is_changed(it)) return CURSPAN_KEY_RESIZE;
         if (how == WAIT_INTERRUPTED) return CURSPAN_KEY_INTERRUPTED;
-        if (milliseconds >= 0 && curspan_left_until(end) == 0) return CURSPAN_KEY_NONE;
+        if (curspan_left_until(milliseconds, end) == 0) return CURSPAN_KEY_NONE;
     }
 }
 
@@ -399,7 +398,7 @@ static uint32_t next_key(struct terminal *it, int milliseconds, curspan_key *key
     if (is_changed(it)) return CURSPAN_KEY_RESIZE;
     while (!take_key(it, it->is_at_end, key)) {
         bool is_begun = it->is_pasting || it->taken < it->count;
-        int left = it->is_pasting ? PASTE_DELAY : is_begun ? it->escape_delay : milliseconds < 0 ? -1 : curspan_left_until(end);
+        int left = it->is_pasting ? PASTE_DELAY : is_begun ? it->escape_delay : curspan_left_until(milliseconds, end);
         *key = no_key;
         if (it->is_at_end) return CURSPAN_KEY_EOF;
         uint32_t code = wait_for_input(it, left);

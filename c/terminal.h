@@ -2,10 +2,13 @@
 #ifndef CURSPAN_INSIDE_TERMINAL_H
 #define CURSPAN_INSIDE_TERMINAL_H
 
+#define _GNU_SOURCE
 #include <signal.h>
 #include <stdbool.h>
 #include <stdint.h>
 #include <stdio.h>
+#include <stdlib.h>
+#include <string.h>
 #include <sys/types.h>
 #include <termios.h>
 
@@ -45,9 +48,9 @@ void curspan_make_raw(struct termios *modes);
 enum { CURSPAN_INPUT_FLAGS = BRKINT | IXON | PARMRK }; /* which are off then */
 #define CURSPAN_ENTER "\033[?1049h"
 #define CURSPAN_LEAVE "\033[0m\033[?25h\033[%d;1H\033[?1049l"
-/* Milliseconds of a clock, and how many are left until some time. */
+/* Milliseconds of a clock, and how many of some are left until their end: -1 where they are negative, and have none. */
 long curspan_now(void);
-int curspan_left_until(long end);
+int curspan_left_until(int milliseconds, long end);
 /* The number in a variable of the environment, or -1 where there is none, or one past 32767. */
 int curspan_number_in(const char *variable);
 /* The size that is wanted, else that of the terminal, else 24 by 80. Answers whether the terminal is there. */
@@ -60,7 +63,7 @@ enum {
     OWN_PAIRS = 64   /* of curspan.h */
 };
 
-/* What the pairs of curspan.h become in the bytes on their way, each known by two colours of its own: its number in base 8. */
+/* What the pairs of curspan.h become on their way, each known by two colours of its own: its number in base 8. */
 struct curspan_palette {
     signed char colours[OWN_PAIRS][2]; /* those of 0 are for cells that have none */
     bool are_alternate[OWN_PAIRS];     /* drawn with the terminal's alternate characters */

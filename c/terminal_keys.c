@@ -1,12 +1,9 @@
 /* Which bytes of a terminal are which key of curspan_terminal.h. Nothing here is proved. */
-#define _XOPEN_SOURCE 700
-#include "curspan_terminal.h"
 #include "inside.h"
+#include "curspan_terminal.h"
 #include "terminal.h"
 
 #include <ctype.h>
-#include <stdlib.h>
-#include <string.h>
 
 enum { ESCAPE = 27, DELETE = 127, LONGEST_SEQUENCE = 32, NO_CHARACTER = 0xfffd };
 
@@ -60,7 +57,7 @@ static uint32_t find(const char *text, uint32_t *modifiers) {
         *modifiers = text[1] == 'O' ? CURSPAN_CTRL : CURSPAN_SHIFT;
         return key_by((char)toupper(end), 0);
     }
-    if (sscanf(text, "\033[%3u;%2u%c", &number, &more, &last) == 3 && more > 1 && more <= 16 && text[strlen(text) - 2] != ';') {
+    if (sscanf(text, "\033[%3u;%2u%c", &number, &more, &last) == 3 && last == end && more > 1 && more <= 16) {
         *modifiers = (more - 1) & (CURSPAN_SHIFT | CURSPAN_ALT | CURSPAN_CTRL);
         return key_by(last, number);
     }
@@ -109,12 +106,13 @@ static size_t sequence_key(const unsigned char *bytes, size_t length, curspan_ke
 size_t curspan_first_key(const unsigned char *bytes, size_t count, bool is_all, curspan_key *key) {
     size_t length = 0;
     key->modifiers = 0;
-    if (bytes[0] != ESCAPE || (count == 1 && is_all) || (count > 1 && bytes[1] == ESCAPE)) return plain_key(bytes, count, is_all, key);
+    bool is_plain = bytes[0] != ESCAPE || (count == 1 && is_all) || (count > 1 && bytes[1] == ESCAPE);
+    if (is_plain) return plain_key(bytes, count, is_all, key);
     if (count == 1) return 0;
     if (bytes[1] == 'O' && count > 2) return sequence_key(bytes, 3, key);
     if (bytes[1] == '[' && (length = length_of_control(bytes, count)) > 0) return sequence_key(bytes, length, key);
     if (!is_all && (bytes[1] == '[' || bytes[1] == 'O')) return 0;
-    if (bytes[1] == '[' && count > 2) return sequence_key(bytes, count < LONGEST_SEQUENCE ? count : LONGEST_SEQUENCE, key);
+    if (bytes[1] == '[' && count > 2) return sequence_key(bytes, count, key);
     length = plain_key(bytes + 1, count - 1, is_all, key);
     key->modifiers |= CURSPAN_ALT;
     return length > 0 ? length + 1 : 0;
@@ -136,7 +134,7 @@ size_t curspan_key_name(const curspan_key *key, char *out, size_t room) {
     if (key->code < CURSPAN_KEY_NONE) put_character(key->code, name);
     else if (number < sizeof keys / sizeof keys[0]) snprintf(name, sizeof name, "%s", keys[number].name);
     else snprintf(name, sizeof name, "f%u", (key->code - CURSPAN_KEY_F0) & 0xff);
-    int length = snprintf(out, room, "%s%s%s%s", key->modifiers & CURSPAN_CTRL ? "ctrl+" : "", key->modifiers & CURSPAN_ALT ? "alt+" : "",
-                          key->modifiers & CURSPAN_SHIFT ? "shift+" : "", name);
-    return (size_t)length;
+    const char *ctrl = key->modifiers & CURSPAN_CTRL ? "ctrl+" : "", *alt = key->modifiers & CURSPAN_ALT ? "alt+" : "";
+    const char *shift = key->modifiers & CURSPAN_SHIFT ? "shift+" : "";
+    return (size_t)snprintf(out, room, "%s%s%s%s", ctrl, alt, shift, name);
 }

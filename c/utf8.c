@@ -1,9 +1,7 @@
 /* Characters in UTF-8, drawn by letters or question marks in as many columns as they take. Nothing here is proved. */
-#include "curspan_terminal.h"
 #include "inside.h"
+#include "curspan_terminal.h"
 #include "widths.h"
-
-#include <string.h>
 
 /* The letters without their marks, from U+00C0 on. */
 static const char letters[] =

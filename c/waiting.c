@@ -1,8 +1,6 @@
 /* What waits to be written: functions by which wmove and waddch keep no registers. Nothing here is proved. */
 #include "inside.h"
 
-#include <stddef.h>
-
 struct curspan_waiting curspan_waiting;
 
 void curspan_write_waiting(void) {

@@ -2,8 +2,6 @@
 #include "inside.h"
 #include "terminal.h"
 
-#include <stddef.h>
-
 WINDOW *stdscr, *curscr;
 
 struct curspan_window curspan_windows[MOST];

@@ -1,9 +1,5 @@
 /* Writing in windows: characters and texts, up to where the window ends. Nothing here is proved. */
-#define _GNU_SOURCE
 #include "inside.h"
-
-#include <stdlib.h>
-#include <string.h>
 
 int TABSIZE = 8;
 

@@ -19,6 +19,6 @@ for ((left = 10#$seconds; left > 0; left--)); do
     curspan_call move "$face" 0 0
     curspan_text "$face" "$time"
     curspan_show
-    if curspan_read_key 1; then break; fi
+    if curspan_read_key 1; then left=0; fi
 done
 curspan_close

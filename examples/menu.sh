@@ -34,19 +34,19 @@ list=$curspan_answer
 for ((i = 0; i < count; i++)); do write_item "$i"; done
 
 at=0
-chosen=none
+chosen=
 point_at 0
-while curspan_read_key; do
+while [ -z "$chosen" ] && curspan_read_key; do
     write_item "$at"
     case $curspan_key in
         up | k) at=$(((at + count - 1) % count)) ;;
         down | j) at=$(((at + 1) % count)) ;;
         home | pageup) at=0 ;;
         end | pagedown) at=$((count - 1)) ;;
-        enter) chosen=$at; break ;;
-        q | escape) break ;;
+        enter) chosen=$at ;;
+        q | escape) chosen=none ;;
     esac
     point_at "$at"
 done
 curspan_close
-[ "$chosen" != none ] && printf '%s\n' "${items[chosen]}"
+[ "${chosen:-none}" != none ] && printf '%s\n' "${items[chosen]}"

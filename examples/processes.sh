@@ -4,7 +4,8 @@
 # follows the size of the terminal, and ends no process: it says which one it would.
 set -uo pipefail
 . "$(dirname "$(readlink -f "${BASH_SOURCE[0]}")")/screen.bash"
-column=-k3,3nr chosen=0 first=0 ended=0 rows=() asked=''
+declare -A orders=([p]=-k1,1n [n]=-k2,2 [m]=-k3,3nr)
+order=m chosen=0 first=0 ended=0 rows=() asked=''
 
 # Reads number, name and memory in KiB of each process, sorted.
 look() {
@@ -12,7 +13,7 @@ look() {
     mapfile -t rows < <(for folder in /proc/[0-9]*; do
         { read -r _ pages _ < "$folder/statm" && read -r name < "$folder/comm"; } || continue
         printf '%s\t%s\t%s\n' "${folder#/proc/}" "$name" $((pages * 4))
-    done 2> /dev/null | sort -t $'\t' "$column")
+    done 2> /dev/null | sort -t $'\t' "${orders[$order]}")
 }
 
 # Writes a line of the screen in a pair of colours, from edge to edge.
@@ -63,9 +64,10 @@ begin() {
 curspan_open || exit
 begin
 look
-while draw; do
-    curspan_read_key 1 || { look; continue; }
-    if [ -n "$asked" ] && [ "$curspan_key" != resize ]; then
+while [ "$curspan_key" != q ]; do
+    draw
+    curspan_read_key 1 || true
+    if [ -n "$asked" ] && [[ $curspan_key != @(|resize) ]]; then
         [ "$curspan_key" != y ] || ended=${asked%%$'\t'*}
         asked='' curspan_key=''
     fi
@@ -74,11 +76,9 @@ while draw; do
         down) chosen=$((chosen + 1)) ;;
         pageup) chosen=$((chosen - curspan_lines + 2)) ;;
         pagedown) chosen=$((chosen + curspan_lines - 2)) ;;
-        p) column=-k1,1n; look ;;
-        n) column=-k2,2; look ;;
-        m) column=-k3,3nr; look ;;
         k) asked=${rows[chosen]} ;;
         resize) curspan_resize && begin ;;
-        q) break ;;
+        [pnm]) order=$curspan_key ;;&
+        '' | [pnm]) look ;;
     esac
 done

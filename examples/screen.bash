@@ -9,8 +9,9 @@
 #                                     curspan_ask_line WINDOW LINE COLUMN WIDTH [TEXT]
 curspan_file=${BASH_SOURCE[0]} curspan_owner='' curspan_answer='' curspan_key='' curspan_lines=0 curspan_columns=0
 curspan_here=$(dirname "$(readlink -f "$curspan_file")")
-for curspan_program in "${CURSPAN:-}" "$curspan_here/../curspan" "$curspan_here/../../bin/curspan" curspan; do
-    if [ -f "$curspan_program" ] && [ -x "$curspan_program" ]; then break; fi
+curspan_program=curspan
+for curspan_found in "$curspan_here/../../bin/curspan" "$curspan_here/../curspan" "${CURSPAN:-}"; do
+    if [ -f "$curspan_found" ] && [ -x "$curspan_found" ]; then curspan_program=$curspan_found; fi
 done
 
 # What would end the script, but for what bash ignores or uses itself.
@@ -38,7 +39,7 @@ curspan_is_here() {
 }
 
 # Between these the terminal is changed, or bash reads, within which it runs what a signal has it do. A signal that came
-# ends the script at the second.
+# ends the script at the second. No loop here has `break` or `continue`, in which bash drops a signal that comes.
 curspan_hold() { curspan_held=yes; }
 curspan_release() {
     curspan_held=
@@ -48,11 +49,15 @@ curspan_note_end() {
     curspan_ended=$1
     [ -n "$curspan_held" ] || curspan_end
 }
-curspan_end() { exit $((128 + $(kill -l "$curspan_ended"))); }
+curspan_end() {
+    curspan_hold
+    exit $((128 + $(kill -l "$curspan_ended")))
+}
 
 # At exit what the script itself wanted then is done after the terminal is given back.
 curspan_at_exit() {
     local status=$?
+    trap '' "${curspan_deadly[@]}"
     curspan_close
     eval "set -- $curspan_at_exit_before"
     [ $# = 0 ] || { (exit "$status"); eval "$3"; }
@@ -67,11 +72,12 @@ curspan_take_terminal() {
 }
 
 # What is written gets some time to be read: with its modes of before, a terminal drops at Ctrl-C what isn't read yet.
-curspan_give_terminal_back() {
+curspan_give_terminal_back() (
+    trap '' INT
     printf %s "$curspan_leave_page" > /dev/tty
     sleep 0.05
     stty "$curspan_modes" < /dev/tty
-} 2> /dev/null
+) 2> /dev/null
 
 # Puts the size of the terminal into `lines` and `columns`. One that doesn't know it has the usual one of its kind.
 curspan_find_size() {
@@ -154,25 +160,26 @@ curspan_open() {
     exec {curspan_told_again}< "$told"
     rm -f "$told"
     curspan_enter_page=$(tput smcup; tput civis) curspan_leave_page=$(tput sgr0; tput cnorm; tput rmcup)
-    curspan_ended='' curspan_held='' curspan_resized='' curspan_lines=${1:-$lines} curspan_columns=${2:-$columns} curspan_full=$#
+    curspan_ended='' curspan_resized='' curspan_lines=${1:-$lines} curspan_columns=${2:-$columns} curspan_full=$#
     curspan_at_exit_before=$(trap -p EXIT) curspan_traps_before=$(trap -p "${curspan_deadly[@]}" PIPE WINCH)
     curspan_owner=$BASHPID
-    trap curspan_at_exit EXIT
+    curspan_hold
     # shellcheck disable=SC2064 # the name is that of the signal
     for signal in "${curspan_deadly[@]}"; do trap "curspan_note_end $signal" "$signal"; done
     trap '' PIPE
     trap 'curspan_resized=yes' WINCH
-    curspan_hold
+    trap curspan_at_exit EXIT
     curspan_take_terminal
     curspan_start
     curspan_release
 }
 
-# What is told of calls is said where the terminal is given back.
+# What is told of calls is said where the terminal is given back. A signal that came meanwhile is sent again.
 curspan_close() {
     local line status=0
     curspan_is_here || return 1
-    trap '' "${curspan_deadly[@]}"
+    curspan_ended=
+    curspan_hold
     curspan_stop
     curspan_unlock_terminal
     curspan_owner=
@@ -182,6 +189,7 @@ curspan_close() {
     trap - EXIT PIPE WINCH "${curspan_deadly[@]}"
     eval "$curspan_traps_before"
     eval "$curspan_at_exit_before"
+    [ -z "$curspan_ended" ] || kill -s "$curspan_ended" "$BASHPID"
     return "$status"
 }
 
@@ -218,26 +226,22 @@ curspan_fail() {
     local said
     said=$(printf '%s\n' "$1" | (curspan_run check) 2> /dev/null | head -n 1)
     curspan_complain "${said:-the program has ended}"
-    curspan_held=
     exit 2
 }
 
 # Makes a call, waits until it is made, and puts what it answered into `curspan_answer`. A second one always answers.
 curspan_make() {
-    local IFS=' ' line
+    local IFS=' ' line=''
     curspan_answer=
     curspan_is_here || return 1
     case $* in *$'\n'*) curspan_complain "a call is one line, and this has more: ${*//$'\n'/ }"; return 1 ;; esac
     curspan_sent=$((curspan_sent + 2))
     curspan_hold
     { printf '%s\ngetyx 0\n' "$*" >&"$curspan_calls"; } 2> /dev/null || curspan_fail "$*"
-    while curspan_read_answer; do
-        case $line in
-            "line $curspan_sent: "*) break ;;
-            "line $((curspan_sent - 1)): "*) curspan_answer=${line#line *: } ;;
-        esac
+    until [ "${line%%: *}" = "line $curspan_sent" ]; do
+        curspan_read_answer || curspan_fail "$*"
+        [ "${line%%: *}" != "line $((curspan_sent - 1))" ] || curspan_answer=${line#line *: }
     done
-    [ -n "$line" ] || curspan_fail "$*"
     curspan_release
     case $curspan_answer in E*) curspan_complain "$* is refused: $curspan_answer" ;; esac
 }
@@ -300,7 +304,7 @@ curspan_read_rest() {
         rest+=$byte
         case $rest in
             '[' | '[[' | O | '['*[0-9\;:\<=\>?\ !-/]) ;;
-            *) break ;;
+            *) return ;;
         esac
     done
 }
@@ -355,7 +359,7 @@ curspan_ask_line() {
         curspan_make move "$1" "$2" "$3" && curspan_text "$1" "$shown" && curspan_show
     do
         # shellcheck disable=SC2119 # it waits as long as it takes
-        curspan_read_key || continue
+        curspan_read_key || true
         case $curspan_key in
             enter) curspan_answer=$text; return 0 ;;
             escape | resize) return 1 ;;

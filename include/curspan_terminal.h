@@ -1,5 +1,5 @@
-/* curspan_terminal.h: terminals for programs over curspan.h, in C99 or C++: modes, keys, sizes, signals, the other page, and colours of the
-   terminal's own. Nothing of it is proved; it is tested over pseudoterminals.
+/* curspan_terminal.h: terminals for programs over curspan.h, in C99 or C++: modes, keys, sizes, signals, the other
+   page, and colours of the terminal's own. Nothing of it is proved; it is tested over pseudoterminals.
 
        curspan_terminal terminal = CURSPAN_TERMINAL_INIT;
        curspan screen = CURSPAN_INIT;
@@ -21,9 +21,9 @@
        curspan_close(&screen);
        curspan_terminal_close(&terminal);
 
-   There may be many at once, each over descriptors of its own. One of them may own the signals. A terminal is used by the thread that opened
-   it. Each call answers a status; where that is neither CURSPAN_TERMINAL_OK nor CURSPAN_TERMINAL_FAILED nothing was sent, and the terminal is
-   as it was. */
+   There may be many at once, each over descriptors of its own. One of them may own the signals. A terminal is used by
+   the thread that opened it. Each call answers a status; where that is neither CURSPAN_TERMINAL_OK nor
+   CURSPAN_TERMINAL_FAILED nothing was sent, and the terminal is as it was. */
 #ifndef CURSPAN_TERMINAL_H
 #define CURSPAN_TERMINAL_H
 
@@ -33,7 +33,7 @@
 extern "C" {
 #endif
 
-/* A terminal. It begins as CURSPAN_TERMINAL_INIT, or as zeros, and is closed then. Never look inside it. It may be moved. */
+/* A terminal, which begins as CURSPAN_TERMINAL_INIT, or as zeros, and closed. Never look inside it. It may be moved. */
 typedef struct curspan_terminal {
     void *at;
 } curspan_terminal;
@@ -52,7 +52,7 @@ enum curspan_terminal_status {
     CURSPAN_TERMINAL_NO_MEMORY = 8,
     CURSPAN_TERMINAL_REFUSED = 9,       /* the screen refused it: it is closed, or has no such pair */
     CURSPAN_TERMINAL_FAILED = 10,       /* the system refused it: errno says why */
-    CURSPAN_TERMINAL_AWAY = 11          /* it was given back meanwhile, so that all is to be drawn: only curspan_terminal_draw answers this */
+    CURSPAN_TERMINAL_AWAY = 11          /* it was given back meanwhile: all is to be drawn (of curspan_terminal_draw) */
 };
 
 /* The words of a status. */
@@ -67,14 +67,14 @@ enum curspan_terminal_options {
     CURSPAN_TERMINAL_USUAL = 30       /* all but raw */
 };
 
-/* Opens the terminal of a file, or where that is NULL the one that controls the process, /dev/tty. Keys come as they are typed and aren't
-   echoed. One that owns the signals is given back, with those that are open beside it, before SIGINT, SIGTERM, SIGQUIT, SIGHUP, SIGSEGV,
-   SIGBUS, SIGFPE, SIGILL or SIGABRT ends the program; before SIGTSTP stops it; and SIGWINCH tells of a new size. Signals that the program
-   has caught or ignores stay so, but faults, whose handlers come after. At exit each that is open is given back. SIGKILL and _exit
-   give nothing back. */
+/* Opens the terminal of a file, or where that is NULL the one that controls the process, /dev/tty. Keys come as they
+   are typed and aren't echoed. One that owns the signals is given back, with those that are open beside it, before
+   SIGINT, SIGTERM, SIGQUIT, SIGHUP, SIGSEGV, SIGBUS, SIGFPE, SIGILL or SIGABRT ends the program; before SIGTSTP stops
+   it; and SIGWINCH tells of a new size. Signals that the program has caught or ignores stay so, but faults, whose
+   handlers come after. At exit each that is open is given back. SIGKILL and _exit give nothing back. */
 uint32_t curspan_terminal_open(curspan_terminal *terminal, const char *path, uint32_t options);
 
-/* The same over descriptors that are open already, and stay so: keys are read from one, and bytes are written to the other. */
+/* The same over descriptors that are open already and stay so: keys are read of `in`, and bytes written to `out`. */
 uint32_t curspan_terminal_use(curspan_terminal *terminal, int in, int out, uint32_t options);
 
 /* Gives the terminal back and frees what it has. In a forked child the terminal is left alone. */
@@ -83,26 +83,28 @@ uint32_t curspan_terminal_close(curspan_terminal *terminal);
 /* The lines and columns of the terminal. One that doesn't know has 24 by 80, and more than 999 are taken as 999. */
 uint32_t curspan_terminal_size(const curspan_terminal *terminal, int *lines, int *columns);
 
-/* Has the screen make its next update, and writes it, also where the terminal was suspended or the program stopped meanwhile: then all is drawn.
-   Bytes that wait in the screen are written with it. */
+/* Has the screen make its next update, and writes it, also where the terminal was suspended or the program stopped
+   meanwhile: then all is drawn. Bytes that wait in the screen are written with it. */
 uint32_t curspan_terminal_show(curspan_terminal *terminal, curspan *screen);
 
-/* Writes bytes that were taken of a screen, with its colours. Where the terminal was given back meanwhile it is taken again, and the bytes are
-   not written: the screen is to be invalidated, and to send all. */
+/* Writes bytes that were taken of a screen, with its colours. Where the terminal was given back meanwhile it is taken
+   again, and the bytes are not written: the screen is to be invalidated, and to send all. */
 uint32_t curspan_terminal_draw(curspan_terminal *terminal, const uint8_t *bytes, size_t length);
 
 /* Writes all of some bytes, as they are. */
 uint32_t curspan_terminal_write(curspan_terminal *terminal, const void *bytes, size_t length);
 
-/* Gives a pair, 1 to 63, of a screen that this terminal shows its colours: 0 to 7, or -1 for the terminal's own. All pairs of such a screen are
-   set so, and none by curspan_init_pair. What has the pair already is shown in the new colours. */
-uint32_t curspan_terminal_init_pair(curspan_terminal *terminal, curspan *screen, uint32_t pair, int foreground, int background);
+/* Gives a pair, 1 to 63, of a screen that this terminal shows its colours: 0 to 7, or -1 for the terminal's own. All
+   pairs of such a screen are set so, and none by curspan_init_pair. What has the pair already is shown in the new
+   colours. */
+uint32_t curspan_terminal_init_pair(curspan_terminal *terminal, curspan *screen, uint32_t pair, int foreground,
+                                    int background);
 
 /* Gives the terminal back for a while, as for another program. The next resume or show takes it again. */
 uint32_t curspan_terminal_suspend(curspan_terminal *terminal);
 uint32_t curspan_terminal_resume(curspan_terminal *terminal);
 
-/* The descriptor of which keys are read. It is ready to be read where a key comes; or -1 where the terminal isn't open. */
+/* The descriptor of which keys are read, ready to be read where one comes; or -1 where the terminal isn't open. */
 int curspan_terminal_descriptor(const curspan_terminal *terminal);
 
 /* Gives each terminal of this process back that is open. A handler of signals may call it. */
@@ -114,7 +116,7 @@ void curspan_terminal_give_back(void);
 typedef struct curspan_key {
     uint32_t code;
     uint32_t modifiers; /* where the terminal sends them */
-    const char *text;   /* of CURSPAN_KEY_PASTE the text, and of others what the terminal sent, up to the next call; not ended by a NUL */
+    const char *text;   /* of CURSPAN_KEY_PASTE the text, else what the terminal sent; until the next call, no NUL */
     size_t length;
 } curspan_key;
 
@@ -152,18 +154,19 @@ enum curspan_key_code {
 
 #define CURSPAN_KEY_F(n) (CURSPAN_KEY_F0 + (n))
 
-/* Waits for a key, for some milliseconds, or without end where they are negative. An escape that nothing follows for a tenth of a second, or for
-   ESCDELAY milliseconds where the environment has that, is the key of its name. */
+/* Waits for a key, for some milliseconds, or without end where they are negative. An escape that nothing follows for a
+   tenth of a second, or for ESCDELAY milliseconds where the environment has that, is the key of its name. */
 uint32_t curspan_terminal_key(curspan_terminal *terminal, int milliseconds, curspan_key *key);
 
-/* Puts the name of a key into `out`, with a NUL, where there is room, and answers its length: the character, or a name such as up, pagedown, f1,
-   ctrl+left, alt+x, shift+tab, none, resize. */
+/* Puts the name of a key into `out`, with a NUL, where there is room, and answers its length: the character, or a name
+   such as up, pagedown, f1, ctrl+left, alt+x, shift+tab, none, resize. */
 size_t curspan_key_name(const curspan_key *key, char *out, size_t room);
 
 /* ---- texts */
 
-/* Puts a text of UTF-8 into `out`, which has room for as many bytes and may be the same, as a window can have it, and answers its length: a
-   letter of Latin script without its mark, and in place of another character a question mark, with a blank where it is wide. */
+/* Puts a text of UTF-8 into `out`, which has room for as many bytes and may be the same, as a window can have it, and
+   answers its length: a letter of Latin script without its mark, and in place of another character a question mark,
+   with a blank where it is wide. */
 size_t curspan_plain_text(const char *text, size_t length, char *out);
 
 #ifdef __cplusplus

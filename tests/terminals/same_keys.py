@@ -1,5 +1,6 @@
-"""Types the keys of tests/c/typed at programs that name them, all at once and cut at each byte, and compares what these name in each language,
-and with the names of the keys that the table of sequences has. The words are the folder of tests, and of each program its command."""
+"""Types what is in tests/c/typed at programs that name keys, cut at each byte, and the keys of terminals also at once, and compares what
+these name in each language, and with the names of the keys that the table of sequences has. The words are the folder of tests, and of each
+program its command."""
 import pathlib
 import re
 import shlex
@@ -66,19 +67,22 @@ def compare(what, answers):
 
 
 good, count = True, 0
-for typed in sorted((TESTS / 'c/typed').glob('keys.*')):
-    kind = typed.suffix[1:]
+for typed in sorted((TESTS / 'c/typed').iterdir()):
+    kind = typed.suffix[1:].replace('profile', 'xterm')
     lines = [it for it in typed.read_text().splitlines() if not it.startswith('#')]
-    whole = [bytes_of(word) for line in lines for word in line.split()]
-    first = bytes_of(lines[0])
-    at_once = [keys_of(command, kind, [first], 0) for command in PROGRAMS]
-    cut = [keys_of(command, kind, [first[i:i + 1] for i in range(len(first))], 0.003) for command in PROGRAMS]
-    good &= compare(f'{kind}, at once', at_once) and compare(f'{kind}, cut at each byte', cut)
-    if at_once[0] != cut[0] or 'unknown' in at_once[0] or 'escape' in at_once[0]:
+    whole = [bytes_of(word).replace(b'\x04', b'') for line in lines for word in line.split() if word[0] != '@']
+    each = [bytes([it]) for it in b''.join(whole)]
+    cut = [keys_of(command, kind, each, 0.003) for command in PROGRAMS]
+    good &= compare(f'{typed.name}, cut at each byte', cut)
+    count += len(cut[0])
+    if typed.stem != 'keys':
+        continue
+    at_once = [keys_of(command, kind, [bytes_of(lines[0])], 0) for command in PROGRAMS]
+    good &= compare(f'{kind}, at once', at_once)
+    if at_once[0] != cut[0][:len(at_once[0])] or 'unknown' in at_once[0] or 'escape' in at_once[0]:
         print(f'keys: {kind}: cut at each byte they are others, or some are unknown: {at_once[0]} and {cut[0]}')
         good = False
     good &= compare(f'{kind}, all that is typed', [keys_of(command, kind, whole, 0.02) for command in PROGRAMS])
-    count += len(at_once[0])
 table = list(sequences())
 named = keys_of(PROGRAMS[0], 'xterm', [it for it, _ in table], 0)
 if named != [it for _, it in table]:

@@ -89,7 +89,25 @@ def resize(terminal):
     terminal.type(b'q')
 
 
+def end_as_it_closes(terminal):
+    terminal.type(b'x')
+    terminal.shows(b'\x1b[?1049l')
+    os.kill(terminal.process, signal.SIGTERM)
+
+
+def has_no_loop_that_drops_signals():
+    """Bash drops one that comes just as break or continue ends a turn of a loop."""
+    with open(f'{SCREEN}/screen.bash', encoding='utf-8') as file:
+        found = re.findall(r'^[^#\n]*\b(?:break|continue)\b', file.read(), re.M)
+    for it in found:
+        print(f'shell: screen.bash: a loop drops signals: {it}')
+    return not found
+
+
 def others():
+    yield has_no_loop_that_drops_signals()
+    yield try_one('a signal while it closes', 'curspan_open || exit\nSHOWN\ncurspan_read_key\ncurspan_close\nsleep 5\n', b'', -signal.SIGTERM, '',
+                  act=end_as_it_closes)
     yield try_one('two in a pipeline', 'curspan_open || exit\nREADY', b'x', 0, 'another script has this terminal',
                   words=['bash', '-c', 'bash "$SCRIPT" | bash "$SCRIPT"; true'])
     yield try_one('a new size', 'curspan_open || exit\nSHOWN\nuntil curspan_read_key && [ "$curspan_key" = q ]; do curspan_resize\n'

@@ -1,5 +1,6 @@
-/* Looks itself at what the calls of curspan_terminal.h do: it is shell and terminal, and programs run in pseudoterminals, one or two, while it
-   types, sends signals, and looks at what they wrote and at the modes that they left. */
+/* Looks itself at what the calls of curspan_terminal.h do: it is shell and terminal, and programs run in
+   pseudoterminals, one or two, while it types, sends signals, and looks at what they wrote and at the modes that they
+   left. */
 #define PART "terminals"
 #include "../pseudoterminal.h"
 
@@ -189,7 +190,8 @@ static void terminal_goes(void) {
     close(master);
     struct pollfd ready = {statuses, POLLIN, 0};
     while (poll(&ready, 1, 3000) > 0 && read(statuses, &status, sizeof status) == sizeof status) continue;
-    want(poll(&ready, 1, 0) > 0, "a terminal that goes", "the program ends, and its shell"); /* nobody has the other end */
+    want(poll(&ready, 1, 0) > 0,
+         "a terminal that goes", "the program ends, and its shell"); /* nobody has the other end */
     master = -1;
     finish(shell);
 }
@@ -211,22 +213,31 @@ static void refuses(void) {
     int ends[2], lines, columns, state;
     setenv("TERM", "dumb", 1);
     make_terminal(24, 80);
-    want(curspan_terminal_use(&terminal, slave, slave, 0) == CURSPAN_TERMINAL_DUMB && is_untouched(), "dumb", "it is refused");
+    want(curspan_terminal_use(&terminal, slave, slave, 0) == CURSPAN_TERMINAL_DUMB && is_untouched(),
+         "dumb", "it is refused");
     setenv("TERM", "xterm", 1);
     if (pipe(ends) != 0) exit(3);
-    want(curspan_terminal_use(&terminal, ends[0], slave, 0) == CURSPAN_TERMINAL_NONE && is_untouched(), "a pipe", "it is refused");
-    want(curspan_terminal_open(&terminal, "/nowhere/at/all", 0) == CURSPAN_TERMINAL_FAILED && errno == ENOENT, "no file", "the system says why");
+    want(curspan_terminal_use(&terminal, ends[0], slave, 0) == CURSPAN_TERMINAL_NONE && is_untouched(),
+         "a pipe", "it is refused");
+    want(curspan_terminal_open(&terminal, "/nowhere/at/all", 0) == CURSPAN_TERMINAL_FAILED && errno == ENOENT,
+         "no file", "the system says why");
     want(curspan_terminal_close(&terminal) == CURSPAN_TERMINAL_CLOSED, "a closed one", "it is closed");
-    want(curspan_terminal_use(&terminal, slave, slave, CURSPAN_TERMINAL_SIGNALS) == CURSPAN_TERMINAL_OK, "a terminal", "it is opened");
+    want(curspan_terminal_use(&terminal, slave, slave, CURSPAN_TERMINAL_SIGNALS) == CURSPAN_TERMINAL_OK,
+         "a terminal", "it is opened");
     want(curspan_terminal_use(&terminal, slave, slave, 0) == CURSPAN_TERMINAL_OPEN, "the same again", "it is refused");
-    want(curspan_terminal_open(&other, ptsname(master), 0) == CURSPAN_TERMINAL_OPEN, "the same by its name", "it is refused");
+    want(curspan_terminal_open(&other, ptsname(master), 0) == CURSPAN_TERMINAL_OPEN,
+         "the same by its name", "it is refused");
     int first = master, first_slave = slave;
     struct termios first_before = before;
     make_terminal(0, 2000);
-    want(curspan_terminal_use(&other, slave, slave, CURSPAN_TERMINAL_SIGNALS) == CURSPAN_TERMINAL_SIGNALS_TAKEN && is_untouched(), "signals", "they are taken");
+    want(curspan_terminal_use(&other, slave, slave, CURSPAN_TERMINAL_SIGNALS) == CURSPAN_TERMINAL_SIGNALS_TAKEN &&
+             is_untouched(),
+         "signals", "they are taken");
     want(curspan_terminal_use(&other, slave, slave, 0) == CURSPAN_TERMINAL_OK, "another one", "it is opened beside");
-    want(curspan_terminal_size(&other, &lines, &columns) == CURSPAN_TERMINAL_OK && lines == 24 && columns == 999, "sizes", "none is 24, and more are 999");
-    want(curspan_terminal_init_pair(&other, &screen, 64, 1, -1) == CURSPAN_TERMINAL_REFUSED, "a pair", "there is no such one");
+    want(curspan_terminal_size(&other, &lines, &columns) == CURSPAN_TERMINAL_OK && lines == 24 && columns == 999,
+         "sizes", "none is 24, and more are 999");
+    want(curspan_terminal_init_pair(&other, &screen, 64, 1, -1) == CURSPAN_TERMINAL_REFUSED,
+         "a pair", "there is no such one");
     pthread_create(&thread, NULL, open_elsewhere, &status);
     pthread_join(thread, NULL);
     want(status == CURSPAN_TERMINAL_OTHER_THREAD, "another thread", "it is refused");
@@ -234,7 +245,8 @@ static void refuses(void) {
     pid_t child = fork();
     if (child == 0) {
         curspan_key key;
-        bool is_refused = curspan_terminal_key(&terminal, 0, &key) == CURSPAN_TERMINAL_FORKED && curspan_terminal_close(&terminal) == CURSPAN_TERMINAL_FORKED;
+        bool is_refused = curspan_terminal_key(&terminal, 0, &key) == CURSPAN_TERMINAL_FORKED &&
+                          curspan_terminal_close(&terminal) == CURSPAN_TERMINAL_FORKED;
         exit(is_refused ? 0 : 1);
     }
     waitpid(child, &state, 0);
@@ -243,8 +255,10 @@ static void refuses(void) {
     drop_terminal();
     master = first, slave = first_slave, before = first_before;
     want(curspan_terminal_use(&third, ends[0], ends[1], 0) == CURSPAN_TERMINAL_NONE, "two pipes", "they are refused");
-    want(curspan_terminal_close(&terminal) == CURSPAN_TERMINAL_OK && has_modes_again(), "a terminal", "it is given back");
-    for (uint32_t i = 0; i <= CURSPAN_TERMINAL_FAILED; i++) want(strlen(curspan_terminal_text(i)) > 3, "a status", "it has words");
+    want(curspan_terminal_close(&terminal) == CURSPAN_TERMINAL_OK && has_modes_again(),
+         "a terminal", "it is given back");
+    for (uint32_t i = 0; i <= CURSPAN_TERMINAL_FAILED; i++)
+        want(strlen(curspan_terminal_text(i)) > 3, "a status", "it has words");
     drop_terminal();
     close(ends[0]);
     close(ends[1]);
@@ -269,7 +283,8 @@ static void two_at_once(void) {
         make_terminal(10 + i, 40 + i);
         masters[i] = master;
         slaves[i] = slave;
-        want(curspan_terminal_use(&both[i], slave, slave, CURSPAN_TERMINAL_PAGE) == CURSPAN_TERMINAL_OK, "two at once", "each is opened");
+        want(curspan_terminal_use(&both[i], slave, slave, CURSPAN_TERMINAL_PAGE) == CURSPAN_TERMINAL_OK,
+             "two at once", "each is opened");
         curspan_open(&screens[i], (uint32_t)(10 + i), (uint32_t)(40 + i));
         curspan_terminal_init_pair(&both[i], &screens[i], 1, 1 + i, -1);
         curspan_wcolor_set(&screens[i], 0, 1);
@@ -278,9 +293,13 @@ static void two_at_once(void) {
         want(curspan_terminal_show(&both[i], &screens[i]) == CURSPAN_TERMINAL_OK, "two at once", "each is shown");
     }
     want(write(masters[0], "a", 1) == 1 && write(masters[1], "\033[1;5C", 6) == 6, "two at once", "keys are typed");
-    want(curspan_terminal_key(&both[1], 2000, &key) == CURSPAN_TERMINAL_OK && key.code == CURSPAN_KEY_RIGHT && key.modifiers == CURSPAN_CTRL, "two at once", "the other reads its key");
-    want(curspan_terminal_key(&both[0], 2000, &key) == CURSPAN_TERMINAL_OK && key.code == 'a' && key.length == 1, "two at once", "the first reads its key");
-    want(got(masters[0], ";31;49mthe first"), "two at once", "the first shows its screen, on the background of the terminal");
+    want(curspan_terminal_key(&both[1], 2000, &key) == CURSPAN_TERMINAL_OK && key.code == CURSPAN_KEY_RIGHT &&
+             key.modifiers == CURSPAN_CTRL,
+         "two at once", "the other reads its key");
+    want(curspan_terminal_key(&both[0], 2000, &key) == CURSPAN_TERMINAL_OK && key.code == 'a' && key.length == 1,
+         "two at once", "the first reads its key");
+    want(got(masters[0], ";31;49mthe first"),
+         "two at once", "the first shows its screen, on the background of the terminal");
     want(got(masters[1], ";32;49mthe other"), "two at once", "the other shows its own");
     curspan_terminal_init_pair(&both[0], &screens[0], 1, -1, 4);
     curspan_terminal_show(&both[0], &screens[0]);
@@ -312,7 +331,8 @@ static void slow_terminal(void) {
     fcntl(slave, F_SETFL, fcntl(slave, F_GETFL) | O_NONBLOCK);
     want(curspan_terminal_use(&terminal, slave, slave, 0) == CURSPAN_TERMINAL_OK, "a slow terminal", "it is opened");
     pthread_create(&reader, NULL, read_slowly, NULL);
-    want(curspan_terminal_write(&terminal, text, sizeof text) == CURSPAN_TERMINAL_OK, "a slow terminal", "all is written");
+    want(curspan_terminal_write(&terminal, text, sizeof text) == CURSPAN_TERMINAL_OK,
+         "a slow terminal", "all is written");
     pthread_join(reader, NULL);
     curspan_terminal_close(&terminal);
     drop_terminal();
@@ -342,10 +362,12 @@ int main(void) {
     faults_end_it();
     stop_it();
     types("Ctrl-C in raw mode", wait_raw, "\003", "<ctrl+c>");
-    types("keys", wait_for_keys, "a\303\251\r\t\177\033[A\033[1;5D\033[1;2P\033OS\033[3~\033x", "<a><\303\251><enter><tab><backspace><up><ctrl+left><shift+f1><f4><delete><alt+x>");
+    types("keys", wait_for_keys, "a\303\251\r\t\177\033[A\033[1;5D\033[1;2P\033OS\033[3~\033x",
+          "<a><\303\251><enter><tab><backspace><up><ctrl+left><shift+f1><f4><delete><alt+x>");
     types("an escape", wait_for_keys, "\033", "<escape>");
     types("what is no key", wait_for_keys, "\033[9zx\377", "<unknown><x><\357\277\275>");
-    types("a text that is pasted", wait_for_keys, "\033[200~two\rlines\033[A\033[201~x", "<pastetwo\r\nlines\033[A><x>");
+    types("a text that is pasted", wait_for_keys, "\033[200~two\rlines\033[A\033[201~x",
+          "<pastetwo\r\nlines\033[A><x>");
     types("suspend", suspend_it, "x", "<x>");
     sizes_change();
     terminal_goes();
