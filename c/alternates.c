@@ -13,9 +13,10 @@ bool curspan_has_alternates;
 static const struct {
     const char *type, *letters;
 } sets[] = {
-    {"screen", OF_SCREENS}, {"tmux", OF_SCREENS}, {"xterm", OF_VT100}, {"rxvt", OF_RXVT},       {"vt1", OF_VT100},   {"vt2", OF_VT100},
-    {"vt3", OF_VT100},      {"vt4", OF_VT100},    {"gnome", OF_VT100}, {"konsole", OF_VT100},   {"kitty", OF_VT100}, {"foot", OF_VT100},
-    {"putty", OF_VT100},    {"st-", OF_VT100},    {"Eterm", OF_VT100}, {"alacritty", OF_VT100},
+    {"screen", OF_SCREENS}, {"tmux", OF_SCREENS}, {"xterm", OF_VT100}, {"rxvt", OF_RXVT}, {"vt1", OF_VT100},
+    {"vt2", OF_VT100}, {"vt3", OF_VT100}, {"vt4", OF_VT100}, {"gnome", OF_VT100}, {"konsole", OF_VT100},
+    {"kitty", OF_VT100}, {"foot", OF_VT100}, {"putty", OF_VT100}, {"st-", OF_VT100}, {"Eterm", OF_VT100},
+    {"alacritty", OF_VT100},
 };
 
 /* X/Open's character for a letter that is none, and for capitals those of ncurses' thick and double lines. */

@@ -25,13 +25,18 @@ int wgetscrreg(const WINDOW *win, int *top, int *bottom) {
 }
 
 attr_t getattrs(const WINDOW *win) { return is_there(win) == OK ? win->attrs : A_NORMAL; }
-int use_window(WINDOW *win, NCURSES_WINDOW_CB call, void *argument) { return is_there(win) == OK && call ? call(win, argument) : ERR; }
+int use_window(WINDOW *win, NCURSES_WINDOW_CB call, void *argument) {
+    return is_there(win) == OK && call ? call(win, argument) : ERR;
+}
 
 /* ---- the terminal */
 
 bool has_ic(void) { return stdscr != NULL; }
 bool has_il(void) { return stdscr != NULL; }
-chtype termattrs(void) { return stdscr ? A_BOLD | A_DIM | A_UNDERLINE | A_BLINK | A_REVERSE | A_INVIS | A_COLOR | (curspan_has_alternates ? A_ALTCHARSET : A_NORMAL) : A_NORMAL; }
+chtype termattrs(void) {
+    chtype all = A_BOLD | A_DIM | A_UNDERLINE | A_BLINK | A_REVERSE | A_INVIS | A_COLOR;
+    return !stdscr ? A_NORMAL : curspan_has_alternates ? all | A_ALTCHARSET : all;
+}
 const char *curses_version(void) { return "curspan " CURSPAN_VERSION; }
 
 SCREEN *set_term(SCREEN *screen) { return stdscr && screen == (SCREEN *)&curspan_the_screen ? screen : NULL; }

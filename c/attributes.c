@@ -15,7 +15,9 @@ static attr_t without(attr_t attrs, attr_t less) {
     return attrs & ~less;
 }
 
-int wattron(WINDOW *win, int attrs) { return is_there(win) == ERR ? ERR : wattrset(win, (int)curspan_with(win->attrs, (attr_t)attrs)); }
+int wattron(WINDOW *win, int attrs) {
+    return is_there(win) == ERR ? ERR : wattrset(win, (int)curspan_with(win->attrs, (attr_t)attrs));
+}
 
 int wattroff(WINDOW *win, int attrs) {
     return is_there(win) == ERR ? ERR : wattrset(win, (int)without(win->attrs, (attr_t)attrs));
@@ -33,9 +35,11 @@ int wattr_get(WINDOW *win, attr_t *attrs, short *pair, void *none) {
     return OK;
 }
 
-int wcolor_set(WINDOW *win, short pair, void *none) { return is_there(win) == ERR ? ERR : wattr_set(win, win->attrs, pair, none); }
+int wcolor_set(WINDOW *win, short pair, void *none) {
+    return is_there(win) == ERR ? ERR : wattr_set(win, win->attrs, pair, none);
+}
 
-/* Sets the pair of some attributes. An alternate character has a pair of its own where it takes that of the background too. */
+/* Sets the pair of some attributes. An alternate character has one of its own where it takes that of the background. */
 static int set_pair(WINDOW *win, attr_t attrs) {
     if (attrs & A_ALTCHARSET && !(attrs & A_COLOR)) attrs |= win->background & A_COLOR;
     return done(curspan_wcolor_set(SCREEN_AND(win), (uint16_t)curspan_use_pair(attrs)));

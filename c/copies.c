@@ -26,27 +26,26 @@ static bool has_rectangle(const WINDOW *win, int y, int x, int lines, int column
 }
 
 static int lay(WINDOW *from, int from_y, int from_x, WINDOW *to, int top, int left, int lines, int columns) {
-    if (!has_rectangle(from, from_y, from_x, lines, columns) || !has_rectangle(to, top, left, lines, columns)) return ERR;
+    bool have_it = has_rectangle(from, from_y, from_x, lines, columns) && has_rectangle(to, top, left, lines, columns);
+    if (!have_it) return ERR;
     for (int i = 0; i <= lines; i++)
         if (lay_line(from, from_y + i, from_x, to, top + i, left, columns + 1) == ERR) return ERR;
     return OK;
 }
 
-static int copy(const WINDOW *from, WINDOW *to, int from_y, int from_x, int to_top, int to_left, int to_bottom, int to_right,
-                bool overlays) {
+static int copy(const WINDOW *from, WINDOW *to, int y, int x, int top, int left, int bottom, int right, bool overlays) {
     if (overlays && to->background & A_ATTRIBUTES)
-        return lay((WINDOW *)from, from_y, from_x, to, to_top, to_left, to_bottom - to_top, to_right - to_left);
-    return done(curspan_copywin(SCREEN_AND(from), to->number, (uint16_t)from_y, (uint16_t)from_x, (uint16_t)to_top, (uint16_t)to_left,
-                                (uint16_t)to_bottom, (uint16_t)to_right, overlays));
+        return lay((WINDOW *)from, y, x, to, top, left, bottom - top, right - left);
+    return done(curspan_copywin(SCREEN_AND(from), to->number, (uint16_t)y, (uint16_t)x, (uint16_t)top, (uint16_t)left,
+                                (uint16_t)bottom, (uint16_t)right, overlays));
 }
 
 /* As over ncurses, all of the lines that are copied to is touched. */
-int copywin(const WINDOW *from, WINDOW *to, int from_y, int from_x, int to_top, int to_left, int to_bottom, int to_right,
-            int overlays) {
+int copywin(const WINDOW *from, WINDOW *to, int y, int x, int top, int left, int bottom, int right, int overlays) {
     if (is_there(from) == ERR || is_there(to) == ERR) return ERR;
-    if (!are_numbers(from_y, from_x, to_top, to_left) || !are_numbers(to_bottom, to_right, 0, 0)) return ERR;
-    if (copy(from, to, from_y, from_x, to_top, to_left, to_bottom, to_right, overlays != 0) == ERR) return ERR;
-    return touchline(to, to_top, to_bottom - to_top + 1);
+    if (!are_numbers(y, x, top, left) || !are_numbers(bottom, right, 0, 0)) return ERR;
+    if (copy(from, to, y, x, top, left, bottom, right, overlays != 0) == ERR) return ERR;
+    return touchline(to, top, bottom - top + 1);
 }
 
 bool curspan_find_common(const WINDOW *from, const WINDOW *to, curspan_common *common) {
@@ -61,7 +60,8 @@ bool curspan_find_common(const WINDOW *from, const WINDOW *to, curspan_common *c
 static int copy_common(const WINDOW *from, WINDOW *to, bool overlays) {
     curspan_common of;
     if (!curspan_find_common(from, to, &of)) return ERR;
-    return copywin(from, to, of.from_y, of.from_x, of.to_y, of.to_x, of.to_y + of.lines - 1, of.to_x + of.columns - 1, overlays);
+    int bottom = of.to_y + of.lines - 1, right = of.to_x + of.columns - 1;
+    return copywin(from, to, of.from_y, of.from_x, of.to_y, of.to_x, bottom, right, overlays);
 }
 
 int overlay(const WINDOW *from, WINDOW *to) { return copy_common(from, to, true); }

@@ -20,13 +20,13 @@ static int draw(WINDOW *win, int y, int x, int n, chtype ch, bool down) {
 }
 
 int whline(WINDOW *win, chtype ch, int n) {
-    int y = getcury(win), x = getcurx(win);
-    return y == ERR ? ERR : curspan_changed(win, draw(win, y, x, least(n, getmaxx(win) - x), drawn(ch, ACS_HLINE), false));
+    int y = getcury(win), x = getcurx(win), count = least(n, getmaxx(win) - x);
+    return y == ERR ? ERR : curspan_changed(win, draw(win, y, x, count, drawn(ch, ACS_HLINE), false));
 }
 
 int wvline(WINDOW *win, chtype ch, int n) {
-    int y = getcury(win), x = getcurx(win);
-    return y == ERR ? ERR : curspan_changed(win, draw(win, y, x, least(n, getmaxy(win) - y), drawn(ch, ACS_VLINE), true));
+    int y = getcury(win), x = getcurx(win), count = least(n, getmaxy(win) - y);
+    return y == ERR ? ERR : curspan_changed(win, draw(win, y, x, count, drawn(ch, ACS_VLINE), true));
 }
 
 int wborder(WINDOW *win, chtype left, chtype right, chtype top, chtype bottom, chtype top_left, chtype top_right,
@@ -48,6 +48,7 @@ int wchgat(WINDOW *win, int n, attr_t attrs, short pair, const void *none) {
     int y = getcury(win), x = getcurx(win);
     if (y == ERR || none || pair < 0 || pair > LAST_PAIR) return ERR;
     int count = n < -1 ? 0 : curspan_read_cells(win, y, x, cells, n);
-    for (int i = 0; i < count; i++) cells[i] = (cells[i] & A_CHARTEXT) | (attrs & A_ATTRIBUTES & ~A_COLOR) | COLOR_PAIR(pair);
+    attrs = (attrs & A_ATTRIBUTES & ~A_COLOR) | COLOR_PAIR(pair);
+    for (int i = 0; i < count; i++) cells[i] = (cells[i] & A_CHARTEXT) | attrs;
     return curspan_changed(win, curspan_put_cells(win, y, x, cells, count));
 }

@@ -33,7 +33,8 @@ static int insert_row(WINDOW *win, row *row, bool has_attributes) {
     bool is_other = has_attributes && (win->background & A_CHARTEXT) != ' ';
     int answer = OK;
     if (is_other) curspan_set_background(win, (win->background & A_ATTRIBUTES) | ' ');
-    for (int at = row->to; at > row->from && answer == OK;) answer = done(curspan_winsch(SCREEN_AND(win), (uint8_t)row->text[--at]));
+    for (int at = row->to; at > row->from && answer == OK;)
+        answer = done(curspan_winsch(SCREEN_AND(win), (uint8_t)row->text[--at]));
     if (is_other) curspan_set_background(win, win->background);
     if (answer == ERR || row->to == row->from) return answer;
     win->reach = UNKNOWN;
@@ -57,7 +58,8 @@ static int insert(WINDOW *win, const uint8_t *text, size_t length, bool has_attr
     for (size_t i = 0; i < length && answer == OK;) {
         int from = is_behind ? columns : getcurx(win);
         row row = {.from = from, .to = from, .columns = columns};
-        for (; i < length && (win->begun.count > 0 || !moves_cursor(text[i])); i++) append_byte(&row, &win->begun, text[i]);
+        for (; i < length && (win->begun.count > 0 || !moves_cursor(text[i])); i++)
+            append_byte(&row, &win->begun, text[i]);
         answer = insert_row(win, &row, has_attributes);
         if (i == length) break;
         is_behind = stays_behind(win, &row, text[i++]);
@@ -112,7 +114,9 @@ int wclear(WINDOW *win) {
 }
 
 /* A character that was just written in the last place isn't to the right of the cursor, which stayed on it. */
-int wclrtoeol(WINDOW *win) { return win && win->reach == ENDED ? ERR : curspan_changed(win, done(curspan_wclrtoeol(SCREEN_AND(win)))); }
+int wclrtoeol(WINDOW *win) {
+    return win && win->reach == ENDED ? ERR : curspan_changed(win, done(curspan_wclrtoeol(SCREEN_AND(win))));
+}
 int wclrtobot(WINDOW *win) { return curspan_changed(win, done(curspan_wclrtobot(SCREEN_AND(win)))); }
 
 int wscrl(WINDOW *win, int n) {

@@ -1,4 +1,4 @@
-/* Keys as getch answers them: what was typed and not read, how long getch waits, and what it shows. Nothing here is proved. */
+/* Keys as getch answers them: what isn't read yet, how long getch waits, and what it shows. Nothing here is proved. */
 #include "inside.h"
 #include "terminal.h"
 
@@ -145,7 +145,8 @@ int wgetch(WINDOW *win) {
     curspan_redraw_after_stop();
     if (curspan_was_resized()) curspan_resize_to_terminal(true);
     if (queue.count == 0 && reads_lines() && !queue.is_reading_line) return key_of_line(win);
-    if (queue.keys == 0 && win->keypad != (curspan_the_tty.is_keypad != 0)) curspan_switch_keypad(&curspan_the_tty, win->keypad);
+    bool has_keypad = curspan_the_tty.is_keypad != 0;
+    if (queue.keys == 0 && win->keypad != has_keypad) curspan_switch_keypad(&curspan_the_tty, win->keypad);
     if (!is_pad(win) && (win->moved || is_wintouched(win))) wrefresh(win);
     if (queue.keys > 0) return pull();
     int key = next_key(win);

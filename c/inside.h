@@ -203,7 +203,7 @@ bool curspan_find_common(const WINDOW *from, const WINDOW *to, curspan_common *c
 /* Touches a rectangle of a window of a screen, where it has it. */
 void curspan_touch_cells(curspan *screen, uint16_t win, int y, int x, int lines, int columns);
 
-/* A window was refreshed that the picture of panels doesn't have, so that panels go on by what is touched; see panel.c. */
+/* A window was refreshed that the picture of panels doesn't have, so that they go by what is touched; see panel.c. */
 extern bool curspan_is_mixed;
 void curspan_note_refreshed(const WINDOW *win);
 

@@ -66,7 +66,7 @@ int keyok(int key, bool flag) {
     return answer;
 }
 
-/* The key that getch answers as soon as it has read some bytes, 0 where they begin none, and ERR where it would read on. */
+/* The key that getch answers once it has read some bytes, 0 where they begin none, and ERR where it would read on. */
 int key_defined(const char *sequence) {
     int key = 0;
     if (!stdscr || !sequence) return ERR;

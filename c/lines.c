@@ -61,7 +61,8 @@ int wgetnstr(WINDOW *win, char *text, int n) {
     struct curspan_modes modes;
     struct termios before;
     if (is_there(win) == ERR || !text) return ERR;
-    struct line line = {win, text, 0, n < 0 ? LONGEST_LINE : least(n, LONGEST_LINE), getcury(win), getcurx(win), curspan_modes.echo};
+    int room = n < 0 ? LONGEST_LINE : least(n, LONGEST_LINE);
+    struct line line = {win, text, 0, room, getcury(win), getcurx(win), curspan_modes.echo};
     curspan_begin_raw(&modes, &before);
     if (win->moved || is_wintouched(win)) wrefresh(win);
     int key = wgetch(win);

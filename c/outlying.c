@@ -18,7 +18,8 @@ int curspan_show_cursor(int y, int x) {
 }
 
 int curspan_show_outlying(WINDOW *win) {
-    int lines = least(getmaxy(win), curspan_lines() - win->begin_y), right = least(win->begin_x + getmaxx(win), curspan_columns()) - 1;
+    int lines = least(getmaxy(win), curspan_lines() - win->begin_y);
+    int right = least(win->begin_x + getmaxx(win), curspan_columns()) - 1;
     for (int y = 0; y < lines && right >= win->begin_x; y++) {
         uint16_t line = (uint16_t)(win->begin_y + y);
         if (is_linetouched(win, y) || is_cleared(win))

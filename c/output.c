@@ -21,7 +21,8 @@ static int update(void) {
     curspan_answer answer = curspan_doupdate(&curspan_the_screen);
     curscr->begin_y = curspan_shown_y;
     curscr->begin_x = curspan_shown_x;
-    return curspan_hand_on(&curspan_the_tty, &curspan_the_screen, curspan_palette_now(), &outgoing) ? done(answer) : ERR;
+    bool is_sent = curspan_hand_on(&curspan_the_tty, &curspan_the_screen, curspan_palette_now(), &outgoing);
+    return is_sent ? done(answer) : ERR;
 }
 
 int doupdate(void) {

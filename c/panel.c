@@ -2,7 +2,7 @@
 #include "inside.h"
 #include "panel.h"
 
-/* What curspan.h doesn't keep of a panel; and its window, so that each update_panels asks about those alone whose cursor was moved. */
+/* What curspan.h doesn't keep of a panel; and its window, so that update_panels asks only where a cursor was moved. */
 struct curspan_panel {
     uint16_t number; /* 0 where it isn't there */
     uint16_t next;   /* its number in the screen that will be */
@@ -49,8 +49,8 @@ PANEL *new_panel(WINDOW *win) {
 
 /* ---- panels beside windows that are refreshed
 
-   Where a program refreshes a window that the picture of panels doesn't have, or a pad, panels go on from there by what is touched, as
-   ncurses' do: what it showed stays where nothing of them is touched. */
+   Where a program refreshes a window that the picture of panels doesn't have, or a pad, panels go on from there by what
+   is touched, as ncurses' do: what it showed stays where nothing of them is touched. */
 
 bool curspan_is_mixed;
 
@@ -63,7 +63,7 @@ static struct {
 } left[MOST_LEFT];
 static int count;
 
-/* Whether the picture of panels has a window: one in a visible panel, the standard screen, or one that derives from these. */
+/* Whether the picture of panels has a window: one in a visible panel, the standard screen, or one from these. */
 static bool is_in_picture(const WINDOW *win) {
     while (is_subwin(win)) win = wgetparent(win);
     uint32_t panel = curspan_window_panel(SCREEN_AND(win)).first;
@@ -76,7 +76,7 @@ static void touch_common(WINDOW *touched, WINDOW *win) {
     if (!curspan_find_common(touched, win, &of)) return;
     for (int from = 0, to; from < of.lines; from = to + 1) {
         for (to = from; to < of.lines && is_linetouched(touched, of.from_y + to); to++) continue;
-        if (to > from) curspan_touch_cells(&curspan_the_screen, win->number, of.to_y + from, of.to_x, to - from, of.columns);
+        if (to > from) curspan_touch_cells(SCREEN_AND(win), of.to_y + from, of.to_x, to - from, of.columns);
     }
 }
 
@@ -119,7 +119,7 @@ static void note_left(PANEL *panel) {
     left[count++].columns = panel->win->columns;
 }
 
-/* Touches what a visible panel covers, before it goes from there. It stays where it is first from an end of the order, if it would go there. */
+/* Touches what a visible panel covers, before it goes. The first from an end of the order that it would go to stays. */
 static void uncover(PANEL *panel, PANEL *(*first)(const PANEL *)) {
     if (panel_hidden(panel) != FALSE || (first && first(NULL) == panel)) return;
     if (curspan_is_mixed) touch_all(panel->win);
@@ -192,9 +192,9 @@ const void *panel_userptr(const PANEL *panel) { return panel_hidden(panel) == ER
 
 /* Puts a standard screen of another size than the screen's where update_panels takes it from. */
 static void put_standard(void) {
-    uint16_t lines = (uint16_t)(least(getmaxy(stdscr), curspan_lines()) - 1), columns = (uint16_t)(least(getmaxx(stdscr), curspan_columns()) - 1);
+    int lines = least(getmaxy(stdscr), curspan_lines()), columns = least(getmaxx(stdscr), curspan_columns());
     curspan_werase(&curspan_the_screen, 0);
-    curspan_copywin(SCREEN_AND(stdscr), 0, 0, 0, 0, 0, lines, columns, false);
+    curspan_copywin(SCREEN_AND(stdscr), 0, 0, 0, 0, 0, (uint16_t)(lines - 1), (uint16_t)(columns - 1), false);
 }
 
 /* Takes the whole picture of the standard screen and the panels. */
@@ -226,7 +226,9 @@ void curspan_forget_panels(void) {
 }
 
 /* The panel after one by their numbers, the first after none, and NULL after the last. */
-static PANEL *next_panel(const PANEL *panel) { return panel_of(curspan_next_panel(&curspan_the_screen, panel ? panel->number : 0)); }
+static PANEL *next_panel(const PANEL *panel) {
+    return panel_of(curspan_next_panel(&curspan_the_screen, panel ? panel->number : 0));
+}
 
 /* Puts the visible panels into their order, and hides the others. All are visible before. */
 static void order_panels(curspan *screen) {

@@ -5,7 +5,7 @@
 enum { EIGHT = 8, SHORTEST = 9 /* what comes before the end of a selection that has colours */ };
 
 void curspan_number_pairs(curspan *screen) {
-    for (int own = 1; own < OWN_PAIRS; own++) curspan_init_pair(screen, (uint16_t)own, (uint16_t)(own / EIGHT), (uint16_t)(own % EIGHT));
+    for (uint32_t own = 1; own < OWN_PAIRS; own++) curspan_init_pair(screen, own, own / EIGHT, own % EIGHT);
 }
 
 static uint8_t digit_of(int colour) { return (uint8_t)('0' + (colour == OWN_COLOUR ? 9 : colour)); }
@@ -22,7 +22,7 @@ static uint8_t *switch_to(struct curspan_palette *palette, uint8_t *out, bool fl
     return append(out, flag ? "\033(0" : CURSPAN_PLAIN_SET, 3);
 }
 
-/* Appends a selection of a rendition with the colours that its pair has for the program: it ends as 3f;4bm where it has one. */
+/* Appends a selection of a rendition with the program's colours of its pair: it ends as 3f;4bm where it has one. */
 static uint8_t *append_selection(struct curspan_palette *palette, uint8_t *out, const uint8_t *bytes, size_t length) {
     const uint8_t *end = bytes + length - 1;
     bool has_colours = length > SHORTEST && end[-6] == ';' && end[-5] == '3' && end[-3] == ';' && end[-2] == '4';
@@ -47,7 +47,8 @@ size_t curspan_recolour(struct curspan_palette *palette, const uint8_t *bytes, s
     while (palette->changes && bytes < last && (begin = memchr(bytes, '\033', (size_t)(last - bytes)))) {
         end = end_of(begin, last);
         to = append(to, bytes, (size_t)(begin - bytes));
-        to = end[-1] == 'm' ? append_selection(palette, to, begin, (size_t)(end - begin)) : append(to, begin, (size_t)(end - begin));
+        size_t size = (size_t)(end - begin);
+        to = end[-1] == 'm' ? append_selection(palette, to, begin, size) : append(to, begin, size);
         bytes = end;
     }
     return (size_t)(append(to, bytes, (size_t)(last - bytes)) - out);
@@ -55,18 +56,19 @@ size_t curspan_recolour(struct curspan_palette *palette, const uint8_t *bytes, s
 
 /* Takes what the screen sent. Where there is no memory for it, it stays there for the next time. */
 static bool take(curspan *screen, struct curspan_outgoing *all, size_t *length) {
-    uint8_t none;
-    while ((*length = curspan_take(screen, all->room > 0 ? all->bytes + CURSPAN_RECOLOURED * all->room : &none, all->room)) > all->room) {
+    for (uint8_t none;;) {
+        uint8_t *to = all->room > 0 ? all->bytes + CURSPAN_RECOLOURED * all->room : &none;
+        if ((*length = curspan_take(screen, to, all->room)) <= all->room) return true;
         uint8_t *more = realloc(all->bytes, (CURSPAN_RECOLOURED + 1) * *length);
         if (!more) return false;
         all->bytes = more;
         all->room = *length;
     }
-    return true;
 }
 
-/* Where the bytes can't be written the terminal may draw with either set, and the next doupdate clears it and sends all. */
-bool curspan_hand_on(const struct curspan_tty *tty, curspan *screen, struct curspan_palette *palette, struct curspan_outgoing *outgoing) {
+/* Where the bytes can't be written the terminal may draw with either set, and the next doupdate clears it. */
+bool curspan_hand_on(const struct curspan_tty *tty, curspan *screen, struct curspan_palette *palette,
+                     struct curspan_outgoing *outgoing) {
     size_t length;
     if (!take(screen, outgoing, &length)) return false;
     length = curspan_recolour(palette, outgoing->bytes + CURSPAN_RECOLOURED * outgoing->room, length, outgoing->bytes);

@@ -14,13 +14,16 @@ int wtouchln(WINDOW *win, int y, int n, int changed) {
 }
 
 int touchline(WINDOW *win, int y, int n) { return wtouchln(win, y, n, TRUE); }
-bool is_linetouched(WINDOW *win, int y) { return is_number(y) && first_of(curspan_is_linetouched(SCREEN_AND(win), (uint16_t)y)) == 1; }
+bool is_linetouched(WINDOW *win, int y) {
+    return is_number(y) && first_of(curspan_is_linetouched(SCREEN_AND(win), (uint16_t)y)) == 1;
+}
+
 bool is_wintouched(WINDOW *win) { return first_of(curspan_is_wintouched(SCREEN_AND(win))) == 1; }
 
 /* A copy of cells to where they are touches them. */
 void curspan_touch_cells(curspan *screen, uint16_t win, int y, int x, int lines, int columns) {
-    uint32_t top = (uint32_t)y, left = (uint32_t)x;
-    curspan_copywin(screen, win, win, top, left, top, left, top + (uint32_t)lines - 1, left + (uint32_t)columns - 1, false);
+    uint32_t top = (uint32_t)y, left = (uint32_t)x, bottom = top + (uint32_t)lines - 1;
+    curspan_copywin(screen, win, win, top, left, top, left, bottom, left + (uint32_t)columns - 1, false);
 }
 
 void wsyncup(WINDOW *win) { curspan_wsyncup(SCREEN_AND(win)); }
@@ -34,7 +37,8 @@ void wsyncdown(WINDOW *win) {
 }
 
 void wcursyncup(WINDOW *win) {
-    for (WINDOW *parent; (parent = wgetparent(win)); win = parent) wmove(parent, getcury(win) + getpary(win), getcurx(win) + getparx(win));
+    for (WINDOW *parent; (parent = wgetparent(win)); win = parent)
+        wmove(parent, getcury(win) + getpary(win), getcurx(win) + getparx(win));
 }
 
 /* ---- refresh */
@@ -56,14 +60,15 @@ static int show_cursor_of(const WINDOW *pad) {
 /* The part of the screen ends where the pad does, as over ncurses. */
 int pnoutrefresh(WINDOW *pad, int pad_y, int pad_x, int top, int left, int bottom, int right) {
     int part[6] = {most(pad_y, 0), most(pad_x, 0), most(top, 0), most(left, 0), bottom, right};
-    if (!is_pad(pad) || !are_numbers(part[0], part[1], part[2], part[3]) || !are_numbers(bottom, right, 0, 0)) return ERR;
+    uint32_t from_y = (uint32_t)part[0], from_x = (uint32_t)part[1], y = (uint32_t)part[2], x = (uint32_t)part[3];
+    if (!is_pad(pad) || !are_numbers(part[0], part[1], part[2], part[3]) || !are_numbers(bottom, right, 0, 0))
+        return ERR;
     bottom = least(bottom, part[2] + getmaxy(pad) - 1 - part[0]);
     right = least(right, part[3] + getmaxx(pad) - 1 - part[1]);
     if (bottom < 0 || right < 0) return ERR;
     if (!curspan_is_mixed) curspan_note_refreshed(pad);
-    if (done(curspan_pnoutrefresh(SCREEN_AND(pad), (uint16_t)part[0], (uint16_t)part[1], (uint16_t)part[2], (uint16_t)part[3],
-                                  (uint16_t)bottom, (uint16_t)right)) == ERR)
-        return ERR;
+    uint32_t last_y = (uint32_t)bottom, last_x = (uint32_t)right;
+    if (done(curspan_pnoutrefresh(SCREEN_AND(pad), from_y, from_x, y, x, last_y, last_x)) == ERR) return ERR;
     memcpy(pad->part, part, sizeof part);
     pad->begin_y = part[2];
     pad->begin_x = part[3];
@@ -77,9 +82,10 @@ int wnoutrefresh(WINDOW *win) {
     if (is_pad(win)) return pnoutrefresh(win, part[0], part[1], part[2], part[3], part[4], part[5]);
     if (!curspan_is_mixed && win != stdscr) curspan_note_refreshed(win);
     wsyncdown(win);
-    if ((win && win->outlies ? curspan_show_outlying(win) : done(curspan_wnoutrefresh(SCREEN_AND(win)))) == ERR) return ERR;
+    bool outlies = win && win->outlies;
+    if ((outlies ? curspan_show_outlying(win) : done(curspan_wnoutrefresh(SCREEN_AND(win)))) == ERR) return ERR;
     win->moved = false;
-    if (!win->outlies) curspan_note_cursor(win);
+    if (!outlies) curspan_note_cursor(win);
     return OK;
 }
 

@@ -113,11 +113,13 @@ static uint16_t parent_of(const struct shape *shape) {
 
 static curspan_answer make(const WINDOW *win) {
     const struct shape *shape = &remake.shapes[place_of(win)];
-    uint16_t lines = (uint16_t)shape->lines, columns = (uint16_t)shape->columns, y = (uint16_t)shape->y, x = (uint16_t)shape->x;
+    uint32_t lines = (uint32_t)shape->lines, columns = (uint32_t)shape->columns;
+    uint32_t y = (uint32_t)shape->y, x = (uint32_t)shape->x;
     bool as_pad = shape->is_pad || shape->outlies;
     bool is_standard = win == stdscr && shape->lines == remake.lines && shape->columns == remake.columns;
     if (is_standard) return (curspan_answer){CURSPAN_OK, 0, 0};
-    if (!shape->parent) return as_pad ? curspan_newpad(remake.to, lines, columns) : curspan_newwin(remake.to, lines, columns, y, x);
+    if (!shape->parent && as_pad) return curspan_newpad(remake.to, lines, columns);
+    if (!shape->parent) return curspan_newwin(remake.to, lines, columns, y, x);
     return as_pad ? curspan_subpad(remake.to, parent_of(shape), lines, columns, y, x)
                   : curspan_derwin(remake.to, parent_of(shape), lines, columns, y, x);
 }
@@ -182,7 +184,8 @@ static void bring(const WINDOW *win) {
     const struct shape *shape = &remake.shapes[place_of(win)];
     uint16_t from = remake.old[place_of(win)], to = remake.numbers[place_of(win)];
     curspan_answer cursor = curspan_getyx(remake.from, from), region = curspan_wgetscrreg(remake.from, from);
-    int y = least(shape->begin_y, remake.lines - shape->lines), x = least(shape->begin_x, remake.columns - shape->columns);
+    int y = least(shape->begin_y, remake.lines - shape->lines);
+    int x = least(shape->begin_x, remake.columns - shape->columns);
     int last = shape->lines - 1, top = least((int)region.first, last), bottom = least((int)region.second, last);
     if ((int)region.second == remake.before[place_of(win)].lines - 1) bottom = last;
     bring_cells(win, from, to);
@@ -198,12 +201,13 @@ static void bring(const WINDOW *win) {
 static void bring_marks(const WINDOW *win) {
     const struct shape *before = &remake.before[place_of(win)], *shape = &remake.shapes[place_of(win)];
     uint16_t from = remake.old[place_of(win)], to = remake.numbers[place_of(win)];
-    bool shrinks = shape->is_other && shape->columns < before->columns, grows = shape->is_other && !shrinks;
+    int more = shape->is_other ? shape->columns - before->columns : 0;
     curspan_clearok(remake.to, to, is_so(curspan_is_cleared(remake.from, from)));
     for (int y = 0; y < shape->lines; y++) {
-        bool touched = shrinks || y >= before->lines || curspan_is_linetouched(remake.from, from, (uint16_t)y).first == 1;
-        curspan_wtouchln(remake.to, to, (uint16_t)y, 1, touched);
-        if (grows && !touched) curspan_touch_cells(remake.to, to, y, before->columns, 1, shape->columns - before->columns);
+        bool was_touched = curspan_is_linetouched(remake.from, from, (uint32_t)y).first == 1;
+        bool touched = was_touched || y >= before->lines || more < 0;
+        curspan_wtouchln(remake.to, to, (uint32_t)y, 1, touched);
+        if (more > 0 && !touched) curspan_touch_cells(remake.to, to, y, before->columns, 1, more);
     }
 }
 
@@ -289,7 +293,7 @@ int curspan_cut_outside(WINDOW *win) {
 
 /* A cell as it is shown, as a window has it: by the pair that curspan_number_pairs has given its colours. */
 static uint32_t cell_of_shown(uint32_t shown) {
-    uint32_t foreground = CURSPAN_FOREGROUND(shown), background = CURSPAN_BACKGROUND(shown), pair = 8 * foreground + background;
+    uint32_t foreground = CURSPAN_FOREGROUND(shown), pair = 8 * foreground + CURSPAN_BACKGROUND(shown);
     return (shown & 0xffff) | (foreground > 7 ? 0 : pair << 16);
 }
 
@@ -344,7 +348,7 @@ bool is_term_resized(int lines, int columns) {
 
 int resize_term(int lines, int columns) {
     curspan other = CURSPAN_INIT;
-    if (!stdscr || lines < 1 || columns < 1 || lines > CURSPAN_LARGEST_SCREEN || columns > CURSPAN_LARGEST_SCREEN) return ERR;
+    if (!stdscr || least(lines, columns) < 1 || most(lines, columns) > CURSPAN_LARGEST_SCREEN) return ERR;
     LINES = curspan_lines();
     COLS = curspan_columns();
     if (!is_term_resized(lines, columns)) return OK;

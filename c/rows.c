@@ -6,7 +6,7 @@ static bool are_cells(const chtype *cells, int n) {
     return n <= 0;
 }
 
-/* Takes away what else than its attributes has a part in how a window writes, or gives it back: that it scrolls, and its background. */
+/* Takes away what beside its attributes changes how a window writes, or gives it back: scrolling and the background. */
 static void write_plainly(WINDOW *win, bool plainly, bool scrolls, chtype background) {
     if (scrolls) curspan_scrollok(SCREEN_AND(win), !plainly);
     if (background == ' ') return;
@@ -40,7 +40,7 @@ static int put_rows(WINDOW *win, int y, int x, int lines, const chtype *cells, i
     return curspan_put_cursor(win, old_y, old_x) == OK ? answer : ERR;
 }
 
-int curspan_put_cells(WINDOW *win, int y, int x, const chtype *cells, int n) { return put_rows(win, y, x, 1, cells, n); }
+int curspan_put_cells(WINDOW *win, int y, int x, const chtype *row, int n) { return put_rows(win, y, x, 1, row, n); }
 int curspan_put_column(WINDOW *win, int y, int x, int n, chtype cell) { return put_rows(win, y, x, n, &cell, 1); }
 
 static chtype cell_of(uint32_t cell) { return (cell & ~A_COLOR) | curspan_attributes_of(CURSPAN_PAIR(cell)); }

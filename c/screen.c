@@ -35,11 +35,13 @@ void curspan_find_screen_size(int *lines, int *columns) {
 }
 
 void curspan_tell_size(int lines) {
-    snprintf(curspan_the_tty.leave, sizeof curspan_the_tty.leave, "%s" CURSPAN_LEAVE, curspan_has_alternates ? CURSPAN_PLAIN_SET : "", lines);
+    const char *set = curspan_has_alternates ? CURSPAN_PLAIN_SET : "";
+    snprintf(curspan_the_tty.leave, sizeof curspan_the_tty.leave, "%s" CURSPAN_LEAVE, set, lines);
 }
 
 SCREEN *newterm(const char *type, FILE *out, FILE *in) {
-    const struct curspan_tty begun = {.in = in ? fileno(in) : -1, .out = out ? fileno(out) : -1, .line = -1, .enter = CURSPAN_ENTER};
+    int from = in ? fileno(in) : -1, to = out ? fileno(out) : -1;
+    const struct curspan_tty begun = {.in = from, .out = to, .line = -1, .enter = CURSPAN_ENTER};
     if (!out || stdscr || begun.out < 0 || fflush(out) != 0) return NULL;
     curspan_the_tty = begun;
     curspan_stream = out;

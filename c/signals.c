@@ -10,7 +10,8 @@
 
 static const int ending[] = {SIGINT, SIGTERM, SIGQUIT, SIGHUP}, faults[] = {SIGSEGV, SIGBUS, SIGFPE, SIGILL, SIGABRT};
 
-enum { ENDING = sizeof ending / sizeof ending[0], FAULTS = sizeof faults / sizeof faults[0], LAST_SIGNAL = 64, STACK = 32768 };
+enum { ENDING = sizeof ending / sizeof ending[0], FAULTS = sizeof faults / sizeof faults[0] };
+enum { LAST_SIGNAL = 64, STACK = 32768 };
 
 static struct curspan_tty *volatile first;     /* of the terminals that are open */
 static struct curspan_tty *volatile signalled; /* the one that owns the signals, or NULL */

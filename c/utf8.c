@@ -5,8 +5,8 @@
 
 /* The letters without their marks, from U+00C0 on. */
 static const char letters[] =
-    "AAAAAA?CEEEEIIII?NOOOOO??UUUUY??aaaaaa?ceeeeiiii?nooooo??uuuuy?y"
-    "AaAaAaCcCcCcCcDd??EeEeEeEeEeGgGgGgGgHh??IiIiIiIiI???JjKk?LlLlLl????NnNnNn???OoOoOo??RrRrRrSsSsSsSsTtTt??UuUuUuUuUuUuWwYyYZzZzZz?";
+    "AAAAAA?CEEEEIIII?NOOOOO??UUUUY??aaaaaa?ceeeeiiii?nooooo??uuuuy?yAaAaAaCcCcCcCcDd??EeEeEeEeEeGgGg"
+    "GgGgHh??IiIiIiIiI???JjKk?LlLlLl????NnNnNn???OoOoOo??RrRrRrSsSsSsSsTtTt??UuUuUuUuUuUuWwYyYZzZzZz?";
 
 enum { FIRST_LETTER = 0xc0 };
 
@@ -53,14 +53,16 @@ static curspan_spelling drawn(uint32_t character) {
     curspan_spelling none = {{' '}, 0, false}, one = {{'?'}, 1, false}, two = {{'?', ' '}, 2, true};
     if (IS_IN(without_width, character)) return none;
     if (IS_IN(wide, character)) return two;
-    if (character >= FIRST_LETTER && character - FIRST_LETTER < sizeof letters - 1) one.text[0] = letters[character - FIRST_LETTER];
+    character -= FIRST_LETTER;
+    if (character < sizeof letters - 1) one.text[0] = letters[character];
     return one;
 }
 
 /* A byte that is no part of a character, as ncurses spells it; one that could have been a character is a blank. */
 static curspan_spelling spelled(uint8_t byte) {
     curspan_spelling blank = {{' '}, 1, false}, control = {{'^', (char)(byte ^ 64)}, 2, false};
-    curspan_spelling high = {{'~', byte == 255 ? '?' : (char)(byte - 64)}, 2, false}, meta = {{'M', '-', (char)(byte & 127)}, 3, false};
+    curspan_spelling high = {{'~', byte == 255 ? '?' : (char)(byte - 64)}, 2, false};
+    curspan_spelling meta = {{'M', '-', (char)(byte & 127)}, 3, false};
     if (byte < ' ' || byte == 127) return control;
     if (byte < 128) return blank;
     return byte < 160 || byte == 255 ? high : meta;
@@ -95,8 +97,10 @@ size_t curspan_plain_text(const char *text, size_t length, char *out) {
     for (size_t at = 0; at < length;) {
         uint32_t character = '?';
         int size = curspan_decode((const uint8_t *)text + at, length - at, &character);
-        bool is_plain = size > 0 && ((character >= ' ' && character < 127) || (character && strchr("\b\n\r", (int)character)));
-        curspan_spelling is = size > 0 && character >= 128 ? drawn(character) : (curspan_spelling){{is_plain ? (char)character : '?'}, 1, false};
+        bool moves = character == '\b' || character == '\n' || character == '\r';
+        bool is_plain = size > 0 && ((character >= ' ' && character < 127) || moves);
+        curspan_spelling is = {{is_plain ? (char)character : '?'}, 1, false};
+        if (size > 0 && character >= 128) is = drawn(character);
         memmove(out + count, is.text, (size_t)is.count);
         count += (size_t)is.count;
         at += size > 0 ? (size_t)size : 1;

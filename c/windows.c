@@ -85,7 +85,8 @@ static WINDOW *derive_outlying(WINDOW *win, int lines, int columns, int y, int x
     if (lines == 0) lines = getmaxy(win) - y;
     if (columns == 0) columns = getmaxx(win) - x;
     if (!are_numbers(lines, columns, y, x)) return NULL;
-    curspan_answer answer = curspan_subpad(SCREEN_AND(win), (uint16_t)lines, (uint16_t)columns, (uint16_t)y, (uint16_t)x);
+    uint32_t height = (uint32_t)lines, width = (uint32_t)columns;
+    curspan_answer answer = curspan_subpad(SCREEN_AND(win), height, width, (uint32_t)y, (uint32_t)x);
     return made_outlying(answer, win->begin_y + y, win->begin_x + x);
 }
 

@@ -21,8 +21,8 @@ int curspan_move(WINDOW *win, int y, int x) { return is_moved(win, y, x) ? cursp
 
 int wmove(WINDOW *win, int y, int x) {
     if (!is_moved(win, y, x)) return ERR;
-    if (curspan_waiting.count > 0 || (curspan_waiting.win && curspan_waiting.win != win)) return curspan_move_on(win, y, x);
-    return curspan_wait_at(win, y, x);
+    bool is_free = curspan_waiting.count == 0 && (!curspan_waiting.win || curspan_waiting.win == win);
+    return is_free ? curspan_wait_at(win, y, x) : curspan_move_on(win, y, x);
 }
 
 /* ---- the end of a window */
@@ -60,7 +60,7 @@ static int room_of(const WINDOW *win, int y, int x) {
 
 static void set_reach(WINDOW *win, int room) { win->reach = win->end - 1 + (int)win->columns - room; }
 
-/* Writes printable characters, of which one in the last place is written and ends them. Below a scroll region the line begins again then. */
+/* Writes printable characters, of which one in the last place ends them. Below a scroll region the line begins anew. */
 static int add_run(WINDOW *win, const char *text, size_t length) {
     while (length > 0) {
         int room = room_of(win, getcury(win), getcurx(win)), count = length > (size_t)room ? room + 1 : (int)length;
@@ -175,11 +175,14 @@ int curspan_add_any(WINDOW *win, chtype ch) {
     uint8_t character = ch & A_CHARTEXT;
     if (curspan_tell(win, curspan_with(win->attrs & ~A_ALTCHARSET, ch)) == ERR) return ERR;
     bool follows = win->is_immediate || win->synchronizes;
-    bool is_other = character == ' ' && has_attributes && (win->background & A_CHARTEXT) != ' '; /* than the background's blank */
-    if (is_printable(character) && !is_other && win->begun.count == 0 && win->reach < win->end && !follows) return add_waiting(win, character);
+    bool is_other = character == ' ' && has_attributes && (win->background & A_CHARTEXT) != ' '; /* than its blank */
+    bool waits = is_printable(character) && !is_other && win->begun.count == 0 && win->reach < win->end && !follows;
+    if (waits) return add_waiting(win, character);
     curspan_check_begun(win);
-    if (!is_printable(character) || win->begun.count > 0) return curspan_changed(win, add_spelled(win, character, has_attributes));
-    return curspan_changed(win, character == ' ' ? add_blanks(win, 1, has_attributes) : add_run(win, (const char *)&character, 1));
+    int answer = !is_printable(character) || win->begun.count > 0 ? add_spelled(win, character, has_attributes)
+                 : character == ' ' ? add_blanks(win, 1, has_attributes)
+                 : add_run(win, (const char *)&character, 1);
+    return curspan_changed(win, answer);
 }
 
 int waddch(WINDOW *win, const chtype ch) {
@@ -290,7 +293,8 @@ int vw_printw(WINDOW *win, const char *format, va_list arguments) {
     if (!format) return ERR;
     va_copy(again, arguments);
     int length = vsnprintf(few, sizeof few, format, arguments);
-    if (length >= (int)sizeof few && (text = malloc((size_t)length + 1))) vsnprintf(text, (size_t)length + 1, format, again);
+    size_t size = (size_t)length + 1;
+    if (length >= (int)sizeof few && (text = malloc(size))) vsnprintf(text, size, format, again);
     va_end(again);
     if (length >= 0 && text) answer = waddstr(win, text);
     if (text != few) free(text);

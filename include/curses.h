@@ -1,11 +1,11 @@
 /* curses.h: X/Open Curses over Curspan (curspan.h), in C99 or C++.
 
-   A program that uses these names compiles unchanged. What isn't here is absent: wide and complex characters, soft labels,
-   terminfo, several screens, menus and forms. A program that needs it doesn't compile. curspan(3) has a table of all of
-   X/Open's names and of the usual ones of ncurses, with what takes the place of each.
+   A program that uses these names compiles unchanged. What isn't here is absent: wide and complex characters, soft
+   labels, terminfo, several screens, menus and forms. A program that needs it doesn't compile. curspan(3) has a table
+   of all of X/Open's names and of the usual ones of ncurses, with what takes the place of each.
 
-   One screen. It is proved what the functions of curspan.h do. What is C here is not proved: it turns these names and types
-   into calls of curspan.h, and writes their bytes to the terminal. It is tested against ncurses. */
+   One screen. It is proved what the functions of curspan.h do. What is C here is not proved: it turns these names and
+   types into calls of curspan.h, and writes their bytes to the terminal. It is tested against ncurses. */
 #ifndef CURSPAN_CURSES_H
 #define CURSPAN_CURSES_H
 
@@ -109,8 +109,7 @@ typedef chtype attr_t;
 #define COLOR_CYAN 6
 #define COLOR_WHITE 7
 
-/* Lines and signs, from initscr on: characters of the terminal's alternate set, or those of ASCII that X/Open has for a terminal without
-   one. */
+/* Lines and signs, from initscr on: of the terminal's alternate set, or X/Open's of ASCII where it has none. */
 #define CURSPAN_ACS(letter) (acs_map[(unsigned char)(letter)])
 #define ACS_ULCORNER CURSPAN_ACS('l')
 #define ACS_LLCORNER CURSPAN_ACS('m')
@@ -253,7 +252,7 @@ typedef chtype attr_t;
 #define KEY_MAX 0777
 
 extern WINDOW *stdscr; /* the standard screen, from initscr on */
-extern WINDOW *curscr; /* what the terminal shows: getyx and getmaxyx ask of it, and refresh, clearok, touchwin and redrawwin draw all anew */
+extern WINDOW *curscr; /* the terminal: getyx and getmaxyx ask of it; refresh, clearok, touchwin draw it anew */
 extern int LINES, COLS;
 extern int COLORS, COLOR_PAIRS;
 extern chtype acs_map[]; /* lines and signs, by the letters that VT100 has for them */
@@ -553,8 +552,7 @@ int baudrate(void);
 
 int overlay(const WINDOW *from, WINDOW *to);
 int overwrite(const WINDOW *from, WINDOW *to);
-int copywin(const WINDOW *from, WINDOW *to, int from_y, int from_x, int to_top, int to_left, int to_bottom, int to_right,
-            int overlays);
+int copywin(const WINDOW *from, WINDOW *to, int y, int x, int top, int left, int bottom, int right, int overlays);
 int touchwin(WINDOW *win);
 int untouchwin(WINDOW *win);
 int touchline(WINDOW *win, int y, int n);

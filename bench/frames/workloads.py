@@ -499,8 +499,108 @@ def pan(script, frames):
         script.call('doupdate')
 
 
+def scroller(script, frames):
+    """A list below a title that scrolls up and down by some lines, at whose edge lines come."""
+    lines, columns, chance = script.lines - 2, script.columns, script.chance
+    view = script.window(lines, columns, 2, 0)
+    script.call('scrollok', view, 'on')
+    script.panel(view)
+    script.bar(0, 0, columns, ' a list')
+    rows = [f'{n:5}  ' + script.sentence(columns - 8) for n in range(1000)]
+    top = 500
+    for y in range(lines):
+        script.text(view, y, 0, rows[top + y])
+    for _ in range(frames):
+        by = chance.one_of((-3, -1, 1, 1, 3, lines // 2))
+        top = (top + by) % (1000 - lines)
+        script.call('scrl', view, by)
+        for y in range(lines - by, lines) if by > 0 else range(-by):
+            script.text(view, y, 0, rows[top + y])
+        script.text(0, 0, columns - 10, f'{top:5}')
+        script.frame()
+
+
+def tiled(script, frames, moved):
+    """200 panels as tiles of the screen, of which some change places with one another in each frame."""
+    chance, down, across = script.chance, 10, 20
+    high, wide = script.lines // down, script.columns // across
+    places = [(y * high, x * wide) for y in range(down) for x in range(across)]
+    for number, place in enumerate(places):
+        window = script.window(high, wide, *place)
+        script.call('attrset', window, f'{(0, BOLD, REVERSE)[number % 3]:02x}')
+        for y in range(high):
+            script.text(window, y, 0, f'{number:3}{chr(97 + number % 26)}'[:wide].ljust(wide - 1, '.'))
+        script.panel(window)
+    for _ in range(frames):
+        order = list(range(len(places)))
+        for i in range(moved):
+            other = i + chance.below(len(order) - i)
+            order[i], order[other] = order[other], order[i]
+        chosen = order[:moved]
+        goals = [places[tile] for tile in chosen[1:] + chosen[:1]]
+        for tile, place in zip(chosen, goals):
+            script.call('move_panel', tile + 1, *place)
+            places[tile] = place
+        script.frame()
+
+
+def tiles(script, frames):
+    """Tiles of which 20 move."""
+    tiled(script, frames, 20)
+
+
+def shuffle(script, frames):
+    """Tiles that all move."""
+    tiled(script, frames, 200)
+
+
+def again(script, frames):
+    """Windows with borders that are erased in each frame, and written again as they were."""
+    lines, columns = script.lines, script.columns
+    high, wide = lines // 2, columns // 2
+    pages = []
+    for y, x in itertools.product((0, lines - high), (0, columns - wide)):
+        window = script.window(high, wide, y, x)
+        script.panel(window)
+        pages.append((window, [script.sentence(wide - 4) for _ in range(high - 2)]))
+    for _ in range(frames):
+        for window, texts in pages:
+            script.call('erase', window)
+            script.border(window, high, wide, 'window')
+            for y, text in enumerate(texts):
+                script.text(window, y + 1, 2, text)
+        script.frame()
+
+
+def meters(script, frames):
+    """Meters in many colours: each has a name, cells from green to red up to its value, and a number on a ground of a colour."""
+    lines, columns, chance = script.lines, script.columns, script.chance
+    for pair in range(1, 43):
+        script.call('init_pair', pair, (pair - 1) % 7 + 1, (pair - 1) // 7)
+    across = max(columns // 40, 1)
+    wide = columns // across
+    values = [chance.below(wide - 16) for _ in range(across * lines)]
+    for _ in range(frames):
+        for number, value in enumerate(values):
+            values[number] = value = max(0, min(wide - 17, value + chance.below(7) - 3))
+            y, x = number // across, number % across * wide
+            script.call('color_set', 0, 1 + number % 42)
+            script.text(0, y, x, WORDS[number % len(WORDS)][:6].ljust(6))
+            part = (wide - 16) // 4 + 1
+            for step, pair in enumerate((2, 3, 5, 1)):
+                script.call('color_set', 0, pair + 7 * (number % 6))
+                script.text(0, y, x + 7 + step * part, '|' * max(0, min(part, value - step * part)))
+                script.call('color_set', 0, 0)
+                script.call('addstr', 0, ' ' * (part - max(0, min(part, value - step * part))))
+            script.call('color_set', 0, 8 + number % 35)
+            script.text(0, y, x + wide - 5, f'{value:3}%')
+        script.call('color_set', 0, 0)
+        script.call('move', 0, 0, 0)
+        script.frame()
+
+
 WORKLOADS = {each.__name__: each for each in (edit, mail, monitor, windows, repaint, sparse, colours, log, pager, levels, processes, keywords,
-                                              life, pan)}
+                                              life, pan, scroller, tiles, shuffle, again, meters)}
 
 
 def script_of(name, lines, columns, frames):

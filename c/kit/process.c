@@ -1,5 +1,5 @@
-/* What the program asks of its process, in place of the Rattle kit's objects, for processors for which the kit has none.
-   Nothing here is proved: what the kit's sources say of each function is taken for granted. */
+/* What the program asks of its process, where the Rattle kit has no objects for the processor. Nothing here is proved:
+   what the kit's sources say of each function is taken for granted. */
 #define _GNU_SOURCE
 #include <errno.h>
 #include <stddef.h>
@@ -19,7 +19,7 @@ __attribute__((constructor)) static void keep(int arguments, char **argument) {
     words = argument;
 }
 
-/* Copies a text without its zero, and answers its length. Of one that is too long there is as much as there is room for. */
+/* Copies a text without its zero, and answers its length. Of one that is too long there is as much as there is room. */
 static ssize_t copy(const char *from, uint8_t *to, size_t room) {
     size_t length = 0;
     if (!from) return MISSING;

@@ -15,7 +15,7 @@ int main(void) {
     initscr();
     addstr(text);
     look();
-    mvprintw(12, 0, text + 10, 0);
+    mvprintw(12, 0, "%s", text + 10);
     look();
     erase();
     scrollok(stdscr, TRUE);
