@@ -1,14 +1,7 @@
 -- The answers of a call are of its kind.
-use Rattle.std.proofs.Common.{◌≡◌, true, false, Result, Ok, Err, refl, subst}
-use Rattle.std.specs.Prelude.{IfOk}
-use Rattle.world.specs.World.{World}
-use Rattle.world.specs.calls.Dispatch.{is_doupdate}
-use Rattle.world.specs.declared.call.Call.{Call}
+use Rattle.calls.specs.{◌≡◌, true, false, Result, Ok, Err, refl, subst, IfOk, World, is_doupdate, Call, Doupdate, Reply, IsAnswerTo, IsOfKind, Kind, kind_of}
+use Rattle.calls.specs.{is_query}
 use Rattle.world.specs.declared.call.Call.TheVariants as calls
-use Rattle.world.specs.declared.call.Refresh.TheVariants.{Doupdate}
-use Rattle.world.specs.declared.call.Reply.{Reply}
-use Rattle.calls.specs.Kinds.{IsAnswerTo, IsOfKind, Kind, kind_of}
-use Rattle.calls.specs.Queries.{is_query}
 
 pub query-other : (call : Call) → is_query call ≡ true → is_doupdate call ≡ false
 query-other (calls.Refresh Doupdate) h = cc

@@ -1,19 +1,8 @@
 -- The kind of the answers of a call, by its effect.
-use Rattle.std.specs.Prelude.{◌≡◌, ℕ, Bool, Option, Some}
-use Rattle.cell.specs.Glyphs.{Glyph}
-use Rattle.cell.specs.declared.window.WinId.{WinId}
-use Rattle.streams.specs.declared.sending.Sent.{Sent as SentBytes}
-use Rattle.world.specs.World.{World}
-use Rattle.world.specs.Effects.{Change, asks, makes, Order, changes, adds, Effect, arranges, composes, shows}
-use Rattle.world.specs.calls.Dispatch.{effect_of}
-use Rattle.world.specs.declared.panel.PanelId.{PanelId}
-use Rattle.world.specs.declared.call.Call.{Call}
+use Rattle.calls.specs.Names.{◌≡◌, ℕ, Bool, Option, Some, Glyph, WinId, Sent as SentBytes, World, Change, asks, makes, Order, changes, adds, Effect, arranges}
+use Rattle.calls.specs.Names.{composes, shows, effect_of, PanelId, Call, Query, Inch, Composed as Read, Reply, Nothing, Number, TwoNumbers, Cell, Flag, Panel}
 use Rattle.world.specs.declared.call.Call.TheVariants as calls
-use Rattle.world.specs.declared.call.Query.{Query}
-use Rattle.world.specs.declared.call.Query.TheVariants.{Inch}
-use Rattle.world.specs.declared.call.Composed.{Composed as Read}
-use Rattle.world.specs.declared.call.Reply.{Reply}
-use Rattle.world.specs.declared.call.Reply.TheVariants.{Nothing, Number, TwoNumbers, Cell, Flag, Panel, Composed, Sent}
+use Rattle.world.specs.declared.call.Reply.TheVariants.{Composed, Sent}
 
 pub data Kind : Type 0 where
   nothing : Kind

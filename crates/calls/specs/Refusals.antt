@@ -1,12 +1,5 @@
 -- By what a call is refused, in the order of its tests: `WrittenRefusals` has the rows of calls.table.
-use Rattle.std.specs.Prelude.{if◌then◌else◌, ◌++◌, Bool, List, [], ◌∷◌}
-use Rattle.std.specs.Str.{bytes_eq}
-use Rattle.cell.specs.Refusals.{refusal_text}
-use Rattle.cell.specs.declared.refusal.Refusal.{Refusal}
-use Rattle.cell.specs.declared.refusal.Refusal.TheVariants.{NoMemory}
-use Rattle.world.specs.World.{World}
-use Rattle.world.specs.calls.Dispatch.{takes_memory, tests_of}
-use Rattle.world.specs.declared.call.Call.{Call}
+use Rattle.calls.specs.Names.{if◌then◌else◌, ◌++◌, Bool, List, [], ◌∷◌, bytes_eq, refusal_text, Refusal, NoMemory, World, takes_memory, tests_of, Call}
 
 -- a refusal before others, of which the first may be the same
 abbrev pub then_others : Refusal → List Refusal → List Refusal

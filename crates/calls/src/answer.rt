@@ -1,9 +1,7 @@
 //! What a call answers, as the type that all its answers have.
 
-ghost use Rattle.std.specs.Prelude.{◌≡◌, IsSomeAnd};
-ghost use Rattle.world.specs.Replies.{its_panel, no_answer, two_numbers};
-ghost use Rattle.world.specs.declared.call.Reply.{Reply};
-ghost use Rattle.calls.specs.Kinds.{IsOfKind, Kind, cell, composed, flag, neighbour, new_panel, nothing, number, numbers};
+ghost use Rattle.calls.specs.{◌≡◌, IsSomeAnd, its_panel, no_answer, two_numbers, Reply, IsOfKind, Kind, cell, composed, flag, neighbour, new_panel, nothing};
+ghost use Rattle.calls.specs.{number, numbers};
 
 use cell::{Cell, WinId};
 use world::{Composed, PanelId, Reply};

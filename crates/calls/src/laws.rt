@@ -1,12 +1,6 @@
 //! What holds of the definitions alone. Each function does nothing, and its contract is the law.
 
-ghost use Rattle.std.specs.Prelude.{◌≡◌};
-ghost use Rattle.calls.specs.Queries.{is_query, only_asks};
-ghost use Rattle.calls.specs.Refusals.{tested};
-ghost use Rattle.calls.specs.WrittenRefusals.{refusals_of};
-ghost use Rattle.world.specs.World.{World};
-ghost use Rattle.world.specs.calls.Dispatch.{effect_of};
-ghost use Rattle.world.specs.declared.call.Call.{Call};
+ghost use Rattle.calls.specs.{◌≡◌, is_query, only_asks, tested, refusals_of, World, effect_of, Call};
 
 /// The calls that only ask are those whose effect is an answer alone: none is left out, and no other is among them.
 pub fn queries_only_ask()

@@ -1,14 +1,7 @@
 //! What makes calls, by their names and arguments as data.
 
-ghost use Rattle.std.specs.Prelude.{◌≡◌, Err, IfOk, Ok, Result, false, true};
-ghost use Rattle.world.specs.World.{World};
-ghost use Rattle.world.specs.calls.Dispatch.{is_doupdate};
-ghost use Rattle.world.specs.declared.call.Call.{Call};
-ghost use Rattle.world.specs.declared.call.Reply.{Reply};
-ghost use Rattle.world.specs.declared.call.Refresh.{Refresh};
-ghost use Rattle.calls.specs.Kinds.{IsAnswerTo, IsOfKind, kind_of};
-ghost use Rattle.calls.specs.Queries.{is_query};
-ghost use Rattle.calls.specs.Methods.{as_reply};
+ghost use Rattle.calls.specs.{◌≡◌, Err, IfOk, Ok, Result, false, true, World, is_doupdate, Call, Reply, Refresh, IsAnswerTo, IsOfKind, kind_of, is_query};
+ghost use Rattle.calls.specs.{as_reply};
 
 use crate::answer::Answer;
 use world::{Call, Composed, Refresh, Reply};

@@ -1,7 +1,6 @@
 //! Which calls only ask.
 
-ghost use Rattle.std.specs.Prelude.{◌≡◌};
-ghost use Rattle.calls.specs.Queries.{is_query};
+ghost use Rattle.calls.specs.{◌≡◌, is_query};
 
 use world::{Call, Copying, Stacking};
 

@@ -1,3 +1,4 @@
+pub mod Names
 pub mod Outlets
 pub mod Owned
 pub mod Held
@@ -7,3 +8,13 @@ pub mod Called
 pub mod Lives
 pub mod Questions
 pub mod Lines
+unfoldable pub use Names.*
+unfoldable pub use Outlets.*
+unfoldable pub use Owned.*
+unfoldable pub use Held.*
+unfoldable pub use Answers.*
+unfoldable pub use Numbers.*
+unfoldable pub use Called.*
+unfoldable pub use Lives.*
+unfoldable pub use Questions.*
+unfoldable pub use Lines.*

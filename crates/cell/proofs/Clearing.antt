@@ -1,8 +1,5 @@
 -- A grid with one cell everywhere.
-use Rattle.std.proofs.Common.{◌≡◌, ℕ, ◌<◌, List, length, replicate, sym, ◌∙◌, arith}
-use Rattle.std.proofs.lemmas.Bool.{cases_eq}
-use Rattle.cell.specs.Pictures.{HasSize, all_of}
-use Rattle.cell.specs.Grids.{rows, IsWhole}
+use Rattle.cell.specs.{◌≡◌, ℕ, ◌<◌, List, length, replicate, sym, ◌∙◌, arith, cases_eq, HasSize, all_of, rows, IsWhole}
 use Rattle.cell.proofs.GridLemmas.{length-rows, length-line_of-rows, rows-all_of}
 use Rattle.cell.proofs.PictureLemmas.{length-line}
 

@@ -1,13 +1,7 @@
 -- Places that are filled with one cell, one after another, and a line of which some are.
-use Rattle.std.proofs.Common.{◌≡◌, ℕ, ◌+◌, ◌-◌, ◌<◌, ◌≤◌, ◌==◌, ◌&&◌, nat_le, nat_lt, if◌then◌else◌, List, length, set, replicate, get_or, ap, sym, arith, eq-eqb, ne_eqb}
-use Rattle.std.specs.List.{splice}
-use Rattle.std.proofs.lemmas.Bool.{cases_eq}
-use Rattle.std.proofs.lemmas.Bool.Decides.{nat_tests}
-use Rattle.std.proofs.lemmas.List.{length-replicate, get_or-replicate}
-use Rattle.cell.specs.Grids.{rows, IsWhole}
-use Rattle.cell.specs.Pictures.{line_of}
+use Rattle.cell.specs.{◌≡◌, ℕ, ◌+◌, ◌-◌, ◌<◌, ◌≤◌, ◌==◌, ◌&&◌, nat_le, nat_lt, if◌then◌else◌, List, length, set, replicate, get_or, ap, sym, arith, eq-eqb}
+use Rattle.cell.specs.{ne_eqb, splice, cases_eq, nat_tests, length-replicate, get_or-replicate, rows, IsWhole, line_of, fill_from_more, paste_all}
 use Rattle.cell.proofs.PieceWrites.{PieceFits, PieceFits-from}
-use Rattle.std.proofs.lemmas.List.Edits.{fill_from_more, paste_all}
 
 -- what is put into a line that is filled fits into it
 pub PieceFits-filled : {A : Type 0} {Is : A → Type 0} {lines columns y start end : ℕ} {cells : List A} {picture : List (List A)} (cell : A)

@@ -1,14 +1,9 @@
 -- The lines of a grid whose cells are one after another: each line, a change of one cell, and equal sizes.
-use Rattle.std.proofs.Common.{◌≡◌, ℕ, ◌<◌, ◌≤◌, ◌+◌, ◌*◌, List, [], length, take, drop, replicate, set, ◌-◌, arith, zero-add}
-use Rattle.std.proofs.Math.Seq.{take-set-lt}
-use Rattle.std.proofs.lemmas.Bool.{cases_eq, cases_lt}
-use Rattle.std.proofs.lemmas.List.{length-set, length-take-le, length-drop, length-replicate, drop-set-add, drop-set-lt, take-set-le, take-replicate, drop-replicate, get_or-replicate}
-use Rattle.std.proofs.lemmas.List.{get_or-set_same, get_or-set_other, ext_get_or, nil_from_length}
-use Rattle.std.proofs.lemmas.List.Elements.{All-from_recursion, recursion_from_All, All-take, All-drop}
-use Rattle.std.proofs.lemmas.List.FromFn.{length-map-range_with_len, get_or-map-range_with_len}
-use Rattle.std.proofs.lemmas.Nat.{mul-le, row_fits}
-use Rattle.cell.specs.Pictures.{line_of, with_cell, EachCell, size_of, all_of}
-use Rattle.cell.specs.Grids.{rows, IsWhole}
+use Rattle.cell.specs.{◌≡◌, ℕ, ◌<◌, ◌≤◌, ◌+◌, ◌*◌, List, [], length, take, drop, replicate, set, ◌-◌, arith, zero-add, take-set-lt, cases_eq, cases_lt}
+use Rattle.cell.specs.{length-set, length-take-le, length-drop, length-replicate, drop-set-add, drop-set-lt, take-set-le, take-replicate, drop-replicate}
+use Rattle.cell.specs.{get_or-replicate, get_or-set_same, get_or-set_other, ext_get_or, nil_from_length, All-from_recursion, recursion_from_All, All-take}
+use Rattle.cell.specs.{All-drop, length-map-range_with_len, get_or-map-range_with_len, mul-le, row_fits, line_of, with_cell, EachCell, size_of, all_of, rows}
+use Rattle.cell.specs.{IsWhole}
 use Rattle.cell.proofs.PictureLemmas.{each-map}
 
 abbrev line_at : {A : Type 0} → ℕ → List A → ℕ → List A

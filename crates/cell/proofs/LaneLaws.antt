@@ -1,25 +1,13 @@
 -- Cells as numbers, one in each lane, and a mask of the lanes in which two differ.
-use Rattle.std.proofs.Common.{◌≡◌, ℕ, suc, ◌+◌, ◌-◌, ◌*◌, ◌^◌, ◌/◌, ◌%◌, ◌<◌, true, List, [], ◌∷◌, length, get_or, set}
-use Rattle.std.proofs.Common.{take, map, refl, sym, ap, subst, ◌∙◌, arith, eq-eqb, ne_eqb, eqb, cond, inl, inr, w32}
-use Rattle.std.specs.Prelude.{not, replicate, ◌==◌, ◌&&◌, ◌≤◌, Bool, slice_index_or, nat_lt}
-use Rattle.std.specs.List.{common_prefix_len, list_all, prefix_len}
+use Rattle.cell.specs.{◌≡◌, ℕ, suc, ◌+◌, ◌-◌, ◌*◌, ◌^◌, ◌/◌, ◌%◌, ◌<◌, true, List, [], ◌∷◌, length, get_or, set, take, map, refl, sym, ap, subst, ◌∙◌, arith}
+use Rattle.cell.specs.{eq-eqb, ne_eqb, eqb, cond, inl, inr, w32, not, replicate, ◌==◌, ◌&&◌, ◌≤◌, Bool, slice_index_or, nat_lt, common_prefix_len, list_all}
+use Rattle.cell.specs.{prefix_len, fold_l, mask_l, top, zip2, and_parts, and_from, cases_Bool, cases_eq, cases_lt, eqb-true, lt-ltb, ltb-true, ltb_from_iff}
+use Rattle.cell.specs.{bit_at, bit_or, bit_xor, le_or_l, le_or_r, or_lt, xor_shr, bit_at-lt, bit_at-zero, bit_at_xor, same_from_bits, get_or-map}
+use Rattle.cell.specs.{get_or_default, length-map, take-map, take_more, take_more_set, map-append, list_all-append, common_prefix_len-le, length-zip2}
+use Rattle.cell.specs.{mask_l-mod, tops_compared, trailing_mask_l, DiffersAt, same_rendition, same_rendition-equal, same_rendition-equivalence, Glyph, IsCell}
+use Rattle.cell.specs.{blank, colour_of, glyph_bits, rendition_bits, rendition_of, shown_bits, shown_of, same_bits, IsShown, Rendition, Shown, rendition_with}
+use Rattle.cell.specs.{shown_blank}
 use lib.Count.{count_trailing_zeros}
-use Rattle.std.specs.Simd.Lanes.{fold_l, mask_l, top, zip2}
-use Rattle.std.proofs.lemmas.Bool.{and_parts, and_from, cases_Bool, cases_eq, cases_lt, eqb-true, lt-ltb, ltb-true, ltb_from_iff}
-use Rattle.std.specs.Int.{bit_at}
-use Rattle.std.specs.Int.RustNames.{bit_or, bit_xor}
-use Rattle.std.proofs.lemmas.Nat.{le_or_l, le_or_r, or_lt, xor_shr}
-use Rattle.std.proofs.lemmas.Nat.Bits.{bit_at-lt, bit_at-zero, bit_at_xor, same_from_bits}
-use Rattle.std.proofs.lemmas.List.{get_or-map, get_or_default, length-map, take-map, take_more, take_more_set, map-append}
-use Rattle.std.proofs.lemmas.List.Folds.{list_all-append}
-use Rattle.std.proofs.lemmas.List.Sums.{common_prefix_len-le}
-use Rattle.std.proofs.lemmas.Simd.{length-zip2, mask_l-mod, tops_compared, trailing_mask_l}
-use Rattle.cell.specs.Differences.{DiffersAt, same_rendition}
-use Rattle.cell.specs.EqualityLaws.{same_rendition-equal, same_rendition-equivalence}
-use Rattle.cell.specs.Glyphs.{Glyph, IsCell, blank}
-use Rattle.cell.specs.Packing.{colour_of, glyph_bits, rendition_bits, rendition_of, shown_bits, shown_of}
-use Rattle.cell.specs.PackingLaws.{same_bits}
-use Rattle.cell.specs.Shown.{IsShown, Rendition, Shown, rendition_with, shown_blank}
 
 -- ---- one more cell
 

@@ -1,12 +1,8 @@
 -- Pictures of a known size: what each line has, and when two are equal.
-use Rattle.std.proofs.Common.{refl, ◌≡◌, ℕ, ◌+◌, ◌<◌, ◌∙◌, List, [], ◌∷◌, length, map, replicate, get_or, set, sym, arith, zero-add, lit≤, lit<}
-use Rattle.cell.specs.Pictures.{size_of, line_of, cell_or, HasSize, EachCell, all_of, lines_from}
-use Rattle.std.specs.List.{AllByRecursion}
-use Rattle.std.proofs.lemmas.List.{length-replicate, ext_get_or}
-use Rattle.std.proofs.lemmas.List.Elements.{All-from_recursion, recursion_from_All, All-get_or, All-map, All-replicate, All-set}
-use Rattle.std.proofs.lemmas.List.FromFn.{length-map-range_with_len, get_or-map-range_with_len}
-use Rattle.cell.specs.Glyphs.{blank, IsCell}
-use Rattle.cell.specs.Shown.{no_rendition, IsRendition, shown_blank, IsShown, ArePairs, IsPair, default_pair, first_pairs}
+use Rattle.cell.specs.{refl, ◌≡◌, ℕ, ◌+◌, ◌<◌, ◌∙◌, List, [], ◌∷◌, length, map, replicate, get_or, set, sym, arith, zero-add, lit≤, lit<, size_of, line_of}
+use Rattle.cell.specs.{cell_or, HasSize, EachCell, all_of, lines_from, AllByRecursion, length-replicate, ext_get_or, All-from_recursion, recursion_from_All}
+use Rattle.cell.specs.{All-get_or, All-map, All-replicate, All-set, length-map-range_with_len, get_or-map-range_with_len, blank, IsCell, no_rendition}
+use Rattle.cell.specs.{IsRendition, shown_blank, IsShown, ArePairs, IsPair, default_pair, first_pairs}
 use Rattle.cell.specs.declared.limits.TheConstants.{LAST_PAIR}
 
 -- `AllByRecursion` of lists that are made by a rule

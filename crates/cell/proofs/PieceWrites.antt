@@ -1,15 +1,9 @@
 -- A piece of a line of a grid that is written at once.
-use Rattle.std.proofs.Common.{◌≡◌, ℕ, suc, ◌∷◌, ◌+◌, ◌-◌, ◌*◌, ◌<◌, ◌≤◌, ◌==◌, ◌&&◌, nat_le, nat_lt, if◌then◌else◌, true, false, List, [], length, map, take, get_or, ap, sym, ◌∙◌}
-use Rattle.std.proofs.Common.{arith, ◌⊎◌, length-append, eq-eqb, ne_eqb}
-use Rattle.std.specs.List.{AllByRecursion, splice}
-use Rattle.std.proofs.Math.ListN.{get_or-append}
-use Rattle.std.proofs.Math.Seq.{get_or-append_right}
-use Rattle.std.proofs.lemmas.Bool.{cases_lt, cases_order, cond-true, cond-false}
-use Rattle.std.proofs.lemmas.Bool.Decides.{nat_tests}
-use Rattle.std.proofs.lemmas.List.{get_or-map, get_or-take, get_or-drop, get_or_past, nil_from_length, length-map, length-take-le, length-drop}
-use Rattle.std.proofs.lemmas.List.Elements.{All-from_recursion, recursion_from_All, All-take, All-drop, All-append}
-use Rattle.cell.specs.Pictures.{line_of, cell_or, HasSize}
-use Rattle.cell.specs.Grids.{rows, IsWhole}
+use Rattle.cell.specs.{◌≡◌, ℕ, suc, ◌∷◌, ◌+◌, ◌-◌, ◌*◌, ◌<◌, ◌≤◌, ◌==◌, ◌&&◌, nat_le, nat_lt, if◌then◌else◌, true, false, List, [], length, map, take, get_or}
+use Rattle.cell.specs.{ap, sym, ◌∙◌, arith, ◌⊎◌, length-append, eq-eqb, ne_eqb, AllByRecursion, splice, get_or-append, get_or-append_right, cases_lt}
+use Rattle.cell.specs.{cases_order, cond-true, cond-false, nat_tests, get_or-map, get_or-take, get_or-drop, get_or_past, nil_from_length, length-map}
+use Rattle.cell.specs.{length-take-le, length-drop, All-from_recursion, recursion_from_All, All-take, All-drop, All-append, line_of, cell_or, HasSize, rows}
+use Rattle.cell.specs.{IsWhole}
 use Rattle.cell.proofs.GridLemmas.{HasLine-from_length, length-rows, length-line_of-rows, line_of-rows, line_end}
 
 module _ {A : Type 0} (none : A) (old piece : List A) (start : ℕ) (fits : start + length piece ≤ length old) where

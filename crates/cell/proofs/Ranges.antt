@@ -1,12 +1,6 @@
 -- Two lines that are the same up to a column, or from one on, and in the range beside it.
-use Rattle.std.proofs.Common.{◌≡◌, ℕ, ◌+◌, ◌-◌, ◌≤◌, ◌<◌, zero, suc, List, [], ◌∷◌, take, drop, length, arith, ◌∙◌, refl, sym, ap}
-use Rattle.std.specs.Prelude.{slice_index_or}
-use Rattle.std.specs.List.{slice_range}
-use Rattle.std.proofs.Math.Seq.{take-add}
-use Rattle.std.proofs.lemmas.List.{get_or-drop, get_or-take}
-use Rattle.cell.specs.Differences.{DiffersAt}
-use Rattle.cell.specs.Shown.{Shown, shown_blank}
-use Rattle.std.proofs.lemmas.List.Folds.{drop_split}
+use Rattle.cell.specs.{◌≡◌, ℕ, ◌+◌, ◌-◌, ◌≤◌, ◌<◌, zero, suc, List, [], ◌∷◌, take, drop, length, arith, ◌∙◌, refl, sym, ap, slice_index_or, slice_range}
+use Rattle.cell.specs.{take-add, get_or-drop, get_or-take, DiffersAt, Shown, shown_blank, drop_split}
 
 pub same_take : {A : Type 0} (xs ys : List A) (start end : ℕ) → start ≤ end → take start xs ≡ take start ys → slice_range xs start end ≡ slice_range ys start end → take end xs ≡ take end ys
 same_take xs ys start end ordered before range = grind (arith, take-add start (end - start) xs, take-add start (end - start) ys)

@@ -1,15 +1,8 @@
 -- Cells that are shown many together.
-use Rattle.std.proofs.Common.{◌≡◌, ℕ, ◌+◌, ◌-◌, ◌≤◌, ◌==◌, true, subst, List, [], ◌∷◌, ◌++◌, length, map, take, drop, take-take, refl, sym, ap, arith, ◌∙◌}
-use Rattle.std.specs.List.{AllByRecursion, list_all}
-use Rattle.std.proofs.Math.Seq.{take-add, take-length}
-use Rattle.std.proofs.lemmas.Bool.{cases_eq}
-use Rattle.std.proofs.lemmas.Bool.Decides.{nat_tests}
-use Rattle.std.proofs.lemmas.List.{length-drop, length-take-le, map-append, take-map}
-use Rattle.std.proofs.lemmas.List.Elements.{All-take, All-from_recursion, recursion_from_All, All-append}
-use Rattle.std.proofs.lemmas.Slice.{take-put_mid}
+use Rattle.cell.specs.{◌≡◌, ℕ, ◌+◌, ◌-◌, ◌≤◌, ◌==◌, true, subst, List, [], ◌∷◌, ◌++◌, length, map, take, drop, take-take, refl, sym, ap, arith, ◌∙◌}
+use Rattle.cell.specs.{AllByRecursion, list_all, take-add, take-length, cases_eq, nat_tests, length-drop, length-take-le, map-append, take-map, All-take}
+use Rattle.cell.specs.{All-from_recursion, recursion_from_All, All-append, take-put_mid, Glyph, Pairs, pair_at, shown, shown_in}
 use borrow.Rule.Slice.PartMut.{put_mid, same_len_mid}
-use Rattle.cell.specs.Glyphs.{Glyph}
-use Rattle.cell.specs.Shown.{Pairs, pair_at, shown, shown_in}
 use Rattle.cell.specs.declared.colour.ColourPair.{ColourPair}
 
 -- cells of one pair, in its colours

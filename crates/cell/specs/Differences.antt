@@ -1,9 +1,9 @@
 -- Where two lines of shown cells differ, by comparing them column by column, and in how many places two pictures of one
 -- size do; measures of our own.
-use Rattle.std.specs.Prelude.{◌≡◌, ℕ, ◌+◌, ◌<◌, ◌==◌, ◌&&◌, if◌then◌else◌, Bool, List, [], ◌∷◌, length, take, drop, Option, Some, None, slice_index_or}
-use Rattle.std.specs.Option.{option_eq}
+use Rattle.cell.specs.Names.{◌≡◌, ℕ, ◌+◌, ◌<◌, ◌==◌, ◌&&◌, if◌then◌else◌, Bool, List, [], ◌∷◌, length, take, drop, Option, Some, None, slice_index_or}
+use Rattle.cell.specs.Names.{option_eq}
 use Rattle.cell.specs.Pictures.{Picture}
-use Rattle.cell.specs.Shown.{Rendition, Shown, shown_blank}
+use Rattle.cell.specs.ShownCells.{Rendition, Shown, shown_blank}
 
 -- the cells of a column are not the same
 pub record DiffersAt (old new : List Shown) (column : ℕ) : Type 0 where

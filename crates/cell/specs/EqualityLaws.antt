@@ -1,12 +1,8 @@
 -- Two glyphs, renditions and shown cells are the same where all that they hold is.
-use Rattle.std.proofs.Common.{◌≡◌, ℕ, true, refl, ap}
-use Rattle.std.specs.Prelude.{◌==◌, ◌&&◌, Option, Some, None}
-use Rattle.std.specs.Cmp.{IsEquivalence}
-use Rattle.std.proofs.lemmas.Bool.{and_parts, eqb-true}
-use Rattle.std.proofs.lemmas.Cmp.{nat_eq_equiv, on_equiv, and_equiv}
-use Rattle.std.specs.Cmp.Lexicographic.{options_equiv}
+use Rattle.cell.specs.Names.{◌≡◌, ℕ, true, refl, ap, ◌==◌, ◌&&◌, Option, Some, None, IsEquivalence, and_parts, eqb-true, nat_eq_equiv, on_equiv, and_equiv}
+use Rattle.cell.specs.Names.{options_equiv}
 use Rattle.cell.specs.Glyphs.{Glyph, same_glyph}
-use Rattle.cell.specs.Shown.{Rendition, Shown}
+use Rattle.cell.specs.ShownCells.{Rendition, Shown}
 use Rattle.cell.specs.Differences.{same_colour, same_rendition, same_shown}
 
 same_colour-equal : (a b : Option ℕ) → same_colour a b ≡ true → a ≡ b

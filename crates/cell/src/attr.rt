@@ -1,7 +1,6 @@
 //! Sets of attributes.
 
-ghost use Rattle.std.specs.Prelude.{⊤, ◌≡◌, ◌<◌, [], ◌∷◌, codes};
-ghost use Rattle.cell.specs.Attributes.{bits_of, hex_digit, hex_digits, valid_attributes};
+ghost use Rattle.cell.specs.{⊤, ◌≡◌, ◌<◌, [], ◌∷◌, codes, bits_of, hex_digit, hex_digits, valid_attributes};
 
 use bitflags::{Flag, Flags, bitflag_items};
 

@@ -1,10 +1,7 @@
 //! A cell: a character with attributes and a colour pair.
 
-ghost use Rattle.std.specs.Prelude.{◌≡◌, ◌+◌, ◌*◌, ◌&&◌, ◌<◌, nat_le, if◌then◌else◌, true};
-ghost use Rattle.cell.specs.Attributes.{bits_of, valid_attributes};
-ghost use Rattle.cell.specs.Glyphs.{IsCell, is_printable, same_glyph};
-ghost use Rattle.std.specs.Cmp.{partial_equiv_from_equiv};
-ghost use Rattle.std.specs.List.{list_all};
+ghost use Rattle.cell.specs.{◌≡◌, ◌+◌, ◌*◌, ◌&&◌, ◌<◌, nat_le, if◌then◌else◌, true, bits_of, valid_attributes, IsCell, is_printable, same_glyph};
+ghost use Rattle.cell.specs.{partial_equiv_from_equiv, list_all};
 ghost use Rattle.cell.specs.declared.limits.TheConstants.{LAST_PAIR};
 
 use crate::attr::Attr;

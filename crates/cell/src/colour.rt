@@ -1,8 +1,7 @@
 //! Colours, and pairs of them.
 
-ghost use Rattle.std.specs.Prelude.{◌≡◌, ◌==◌, ◌&&◌, is_none, ◌≤◌, nat_le, if◌then◌else◌, length, map, slice_set, true};
-ghost use Rattle.std.specs.List.{AllByRecursion, list_all};
-ghost use Rattle.cell.specs.Shown.{ArePairs, default_pair, IsColour, IsShown, first_pairs, pair_at, shown, shown_in};
+ghost use Rattle.cell.specs.{◌≡◌, ◌==◌, ◌&&◌, is_none, ◌≤◌, nat_le, if◌then◌else◌, length, map, slice_set, true, AllByRecursion, list_all, ArePairs};
+ghost use Rattle.cell.specs.{default_pair, IsColour, IsShown, first_pairs, pair_at, shown, shown_in};
 ghost use Rattle.cell.specs.declared.lanes.TheConstants.{LANES};
 
 use crate::cell::Cell;
@@ -155,7 +154,7 @@ pub struct Pairs {
 const PAIRS: usize = LAST_PAIR as usize + 1;
 
 impl Model for Pairs {
-    ghost use Rattle.cell.specs.Shown.{Pairs, ArePairs};
+    ghost use Rattle.cell.specs.ShownCells.{Pairs, ArePairs};
 
     ghost Value = { Pairs };
 

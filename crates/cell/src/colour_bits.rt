@@ -1,8 +1,6 @@
 //! The colours of a pair at their place in the number of a shown cell.
 
-ghost use Rattle.std.specs.Prelude.{◌≡◌, ◌≤◌, ◌+◌, ◌%◌, ◌&&◌, is_none};
-ghost use Rattle.cell.specs.Packing.{colour_code, colour_of, colours_of};
-ghost use Rattle.cell.specs.Shown.{IsColour, IsPair};
+ghost use Rattle.cell.specs.{◌≡◌, ◌≤◌, ◌+◌, ◌%◌, ◌&&◌, is_none, colour_code, colour_of, colours_of, IsColour, IsPair};
 ghost use Rattle.cell.specs.declared.limits.TheConstants.{LAST_COLOUR};
 
 use crate::colour::{Colour, ColourPair, is_colour};
@@ -19,7 +17,7 @@ impl Model for ColourBits {
     ghost use Rattle.std.specs.Prelude.{◌≡◌, ◌%◌};
     ghost use Rattle.cell.specs.Packing.{colour_bits, colours_of};
     ghost use Rattle.cell.specs.PackingLaws.{colour_bits-of};
-    ghost use Rattle.cell.specs.Shown.{IsPair};
+    ghost use Rattle.cell.specs.ShownCells.{IsPair};
     ghost use Rattle.cell.specs.declared.colour.ColourPair.{ColourPair};
 
     ghost Value = { ColourPair };

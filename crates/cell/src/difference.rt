@@ -1,7 +1,6 @@
 //! Where two lines of shown cells differ.
 
-ghost use Rattle.std.specs.Prelude.{◌≡◌, ◌≤◌, length, take, drop};
-ghost use Rattle.cell.specs.Differences.{IsFirstDifference, IsLastDifference};
+ghost use Rattle.cell.specs.{◌≡◌, ◌≤◌, length, take, drop, IsFirstDifference, IsLastDifference};
 
 use crate::lanes::{LANES, same_before, same_lanes};
 use crate::shown::Shown;

@@ -1,12 +1,8 @@
 //! A grid of cells: what a window holds, or what a screen or a terminal shows.
 
-ghost use Rattle.std.specs.Prelude.{◌≡◌, ◌≤◌, ◌<◌, ◌==◌, ◌&&◌, ℕ, ◌+◌, ◌-◌, ◌*◌, nat_le, nat_lt, if◌then◌else◌, length, map, replicate, slice_index_or, IfOk, true};
-ghost use Rattle.std.specs.List.{AllByRecursion, splice};
-ghost use Rattle.cell.specs.Glyphs.{blank, IsCell};
-ghost use Rattle.cell.specs.Grids.{with_blanks, IsGrid, IsReached};
-ghost use Rattle.cell.specs.Shown.{shown, shown_blank, IsShown};
-ghost use Rattle.std.specs.Vec.{vec_capacity};
-ghost use Rattle.cell.specs.Pictures.{EachCell, HasSize, all_of, cell_or, line_of, shown_at, size_of, with_cell};
+ghost use Rattle.cell.specs.{◌≡◌, ◌≤◌, ◌<◌, ◌==◌, ◌&&◌, ℕ, ◌+◌, ◌-◌, ◌*◌, nat_le, nat_lt, if◌then◌else◌, length, map, replicate, slice_index_or, IfOk, true};
+ghost use Rattle.cell.specs.{AllByRecursion, splice, blank, IsCell, with_blanks, IsGrid, IsReached, shown, shown_blank, IsShown, vec_capacity, EachCell};
+ghost use Rattle.cell.specs.{HasSize, all_of, cell_or, line_of, shown_at, size_of, with_cell};
 
 use crate::cell::Cell;
 use crate::colour::Pairs;

@@ -1,12 +1,7 @@
 //! A shown cell: a character with a rendition.
 
-ghost use Rattle.std.specs.Prelude.{◌≡◌, ◌<◌, if◌then◌else◌, true};
-ghost use Rattle.cell.specs.Attributes.{bits_of, valid_attributes};
-ghost use Rattle.cell.specs.Glyphs.{is_printable};
-ghost use Rattle.cell.specs.Shown.{IsRendition, IsShown, default_pair, rendition_with, shown_in};
-ghost use Rattle.cell.specs.Differences.{same_rendition, same_shown};
-ghost use Rattle.cell.specs.Packing.{rendition_bits, rendition_of, shown_bits, shown_of};
-ghost use Rattle.std.specs.Cmp.{partial_equiv_from_equiv};
+ghost use Rattle.cell.specs.{◌≡◌, ◌<◌, if◌then◌else◌, true, bits_of, valid_attributes, is_printable, IsRendition, IsShown, default_pair, rendition_with};
+ghost use Rattle.cell.specs.{shown_in, same_rendition, same_shown, rendition_bits, rendition_of, shown_bits, shown_of, partial_equiv_from_equiv};
 
 use crate::attr::Attr;
 use crate::cell::{Cell, is_printable};
@@ -26,7 +21,7 @@ impl Model for Rendition {
     ghost use Rattle.std.specs.Prelude.{◌≡◌, ◌%◌};
     ghost use Rattle.cell.specs.Packing.{rendition_bits, rendition_of};
     ghost use Rattle.cell.specs.PackingLaws.{rendition_bits-of};
-    ghost use Rattle.cell.specs.Shown.{Rendition, IsRendition};
+    ghost use Rattle.cell.specs.ShownCells.{Rendition, IsRendition};
 
     ghost Value = { Rendition };
 
@@ -107,7 +102,7 @@ pub struct Shown {
 impl Model for Shown {
     ghost use Rattle.cell.specs.Packing.{shown_bits, shown_of};
     ghost use Rattle.cell.specs.PackingLaws.{shown_bits-of};
-    ghost use Rattle.cell.specs.Shown.{Shown, IsShown};
+    ghost use Rattle.cell.specs.ShownCells.{Shown, IsShown};
 
     ghost Value = { Shown };
 

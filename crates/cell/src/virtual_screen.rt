@@ -1,7 +1,6 @@
 //! Virtual screens.
 
-ghost use Rattle.std.specs.Prelude.{◌≡◌};
-ghost use Rattle.cell.specs.VirtualScreens.{VirtualScreen as Virtual};
+ghost use Rattle.cell.specs.{◌≡◌, VirtualScreen as Virtual};
 
 use crate::grid::Grid;
 use crate::shown::Shown;

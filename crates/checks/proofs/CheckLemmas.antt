@@ -1,35 +1,13 @@
 -- The findings of a script, a line at a time.
-use Rattle.std.proofs.Common.{◌≡◌, ℕ, ◌+◌, ◌<◌, List, [], ◌∷◌, ◌++◌, length, Bool, true, false, not, Err, refl, sym, ap, subst, ◌∙◌, append-nil, append_assoc, length-append, arith}
-use Rattle.std.proofs.lemmas.Bool.{both_ways, false_from_ne_true}
-use Rattle.std.proofs.lemmas.Bool.Decides.{nat_tests}
-use Rattle.std.proofs.lemmas.Grind.{flat_map-append}
-use Rattle.std.proofs.lemmas.List.Folds.{list_any_at}
-use Rattle.std.proofs.lemmas.List.Splits.{length-slice_split, slice_split_at, slice_split_none}
-use Rattle.std.proofs.Math.Seq.{take-append-add}
-use Rattle.std.proofs.KnownBytes.{Appends-trans, Consumes-nil, Consumes-trans}
-use Rattle.std.specs.List.{All, flat_map, slice_split}
-use Rattle.std.specs.Io.KnownBytes.{Consumes, IsAtEnd}
-use Rattle.cell.specs.declared.refusal.Refusal.{Refusal}
-use Rattle.streams.specs.Sinks.{Seen}
-use Rattle.streams.specs.Sources.{SourceSeen}
-use Rattle.script.specs.Characters.{is_newline}
-use Rattle.script.specs.Readings.{next_number, parse_line}
-use Rattle.script.specs.declared.bytes.LineEnd.{LineEnd}
-use Rattle.script.specs.declared.bytes.LineEnd.TheVariants.{Newline, ReadFailed, ScriptEnd}
-use Rattle.script.specs.declared.fault.TextFault.TheVariants.{LineTooLong}
-use Rattle.script.specs.declared.limits.TheConstants.{LONGEST_LINE}
-use Rattle.script.specs.Words.{placeless}
-use Rattle.world.specs.declared.call.Call.{Call}
-use Rattle.checks.specs.Everywhere.{HoldsUpTo, IsRefusedEverywhere}
-use Rattle.world.specs.World.{World}
-use Rattle.world.specs.calls.Dispatch.{tests_of}
-use Rattle.script.specs.Lines.{EndsLine, HasNoNewline, IsKept, ReadingEnds, ReadsToEnd, end_failed, has_newline, met_end}
-use Rattle.commands.specs.Shows.{IsWholeAt}
-use Rattle.commands.specs.Written.{IsNotWritten, PuttingEnds, WritingEnds}
+use Rattle.checks.specs.{◌≡◌, ℕ, ◌+◌, ◌<◌, List, [], ◌∷◌, ◌++◌, length, Bool, true, false, not, Err, refl, sym, ap, subst, ◌∙◌, append-nil, append_assoc}
+use Rattle.checks.specs.{length-append, arith, both_ways, false_from_ne_true, nat_tests, flat_map-append, list_any_at, length-slice_split, slice_split_at}
+use Rattle.checks.specs.{slice_split_none, take-append-add, Appends-trans, Consumes-nil, Consumes-trans, All, flat_map, slice_split, Consumes, IsAtEnd}
+use Rattle.checks.specs.{Refusal, Seen, SourceSeen, is_newline, next_number, parse_line, LineEnd, Newline, ReadFailed, ScriptEnd, LineTooLong, LONGEST_LINE}
+use Rattle.checks.specs.{placeless, Call, HoldsUpTo, IsRefusedEverywhere, World, tests_of, EndsLine, HasNoNewline, IsKept, ReadingEnds, ReadsToEnd}
+use Rattle.checks.specs.{end_failed, has_newline, met_end, IsWholeAt, IsNotWritten, PuttingEnds, WritingEnds, AreFindings, AreFindingsOf, ReportsLine}
+use Rattle.checks.specs.{ReportsRest, count_line, count_of, report, IsReported, ReportsMore, ReportsRead, ReportsScript, ReportsSome}
 use Rattle.commands.proofs.PutLemmas.{cut_before, not_put, nothing_put, put_after}
-use Rattle.checks.specs.Checks.{AreFindings, AreFindingsOf, ReportsLine, ReportsRest, count_line, count_of, report}
 use Rattle.checks.specs.declared.report.Report.{Report}
-use Rattle.checks.specs.steps.Checking.{IsReported, ReportsMore, ReportsRead, ReportsScript, ReportsSome}
 
 -- ---- lines with a finding
 

@@ -1,12 +1,6 @@
 -- A part that is too great for every screen or pad is outside of each parent.
-use Rattle.std.proofs.Common.{◌≡◌, ◌≤◌, ◌+◌, ◌-◌, ◌&&◌, ℕ, true, false, not, Some, arith}
-use Rattle.std.proofs.lemmas.Bool.Decides.{nat_tests}
-use Rattle.cell.specs.declared.limits.TheConstants.{LARGEST_PAD, LARGEST_SCREEN}
-use Rattle.world.specs.Sound.{IsSound, IsSoundWindow}
-use Rattle.world.specs.Windows.{Window}
-use Rattle.world.specs.World.{World}
-use Rattle.world.specs.calls.Making.{columns_from, is_before, is_inside, is_outside, is_pad, lines_from}
-use Rattle.checks.specs.Everywhere.{is_too_great}
+use Rattle.checks.specs.{◌≡◌, ◌≤◌, ◌+◌, ◌-◌, ◌&&◌, ℕ, true, false, not, Some, arith, nat_tests, LARGEST_PAD, LARGEST_SCREEN, IsSound, IsSoundWindow, Window}
+use Rattle.checks.specs.{World, columns_from, is_before, is_inside, is_outside, is_pad, lines_from, is_too_great}
 
 -- what is among so many from a place on is so among more, also where both begin later
 inside_grows : (n all most at from : ℕ) → from ≤ at → from + all ≤ most → is_inside n all (at - from) ≡ true → is_inside n most at ≡ true

@@ -1,13 +1,6 @@
 -- The calls that every screen refuses, whatever its size, and whatever was called on it before.
-use Rattle.std.specs.Prelude.{◌≡◌, ℕ, ◌+◌, ◌⊎◌, ◌==◌, ◌&&◌, ◌||◌, not, nat_le, nat_lt, Bool, true, List, [], ◌∷◌, if◌then◌else◌}
-use Rattle.cell.specs.declared.limits.TheConstants.{LARGEST_PAD, LARGEST_SCREEN, MOST_PANELS, MOST_WINDOWS}
-use Rattle.cell.specs.declared.refusal.Refusal.{Refusal}
-use Rattle.world.specs.Panels.{standard_screen}
-use Rattle.world.specs.Sound.{IsSound}
-use Rattle.world.specs.World.{World}
-use Rattle.world.specs.calls.Dispatch.{tests_of}
-use Rattle.world.specs.calls.Making.{is_inside}
-use Rattle.world.specs.declared.call.Call.{Call}
+use Rattle.checks.specs.Names.{◌≡◌, ℕ, ◌+◌, ◌⊎◌, ◌==◌, ◌&&◌, ◌||◌, not, nat_le, nat_lt, Bool, true, List, [], ◌∷◌, if◌then◌else◌, LARGEST_PAD, LARGEST_SCREEN}
+use Rattle.checks.specs.Names.{MOST_PANELS, MOST_WINDOWS, Refusal, standard_screen, IsSound, World, tests_of, is_inside, Call}
 
 -- one of the tests has this refusal
 abbrev pub IsAmong : Refusal → List (Bool × Refusal) → Type 0

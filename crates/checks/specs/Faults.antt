@@ -1,18 +1,8 @@
 -- Where a line's fault is: the word of the line, its arguments, the first that lacks its form, and the column of the fault.
-use Rattle.std.specs.Prelude.{◌+◌, ◌-◌, ◌==◌, ◌&&◌, ◌||◌, ℕ, Bool, false, true, not, List, [], ◌∷◌, codes, is_some, length, nat_le, Option, Some, None, position, take, if◌then◌else◌}
-use Rattle.std.specs.Char.{is_ascii_digit}
-use Rattle.std.specs.Str.{bytes_eq}
-use Rattle.std.specs.List.{list_any, slice_split}
-use Rattle.std.specs.Option.{option_map_or, unwrap_or}
-use Rattle.script.specs.Characters.{backslash, is_bad_byte, is_space}
-use Rattle.script.specs.Readings.{arguments}
-use Rattle.script.specs.Texts.{parse_argument}
-use Rattle.script.specs.Words.{entry_of, no_arguments, word_of}
-use Rattle.script.specs.declared.limits.TheConstants.{LONGEST_LINE}
-use Rattle.script.specs.declared.words.Form.{Form}
-use Rattle.script.specs.declared.words.Form.TheVariants.{Character, Flag, Text}
-use Rattle.script.specs.declared.fault.TextFault.{TextFault}
-use Rattle.script.specs.declared.fault.TextFault.TheVariants.{LineTooLong, BadByte, UnknownCall, WrongNumberOfArguments, BadArgument}
+use Rattle.checks.specs.Names.{◌+◌, ◌-◌, ◌==◌, ◌&&◌, ◌||◌, ℕ, Bool, false, true, not, List, [], ◌∷◌, codes, is_some, length, nat_le, Option, Some, None}
+use Rattle.checks.specs.Names.{position, take, if◌then◌else◌, is_ascii_digit, bytes_eq, list_any, slice_split, option_map_or, unwrap_or, backslash}
+use Rattle.checks.specs.Names.{is_bad_byte, is_space, arguments, parse_argument, entry_of, no_arguments, word_of, LONGEST_LINE, Form, Character, Flag, Text}
+use Rattle.checks.specs.Names.{TextFault, LineTooLong, BadByte, UnknownCall, WrongNumberOfArguments, BadArgument}
 
 -- ---- the word of a line, and the arguments after it
 

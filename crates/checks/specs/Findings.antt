@@ -1,10 +1,6 @@
 -- The form of what is reported: where it is, and a text that can be printed.
-use Rattle.std.specs.Prelude.{◌≡◌, ◌≤◌, ◌==◌, ◌++◌, ◌∷◌, [], ℕ, List, true, codes, decimal, length, if◌then◌else◌}
-use Rattle.std.specs.List.{list_all, slice_split}
-use Rattle.cell.specs.Glyphs.{is_printable}
-use Rattle.script.specs.Characters.{is_space, newline, space}
-use Rattle.script.specs.Words.{entry_of}
-use Rattle.script.specs.declared.words.Word.{Word}
+use Rattle.checks.specs.Names.{◌≡◌, ◌≤◌, ◌==◌, ◌++◌, ◌∷◌, [], ℕ, List, true, codes, decimal, length, if◌then◌else◌, list_all, slice_split, is_printable}
+use Rattle.checks.specs.Names.{is_space, newline, space, entry_of, Word}
 use Rattle.checks.specs.declared.said.TheConstants.{ROOM}
 
 -- calls, spelled by their own rows; a comma is after each but the last

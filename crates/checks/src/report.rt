@@ -1,11 +1,7 @@
 //! Says of each faulty line of a script what is wrong with it, and which calls every screen refuses. No call is made.
 
-ghost use Rattle.std.specs.Prelude.{◌≡◌, ◌≤◌, ◌<◌, ◌∷◌, [], length};
-ghost use Rattle.script.specs.Readings.{parse_line};
-ghost use Rattle.script.specs.Words.{entry_of};
-ghost use Rattle.commands.specs.Written.{outputs};
-ghost use Rattle.checks.specs.Checks.{Checks, ReportsCall, ReportsFault, ReportsLine, count_line};
-ghost use Rattle.checks.specs.steps.Checking.{EndsReport, ReportsMore, ReportsRead, ReportsScript, ReportsSome};
+ghost use Rattle.checks.specs.{◌≡◌, ◌≤◌, ◌<◌, ◌∷◌, [], length, parse_line, entry_of, outputs, Checks, ReportsCall, ReportsFault, ReportsLine, count_line};
+ghost use Rattle.checks.specs.{EndsReport, ReportsMore, ReportsRead, ReportsScript, ReportsSome};
 
 use crate::everywhere::refusal_everywhere;
 use crate::findings::{finding, refused};

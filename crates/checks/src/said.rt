@@ -1,8 +1,6 @@
 //! The text of a finding, as it is gathered.
 
-ghost use Rattle.std.specs.Prelude.{◌≡◌, ◌≤◌, length, true};
-ghost use Rattle.std.specs.List.{list_all};
-ghost use Rattle.cell.specs.Glyphs.{is_printable};
+ghost use Rattle.checks.specs.{◌≡◌, ◌≤◌, length, true, list_all, is_printable};
 ghost use Rattle.checks.specs.declared.said.TheConstants.{MOST_CALLS, ROOM};
 
 use arrayvec::ArrayVec;

@@ -1,12 +1,6 @@
 -- A stream is read into a terminal piece by piece.
-use Rattle.std.proofs.Common.{◌≡◌, ℕ, Bool, false, true, List, ◌++◌, subst, append_assoc, arith}
-use Rattle.std.proofs.lemmas.Bool.{ne_eqb}
-use Rattle.std.specs.Prelude.{◌||◌, if◌then◌else◌}
-use Rattle.std.proofs.KnownBytes.{Consumes-trans}
-use Rattle.std.specs.Io.KnownBytes.{Consumes}
-use Rattle.streams.specs.Sources.{SourceSeen}
-use Rattle.streams.specs.Counts.{moved_nothing}
-use Rattle.ecma.specs.Readers.{Follows, Reader, HasRead}
+use Rattle.commands.specs.{◌≡◌, ℕ, Bool, false, true, List, ◌++◌, subst, append_assoc, arith, ne_eqb, ◌||◌, if◌then◌else◌, Consumes-trans, Consumes}
+use Rattle.commands.specs.{SourceSeen, moved_nothing, Follows, Reader, HasRead}
 
 -- a prefix of the stream was read
 pub record IsPartlyFed (old new : SourceSeen) (before after : Reader) : Type 0 where

@@ -1,18 +1,10 @@
 -- What clap says of this program's command line.
-use Rattle.std.proofs.Common.{◌≡◌, ◌⊎◌, ◌||◌, Bool, List, Option, None, Some, Ok, Err, Result, true, false, refl, ap, subst, inl, inr, option_map, ◌∙◌, arith}
-use Rattle.std.specs.Borrow.{Bor}
-use Rattle.std.specs.Prelude.{IfErr}
-use Rattle.clap.specs.Words.{App, FailsBy, HasMatchesOf, Row, Text, fault_of}
-use Rattle.clap.specs.Words.{first_of, first_value, has_subcommand, is_simple, is_simple_and_free, kind_of, rows_of}
-use Rattle.clap.specs.Words.{subcommand_of, subcommand_rows_of}
-use Rattle.clap.specs.Matches.{subcommand_name_of}
-use Rattle.clap.specs.declared.error.Error.{Error}
-use Rattle.clap.specs.declared.error.kind.ErrorKind.TheVariants.{OutOfMemory}
-use Rattle.clap.specs.declared.parser.matches.ArgMatches.{ArgMatches}
-use Rattle.clap.specs.declared.parser.matches.Found.{Found}
+use Rattle.commands.specs.{◌≡◌, ◌⊎◌, ◌||◌, Bool, List, Option, None, Some, Ok, Err, Result, true, false, refl, ap, subst, inl, inr, option_map, ◌∙◌, arith}
+use Rattle.commands.specs.{Bor, IfErr, App, FailsBy, HasMatchesOf, Row, Text, fault_of, first_of, first_value, has_subcommand, is_simple, is_simple_and_free}
+use Rattle.commands.specs.{kind_of, rows_of, subcommand_of, subcommand_rows_of, subcommand_name_of, Error, OutOfMemory, ArgMatches, Found, IsRefused, Sizes}
+use Rattle.commands.specs.{curspan, text_of}
 use Rattle.clap.proofs.OnLiterals.{clap_on_literals}
 use Rattle.clap.proofs.WalkLemmas.{first_value-rows}
-use Rattle.commands.specs.CommandLine.{IsRefused, Sizes, curspan, text_of}
 
 curspan_is_simple : is_simple curspan ≡ true
 unfolding clap_on_literals

@@ -1,16 +1,9 @@
 -- A text is written piece by piece.
-use Rattle.std.proofs.Common.{◌≡◌, ◌+◌, ℕ, Bool, true, false, List, [], ◌++◌, length, take, drop, Result, Ok, Err, refl, sym, ap, subst, ◌∙◌, arith, append_assoc, take-append-drop, length-append}
-use Rattle.std.proofs.lemmas.List.{take-append-le}
-use Rattle.std.proofs.Math.Seq.{take-append-add, take-length}
-use Rattle.std.proofs.KnownBytes.{Appends-nil, Appends-trans}
-use Rattle.std.specs.Prelude.{is_err, is_ok}
-use Rattle.std.specs.Io.KnownBytes.{Appends, Keeps}
-use Rattle.streams.specs.Counts.{count_after, next_count}
-use Rattle.streams.specs.Sinks.{Seen, flushed_after_flush}
+use Rattle.commands.specs.{◌≡◌, ◌+◌, ℕ, Bool, true, false, List, [], ◌++◌, length, take, drop, Result, Ok, Err, refl, sym, ap, subst, ◌∙◌, arith}
+use Rattle.commands.specs.{append_assoc, take-append-drop, length-append, take-append-le, take-append-add, take-length, Appends-nil, Appends-trans, is_err}
+use Rattle.commands.specs.{is_ok, Appends, Keeps, count_after, next_count, Seen, flushed_after_flush, Sends, WriteFault, IsNotWritten, PuttingEnds}
+use Rattle.commands.specs.{TakesPrefix, WritingEnds}
 use Rattle.streams.proofs.Sends.{Appends-keeps, cut-unflushed, whole-flushed}
-use Rattle.streams.specs.Sending.{Sends}
-use Rattle.streams.specs.declared.sending.WriteFault.{WriteFault}
-use Rattle.commands.specs.Written.{IsNotWritten, PuttingEnds, TakesPrefix, WritingEnds}
 
 -- ---- one of several texts
 

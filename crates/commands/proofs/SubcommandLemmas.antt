@@ -1,11 +1,6 @@
 -- A program to which subcommands are added in turn.
-use Rattle.std.proofs.Common.{◌≡◌, ◌<◌, ◌+◌, ◌∙◌, ◌∷◌, ◌++◌, [], ℕ, Bool, List, ap, false, get_or, length, map, sym, take}
-use Rattle.std.proofs.lemmas.List.{map-append, take_more}
-use Rattle.std.specs.Prelude.{fold}
-use Rattle.clap.specs.Words.{AddsInTurn, AddsSubcommand, App, app_of, with_subcommand}
-use Rattle.clap.specs.declared.builder.command.Command.{Command}
-use Rattle.clap.specs.declared.builder.command.Command.TheViews.{out-Command}
-use Rattle.commands.specs.CommandLine.{mode}
+use Rattle.commands.specs.{◌≡◌, ◌<◌, ◌+◌, ◌∙◌, ◌∷◌, ◌++◌, [], ℕ, Bool, List, ap, false, get_or, length, map, sym, take, map-append, take_more, fold}
+use Rattle.commands.specs.{AddsInTurn, AddsSubcommand, App, app_of, with_subcommand, Command, out-Command, mode}
 use Rattle.commands.specs.declared.requests.Kind.{Kind}
 
 -- what a command defines, and whether an argument of it is global

@@ -1,22 +1,15 @@
 -- Where clap refuses nothing of the words, they name a subcommand.
-use Rattle.std.proofs.Common.{◌≡◌, ◌⊎◌, ℕ, true, false, List, [], Option, Some, None, refl, sym, ap, drop, is_some, ◌∙◌}
-use Rattle.std.proofs.Common.{inl, inr}
-use Rattle.std.specs.Option.{option_map_or}
-use Rattle.clap.specs.Faults.{check_fault, entered_fault}
-use Rattle.clap.specs.Simple.{App, Shape, built, built_leaf, entered, inherited, marked_built, with_leaf_noted}
-use Rattle.clap.specs.Walk.{Row, Text, finished, nothing_held, rows_after, walk, walk_from}
-use Rattle.clap.specs.Words.{kind_of, subcommand_of}
-use Rattle.clap.specs.declared.error.Error.{Error}
-use Rattle.clap.specs.declared.error.kind.ErrorKind.{ErrorKind}
-use Rattle.clap.specs.declared.error.kind.ErrorKind.TheVariants.{OutOfMemory}
-use Rattle.commands.specs.CommandLine.{Asks, AsksFor, GivesSize, HasNoScreen, IsRefused, IsSize}
-use Rattle.commands.specs.CommandLine.{IsTaken, Sizes, check_mode, check_text, curspan, kind_text, mode}
+use Rattle.commands.specs.{◌≡◌, ◌⊎◌, ℕ, true, false, List, [], Option, Some, None, refl, sym, ap, drop, is_some, ◌∙◌, inl, inr, option_map_or, check_fault}
+use Rattle.commands.specs.{entered_fault, Shape, built, built_leaf, entered, inherited, marked_built, with_leaf_noted, finished, nothing_held, rows_after}
+use Rattle.commands.specs.{walk, walk_from, kind_of, subcommand_of, Error, ErrorKind, OutOfMemory, Asks, AsksFor, GivesSize, HasNoScreen, IsRefused, IsSize}
+use Rattle.commands.specs.{IsTaken, Sizes, check_mode, check_text, curspan, kind_text, mode, AsksBy, IsRefusedBy, RequestBy}
+use Rattle.clap.specs.Simple.{App}
+use Rattle.clap.specs.Walk.{Row, Text}
 use Rattle.commands.specs.declared.requests.Invocation.{Invocation}
 use Rattle.commands.specs.declared.requests.Kind.{Kind}
 use Rattle.commands.specs.declared.requests.Kind.TheVariants.{Run, Paint, Show}
 use Rattle.commands.specs.declared.requests.Request.{Request}
 use Rattle.commands.specs.declared.requests.Request.TheVariants as requests
-use Rattle.commands.specs.steps.Sizing.{AsksBy, IsRefusedBy, RequestBy}
 use Rattle.commands.proofs.KindIsNamed.{StopsAtKind, level_passes, program_names, walk_stops}
 
 -- ---- the two levels

@@ -1,7 +1,6 @@
 -- Whether nobody reads a stream, after a call of it.
 -- No standard says it; the answers are those of std::io.
-use Rattle.std.specs.Prelude.{◌≡◌, ◌⊎◌, ◌↔◌, Bool, IsTrue, IsErrAnd, Result}
-use Rattle.std.specs.declared.io.ErrorKind.TheVariants.{BrokenPipe}
+use Rattle.commands.specs.Names.{◌≡◌, ◌⊎◌, ◌↔◌, Bool, IsTrue, IsErrAnd, Result, BrokenPipe}
 use Rattle.std.specs.IoError.{error_kind}
 use Rattle.std.specs.declared.io.Error.{Error}
 

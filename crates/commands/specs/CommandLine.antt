@@ -1,16 +1,11 @@
 -- The command line, in the words of clap's definition of a simple command.
-use Rattle.std.specs.Prelude.{◌≡◌, ◌⊎◌, ◌∷◌, ◌<◌, ◌^◌, ℕ, Bool, List, [], true, false, fold, pos, codes, Option, Some, None, IsSomeAnd, option_and_then, option_map, if◌then◌else◌}
-use Rattle.std.specs.Borrow.{Bor}
-use Rattle.std.specs.Option.{option_map_or, option_or}
-use Rattle.std.specs.Str.{bytes_eq}
-use Rattle.std.specs.Str.Parse.{IsNumeral, digits_value, without_leading_plus}
-use Rattle.clap.specs.Words.{App, IsAmong, Row, Rule, Text, fault_of, first_of, new_app, new_rule, subcommand_of, with_rule, with_subcommand}
-use Rattle.clap.specs.declared.builder.action.ArgAction.TheVariants.{Set, SetTrue}
+use Rattle.commands.specs.Names.{◌≡◌, ◌⊎◌, ◌∷◌, ◌<◌, ◌^◌, ℕ, Bool, List, [], true, false, fold, pos, codes, Option, Some, None, IsSomeAnd, option_and_then}
+use Rattle.commands.specs.Names.{option_map, if◌then◌else◌, Bor, option_map_or, option_or, bytes_eq, IsNumeral, digits_value, without_leading_plus, App}
+use Rattle.commands.specs.Names.{IsAmong, Row, Text, fault_of, first_of, new_app, new_rule, subcommand_of, with_rule, with_subcommand, Set, SetTrue}
+use Rattle.commands.specs.Names.{ErrorKind, is_no_size, LARGEST_SCREEN}
+use Rattle.clap.specs.Words.{Rule}
 use Rattle.clap.specs.declared.builder.value_parser.ValueParser.TheVariants as parsers
-use Rattle.clap.specs.declared.error.kind.ErrorKind.{ErrorKind}
 use Rattle.clap.specs.declared.error.kind.ErrorKind.TheVariants as errors
-use Rattle.cell.specs.Limits.{is_no_size}
-use Rattle.cell.specs.declared.limits.TheConstants.{LARGEST_SCREEN}
 use Rattle.commands.specs.declared.requests.Invocation.{Invocation}
 use Rattle.commands.specs.declared.requests.Request.{Request}
 use Rattle.commands.specs.declared.requests.Request.TheVariants as requests

@@ -1,7 +1,5 @@
 -- What is said of a file that can't be opened.
-use Rattle.std.specs.Prelude.{◌≡◌, ◌∷◌, ◌++◌, [], ℕ, List, codes}
-use Rattle.script.specs.Characters.{newline}
-use Rattle.streams.specs.Sinks.{Seen}
+use Rattle.commands.specs.Names.{◌≡◌, ◌∷◌, ◌++◌, [], ℕ, List, codes, newline, Seen}
 use Rattle.commands.specs.Escapes.{escaped_text}
 use Rattle.commands.specs.Statuses.{no_memory_line}
 use Rattle.commands.specs.Written.{TriesToLog}

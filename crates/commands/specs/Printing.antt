@@ -1,10 +1,6 @@
 -- How the program prints a picture. The form is Curspan's own.
-use Rattle.std.specs.Prelude.{ℕ, ◌+◌, Bool, not, ◌==◌, if◌then◌else◌, List, [], ◌∷◌, ◌++◌, Option, Some, None, codes, decimal, map}
-use Rattle.std.specs.List.{flat_map, list_any}
-use Rattle.cell.specs.Attributes.{hex_digits}
-use Rattle.std.specs.Option.{option_map_or}
-use Rattle.cell.specs.Shown.{Rendition, Shown, has_colour}
-use Rattle.cell.specs.Pictures.{Picture, Place}
+use Rattle.commands.specs.Names.{ℕ, ◌+◌, Bool, not, ◌==◌, if◌then◌else◌, List, [], ◌∷◌, ◌++◌, Option, Some, None, codes, decimal, map, flat_map, list_any}
+use Rattle.commands.specs.Names.{hex_digits, option_map_or, Rendition, Shown, has_colour, Picture, Place}
 
 abbrev pub has_attributes : Shown → Bool
 has_attributes cell = not (cell.rendition.attributes == 0)

@@ -1,9 +1,5 @@
 -- What is shown of words that are refused, by the kind of the error. The kinds and the texts are clap's.
-use Rattle.std.specs.Prelude.{◌≡◌, ◌⊎◌, ℕ, List}
-use Rattle.clap.specs.declared.error.kind.ErrorKind.{ErrorKind}
-use Rattle.clap.specs.declared.error.kind.ErrorKind.TheVariants.{DisplayHelp, DisplayVersion, OutOfMemory}
-use Rattle.script.specs.Log.{last_line}
-use Rattle.script.specs.declared.fault.ScriptFault.TheVariants.{Log}
+use Rattle.commands.specs.Names.{◌≡◌, ◌⊎◌, ℕ, List, ErrorKind, DisplayHelp, DisplayVersion, OutOfMemory, last_line, Log}
 use Rattle.commands.specs.Escapes.{escaped_text}
 use Rattle.commands.specs.Statuses.{LacksMemory}
 use Rattle.commands.specs.declared.status.Need.TheVariants.{CommandLine, Help, Usage}

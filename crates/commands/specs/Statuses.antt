@@ -1,12 +1,7 @@
 -- The exit statuses of the program, and that there is no memory.
-use Rattle.std.specs.Prelude.{◌≡◌, ◌∷◌, ◌++◌, [], ℕ, Bool, List, codes, if◌then◌else◌}
-use Rattle.std.specs.Option.{option_map_or}
-use Rattle.streams.specs.Sinks.{Seen}
-use Rattle.script.specs.Characters.{newline}
-use Rattle.script.specs.Log.{last_line}
-use Rattle.script.specs.declared.fault.ScriptEnd.{ScriptEnd}
-use Rattle.script.specs.declared.fault.ScriptFault.{ScriptFault}
-use Rattle.script.specs.declared.fault.ScriptFault.TheVariants.{Text, Reading, Write, Log}
+use Rattle.commands.specs.Names.{◌≡◌, ◌∷◌, ◌++◌, [], ℕ, Bool, List, codes, if◌then◌else◌, option_map_or, Seen, newline, last_line, ScriptEnd, ScriptFault}
+use Rattle.commands.specs.Names.{Reading, Write, Log}
+use Rattle.script.specs.declared.fault.ScriptFault.TheVariants.{Text}
 use Rattle.commands.specs.Written.{Complains, Outputs, TriesToLog}
 use Rattle.commands.specs.declared.status.Need.{Need}
 use Rattle.commands.specs.declared.status.Need.TheVariants.{CommandLine, Help, Usage, Streams, Screen}

@@ -1,12 +1,11 @@
 //! Reads the command line.
 
-ghost use Rattle.std.specs.Prelude.{◌≡◌, ◌⊎◌, ◌++◌, IfErr, IfOk, MatchOption, codes, map};
-ghost use Rattle.clap.specs.Words.{FailsBy, fault_of, found_of, kind_of, rows_of, subcommand_of, subcommand_rows_of};
-ghost use Rattle.clap.specs.declared.error.kind.ErrorKind.TheVariants.{OutOfMemory};
+ghost use Rattle.commands.specs.{◌≡◌, ◌⊎◌, ◌++◌, IfErr, IfOk, MatchOption, codes, map, FailsBy, fault_of, found_of, kind_of, rows_of, subcommand_of};
+ghost use Rattle.commands.specs.{subcommand_rows_of, OutOfMemory, Asks, IsRefused, LacksSizes, SizesOf, curspan, is_quiet_by, kind_text, script_by, sizes_of};
+ghost use Rattle.commands.specs.{text_of, AsksBy, IsRefusedBy, RequestBy};
 ghost use Rattle.commands.specs.declared.requests.Kind.{Kind};
 ghost use Rattle.commands.specs.declared.sizes.NoSize.TheVariants.{Bad, Missing};
-ghost use Rattle.commands.specs.CommandLine.{Asks, IsRefused, LacksSizes, SizesOf, curspan, is_quiet_by, kind_text, script_by, sizes_of, text_of};
-ghost use Rattle.commands.specs.steps.Sizing.{AsksBy, IsRefusedBy, RequestBy, error_kind};
+ghost use Rattle.commands.specs.steps.Sizing.{error_kind};
 
 use crate::requests::{Invocation, Job, Kind, Request, Variables};
 use crate::sizes::{NoSize, size_of};

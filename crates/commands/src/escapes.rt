@@ -1,8 +1,6 @@
 //! Escapes a text that may hold any byte, as the words of a command line do, since a terminal may show it.
 
-ghost use Rattle.std.specs.Prelude.{◌≡◌, ◌≤◌, ◌+◌, ◌++◌, length};
-ghost use Rattle.commands.specs.Escapes.{escaped_text, escaped_byte};
-ghost use Rattle.commands.specs.Written.{PuttingEnds, TriesToLog, WritingEnds};
+ghost use Rattle.commands.specs.{◌≡◌, ◌≤◌, ◌+◌, ◌++◌, length, escaped_text, escaped_byte, PuttingEnds, TriesToLog, WritingEnds};
 
 use crate::writing::put;
 use arrayvec::ArrayVec;

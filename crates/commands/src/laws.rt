@@ -1,7 +1,6 @@
 //! What holds of constants alone. The function does nothing, and its contract is the law.
 
-ghost use Rattle.std.specs.Prelude.{◌≡◌, ◌++◌, codes, decimal};
-ghost use Rattle.cell.specs.declared.limits.TheConstants.{LARGEST_SCREEN};
+ghost use Rattle.commands.specs.{◌≡◌, ◌++◌, codes, decimal, LARGEST_SCREEN};
 ghost use Rattle.commands.specs.declared.subcommands.TheConstants.{COLS_HELP, LINES_HELP};
 
 /// The numerals in the help of the options are the limits of a screen.

@@ -1,10 +1,8 @@
 //! Prints pictures.
 
-ghost use Rattle.std.specs.Prelude.{◌≡◌, ◌≤◌, ◌+◌, ◌*◌, ◌++◌, ◌∷◌, [], if◌then◌else◌, All, length};
-ghost use Rattle.std.specs.List.{flat_map, list_any};
-ghost use Rattle.cell.specs.Shown.{has_colour};
-ghost use Rattle.commands.specs.Printing.{attributes_text, characters_text, colours_text, cursor_text, has_attributes, line_text, printed_picture, rendition_text, sign, signs};
-ghost use Rattle.commands.specs.Written.{PuttingEnds, WritingEnds};
+ghost use Rattle.commands.specs.{◌≡◌, ◌≤◌, ◌+◌, ◌*◌, ◌++◌, ◌∷◌, [], if◌then◌else◌, All, length, flat_map, list_any, has_colour, attributes_text};
+ghost use Rattle.commands.specs.{characters_text, colours_text, cursor_text, has_attributes, line_text, printed_picture, rendition_text, sign, signs};
+ghost use Rattle.commands.specs.{PuttingEnds, WritingEnds};
 
 use crate::writing::put;
 use arrayvec::ArrayVec;

@@ -1,9 +1,6 @@
 //! What is shown of words that `clap` refuses: help on the output, or a usage fault on the log.
 
-ghost use Rattle.std.specs.Prelude.{◌≡◌, ◌<◌};
-ghost use Rattle.clap.specs.Words.{kind_of};
-ghost use Rattle.commands.specs.RefusedWords.{Explains, ShowsText};
-ghost use Rattle.commands.specs.Written.{outputs};
+ghost use Rattle.commands.specs.{◌≡◌, ◌<◌, kind_of, Explains, ShowsText, outputs};
 
 use crate::closing::Closable;
 use crate::escapes::log_escaped;

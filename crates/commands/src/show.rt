@@ -1,14 +1,9 @@
 //! Shows what a stream of terminal bytes leaves on a terminal.
 
-ghost use Rattle.std.specs.Prelude.{◌≡◌, ◌<◌, ◌⊎◌, []};
-ghost use Rattle.ecma.specs.Readers.{HasRead, blank_terminal};
-ghost use Rattle.commands.specs.CommandLine.{IsSize};
-ghost use Rattle.commands.specs.Shows.{Shows, offset_line, terminal_text};
-ghost use Rattle.commands.specs.Statuses.{LacksMemory};
+ghost use Rattle.commands.specs.{◌≡◌, ◌<◌, ◌⊎◌, [], HasRead, blank_terminal, IsSize, Shows, offset_line, terminal_text, LacksMemory, Feeds, LogsFault};
+ghost use Rattle.commands.specs.{WritingEnds, outputs};
 ghost use Rattle.commands.specs.declared.requests.Job.{Job};
 ghost use Rattle.commands.specs.declared.status.Need.{Need};
-ghost use Rattle.commands.specs.steps.Feeding.{Feeds, LogsFault};
-ghost use Rattle.commands.specs.Written.{WritingEnds, outputs};
 
 use crate::closing::Closable;
 use crate::printing::print;

@@ -1,10 +1,6 @@
 //! The size of a screen: by an option, or else by a variable of the environment.
 
-ghost use Rattle.std.specs.Prelude.{ℕ, MatchOption, MatchResult};
-ghost use Rattle.std.specs.Option.{option_or};
-ghost use Rattle.clap.specs.Words.{found_of, rows_of};
-ghost use Rattle.commands.specs.CommandLine.{GivesSize, SaysSize, size_text, text_of};
-ghost use Rattle.commands.specs.steps.Sizing.{HasNoSize};
+ghost use Rattle.commands.specs.{ℕ, MatchOption, MatchResult, option_or, found_of, rows_of, GivesSize, SaysSize, size_text, text_of, HasNoSize};
 
 use cell::{LARGEST_SCREEN, is_no_size};
 use clap::ArgMatches;

@@ -1,9 +1,6 @@
 //! The exit statuses, and what is written to the log with them.
 
-ghost use Rattle.std.specs.Prelude.{◌≡◌, ◌<◌, MatchOption, None};
-ghost use Rattle.commands.specs.Statuses.{SaysFault, no_memory_line, status_of};
-ghost use Rattle.commands.specs.Written.{Complains, TriesToLog};
-ghost use Rattle.script.specs.Log.{last_line};
+ghost use Rattle.commands.specs.{◌≡◌, ◌<◌, MatchOption, None, SaysFault, no_memory_line, status_of, Complains, TriesToLog, last_line};
 
 use crate::closing::Closable;
 use crate::writing::write_log;

@@ -1,11 +1,8 @@
 //! The definition of the command line, for `clap`.
 
-ghost use Rattle.std.specs.Prelude.{◌≡◌, IfOk, Some, codes, false};
-ghost use Rattle.std.specs.Option.{option_map};
+ghost use Rattle.commands.specs.{◌≡◌, IfOk, Some, codes, false, option_map, app_of, new_app, rule_of, with_rule, out-Command, bare, check_mode, curspan};
+ghost use Rattle.commands.specs.{file_rule, log_rule, mode, on_screen, quiet_rule, size_rule, with_files};
 ghost use Rattle.commands.specs.declared.subcommands.TheConstants.{EXAMPLE, VERSION};
-ghost use Rattle.clap.specs.Words.{app_of, new_app, rule_of, with_rule};
-ghost use Rattle.clap.specs.declared.builder.command.Command.TheViews.{out-Command};
-ghost use Rattle.commands.specs.CommandLine.{bare, check_mode, curspan, file_rule, log_rule, mode, on_screen, quiet_rule, size_rule, with_files};
 
 use crate::requests::Kind;
 use cell::LARGEST_SCREEN;

@@ -1,6 +1,6 @@
 //! Writing a text of any length.
 
-ghost use Rattle.commands.specs.Written.{PuttingEnds, TriesToLog, WritingEnds};
+ghost use Rattle.commands.specs.{PuttingEnds, TriesToLog, WritingEnds};
 
 use streams::{Sink, send};
 

@@ -1,26 +1,16 @@
 -- What a change damages, in terms of the windows before it.
-use Rattle.std.proofs.Common.{◌≡◌, ℕ, ◌≤◌, Ok, Option, Some, List, refl, sym, subst, ◌∙◌, arith}
-use Rattle.std.specs.Prelude.{MatchOption, ⊤}
-use Rattle.std.specs.Option.{option_map}
-use Rattle.cell.specs.declared.refusal.Refusal.{Refusal}
-use Rattle.cell.specs.declared.window.Rect.{Rect}
-use Rattle.world.specs.Panels.{Panels}
-use Rattle.world.specs.Windows.{HasPlace, WindowMap, Windows}
-use Rattle.world.specs.Effects.{Change, after_change, after_edit, asks, deletes, edit_frame, edit_window, edits, makes, marks, moves, shifts}
-use Rattle.world.specs.calls.Affected.{change_shows_at, frame_shows_at}
-use Rattle.world.specs.declared.settings.Columns.{Columns}
+use Rattle.compose.specs.{◌≡◌, ℕ, ◌≤◌, Ok, Option, Some, List, refl, sym, subst, ◌∙◌, arith, MatchOption, ⊤, option_map, Refusal, Rect, Panels, HasPlace}
+use Rattle.compose.specs.{WindowMap, Windows, Change, after_change, after_edit, asks, deletes, edit_frame, edit_window, edits, makes, marks, moves, shifts}
+use Rattle.compose.specs.{change_shows_at, frame_shows_at, Columns, WindowTable, windows, Damages, IsPossible, affected_by, any_shows_at, Affects}
+use Rattle.compose.specs.{ChangedDamaging}
 use Rattle.world.proofs.MoveLaws.{move_shows-moved}
 use Rattle.world.proofs.PictureLaws.{SameView, frame_shows-same}
 use Rattle.world.proofs.Sizes.{SameSize, size-change}
 use Rattle.world.proofs.WritingLaws.{inside-edit, there-still, view-edit}
-use Rattle.grids.specs.Tables.{WindowTable, windows}
-use Rattle.picture.specs.Damages.{Damages}
 use Rattle.picture.proofs.DamageLaws.{damages-as}
 use Rattle.compose.specs.declared.damaging.Affected.{Affected}
 use Rattle.compose.specs.declared.damaging.Affected.TheVariants.{Written}
 use Rattle.compose.specs.declared.dispatch.Outcome.{Outcome}
-use Rattle.compose.specs.steps.Changes.{IsPossible, affected_by, any_shows_at}
-use Rattle.compose.specs.steps.Outcomes.{Affects, ChangedDamaging}
 use Rattle.compose.proofs.DeskLemmas.{refused-as}
 
 -- a rectangle that lies in the window before an edit lies in it after it

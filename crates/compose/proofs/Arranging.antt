@@ -1,23 +1,10 @@
 -- A call on panels: what the stack of panels says of it, and the desk on which it is made.
-use Rattle.std.proofs.Common.{◌≡◌, Bool, true, false, Option, None, [], ◌∷◌, ◌++◌, refl, Result, Ok, Err, List, arith}
-use Rattle.cell.specs.Refusals.{first_of}
-use Rattle.cell.specs.declared.refusal.Refusal.{Refusal}
-use Rattle.world.specs.Sound.{AreSoundPanels}
-use Rattle.world.specs.Effects.{windows_after}
-use Rattle.world.specs.calls.Stacking.{stacking_order, stacking_refusal}
+use Rattle.compose.specs.{◌≡◌, Bool, true, false, Option, None, [], ◌∷◌, ◌++◌, refl, Result, Ok, Err, List, arith, first_of, Refusal, AreSoundPanels}
+use Rattle.compose.specs.{windows_after, stacking_order, stacking_refusal, Reply, Stacking, Columns, WindowTable, windows, Arranged, PanelTable, panels}
+use Rattle.compose.specs.{Called, IsDesk, DeskTable, Ordered, OrderedDamaging}
 use Rattle.world.specs.declared.call.Call.TheVariants as calls
-use Rattle.world.specs.declared.call.Reply.{Reply}
-use Rattle.world.specs.declared.call.Stacking.{Stacking}
-use Rattle.world.specs.declared.settings.Columns.{Columns}
 use Rattle.world.proofs.SoundOrders.{sound-stacking}
 use Rattle.world.proofs.Sizes.{SameSize, size-order}
-use Rattle.grids.specs.Tables.{WindowTable, windows}
-use Rattle.stack.specs.Calls.{Arranged}
-use Rattle.stack.specs.Tables.{PanelTable, panels}
-use Rattle.compose.specs.Calling.{Called}
-use Rattle.compose.specs.Covers.{IsDesk}
-use Rattle.compose.specs.Desks.{DeskTable}
-use Rattle.compose.specs.steps.Outcomes.{Ordered, OrderedDamaging}
 use Rattle.extents.proofs.Changing.{changes-none}
 use Rattle.compose.proofs.DamageCovers.{call-accepted}
 use Rattle.compose.proofs.DeskLemmas.{accepted-by, call-refused}

@@ -1,23 +1,11 @@
 -- What update_panels reads: no less than it changes, and no more than all of the damaged lines.
-use Rattle.std.proofs.Common.{◌≡◌, ℕ, ◌+◌, ◌%◌, ◌^◌, true, false, Option, None, is_some, length, Ok, refl, sym, ap, subst, ◌∙◌, arith}
-use Rattle.cell.specs.Pictures.{picture_of}
-use Rattle.cell.specs.Shown.{shown, shown_blank}
+use Rattle.compose.specs.{◌≡◌, ℕ, ◌+◌, ◌%◌, ◌^◌, true, false, Option, None, is_some, length, Ok, refl, sym, ap, subst, ◌∙◌, arith, picture_of, shown}
+use Rattle.compose.specs.{shown_blank, World, picture, after, composed_windows, composes, IsSound, world_after, UpdatePanels, Composed, Columns, AddsChanges}
+use Rattle.compose.specs.{columns_of, cells_above, Called, DamagesFew, MayRead, IsCovered, IsDesk, DeskTable, is_damaged_line, world}
 use Rattle.cell.proofs.PictureLemmas.{HasSize-lines_from, cell_or-lines_from, length-line}
-use Rattle.world.specs.World.{World, picture}
-use Rattle.world.specs.Effects.{after, composed_windows, composes}
-use Rattle.world.specs.Sound.{IsSound}
-use Rattle.world.specs.calls.Dispatch.{world_after}
 use Rattle.world.specs.declared.call.Call.TheVariants as calls
-use Rattle.world.specs.declared.call.Refresh.TheVariants.{UpdatePanels}
-use Rattle.world.specs.declared.call.Reply.TheVariants.{Composed}
-use Rattle.world.specs.declared.settings.Columns.{Columns}
 use Rattle.world.proofs.RefreshLaws.{found-unmarked}
 use Rattle.world.proofs.SoundCalls.{sound-call}
-use Rattle.extents.specs.Extents.{AddsChanges, columns_of}
-use Rattle.picture.specs.Damages.{cells_above}
-use Rattle.compose.specs.Calling.{Called, DamagesFew, MayRead}
-use Rattle.compose.specs.Covers.{IsCovered, IsDesk}
-use Rattle.compose.specs.Desks.{DeskTable, is_damaged_line, world}
 use Rattle.compose.proofs.Reading.{differs-less, few-cells}
 
 module _ (t : DeskTable) (h : IsDesk t) (cells : ℕ) (read : cells ≡ cells_above t.damage t.windows.lines) where

@@ -1,30 +1,14 @@
 -- Where damage covers what an accepted call may change, the damage of a desk still covers all that differs after it, and few lines are
 -- damaged: so it leaves a desk, and was made.
-use Rattle.std.proofs.Common.{◌≡◌, ℕ, zero, suc, ◌<◌, Bool, true, false, Option, None, replicate, refl, sym, ap, ◌∙◌, Ok, arith}
-use Rattle.std.specs.Prelude.{slice_index_or}
-use Rattle.std.proofs.lemmas.List.{length-replicate}
-use Rattle.cell.specs.Pictures.{blank_picture, shown_at}
-use Rattle.cell.specs.Shown.{shown_blank}
-use Rattle.grids.specs.Tables.{windows}
-use Rattle.world.specs.Windows.{window_limit}
-use Rattle.world.specs.World.{World, first_world, picture}
-use Rattle.world.specs.Sound.{AreSoundWindows}
-use Rattle.world.specs.calls.Dispatch.{is_update_panels, refusal, world_after}
-use Rattle.world.specs.calls.Affected.{affects_place}
-use Rattle.world.specs.declared.settings.Columns.{Columns}
-use Rattle.world.specs.declared.call.Call.{Call}
+use Rattle.compose.specs.{◌≡◌, ℕ, zero, suc, ◌<◌, Bool, true, false, Option, None, replicate, refl, sym, ap, ◌∙◌, Ok, arith, slice_index_or, length-replicate}
+use Rattle.compose.specs.{blank_picture, shown_at, shown_blank, windows, window_limit, World, first_world, picture, AreSoundWindows, is_update_panels}
+use Rattle.compose.specs.{refusal, world_after, affects_place, Columns, Call, UpdatePanels, Reply, AddsChanges, is_among, Damages, Called, CountsReads}
+use Rattle.compose.specs.{DamagesFew, MayLeave, MayTell, IsDesk, DeskTable, is_damaged_line, world}
 use Rattle.world.specs.declared.call.Call.TheVariants as calls
-use Rattle.world.specs.declared.call.Refresh.TheVariants.{UpdatePanels}
-use Rattle.world.specs.declared.call.Reply.{Reply}
 use Rattle.world.proofs.Sizes.{size-call}
-use Rattle.extents.specs.Extents.{AddsChanges, is_among}
-use Rattle.picture.specs.Damages.{Damages}
 use Rattle.picture.proofs.DamageLaws.{damages-line}
 use Rattle.world.proofs.CallLaws.{picture-kept, virtual-kept}
 use Rattle.world.proofs.SoundCalls.{sound-call}
-use Rattle.compose.specs.Calling.{Called, CountsReads, DamagesFew, MayLeave, MayTell}
-use Rattle.compose.specs.Covers.{IsDesk}
-use Rattle.compose.specs.Desks.{DeskTable, is_damaged_line, world}
 use Rattle.compose.proofs.DeskLemmas.{IsSound-first, world-left}
 
 -- what covers two tests, where it doesn't hold

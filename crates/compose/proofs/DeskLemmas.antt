@@ -1,18 +1,7 @@
 -- What a desk keeps, and the world that it represents, call by call.
-use Rattle.std.proofs.Common.{◌≡◌, ℕ, Bool, Option, None, Result, Ok, Err, arith}
-use Rattle.cell.specs.Shown.{IsShown, shown_blank}
+use Rattle.compose.specs.{◌≡◌, ℕ, Bool, Option, None, Result, Ok, Err, arith, IsShown, shown_blank, World, first_world, AreSoundWindows, IsSound, refusal}
+use Rattle.compose.specs.{takes_memory, world_after, Refused, Refusal, IsDesk, DeskTable, world, Called, MayLeave, Call, Reply, as_reply}
 use Rattle.cell.proofs.PictureLemmas.{ArePairs-first, EachCell-all_of, HasSize-all_of, IsShown-blank}
-use Rattle.world.specs.World.{World, first_world}
-use Rattle.world.specs.Sound.{AreSoundWindows, IsSound}
-use Rattle.world.specs.calls.Dispatch.{refusal, takes_memory, world_after}
-use Rattle.world.specs.calls.Refused.{Refused}
-use Rattle.cell.specs.declared.refusal.Refusal.{Refusal}
-use Rattle.compose.specs.Covers.{IsDesk}
-use Rattle.compose.specs.Desks.{DeskTable, world}
-use Rattle.compose.specs.Calling.{Called, MayLeave}
-use Rattle.world.specs.declared.call.Call.{Call}
-use Rattle.world.specs.declared.call.Reply.{Reply}
-use Rattle.calls.specs.Methods.{as_reply}
 use Rattle.world.proofs.Sizes.{size-call}
 
 -- the first world

@@ -1,13 +1,8 @@
 -- A drawing is laid over a picture line by line.
-use Rattle.std.proofs.Common.{◌≡◌, ℕ, ◌+◌, ◌<◌, ◌≤◌, Bool, true, false, ◌==◌, ◌&&◌, nat_le, nat_lt, if◌then◌else◌, Option, Some, None, inl, inr, refl, sym, ◌∙◌, arith}
-use Rattle.std.specs.Option.{option_map_or}
-use Rattle.std.proofs.lemmas.Bool.{cases_eq, cases_lt, eq-eqb, ne_eqb}
-use Rattle.cell.specs.Glyphs.{Glyph}
-use Rattle.cell.specs.Pictures.{Picture, HasSize, picture_of, shown_at}
-use Rattle.cell.specs.Shown.{Pairs, Shown, shown, shown_blank}
+use Rattle.compose.specs.{◌≡◌, ℕ, ◌+◌, ◌<◌, ◌≤◌, Bool, true, false, ◌==◌, ◌&&◌, nat_le, nat_lt, if◌then◌else◌, Option, Some, None, inl, inr, refl, sym, ◌∙◌}
+use Rattle.compose.specs.{arith, option_map_or, cases_eq, cases_lt, eq-eqb, ne_eqb, Glyph, Picture, HasSize, picture_of, shown_at, Pairs, Shown, shown}
+use Rattle.compose.specs.{shown_blank, Drawing, shown_over}
 use Rattle.cell.proofs.PictureLemmas.{HasSize-lines_from, cell_or-lines_from, same_pictures}
-use Rattle.world.specs.Windows.{Drawing}
-use Rattle.world.specs.Effects.{shown_over}
 
 -- the drawing has no cell on line y
 abbrev pub IsBare : Drawing → ℕ → ℕ → Type 0

@@ -1,27 +1,10 @@
 -- What a method of a call answers is also the outcome of the call, or its reply.
-use Rattle.std.proofs.Common.{◌≡◌, ℕ, Bool, None, true, Option, Result, refl, arith}
-use Rattle.cell.specs.Pictures.{Place}
-use Rattle.cell.specs.declared.refusal.Refusal.{Refusal}
-use Rattle.cell.specs.declared.window.Rect.{Rect}
-use Rattle.cell.specs.declared.window.WinId.{WinId}
-use Rattle.world.specs.Effects.{Change, Edit, edit_window, edits, makes, order_reply, shifts, windows_after}
-use Rattle.world.specs.Replies.{its_flag, its_number, no_answer}
-use Rattle.world.specs.Windows.{Window, Windows}
-use Rattle.world.specs.calls.Stacking.{stacking_order, stacking_refusal, stacking_tests}
-use Rattle.world.specs.calls.Writing.{writing_edit}
-use Rattle.world.specs.declared.call.Reply.{Reply}
-use Rattle.world.specs.declared.call.Stacking.{Stacking}
-use Rattle.world.specs.declared.call.Writing.{Writing}
+use Rattle.compose.specs.{◌≡◌, ℕ, Bool, None, true, Option, Result, refl, arith, Place, Refusal, Rect, WinId, Change, Edit, edit_window, edits, makes}
+use Rattle.compose.specs.{order_reply, shifts, windows_after, its_flag, its_number, no_answer, Window, Windows, stacking_order, stacking_refusal}
+use Rattle.compose.specs.{stacking_tests, writing_edit, Reply, Stacking, Writing, as_reply, is_query, Changed, WindowTable, windows, Drew, its_frame}
+use Rattle.compose.specs.{Arranged, no_windows, PanelTable, panels, affected_by, Affects, Answered, Ordered, Rearranges, as_outcome, drawn, numbered, shifted}
+use Rattle.compose.specs.{told, unseen, with_frame, written_window}
 use Rattle.world.specs.declared.call.Call.TheVariants as calls
-use Rattle.calls.specs.Methods.{as_reply}
-use Rattle.calls.specs.Queries.{is_query}
-use Rattle.grids.specs.Calls.{Changed}
-use Rattle.grids.specs.Tables.{WindowTable, windows}
-use Rattle.windows.specs.Calls.{Drew, its_frame}
-use Rattle.stack.specs.Calls.{Arranged, no_windows}
-use Rattle.stack.specs.Tables.{PanelTable, panels}
-use Rattle.compose.specs.steps.Changes.{affected_by}
-use Rattle.compose.specs.steps.Outcomes.{Affects, Answered, Ordered, Rearranges, as_outcome, drawn, numbered, shifted, told, unseen, with_frame, written_window}
 use Rattle.compose.proofs.Arranging.{ordered}
 use Rattle.compose.proofs.DeskLemmas.{refused-as}
 

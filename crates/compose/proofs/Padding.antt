@@ -1,12 +1,6 @@
 -- The rectangle of the screen to which a pad's cells are copied is what the copy draws.
-use Rattle.std.proofs.Common.{◌≡◌, ℕ, ◌+◌, ◌-◌, ◌<◌, ◌≤◌, true, false, ◌&&◌, nat_le, nat_lt, is_some, List, Option, Some, arith}
-use Rattle.std.proofs.lemmas.Bool.{and_from, and_parts, cases_lt, leb-true, le-leb, lt-ltb, ltb-true}
-use Rattle.cell.specs.declared.window.Rect.{Rect}
-use Rattle.world.specs.Windows.{Windows}
-use Rattle.world.specs.calls.Copying.{copywin_drawing}
-use Rattle.world.specs.declared.settings.Columns.{Columns}
-use Rattle.picture.specs.Damages.{Damages}
-use Rattle.picture.specs.Parts.{frame_holds, part_holds}
+use Rattle.compose.specs.{◌≡◌, ℕ, ◌+◌, ◌-◌, ◌<◌, ◌≤◌, true, false, ◌&&◌, nat_le, nat_lt, is_some, List, Option, Some, arith, and_from, and_parts, cases_lt}
+use Rattle.compose.specs.{leb-true, le-leb, lt-ltb, ltb-true, Rect, Windows, copywin_drawing, Columns, Damages, frame_holds, part_holds}
 use Rattle.picture.proofs.DamageLaws.{damages-as}
 use Rattle.picture.proofs.Held.{held-between}
 use Rattle.compose.proofs.RefreshedLines.{IsOfPad, pad-above, pad-below, pad-piece}

@@ -1,21 +1,9 @@
 -- What a call on panels damages: the part of the panel that it names, as it was, and that of the panel that it changed or made, as it is.
-use Rattle.std.proofs.Common.{◌≡◌, ℕ, ◌+◌, Bool, true, false, ◌||◌, Option, Some, None, List, [], ◌∷◌, refl, arith}
-use Rattle.std.specs.Prelude.{MatchOption, ⊤, find, is_none, ◌==◌, unwrap_or}
-use Rattle.std.specs.Option.{option_map, option_map_or}
-use Rattle.std.proofs.lemmas.Bool.{true≢false}
-use Rattle.cell.specs.declared.window.Rect.{Rect}
-use Rattle.cell.specs.declared.window.WinId.{WinId}
-use Rattle.world.specs.Panels.{Panels}
-use Rattle.world.specs.Windows.{WindowMap, Windows}
-use Rattle.world.specs.Sound.{AreSoundPanels}
-use Rattle.world.specs.Effects.{Order, order_reply, orders, panels_after, windows_after}
-use Rattle.world.specs.calls.Affected.{order_shows_at, panel_shows_at, stays_on_top}
-use Rattle.world.specs.calls.Stacking.{after_stacking, new_panel_number, next_panel, stacking_order}
-use Rattle.world.specs.declared.call.Reply.{Reply}
-use Rattle.world.specs.declared.call.Stacking.{Stacking}
-use Rattle.picture.specs.Parts.{IsFrameWithin}
+use Rattle.compose.specs.{◌≡◌, ℕ, ◌+◌, Bool, true, false, ◌||◌, Option, Some, None, List, [], ◌∷◌, refl, arith, MatchOption, ⊤, find, is_none, ◌==◌}
+use Rattle.compose.specs.{unwrap_or, option_map, option_map_or, true≢false, Rect, WinId, Panels, WindowMap, Windows, AreSoundPanels, Order, order_reply}
+use Rattle.compose.specs.{orders, panels_after, windows_after, order_shows_at, panel_shows_at, stays_on_top, after_stacking, new_panel_number, next_panel}
+use Rattle.compose.specs.{stacking_order, Reply, Stacking, IsFrameWithin, changed_panel, named_panel, ordered_panel, top_window}
 use Rattle.picture.proofs.VisiblePanels.{absent-hidden}
-use Rattle.compose.specs.steps.Changes.{changed_panel, named_panel, ordered_panel, top_window}
 
 find-free : (window : ℕ → Option ℕ) (ps : List ℕ) (p : ℕ) → find (λ q. is_none (window q)) ps ≡ Some p → window p ≡ None
 find-free window [] p is = cc

@@ -1,19 +1,9 @@
 -- How many cells update_panels reads: as many as there are damaged columns. That is at least as many as it changes, and at most all of the
 -- damaged lines.
-use Rattle.std.proofs.Common.{◌≡◌, ℕ, zero, suc, ◌+◌, ◌-◌, ◌*◌, ◌<◌, ◌≤◌, max, Bool, true, false, if◌then◌else◌, Option, Some, None, is_some, List, [], ◌∷◌, length, arith}
-use Rattle.std.proofs.lemmas.Bool.Decides.{nat_tests}
-use Rattle.std.specs.Prelude.{slice_index_or}
-use Rattle.std.specs.List.{count_by, range_with_len}
-use Rattle.std.proofs.lemmas.List.Sums.{sum_by-cons}
-use Rattle.std.proofs.lemmas.Bool.{and_from, eq-eqb}
-use Rattle.cell.specs.Differences.{difference, line_difference, same_shown}
-use Rattle.cell.specs.Pictures.{Picture, line_of}
-use Rattle.cell.specs.Shown.{Shown, shown_blank}
-use Rattle.world.specs.Sound.{AreColumnsWithin}
-use Rattle.world.specs.calls.Refresh.{among}
-use Rattle.world.specs.declared.settings.Columns.{Columns}
-use Rattle.extents.specs.Extents.{columns_of, has_columns}
-use Rattle.picture.specs.Damages.{cells_above, cells_of_line}
+use Rattle.compose.specs.{◌≡◌, ℕ, zero, suc, ◌+◌, ◌-◌, ◌*◌, ◌<◌, ◌≤◌, max, Bool, true, false, if◌then◌else◌, Option, Some, None, is_some, List, [], ◌∷◌}
+use Rattle.compose.specs.{length, arith, nat_tests, slice_index_or, count_by, range_with_len, sum_by-cons, and_from, eq-eqb, difference, line_difference}
+use Rattle.compose.specs.{same_shown, Picture, line_of, Shown, shown_blank, AreColumnsWithin, among, Columns, columns_of, has_columns, cells_above}
+use Rattle.compose.specs.{cells_of_line}
 
 -- ---- at most the columns of each damaged line
 

@@ -1,16 +1,7 @@
 -- What noutrefresh and pnoutrefresh draw on each line of the screen.
-use Rattle.std.proofs.Common.{◌≡◌, ℕ, ◌+◌, ◌-◌, ◌<◌, ◌≤◌, false, Some, None, arith}
+use Rattle.compose.specs.{◌≡◌, ℕ, ◌+◌, ◌-◌, ◌<◌, ◌≤◌, false, Some, None, arith, nat_tests, Place, LARGEST_PAD, LARGEST_SCREEN, Window, Windows, cell_at}
+use Rattle.compose.specs.{AreSoundWindows, copywin_drawing, touched_columns, first_of, pnoutrefresh_tests, touched_cells, Columns}
 use Rattle.world.proofs.Allowed.{passed}
-use Rattle.std.proofs.lemmas.Bool.Decides.{nat_tests}
-use Rattle.cell.specs.Pictures.{Place}
-use Rattle.cell.specs.declared.limits.TheConstants.{LARGEST_PAD, LARGEST_SCREEN}
-use Rattle.world.specs.Windows.{Window, Windows, cell_at}
-use Rattle.world.specs.Sound.{AreSoundWindows}
-use Rattle.world.specs.calls.Copying.{copywin_drawing}
-use Rattle.world.specs.calls.Queries.{touched_columns}
-use Rattle.cell.specs.Refusals.{first_of}
-use Rattle.world.specs.calls.Refresh.{pnoutrefresh_tests, touched_cells}
-use Rattle.world.specs.declared.settings.Columns.{Columns}
 use Rattle.picture.proofs.Placement.{IsPlacedAt}
 use Rattle.compose.proofs.Laying.{HasPiece, IsBare}
 

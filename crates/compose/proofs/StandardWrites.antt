@@ -1,19 +1,10 @@
 -- Of a write in the standard screen, it shows the frame; and where no panel is visible, nothing else shows anything of it.
-use Rattle.std.proofs.Common.{◌≡◌, ℕ, ◌+◌, ◌<◌, ◌≤◌, Bool, false, ◌||◌, Option, Some, List, [], ◌∷◌, length, arith, sym, ◌∙◌}
-use Rattle.std.specs.Prelude.{IsSome, IsSomeAnd, option_and_then, reverse}
-use Rattle.std.specs.List.{filter_map, list_any}
-use Rattle.cell.specs.Pictures.{origin}
-use Rattle.cell.specs.declared.window.Rect.{Rect}
-use Rattle.world.specs.Frames.{AreRectangle}
-use Rattle.world.specs.Panels.{Panels, standard_screen}
-use Rattle.world.specs.Sharing.{SharesPart}
-use Rattle.world.specs.Sound.{AreSoundWindows, IsStandardScreen}
-use Rattle.world.specs.Windows.{GridPlace, HasPlace, Window, Windows, own}
-use Rattle.world.specs.calls.Affected.{frame_shows_at, shows_at}
+use Rattle.compose.specs.{◌≡◌, ℕ, ◌+◌, ◌<◌, ◌≤◌, Bool, false, ◌||◌, Option, Some, List, [], ◌∷◌, length, arith, sym, ◌∙◌, IsSome, IsSomeAnd, option_and_then}
+use Rattle.compose.specs.{reverse, filter_map, list_any, origin, Rect, AreRectangle, Panels, standard_screen, SharesPart, AreSoundWindows, IsStandardScreen}
+use Rattle.compose.specs.{GridPlace, HasPlace, Window, Windows, own, frame_shows_at, shows_at, frame_holds}
 use Rattle.grids.proofs.Ancestors.{sound-there}
 use Rattle.grids.proofs.Seen.{seen-itself}
 use Rattle.grids.proofs.Touches.{there-and}
-use Rattle.picture.specs.Parts.{frame_holds}
 use Rattle.picture.proofs.PartLaws.{shared-same}
 use Rattle.picture.proofs.Placement.{placed}
 

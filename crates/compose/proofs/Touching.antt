@@ -1,13 +1,6 @@
 -- The touched columns of a window are damaged line by line.
-use Rattle.std.proofs.Common.{◌≡◌, ℕ, ◌+◌, ◌<◌, ◌≤◌, Bool, true, ◌&&◌, ◌||◌, nat_lt, if◌then◌else◌, Option, Some, None, is_some, List, arith}
-use Rattle.std.proofs.lemmas.Bool.Decides.{nat_tests}
-use Rattle.std.proofs.lemmas.Bool.{and_from, and_parts, cases_lt, lt-ltb, ltb-true}
-use Rattle.cell.specs.Glyphs.{Glyph}
-use Rattle.cell.specs.declared.window.Rect.{Rect}
-use Rattle.world.specs.Windows.{Drawing}
-use Rattle.world.specs.declared.settings.Columns.{Columns}
-use Rattle.picture.specs.Parts.{frame_holds}
-use Rattle.picture.specs.Damages.{Damages}
+use Rattle.compose.specs.{◌≡◌, ℕ, ◌+◌, ◌<◌, ◌≤◌, Bool, true, ◌&&◌, ◌||◌, nat_lt, if◌then◌else◌, Option, Some, None, is_some, List, arith, nat_tests, and_from}
+use Rattle.compose.specs.{and_parts, cases_lt, lt-ltb, ltb-true, Glyph, Rect, Drawing, Columns, frame_holds, Damages}
 use Rattle.picture.proofs.DamageLaws.{damages-as, damages-none, damages-then}
 use Rattle.compose.proofs.Laying.{HasPiece, IsBare}
 

@@ -1,21 +1,9 @@
 -- Windows are unmarked one after another.
-use Rattle.std.proofs.Common.{◌≡◌, ℕ, Bool, false, ◌||◌, ◌==◌, if◌then◌else◌, Option, None, List, [], ◌∷◌, arith, refl}
-use Rattle.std.proofs.lemmas.Bool.{cases_eq}
-use Rattle.std.specs.Prelude.{IsSomeAnd, is_none}
-use Rattle.std.specs.Option.{option_map}
-use Rattle.std.specs.List.{list_any}
+use Rattle.compose.specs.{◌≡◌, ℕ, Bool, false, ◌||◌, ◌==◌, if◌then◌else◌, Option, None, List, [], ◌∷◌, arith, refl, cases_eq, IsSomeAnd, is_none, option_map}
+use Rattle.compose.specs.{list_any, WinId, set_in, Window, WindowMap, Windows, with_change, after_copying, lines_marked, after_writing, with_clear}
+use Rattle.compose.specs.{writing_refusal, Touchln, Clearok, asks_for_clear, without_marks, unmarked_lines, with_unmarked, first_of, NoSuchWindow}
 use mathlib.Core.Path.{fun_ext}
-use Rattle.cell.specs.declared.window.WinId.{WinId}
-use Rattle.world.specs.Settings.{set_in}
-use Rattle.world.specs.Windows.{Window, WindowMap, Windows, with_change}
-use Rattle.world.specs.calls.Copying.{after_copying, lines_marked}
 use Rattle.world.specs.Rows.{is_among}
-use Rattle.world.specs.calls.Writing.{after_writing, with_clear, writing_refusal}
-use Rattle.world.specs.declared.call.Copying.TheVariants.{Touchln}
-use Rattle.world.specs.declared.call.Writing.TheVariants.{Clearok}
-use Rattle.world.specs.Effects.{asks_for_clear, without_marks, unmarked_lines, with_unmarked}
-use Rattle.cell.specs.Refusals.{first_of}
-use Rattle.cell.specs.declared.refusal.Refusal.TheVariants.{NoSuchWindow}
 
 twice : (first others : Bool) (o : Option Window)
     → (if first || others then option_map without_marks o else o)

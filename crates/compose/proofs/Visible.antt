@@ -1,8 +1,5 @@
 -- The damage of one window after another.
-use Rattle.std.proofs.Common.{◌≡◌, ℕ, Bool, false, ◌||◌, Option, List, ◌∷◌, refl, ◌∙◌, arith}
-use Rattle.std.specs.List.{list_any}
-use Rattle.world.specs.declared.settings.Columns.{Columns}
-use Rattle.picture.specs.Damages.{Damages}
+use Rattle.compose.specs.{◌≡◌, ℕ, Bool, false, ◌||◌, Option, List, ◌∷◌, refl, ◌∙◌, arith, list_any, Columns, Damages}
 use Rattle.picture.proofs.DamageLaws.{damages-none, damages-then}
 
 or-together : (a b c : Bool) → ((a || b) || c) ≡ (a || (b || c))

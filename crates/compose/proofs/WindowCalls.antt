@@ -1,27 +1,9 @@
 -- A call on windows, made on a desk: it leaves a desk, and was made.
-use Rattle.std.proofs.Common.{◌≡◌, ℕ, Bool, true, false, Option, List, Result, Ok, Err, inl, refl, sym, subst, arith}
-use Rattle.std.specs.Prelude.{IfOk}
-use Rattle.cell.specs.declared.refusal.Refusal.{Refusal}
-use Rattle.world.specs.Effects.{Change, Effect, arranges, changes}
-use Rattle.world.specs.Sound.{IsSound}
-use Rattle.world.specs.calls.Affected.{effect_shows_at}
-use Rattle.world.specs.calls.Dispatch.{effect_of, is_update_panels, refusal, reply_of, world_after}
-use Rattle.world.specs.declared.call.Call.{Call}
+use Rattle.compose.specs.{◌≡◌, ℕ, Bool, true, false, Option, List, Result, Ok, Err, inl, refl, sym, subst, arith, IfOk, Refusal, Change, Effect, arranges}
+use Rattle.compose.specs.{changes, IsSound, effect_shows_at, effect_of, is_update_panels, refusal, reply_of, world_after, Call, IsLinetouched, IsWintouched}
+use Rattle.compose.specs.{UpdatePanels, PanelAbove, PanelBelow, PanelHidden, PanelWindow, Reply, Columns, World, is_query, WindowTable, panels, Damages}
+use Rattle.compose.specs.{Called, CountsReads, DamagesFew, MayLeave, MayTell, IsDesk, DeskTable, is_damaged_line, world, Answered, ChangedDamaging}
 use Rattle.world.specs.declared.call.Call.TheVariants as calls
-use Rattle.world.specs.declared.call.Copying.TheVariants.{IsLinetouched, IsWintouched}
-use Rattle.world.specs.declared.call.Refresh.TheVariants.{UpdatePanels}
-use Rattle.world.specs.declared.call.Stacking.TheVariants.{PanelAbove, PanelBelow, PanelHidden, PanelWindow}
-use Rattle.world.specs.declared.call.Reply.{Reply}
-use Rattle.world.specs.declared.settings.Columns.{Columns}
-use Rattle.world.specs.World.{World}
-use Rattle.calls.specs.Queries.{is_query}
-use Rattle.grids.specs.Tables.{WindowTable}
-use Rattle.stack.specs.Tables.{panels}
-use Rattle.picture.specs.Damages.{Damages}
-use Rattle.compose.specs.Calling.{Called, CountsReads, DamagesFew, MayLeave, MayTell}
-use Rattle.compose.specs.Covers.{IsDesk}
-use Rattle.compose.specs.Desks.{DeskTable, is_damaged_line, world}
-use Rattle.compose.specs.steps.Outcomes.{Answered, ChangedDamaging}
 use Rattle.extents.proofs.Changing.{changes-none}
 use Rattle.compose.proofs.DamageCovers.{call-accepted}
 use Rattle.compose.proofs.DeskLemmas.{accepted-by, call-refused}

@@ -1,19 +1,8 @@
 -- A call that sends nothing, made on a desk: what it answers, and what it leaves.
-use Rattle.std.specs.Prelude.{◌≡◌, ◌≤◌, ◌⊎◌, ◌+◌, ◌%◌, ◌^◌, ℕ, Bool, true, Some, None, Result, Ok, Err}
-use Rattle.world.specs.Sound.{IsSound}
-use Rattle.world.specs.World.{World}
-use Rattle.world.specs.calls.Affected.{affected_after, most_cells}
-use Rattle.world.specs.calls.Dispatch.{refusal, reply_of, takes_memory, world_after}
-use Rattle.cell.specs.Differences.{difference}
-use Rattle.cell.specs.declared.refusal.Refusal.{Refusal}
-use Rattle.cell.specs.declared.refusal.Refusal.TheVariants.{NoMemory}
-use Rattle.extents.specs.Extents.{AddsChanges}
+use Rattle.compose.specs.Names.{◌≡◌, ◌≤◌, ◌⊎◌, ◌+◌, ◌%◌, ◌^◌, ℕ, Bool, true, Some, None, Result, Ok, Err, IsSound, World, affected_after, most_cells, refusal}
+use Rattle.compose.specs.Names.{reply_of, takes_memory, world_after, difference, Refusal, NoMemory, AddsChanges, Call, UpdatePanels, Reply, Composed}
 use Rattle.compose.specs.Desks.{DeskTable, is_damaged_line, world}
-use Rattle.world.specs.declared.call.Call.{Call}
 use Rattle.world.specs.declared.call.Call.TheVariants as calls
-use Rattle.world.specs.declared.call.Refresh.TheVariants.{UpdatePanels}
-use Rattle.world.specs.declared.call.Reply.{Reply}
-use Rattle.world.specs.declared.call.Reply.TheVariants.{Composed}
 
 -- An update_panels may read so many cells, where these lines are damaged: at least as many as there are places of the
 -- virtual screen that it changes, and at most all of these lines.

@@ -1,12 +1,6 @@
 -- What a desk keeps, and the world that it represents.
-use Rattle.std.specs.Prelude.{ℕ, Bool, Option, List}
-use Rattle.cell.specs.Shown.{Pairs}
-use Rattle.cell.specs.VirtualScreens.{VirtualScreen}
-use Rattle.world.specs.World.{World}
-use Rattle.world.specs.declared.settings.Columns.{Columns}
-use Rattle.grids.specs.Tables.{WindowTable, windows}
-use Rattle.stack.specs.Tables.{PanelTable, panels}
-use Rattle.extents.specs.Extents.{columns_of, has_columns, is_among}
+use Rattle.compose.specs.Names.{ℕ, Bool, Option, List, Pairs, VirtualScreen, World, Columns, WindowTable, windows, PanelTable, panels, columns_of}
+use Rattle.compose.specs.Names.{has_columns, is_among}
 
 pub record DeskTable : Type 0 where
   pub windows : WindowTable

@@ -1,30 +1,15 @@
 -- The answer of each call is of the kind that Kinds has for it, and no update_panels is refused. These are proofs, but
 -- they stand here since a desk's methods cite them (`Calls for Desk`), and `desk/specs` does.
-use Rattle.std.proofs.Common.{◌≡◌, ℕ, Bool, true, false, Option, Some, None, [], ◌∷◌, Ok, Err, inl, inr, refl, subst, sym}
-use Rattle.std.specs.Prelude.{is_none, option_and_then}
-use Rattle.std.specs.Option.{option_map, option_map_or}
-use Rattle.cell.specs.Glyphs.{Glyph}
-use Rattle.cell.specs.Pictures.{Place}
-use Rattle.cell.specs.Refusals.{first_of}
-use Rattle.cell.specs.declared.refusal.Refusal.{Refusal}
-use Rattle.cell.specs.declared.refusal.Refusal.TheVariants.{IsPad, NoSuchWindow, NotDerived}
-use Rattle.world.specs.World.{World}
-use Rattle.world.specs.Windows.{Backing, own_grid, part_of, Window, Windows}
-use Rattle.world.specs.Effects.{Change, asks, edits, marks, makes, deletes, moves, shifts, Order, changes, adds, orders, carries, Effect, arranges, refreshes, composes, shows, colours}
-use Rattle.world.specs.Effects.{change_reply, effect_reply, order_reply}
-use Rattle.world.specs.calls.Dispatch.{effect_of, is_doupdate, refusal, takes_memory}
-use Rattle.world.specs.calls.Queries.{query_refusal, query_reply, offset_of}
-use Rattle.world.specs.calls.Making.{is_own}
-use Rattle.world.specs.declared.call.Call.{Call}
+use Rattle.compose.specs.Names.{◌≡◌, ℕ, Bool, true, false, Option, Some, None, [], ◌∷◌, Ok, Err, inl, inr, refl, subst, sym, is_none, option_and_then}
+use Rattle.compose.specs.Names.{option_map, option_map_or, Glyph, Place, first_of, Refusal, IsPad, NoSuchWindow, NotDerived, World, Backing, own_grid}
+use Rattle.compose.specs.Names.{part_of, Window, Windows, Change, asks, edits, marks, makes, deletes, moves, shifts, Order, changes, adds, orders, carries}
+use Rattle.compose.specs.Names.{Effect, arranges, refreshes, composes, shows, colours, change_reply, effect_reply, order_reply, effect_of, is_doupdate}
+use Rattle.compose.specs.Names.{refusal, takes_memory, query_refusal, query_reply, offset_of, is_own, Call, Query, Getbegyx, Getparyx, Inch, UpdatePanels}
+use Rattle.compose.specs.Names.{Doupdate, Reply, Nothing, Number, TwoNumbers, Cell, Flag, Panel, Composed, Sent, IsAnswerTo, IsOfKind, kind_of}
+use Rattle.compose.specs.Names.{kind_of_change, kind_of_effect, kind_of_order, kind_of_query, kind_of_reply, numbers, cell}
 use Rattle.world.specs.declared.call.Call.TheVariants as calls
-use Rattle.world.specs.declared.call.Query.{Query}
-use Rattle.world.specs.declared.call.Query.TheVariants.{Getbegyx, Getparyx, Inch}
-use Rattle.world.specs.declared.call.Refresh.TheVariants.{UpdatePanels, Doupdate}
-use Rattle.world.specs.declared.call.Reply.{Reply}
-use Rattle.world.specs.declared.call.Reply.TheVariants.{Nothing, Number, TwoNumbers, Cell, Flag, Panel, Composed, Sent}
 use Rattle.compose.specs.Calling.{Called, MayRefuse, MayTell}
 use Rattle.compose.specs.Desks.{DeskTable, is_damaged_line, world}
-use Rattle.calls.specs.Kinds.{IsAnswerTo, IsOfKind, kind_of, kind_of_change, kind_of_effect, kind_of_order, kind_of_query, kind_of_reply, numbers, cell}
 
 -- ---- what a call asks for is there where it isn't refused
 

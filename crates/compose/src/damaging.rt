@@ -1,15 +1,7 @@
 //! What a call damages of the screen: a rectangle for each window that shows what it changed.
 
-ghost use Rattle.std.specs.Prelude.{◌≡◌, ◌<◌, ◌+◌, ◌==◌, ℕ, MatchOption, Some, ⊤, length, true};
-ghost use Rattle.std.specs.List.{list_any};
-ghost use Rattle.world.specs.Panels.{windows_from_top};
-ghost use Rattle.world.specs.calls.Affected.{frame_shows_at};
-ghost use Rattle.world.specs.Windows.{with_change};
-ghost use Rattle.grids.specs.Tables.{windows as windows_of};
-ghost use Rattle.stack.specs.Tables.{panels};
-ghost use Rattle.picture.specs.Parts.{IsFrameWithin, part_holds};
-ghost use Rattle.picture.specs.Damages.{Damages};
-ghost use Rattle.compose.specs.steps.Changes.{IsPossible, affected_shows_at, any_shows_at};
+ghost use Rattle.compose.specs.{◌≡◌, ◌<◌, ◌+◌, ◌==◌, ℕ, MatchOption, Some, ⊤, length, true, list_any, windows_from_top, frame_shows_at, with_change};
+ghost use Rattle.compose.specs.{windows as windows_of, panels, IsFrameWithin, part_holds, Damages, IsPossible, affected_shows_at, any_shows_at};
 
 use cell::{Rect, WinId};
 use extents::Extents;

@@ -1,21 +1,8 @@
 //! Calls on windows and panels, each with what it damages of the screen.
 
-ghost use Rattle.std.specs.Prelude.{◌≡◌, ◌==◌, ℕ, MatchOption, ⊤, false, length};
-ghost use Rattle.std.specs.Option.{option_map, option_map_or};
-ghost use Rattle.world.specs.Panels.{is_in_panel};
-ghost use Rattle.world.specs.Sound.{AreSoundPanels};
-ghost use Rattle.world.specs.calls.Copying.{copying_refusal, copying_change};
-ghost use Rattle.world.specs.calls.Writing.{writing_refusal, writing_edit};
-ghost use Rattle.world.specs.calls.Making.{making_refusal, making_change};
-ghost use Rattle.world.specs.calls.Stacking.{panel_number};
-ghost use Rattle.world.specs.calls.Affected.{panel_shows_at};
-ghost use Rattle.world.specs.Effects.{edits};
-ghost use Rattle.world.specs.declared.call.Call.{Call};
-ghost use Rattle.grids.specs.Tables.{windows as windows_of};
-ghost use Rattle.stack.specs.Tables.{panels};
-ghost use Rattle.picture.specs.Parts.{IsFrameWithin, part_holds};
-ghost use Rattle.compose.specs.steps.Changes.{top_window};
-ghost use Rattle.compose.specs.steps.Outcomes.{ChangedDamaging, OrderedDamaging};
+ghost use Rattle.compose.specs.{◌≡◌, ◌==◌, ℕ, MatchOption, ⊤, false, length, option_map, option_map_or, is_in_panel, AreSoundPanels, copying_refusal};
+ghost use Rattle.compose.specs.{copying_change, writing_refusal, writing_edit, making_refusal, making_change, panel_number, panel_shows_at, edits, Call};
+ghost use Rattle.compose.specs.{windows as windows_of, panels, IsFrameWithin, part_holds, top_window, ChangedDamaging, OrderedDamaging};
 
 use crate::damaging::{damage_affected, damage_part};
 use crate::dispatch::{arrange, changed_panel, copy, make, named_panel, ordered_panel, write};

@@ -1,26 +1,9 @@
 //! The windows and panels under a virtual screen.
 
-ghost use Rattle.std.specs.Prelude.{◌≡◌, ◌<◌, ◌≤◌, ◌-◌, ◌==◌, ◌&&◌, ℕ, None, Ok, Some, IfOk, false, true, if◌then◌else◌, length, nat_le, nat_lt, replicate};
-ghost use Rattle.std.specs.Prelude.{slice_index_or};
-ghost use Rattle.std.specs.Result.{result_err};
-ghost use Rattle.cell.specs.Pictures.{AreShown, HasSize, line_of, picture_of, shown_at};
-ghost use Rattle.cell.specs.Glyphs.{blank};
-ghost use Rattle.cell.specs.Shown.{shown};
-ghost use Rattle.world.specs.World.{first_world, picture};
-ghost use Rattle.world.specs.calls.Dispatch.{is_doupdate};
-ghost use Rattle.world.specs.Sound.{IsSound};
-ghost use Rattle.world.specs.calls.Making.{new_refusal};
-ghost use Rattle.world.specs.calls.Refresh.{among, colour_tests};
-ghost use Rattle.world.specs.Rows.{line_shown};
-ghost use Rattle.world.specs.Windows.{HasPlace};
-ghost use Rattle.cell.specs.Refusals.{RefusedBy, first_of};
-ghost use Rattle.grids.specs.Tables.{windows as windows_of};
-ghost use Rattle.stack.specs.Tables.{panels};
-ghost use Rattle.picture.specs.Spans.{IsSpan};
-ghost use Rattle.world.specs.declared.call.Call.{Call};
-ghost use Rattle.world.specs.declared.call.Refresh.{Refresh};
-ghost use Rattle.compose.specs.Desks.{damaged_columns, is_damaged_line, world};
-ghost use Rattle.compose.specs.Calling.{Called};
+ghost use Rattle.compose.specs.{◌≡◌, ◌<◌, ◌≤◌, ◌-◌, ◌==◌, ◌&&◌, ℕ, None, Ok, Some, IfOk, false, true, if◌then◌else◌, length, nat_le, nat_lt, replicate};
+ghost use Rattle.compose.specs.{slice_index_or, result_err, AreShown, HasSize, line_of, picture_of, shown_at, blank, shown, first_world, picture};
+ghost use Rattle.compose.specs.{is_doupdate, IsSound, new_refusal, among, colour_tests, line_shown, HasPlace, RefusedBy, first_of, windows as windows_of};
+ghost use Rattle.compose.specs.{panels, IsSpan, Call, Refresh, damaged_columns, is_damaged_line, world, Called};
 
 use crate::damaging::damage_part;
 use crate::damaging_calls::{arrange_damaging, copy_damaging, make_damaging, write_damaging};

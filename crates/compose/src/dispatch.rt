@@ -1,24 +1,9 @@
 //! The calls, by the group that they are in.
 
-ghost use Rattle.std.specs.Prelude.{◌≡◌, false};
-ghost use Rattle.world.specs.Panels.{is_in_panel};
-ghost use Rattle.world.specs.Sound.{AreSoundPanels};
-ghost use Rattle.world.specs.calls.Copying.{copying_refusal, copying_change};
-ghost use Rattle.world.specs.calls.Making.{making_refusal, making_change};
-ghost use Rattle.world.specs.calls.Stacking.{panel_number};
-ghost use Rattle.world.specs.calls.Dispatch.{is_doupdate};
-ghost use Rattle.world.specs.calls.Writing.{writing_refusal, writing_edit};
-ghost use Rattle.world.specs.Effects.{edits};
-ghost use Rattle.world.specs.declared.call.Call.{Call};
-ghost use Rattle.world.specs.declared.call.Reply.{Reply};
-ghost use Rattle.calls.specs.Methods.{as_reply};
-ghost use Rattle.grids.specs.Tables.{windows as windows_of};
-ghost use Rattle.windows.specs.Calls.{no_frame};
-ghost use Rattle.world.specs.Replies.{its_panel, no_answer};
-ghost use Rattle.stack.specs.Tables.{panels};
-ghost use Rattle.compose.specs.steps.Changes.{changed_panel, named_panel, ordered_panel};
-ghost use Rattle.compose.specs.steps.Outcomes.{Affects, Rearranges, as_outcome, drawn, numbered, shifted, told, unseen, with_frame};
-ghost use Rattle.compose.specs.Calling.{Called};
+ghost use Rattle.compose.specs.{◌≡◌, false, is_in_panel, AreSoundPanels, copying_refusal, copying_change, making_refusal, making_change, panel_number};
+ghost use Rattle.compose.specs.{is_doupdate, writing_refusal, writing_edit, edits, Call, Reply, as_reply, windows as windows_of, no_frame, its_panel};
+ghost use Rattle.compose.specs.{no_answer, panels, changed_panel, named_panel, ordered_panel, Affects, Rearranges, as_outcome, drawn, numbered, shifted};
+ghost use Rattle.compose.specs.{told, unseen, with_frame, Called};
 
 use crate::damaging::Affected;
 use crate::desk::Desk;

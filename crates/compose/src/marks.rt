@@ -1,12 +1,7 @@
 //! The touched columns and clear flags of the windows that make up the picture.
 
-ghost use Rattle.std.specs.Prelude.{◌≡◌, ◌∷◌};
-ghost use Rattle.std.specs.List.{list_any};
-ghost use Rattle.world.specs.Panels.{standard_screen, windows_from_top};
-ghost use Rattle.world.specs.Effects.{asks_for_clear, with_unmarked, without_marks};
-ghost use Rattle.world.specs.Windows.{Windows, with_change};
-ghost use Rattle.grids.specs.Tables.{windows as windows_of};
-ghost use Rattle.stack.specs.Tables.{panels};
+ghost use Rattle.compose.specs.{◌≡◌, ◌∷◌, list_any, standard_screen, windows_from_top, asks_for_clear, with_unmarked, without_marks, Windows, with_change};
+ghost use Rattle.compose.specs.{windows as windows_of, panels};
 
 use cell::WinId;
 use grids::Grids;

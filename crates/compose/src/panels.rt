@@ -1,19 +1,7 @@
 //! The calls for which windows and panels have to be looked at together.
 
-ghost use Rattle.std.specs.Prelude.{◌≡◌};
-ghost use Rattle.std.specs.Result.{result_err};
-ghost use Rattle.cell.specs.Refusals.{first_of};
-ghost use Rattle.world.specs.Panels.{is_in_panel};
-ghost use Rattle.world.specs.Replies.{its_panel, no_answer};
-ghost use Rattle.world.specs.Sound.{AreSoundPanels};
-ghost use Rattle.world.specs.calls.Stacking.{window_tests};
-ghost use Rattle.world.specs.calls.Making.{making_change, making_refusal};
-ghost use Rattle.world.specs.declared.call.Making.{Making};
-ghost use Rattle.world.specs.declared.call.Stacking.{Stacking};
-ghost use Rattle.grids.specs.Calls.{Changed};
-ghost use Rattle.grids.specs.Tables.{windows as windows_of};
-ghost use Rattle.stack.specs.Tables.{panels};
-ghost use Rattle.compose.specs.steps.Outcomes.{Ordered};
+ghost use Rattle.compose.specs.{◌≡◌, result_err, first_of, is_in_panel, its_panel, no_answer, AreSoundPanels, window_tests, making_change, making_refusal};
+ghost use Rattle.compose.specs.{Making, Stacking, Changed, windows as windows_of, panels, Ordered};
 
 use cell::{Refusal, WinId};
 use grids::Grids;

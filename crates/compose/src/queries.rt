@@ -1,19 +1,8 @@
 //! The calls that only ask: about a window, about what is touched of it, and about panels.
 
-ghost use Rattle.std.specs.Prelude.{◌≡◌, Ok, true};
-ghost use Rattle.world.specs.Effects.{change_reply, order_reply};
-ghost use Rattle.world.specs.World.{World};
-ghost use Rattle.world.specs.calls.Copying.{copying_change, copying_refusal};
-ghost use Rattle.world.specs.calls.Dispatch.{refusal, reply_of};
-ghost use Rattle.world.specs.calls.Queries.{query_refusal, query_reply};
-ghost use Rattle.world.specs.calls.Stacking.{numbered_panel, panel_number, stacking_order, stacking_refusal};
-ghost use Rattle.world.specs.declared.call.Call.{Call};
-ghost use Rattle.calls.specs.Methods.{as_reply};
-ghost use Rattle.calls.specs.Queries.{is_query};
-ghost use Rattle.grids.specs.Tables.{windows as windows_of};
-ghost use Rattle.stack.specs.Calls.{no_windows};
-ghost use Rattle.stack.specs.Tables.{panels};
-ghost use Rattle.compose.specs.steps.Outcomes.{Answered};
+ghost use Rattle.compose.specs.{◌≡◌, Ok, true, change_reply, order_reply, World, copying_change, copying_refusal, refusal, reply_of, query_refusal};
+ghost use Rattle.compose.specs.{query_reply, numbered_panel, panel_number, stacking_order, stacking_refusal, Call, as_reply, is_query, windows as windows_of};
+ghost use Rattle.compose.specs.{no_windows, panels, Answered};
 
 use cell::{Refusal, WinId};
 use grids::Grids;

@@ -1,23 +1,10 @@
 //! The calls that copy what is touched of a window, or a rectangle of a pad, to the virtual screen.
 
-ghost use Rattle.std.specs.Prelude.{◌≡◌, ◌<◌, ◌≤◌, ◌+◌, ◌-◌, ◌==◌, ◌&&◌, ◌^◌, ℕ, None, Some, IsSomeAnd, false, is_some, length, if◌then◌else◌, nat_le, nat_lt};
-ghost use Rattle.std.specs.Result.{result_err};
-ghost use Rattle.cell.specs.Pictures.{HasSize, picture_of, shown_at};
-ghost use Rattle.cell.specs.Shown.{shown};
+ghost use Rattle.compose.specs.{◌≡◌, ◌<◌, ◌≤◌, ◌+◌, ◌-◌, ◌==◌, ◌&&◌, ◌^◌, ℕ, None, Some, IsSomeAnd, false, is_some, length, if◌then◌else◌, nat_le, nat_lt};
+ghost use Rattle.compose.specs.{result_err, HasSize, picture_of, shown_at, shown, AreSoundWindows, copywin_drawing, place_on_screen, first_of, touched_cells};
+ghost use Rattle.compose.specs.{pnoutrefresh_tests, asks_for_clear, shown_over, unmarked_lines, with_change, AddsChanges, windows as windows_of, Damages};
+ghost use Rattle.compose.specs.{Call, Refresh, Called};
 ghost use Rattle.world.specs.Rows.{is_among};
-ghost use Rattle.world.specs.Sound.{AreSoundWindows};
-ghost use Rattle.world.specs.calls.Copying.{copywin_drawing};
-ghost use Rattle.world.specs.calls.Queries.{place_on_screen};
-ghost use Rattle.cell.specs.Refusals.{first_of};
-ghost use Rattle.world.specs.calls.Refresh.{touched_cells, pnoutrefresh_tests};
-ghost use Rattle.world.specs.Effects.{asks_for_clear, shown_over, unmarked_lines};
-ghost use Rattle.world.specs.Windows.{with_change};
-ghost use Rattle.extents.specs.Extents.{AddsChanges};
-ghost use Rattle.grids.specs.Tables.{windows as windows_of};
-ghost use Rattle.picture.specs.Damages.{Damages};
-ghost use Rattle.world.specs.declared.call.Call.{Call};
-ghost use Rattle.world.specs.declared.call.Refresh.{Refresh};
-ghost use Rattle.compose.specs.Calling.{Called};
 
 use crate::damaging::damage_part;
 use crate::desk::Desk;

@@ -1,14 +1,7 @@
 //! The picture of a virtual screen, which keeps what changed on it.
 
-ghost use Rattle.std.specs.Prelude.{◌≡◌, ◌<◌, ◌≤◌, ◌+◌, ◌-◌, ◌==◌, ◌&&◌, ℕ, IfOk, None, if◌then◌else◌, length, nat_le, nat_lt, replicate};
-ghost use Rattle.cell.specs.Pictures.{HasSize, blank_picture, shown_at};
-ghost use Rattle.cell.specs.Shown.{shown};
-ghost use Rattle.cell.specs.declared.limits.TheConstants.{LARGEST_SCREEN};
-ghost use Rattle.world.specs.Windows.{HasPlace, cell_at};
-ghost use Rattle.extents.specs.Extents.{AddsChanges};
-ghost use Rattle.grids.specs.Tables.{windows as windows_of};
-ghost use Rattle.picture.specs.Damages.{Damages};
-ghost use Rattle.picture.specs.Parts.{frame_holds};
+ghost use Rattle.compose.specs.{◌≡◌, ◌<◌, ◌≤◌, ◌+◌, ◌-◌, ◌==◌, ◌&&◌, ℕ, IfOk, None, if◌then◌else◌, length, nat_le, nat_lt, replicate, HasSize, blank_picture};
+ghost use Rattle.compose.specs.{shown_at, shown, LARGEST_SCREEN, HasPlace, cell_at, AddsChanges, windows as windows_of, Damages, frame_holds};
 
 use cell::{Grid, Pairs, Shown, WinId};
 use extents::Extents;

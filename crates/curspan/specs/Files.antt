@@ -1,7 +1,5 @@
 -- Streams on the start of a file.
-use Rattle.std.specs.Prelude.{◌≡◌, [], ⊤, false, MatchOption}
-use Rattle.streams.specs.Sinks.{Seen}
-use Rattle.streams.specs.Sources.{SourceSeen}
+use Rattle.curspan.specs.Names.{◌≡◌, [], ⊤, false, MatchOption, Seen, SourceSeen}
 
 -- Nothing was read of the source.
 pub record IsUnread (seen : SourceSeen) : Type 0 where

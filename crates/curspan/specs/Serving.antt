@@ -1,37 +1,11 @@
 -- What the program does, by the words of its command line and the status that it answers.
-use Rattle.std.specs.Prelude.{◌≡◌, ◌⊎◌, ◌<◌, ℕ, Bool, List, Option, Some, None, false, true, is_some, MatchOption}
-use Rattle.clap.specs.Words.{Text}
-use Rattle.clap.specs.declared.error.kind.ErrorKind.{ErrorKind}
+use Rattle.curspan.specs.Names.{◌≡◌, ◌⊎◌, ◌<◌, ℕ, Bool, List, Option, Some, None, false, true, is_some, MatchOption, Text, ErrorKind, no_rendition}
+use Rattle.curspan.specs.Names.{picture_of, World, first_world, picture, topmost_cursor, Seen, SourceSeen, count_after, last_line, ScriptEnd, Log}
+use Rattle.curspan.specs.Names.{first_painter, world, ScriptEnds, read_failed, write_fault, ScreenOver, Checks, Asks, IsRefused, Sizes, text_of, SaysUnopened}
+use Rattle.curspan.specs.Names.{printed_picture, Shows, LacksMemory, SaysFault, status_of, Explains, Complains, IsNotWritten, IsWritten, Outputs, outputs}
+use Rattle.curspan.specs.Names.{OpenFault, Invocation, Screen, Job, Kind, Run, Paint, Show, Request}
 use Rattle.clap.specs.declared.error.kind.ErrorKind.TheVariants.{OutOfMemory}
-use Rattle.cell.specs.Shown.{no_rendition}
-use Rattle.cell.specs.Pictures.{picture_of}
-use Rattle.world.specs.World.{World, first_world, picture, topmost_cursor}
-use Rattle.streams.specs.Sinks.{Seen}
-use Rattle.streams.specs.Sources.{SourceSeen}
-use Rattle.streams.specs.Counts.{count_after}
-use Rattle.script.specs.Log.{last_line}
-use Rattle.script.specs.declared.fault.ScriptEnd.{ScriptEnd}
-use Rattle.script.specs.declared.fault.ScriptFault.TheVariants.{Log}
-use Rattle.paint.specs.Updates.{first_painter}
-use Rattle.compose.specs.Desks.{world}
-use Rattle.desk.specs.ScriptEnds.{ScriptEnds, read_failed, write_fault}
-use Rattle.desk.specs.States.{ScreenOver}
-use Rattle.checks.specs.Checks.{Checks}
-use Rattle.commands.specs.CommandLine.{Asks, IsRefused, Sizes, text_of}
-use Rattle.commands.specs.Opening.{SaysUnopened}
-use Rattle.commands.specs.Printing.{printed_picture}
-use Rattle.commands.specs.Shows.{Shows}
-use Rattle.commands.specs.Statuses.{LacksMemory, SaysFault, status_of}
-use Rattle.commands.specs.RefusedWords.{Explains}
-use Rattle.commands.specs.Written.{Complains, IsNotWritten, IsWritten, Outputs, outputs}
-use Rattle.commands.specs.declared.opening.OpenFault.{OpenFault}
 use Rattle.curspan.specs.Files.{IsUnread, IsUnwritten}
-use Rattle.commands.specs.declared.requests.Invocation.{Invocation}
-use Rattle.commands.specs.declared.status.Need.TheVariants.{Screen}
-use Rattle.commands.specs.declared.requests.Job.{Job}
-use Rattle.commands.specs.declared.requests.Kind.{Kind}
-use Rattle.commands.specs.declared.requests.Kind.TheVariants.{Run, Paint, Show}
-use Rattle.commands.specs.declared.requests.Request.{Request}
 use Rattle.commands.specs.declared.requests.Request.TheVariants as requests
 
 -- ---- words that are refused

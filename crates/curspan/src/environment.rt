@@ -1,8 +1,6 @@
 //! What the environment says of the size of the screen.
 
-ghost use Rattle.std.specs.Prelude.{◌≡◌, IfErr};
-ghost use Rattle.std.specs.IoError.{error_kind};
-ghost use Rattle.std.specs.declared.io.ErrorKind.TheVariants.{OutOfMemory};
+ghost use Rattle.curspan.specs.{◌≡◌, IfErr, error_kind, OutOfMemory};
 
 use std::env::VarError;
 use std::io::ErrorKind;

@@ -1,10 +1,6 @@
 //! The script and the log of the program: standard streams, or files of the system.
 
-ghost use Rattle.std.specs.Prelude.{◌≡◌, ◌-◌, ◌^◌, IfOk, None};
-ghost use Rattle.std.specs.IoError.{error_kind};
-ghost use Rattle.curspan.specs.Files.{IsUnread};
-ghost use Rattle.curspan.specs.steps.Opening.{fault_of_kind};
-ghost use Rattle.curspan.specs.steps.Places.{at_place};
+ghost use Rattle.curspan.specs.{◌≡◌, ◌-◌, ◌^◌, IfOk, None, error_kind, IsUnread, fault_of_kind, at_place};
 
 use crate::opening::{FileSink, FileSource};
 use commands::OpenFault;

@@ -1,11 +1,6 @@
 //! Streams that a named file can take the place of.
 
-ghost use Rattle.std.specs.Prelude.{◌≡◌, ℕ, List, Option, IfErr, IfOk};
-ghost use Rattle.commands.specs.CommandLine.{text_of};
-ghost use Rattle.commands.specs.declared.opening.OpenFault.{OpenFault};
-ghost use Rattle.curspan.specs.Files.{IsUnread, IsUnwritten};
-ghost use Rattle.streams.specs.Sinks.{Seen};
-ghost use Rattle.streams.specs.Sources.{SourceSeen};
+ghost use Rattle.curspan.specs.{◌≡◌, ℕ, List, Option, IfErr, IfOk, text_of, OpenFault, IsUnread, IsUnwritten, Seen, SourceSeen};
 
 use commands::OpenFault;
 use desk::{Sink, Source};

@@ -1,19 +1,10 @@
 -- A call of a script is the call that its line says, wherever its text lies, and what it answered.
-use Rattle.std.proofs.Common.{arith, ℕ, List, [], ◌∷◌, Ok, Err, Result, refl, subst, sym}
-use Rattle.cell.specs.declared.refusal.Refusal.{Refusal}
-use Rattle.streams.specs.Sinks.{Seen}
-use Rattle.desk.specs.Ends.{CallEnds, Writes}
+use Rattle.desk.specs.{arith, ℕ, List, [], ◌∷◌, Ok, Err, Result, refl, subst, sym, Refusal, Seen, CallEnds, Writes, IsWithin, state_of, ScreenOver, placeless}
+use Rattle.desk.specs.{Call, Reply, MayAnswer, cells_of_answer, state_after, CountGrew, call_end}
 use Rattle.desk.proofs.ReadLemmas.{call-grew, same-grew}
 use Rattle.desk.proofs.WriterLemmas.{Writes-refused}
 use Rattle.desk.proofs.StateLemmas.{is-kept}
-use Rattle.desk.specs.States.{IsWithin, state_of, ScreenOver}
-use Rattle.script.specs.Words.{placeless}
-use Rattle.world.specs.declared.call.Call.{Call}
-use Rattle.world.specs.declared.call.Reply.{Reply}
 use Rattle.desk.specs.declared.screen.Fault.{Fault}
-use Rattle.desk.specs.Runs.{MayAnswer, cells_of_answer, state_after}
-use Rattle.desk.specs.Reads.{CountGrew}
-use Rattle.desk.specs.steps.Answers.{call_end}
 
 module _ {W : Type 0} (seen : W → Seen) where
   pub placeless_ends : (old : ScreenOver W) (call : Call) (r : Result Reply Fault) (new : ScreenOver W) → CallEnds seen old call r new → CallEnds seen old (placeless call) r new

@@ -1,36 +1,15 @@
 -- Histories: what terminals show after one, and how one goes on by a call.
-use Rattle.std.proofs.Common.{arith, ◌≡◌, ◌<◌, ℕ, ◌+◌, List, [], ◌∷◌, ◌++◌, Option, None, Some, Result, Ok}
-use Rattle.std.proofs.Common.{Err, length, take, get_or, cond, is_ok, is_some, refl, sym, ap, ◌∙◌, subst, append_assoc, append-nil}
-use Rattle.std.specs.Prelude.{⊤, MatchOption, if◌then◌else◌}
-use Rattle.std.proofs.KnownBytes.{Appends-nil, Appends-trans}
-use Rattle.std.proofs.lemmas.List.{take_more}
-use Rattle.std.proofs.lemmas.List.Sums.{sum_by_push}
-use Rattle.std.specs.Io.KnownBytes.{Appends}
-use Rattle.cell.specs.Pictures.{HasSize}
-use Rattle.ecma.specs.Terminals.{Terminal}
-use Rattle.ecma.specs.Streams.{LeadsWithBreaks, showing}
-use Rattle.streams.specs.Sinks.{Seen}
-use Rattle.streams.specs.declared.sending.WriteFault.{WriteFault}
-use Rattle.paint.specs.Updates.{Agrees, ShownPicture}
+use Rattle.desk.specs.{arith, ◌≡◌, ◌<◌, ℕ, ◌+◌, List, [], ◌∷◌, ◌++◌, Option, None, Some, Result, Ok, Err, length, take, get_or, cond, is_ok, is_some, refl}
+use Rattle.desk.specs.{sym, ap, ◌∙◌, subst, append_assoc, append-nil, ⊤, MatchOption, if◌then◌else◌, Appends-nil, Appends-trans, take_more, sum_by_push}
+use Rattle.desk.specs.{Appends, HasSize, Terminal, LeadsWithBreaks, showing, Seen, WriteFault, Agrees, ShownPicture, is_doupdate, Call, Refresh, Doupdate}
+use Rattle.desk.specs.{UpdatePanels, Reply, world, KeepsSize, ScreenOver, state_of, wanted, CallEnds, cut_of, CallMade, EndsInDoupdate, EndsInUpdate}
+use Rattle.desk.specs.{ShowsWorld, AreMade, HistoryEnds, HistoryShows, RunsAll, Step, calls_in, cells_in, fault_after, is_cut, is_done, is_refused_step}
+use Rattle.desk.specs.{last_fault, refuses, screen_after, counted, never-refused}
 use Rattle.paint.proofs.Repair.{Agrees-unknown, nothing-in_profile}
-use Rattle.world.specs.calls.Dispatch.{is_doupdate}
-use Rattle.world.specs.declared.call.Call.{Call}
-use Rattle.world.specs.declared.call.Call.TheVariants.{Refresh}
-use Rattle.world.specs.declared.call.Refresh.TheVariants.{Doupdate, UpdatePanels}
-use Rattle.world.specs.declared.call.Reply.{Reply}
-use Rattle.compose.specs.Desks.{world}
-use Rattle.desk.specs.States.{KeepsSize, ScreenOver, state_of, wanted}
-use Rattle.desk.specs.Ends.{CallEnds, cut_of}
-use Rattle.desk.specs.Methods.{CallMade}
-use Rattle.desk.specs.Showing.{EndsInDoupdate, EndsInUpdate, ShowsWorld}
-use Rattle.desk.specs.Histories.{AreMade, HistoryEnds, HistoryShows, RunsAll, Step, calls_in, cells_in}
-use Rattle.desk.specs.Histories.{fault_after, is_cut, is_done, is_refused, last_fault, refuses, screen_after}
-use Rattle.desk.specs.steps.Counting.{counted}
 use Rattle.desk.specs.declared.screen.Fault.{Fault}
 use Rattle.desk.specs.declared.screen.Fault.TheVariants.{Refused, Write}
 use Rattle.desk.specs.declared.history.RunAllEnd.{RunAllEnd}
 use Rattle.desk.proofs.ShowingLemmas.{EndsShown, VirtualIsKnown, after_update_panels, shows-shown, then-keeps_size}
-use Rattle.compose.specs.KindLaws.{never-refused}
 
 -- ---- the last calls of a history
 
@@ -244,7 +223,7 @@ module _ {W : Type 0} (seen : W → Seen) (name : W → ℕ) where
         made = made-with_one old run.steps step run.made (subst (λ s. CallMade seen name s step.call end new) (sym run.left) made);
         left = screen-after_one old run.steps step;
         done = ap (λ n. n + cond (is_ok end) 1 0) run.done ∙ sym (sum_by_push (λ (s : Step W). cond (is_done s) 1 0) run.steps step);
-        refused = ap (λ n. n + cond (is_refused step) 1 0) run.refused ∙ sym (sum_by_push (λ (s : Step W). cond (is_refused s) 1 0) run.steps step);
+        refused = ap (λ n. n + cond (is_refused_step step) 1 0) run.refused ∙ sym (sum_by_push (λ (s : Step W). cond (is_refused_step s) 1 0) run.steps step);
         failed = ap (λ n. n + cond (is_cut step) 1 0) run.failed ∙ sym (sum_by_push (λ (s : Step W). cond (is_cut s) 1 0) run.steps step);
         composed = ap (λ n. n + cells_in step) run.composed ∙ sym (sum_by_push cells_in run.steps step);
         fault = ap (λ f. if is_doupdate step.call then cut_of end else f) run.fault ∙ sym (fault-after_one None run.steps step);

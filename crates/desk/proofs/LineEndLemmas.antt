@@ -1,27 +1,9 @@
 -- How a line of a script ends.
-use Rattle.std.proofs.Common.{arith, ◌≡◌, ℕ, [], ◌∷◌, Bool, true, false, Option, None, Some, Ok, Err, Result, is_err, is_ok, not, refl, sym, ◌∙◌}
-use Rattle.std.proofs.KnownBytes.{Appends-nil}
-use Rattle.std.proofs.Math.Bool.{or-false}
-use Rattle.streams.specs.Counts.{count_after}
-use Rattle.streams.specs.Sinks.{Seen}
-use Rattle.world.specs.calls.Dispatch.{is_doupdate}
-use Rattle.desk.specs.Ends.{CallEnds}
+use Rattle.desk.specs.{arith, ◌≡◌, ℕ, [], ◌∷◌, Bool, true, false, Option, None, Some, Ok, Err, Result, is_err, is_ok, not, refl, sym, ◌∙◌, Appends-nil}
+use Rattle.desk.specs.{or-false, count_after, Seen, is_doupdate, CallEnds, call_end, TextFault, log_line, LineEnds, LineSays, Logs, StopsAt, log_failed, Call}
+use Rattle.desk.specs.{Refresh, Doupdate, Reply, Refusal, WriteFault, ScreenOver, each-call, ScriptFault, Write}
 use Rattle.desk.proofs.MakesLemmas.{Makes-nothing, Makes-one}
-use Rattle.desk.specs.steps.Answers.{call_end}
 use Rattle.desk.proofs.AnswerLemmas.{is_answered}
-use Rattle.script.specs.declared.fault.TextFault.{TextFault}
-use Rattle.script.specs.Log.{log_line}
-use Rattle.desk.specs.ScriptEnds.{LineEnds, LineSays, Logs, StopsAt, log_failed}
-use Rattle.world.specs.declared.call.Call.{Call}
-use Rattle.world.specs.declared.call.Call.TheVariants.{Refresh}
-use Rattle.world.specs.declared.call.Refresh.TheVariants.{Doupdate}
-use Rattle.world.specs.declared.call.Reply.{Reply}
-use Rattle.cell.specs.declared.refusal.Refusal.{Refusal}
-use Rattle.streams.specs.declared.sending.WriteFault.{WriteFault}
-use Rattle.desk.specs.States.{ScreenOver}
-use Rattle.desk.specs.steps.Quiet.{each-call}
-use Rattle.script.specs.declared.fault.ScriptFault.{ScriptFault}
-use Rattle.script.specs.declared.fault.ScriptFault.TheVariants.{Write}
 use Rattle.desk.specs.declared.screen.Fault.TheVariants.{Write as Cut}
 
 the_doupdate : (call : Call) → is_doupdate call ≡ true → call ≡ Refresh Doupdate

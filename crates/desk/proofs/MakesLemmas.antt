@@ -1,19 +1,11 @@
 -- Calls that were made, and what they leave: none, one, and one list after another.
-use Rattle.std.proofs.Common.{arith, ◌≡◌, ℕ, List, [], ◌∷◌, ◌++◌, Result, refl, sym, subst, ◌∙◌, add-zero, append-nil, sum_by}
-use Rattle.std.proofs.lemmas.Grind.{flat_map-append}
-use Rattle.std.proofs.lemmas.List.Sums.{sum_by-append, sum_by-cons}
-use Rattle.cell.specs.declared.refusal.Refusal.{Refusal}
-use Rattle.streams.specs.Sinks.{Seen}
-use Rattle.desk.specs.States.{IsWithin, ScreenOver, State, state_of}
-use Rattle.desk.specs.Runs.{MayAnswer, Outcome, Run, all_sent, cells_of_answer, cells_read, state_after, state_at_end}
-use Rattle.desk.specs.Ends.{Makes, Writes}
-use Rattle.desk.specs.Reads.{CountGrew}
+use Rattle.desk.specs.{arith, ◌≡◌, ℕ, List, [], ◌∷◌, ◌++◌, Result, refl, sym, subst, ◌∙◌, add-zero, append-nil, sum_by, flat_map-append, sum_by-append}
+use Rattle.desk.specs.{sum_by-cons, Refusal, Seen, IsWithin, ScreenOver, State, state_of, MayAnswer, Outcome, Run, all_sent, cells_of_answer, cells_read}
+use Rattle.desk.specs.{state_after, state_at_end, Makes, Writes, CountGrew, Call, Reply}
 use Rattle.desk.proofs.ReadLemmas.{reads-run, same-grew, then-grew}
 use Rattle.desk.proofs.Shortness.{short-run}
 use Rattle.desk.proofs.StateLemmas.{IsWithin-refl, IsWithin-trans, Run-within, state_at_end-within}
 use Rattle.desk.proofs.WriterLemmas.{Writes-nothing, Writes-trans}
-use Rattle.world.specs.declared.call.Call.{Call}
-use Rattle.world.specs.declared.call.Reply.{Reply}
 
 Run-append : (state : State) (calls more : List Call) (outcomes others : List Outcome) → Run state calls outcomes
     → Run (state_at_end state calls outcomes) more others → Run state (calls ++ more) (outcomes ++ others)

@@ -1,29 +1,10 @@
 -- How many cells a run reads.
-use Rattle.std.proofs.Common.{◌≡◌, ◌≤◌, ℕ, ◌+◌, List, [], ◌∷◌, Bool, false, Option, Result, Ok, refl, sym, subst, ap, ◌∙◌, sum_by, is_ok, arith, add_assoc, ◌%◌, ◌^◌}
-use Rattle.std.proofs.Math.Nat.{add-le-add, mod-add-mod, mod-mod}
-use Rattle.std.proofs.lemmas.List.Sums.{sum_by-cons}
-use Rattle.std.specs.Option.{option_map_or}
-use Rattle.cell.specs.Glyphs.{Glyph}
-use Rattle.cell.specs.Pictures.{Place}
-use Rattle.cell.specs.declared.refusal.Refusal.{Refusal}
-use Rattle.world.specs.World.{World}
-use Rattle.world.specs.calls.Affected.{most_cells}
-use Rattle.world.specs.calls.Dispatch.{is_update_panels, reply_of}
-use Rattle.world.specs.calls.Queries.{both_numbers, cell_at_cursor}
-use Rattle.compose.specs.Calling.{CountsReads, cells_of_reply}
-use Rattle.compose.specs.Desks.{DeskTable}
-use Rattle.desk.specs.States.{State}
-use Rattle.desk.specs.Runs.{MayAnswer, Outcome, Run, cells_of_answer, cells_read, state_after}
-use Rattle.desk.specs.Reads.{CountGrew, ReadsFew, places_redrawn, with_acceptance}
-use Rattle.world.specs.declared.call.Call.{Call}
+use Rattle.desk.specs.{◌≡◌, ◌≤◌, ℕ, ◌+◌, List, [], ◌∷◌, Bool, false, Option, Result, Ok, refl, sym, subst, ap, ◌∙◌, sum_by, is_ok, arith, add_assoc, ◌%◌, ◌^◌}
+use Rattle.desk.specs.{add-le-add, mod-add-mod, mod-mod, sum_by-cons, option_map_or, Glyph, Place, Refusal, World, most_cells, is_update_panels, reply_of}
+use Rattle.desk.specs.{both_numbers, cell_at_cursor, CountsReads, cells_of_reply, DeskTable, State, MayAnswer, Outcome, Run, cells_of_answer, cells_read}
+use Rattle.desk.specs.{state_after, CountGrew, ReadsFew, places_redrawn, with_acceptance, Call, Syncup, Delwin, Inch, UpdatePanels, Doupdate, Reply, Nothing}
+use Rattle.desk.specs.{Cell, DelPanel}
 use Rattle.world.specs.declared.call.Call.TheVariants as calls
-use Rattle.world.specs.declared.call.Copying.TheVariants.{Syncup}
-use Rattle.world.specs.declared.call.Making.TheVariants.{Delwin}
-use Rattle.world.specs.declared.call.Query.TheVariants.{Inch}
-use Rattle.world.specs.declared.call.Refresh.TheVariants.{UpdatePanels, Doupdate}
-use Rattle.world.specs.declared.call.Reply.{Reply}
-use Rattle.world.specs.declared.call.Reply.TheVariants.{Nothing, Cell}
-use Rattle.world.specs.declared.call.Stacking.TheVariants.{DelPanel}
 
 -- ---- only update_panels answers a number of cells
 

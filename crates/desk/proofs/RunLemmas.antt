@@ -1,25 +1,14 @@
 -- A run goes on by one call.
-use Rattle.std.proofs.Common.{◌≡◌, ℕ, ◌+◌, ◌≤◌, ◌++◌, List, [], ◌∷◌, length, take, drop, get_or, None, Some}
-use Rattle.std.proofs.Common.{◌<◌, Ok, Err, refl, sym, ap, ◌∙◌, subst, count_by, sum_by, cond, add-zero, ◌%◌, ◌^◌, Option}
-use Rattle.std.proofs.Common.{append-nil, take-append-drop, take_all}
-use Rattle.std.proofs.lemmas.List.{drop_more, take_more}
-use Rattle.std.proofs.lemmas.List.Sums.{sum_by_push}
-use Rattle.cell.specs.declared.refusal.Refusal.{Refusal}
-use Rattle.streams.specs.Sinks.{Seen}
-use Rattle.streams.specs.declared.sending.WriteFault.{WriteFault}
-use Rattle.desk.specs.Runs.{Outcome, cells_read, is_accepted, is_refused}
-use Rattle.compose.specs.Calling.{cells_of_reply}
+use Rattle.desk.specs.{◌≡◌, ℕ, ◌+◌, ◌≤◌, ◌++◌, List, [], ◌∷◌, length, take, drop, get_or, None, Some, ◌<◌, Ok, Err, refl, sym, ap, ◌∙◌, subst, count_by}
+use Rattle.desk.specs.{sum_by, cond, add-zero, ◌%◌, ◌^◌, Option, append-nil, take-append-drop, take_all, drop_more, take_more, sum_by_push, Refusal, Seen}
+use Rattle.desk.specs.{WriteFault, Outcome, cells_read, is_accepted, is_refused, cells_of_reply, CountGrew, ReadsFew, with_acceptance, CallEnds, Makes}
+use Rattle.desk.specs.{RunEnds, Stops, Writes, begins_with_doupdate, Call, Reply, ScreenOver, state_of}
 use Rattle.desk.proofs.ReadLemmas.{call-grew, same-grew}
 use Rattle.desk.proofs.MakesLemmas.{Makes-append, Makes-nothing, Makes-one}
 use Rattle.desk.proofs.StateLemmas.{is-kept}
 use Rattle.desk.proofs.WriterLemmas.{Writes-refused}
-use Rattle.desk.specs.Reads.{CountGrew, ReadsFew, with_acceptance}
-use Rattle.desk.specs.Ends.{CallEnds, Makes, RunEnds, Stops, Writes, begins_with_doupdate}
-use Rattle.world.specs.declared.call.Call.{Call}
-use Rattle.world.specs.declared.call.Reply.{Reply}
 use Rattle.desk.specs.declared.screen.Fault.TheVariants.{Refused, Write}
 use Rattle.desk.specs.declared.screen.RunEnd.{RunEnd}
-use Rattle.desk.specs.States.{ScreenOver, state_of}
 
 module _ {W : Type 0} (seen : W → Seen) where
   -- a run, with what was counted of it

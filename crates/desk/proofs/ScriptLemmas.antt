@@ -1,40 +1,17 @@
 -- A script is run a line at a time.
-use Rattle.std.proofs.Common.{◌≡◌, ℕ, ◌≤◌, ◌<◌, List, [], ◌∷◌, ◌++◌, length, Bool, true, false, ◌||◌, take, Option, None, Some, Ok, Err, Result, refl, ap, subst, sym, ◌∙◌}
-use Rattle.std.proofs.Common.{append-nil, append_assoc, length-append, arith, nat_lt, is_some, not, if◌then◌else◌}
-use Rattle.std.proofs.lemmas.Bool.{false_from_ne_true, or_parts}
-use Rattle.std.proofs.lemmas.Bool.Decides.{nat_tests}
-use Rattle.world.specs.declared.call.Call.TheVariants.{Refresh}
-use Rattle.world.specs.declared.call.Refresh.TheVariants.{Doupdate}
-use Rattle.script.specs.declared.limits.TheConstants.{LONGEST_LINE}
-use Rattle.script.specs.declared.fault.ScriptFault.{ScriptFault}
-use Rattle.script.specs.declared.fault.TextFault.TheVariants.{LineTooLong}
-use Rattle.script.specs.declared.fault.ScriptFault.TheVariants.{Text, Reading as Reading_fault, Write, Log}
-use Rattle.std.proofs.lemmas.Grind.{flat_map-append}
-use Rattle.std.proofs.lemmas.List.{map-append}
-use Rattle.std.proofs.lemmas.List.Folds.{list_any-append, list_any_at}
-use Rattle.std.specs.List.{All, list_any, onto_first, slice_split}
-use Rattle.std.specs.Io.KnownBytes.{Appends, Consumes, IsAtEnd}
-use Rattle.std.proofs.KnownBytes.{Appends-nil, Appends-trans, Consumes-nil, Consumes-trans}
-use Rattle.std.proofs.lemmas.List.Splits.{length-slice_split, slice_split-cons_no, slice_split_at, slice_split_none}
-use Rattle.streams.specs.Sinks.{Seen}
-use Rattle.desk.specs.States.{State, state_of, HasOneSize, KeepsSize, ScreenOver}
-use Rattle.streams.specs.Sources.{SourceSeen}
-use Rattle.desk.specs.Runs.{Outcome, Run, is_refused, state_after}
-use Rattle.desk.specs.Ends.{Makes}
+use Rattle.desk.specs.{◌≡◌, ℕ, ◌≤◌, ◌<◌, List, [], ◌∷◌, ◌++◌, length, Bool, true, false, ◌||◌, take, Option, None, Some, Ok, Err, Result, refl, ap, subst}
+use Rattle.desk.specs.{sym, ◌∙◌, append-nil, append_assoc, length-append, arith, nat_lt, is_some, not, if◌then◌else◌, false_from_ne_true, or_parts, nat_tests}
+use Rattle.desk.specs.{Refresh, Doupdate, LONGEST_LINE, ScriptFault, LineTooLong, Text, Reading as Reading_fault, Write, Log, flat_map-append, map-append}
+use Rattle.desk.specs.{list_any-append, list_any_at, All, list_any, onto_first, slice_split, Appends, Consumes, IsAtEnd, Appends-nil, Appends-trans}
+use Rattle.desk.specs.{Consumes-nil, Consumes-trans, length-slice_split, slice_split-cons_no, slice_split_at, slice_split_none, Seen, State, state_of}
+use Rattle.desk.specs.{HasOneSize, KeepsSize, ScreenOver, SourceSeen, Outcome, Run, is_refused, state_after, Makes, count_after, RunShows, before_others}
+use Rattle.desk.specs.{ends_with, next_number, reading, reading_of, parse_line, is_newline, HasNoNewline, ReadsLine, end_failed, met_end, LineEnd, FlushFails}
+use Rattle.desk.specs.{FlushSucceeds, LineEnds, LineSays, LogCloses, Logs, MayFollow, RunsLines, ScriptEnds, ScriptSays, StopsAt, calls_of, log_failed}
+use Rattle.desk.specs.{log_lines, log_text, numbered_call, write_fault, Call, TextFault, ScriptEnd, Newline, ReadFailed}
 use Rattle.desk.proofs.MakesLemmas.{Makes-append, Makes-nothing}
-use Rattle.streams.specs.Counts.{count_after}
-use Rattle.desk.specs.Showing.{RunShows}
 use Rattle.desk.proofs.ShowingLemmas.{cut-keeps_size, makes-keep_size, shows-broken, shows-unbroken, then-keeps_size}
-use Rattle.script.specs.Readings.{Reading, before_others, ends_with, next_number, reading, reading_of, parse_line}
-use Rattle.script.specs.Characters.{is_newline}
-use Rattle.script.specs.Lines.{HasNoNewline, ReadsLine, end_failed, met_end}
-use Rattle.script.specs.declared.bytes.LineEnd.{LineEnd}
-use Rattle.desk.specs.ScriptEnds.{FlushFails, FlushSucceeds, LineEnds, LineSays, LogCloses, Logs, MayFollow, RunsLines, ScriptEnds, ScriptSays, StopsAt, calls_of, log_failed, log_lines, log_text}
-use Rattle.desk.specs.ScriptEnds.{numbered_call, write_fault}
-use Rattle.world.specs.declared.call.Call.{Call}
-use Rattle.script.specs.declared.fault.TextFault.{TextFault}
-use Rattle.script.specs.declared.fault.ScriptEnd.{ScriptEnd}
-use Rattle.script.specs.declared.bytes.LineEnd.TheVariants.{Newline, ScriptEnd as Script_end, ReadFailed}
+use Rattle.script.specs.Readings.{Reading}
+use Rattle.script.specs.declared.bytes.LineEnd.TheVariants.{ScriptEnd as Script_end}
 
 -- calls before a reading
 abbrev pub prepend : List (ℕ × Call) → Reading → Reading

@@ -1,11 +1,6 @@
 -- No call of a run sends more than its bound.
-use Rattle.std.proofs.Common.{◌≡◌, ◌≤◌, ℕ, List, [], ◌∷◌, length, Result, Ok, Err, arith}
-use Rattle.cell.specs.declared.refusal.Refusal.{Refusal}
-use Rattle.desk.specs.States.{State}
-use Rattle.desk.specs.Runs.{Outcome, AreShort, MayAnswer, Run, most_sent, state_after}
-use Rattle.world.specs.declared.call.Call.{Call}
-use Rattle.world.specs.declared.call.Reply.{Reply}
-use Rattle.desk.specs.steps.Quiet.{each-call, quiet-reply}
+use Rattle.desk.specs.{◌≡◌, ◌≤◌, ℕ, List, [], ◌∷◌, length, Result, Ok, Err, arith, Refusal, State, Outcome, AreShort, MayAnswer, Run, most_sent, state_after}
+use Rattle.desk.specs.{Call, Reply, each-call, quiet-reply}
 
 sends-nothing : (sent : List ℕ) (most : ℕ) → sent ≡ [] → length sent ≤ most
 sends-nothing sent most none = grind arith

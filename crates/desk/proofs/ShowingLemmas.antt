@@ -1,43 +1,22 @@
 -- What a terminal shows after a run of calls.
-use Rattle.std.proofs.Common.{arith, ◌≡◌, ℕ, List, [], ◌∷◌, ◌++◌, take, Option, Some, None, Result, Ok, Err, is_some, refl, sym, ap, ◌∙◌, subst, append_assoc, append-nil}
-use Rattle.std.proofs.KnownBytes.{Appends-trans}
-use Rattle.std.specs.Prelude.{⊤, MatchOption}
-use Rattle.cell.specs.Shown.{shown, shown_blank}
-use Rattle.cell.specs.Pictures.{HasSize}
-use Rattle.world.specs.Sound.{IsSound}
-use Rattle.world.specs.World.{World, picture}
-use Rattle.world.specs.calls.Dispatch.{world_after}
-use Rattle.world.specs.Effects.{composed_windows}
-use Rattle.cell.specs.declared.refusal.Refusal.{Refusal}
+use Rattle.desk.specs.{arith, ◌≡◌, ℕ, List, [], ◌∷◌, ◌++◌, take, Option, Some, None, Result, Ok, Err, is_some, refl, sym, ap, ◌∙◌, subst, append_assoc}
+use Rattle.desk.specs.{append-nil, Appends-trans, ⊤, MatchOption, shown, shown_blank, HasSize, IsSound, World, picture, world_after, composed_windows}
+use Rattle.desk.specs.{Refusal, never-refused, Terminal, Leads, LeadsWithBreaks, showing, count_after, Seen, Agrees, PainterState, ShownPicture, WriteFault}
+use Rattle.desk.specs.{IsWithin, State, after, wanted, state_of, HasOneSize, KeepsSize, ScreenOver, Outcome, MayAnswer, Run, all_sent, state_after}
+use Rattle.desk.specs.{state_at_end, DeskTable, world, CallEnds, IsCut, Makes, RunEnds, Stops, cut_of, CallMade, EndsInDoupdate, EndsInUpdate, ShowsWorld}
+use Rattle.desk.specs.{RunShows, Call, UpdatePanels, Doupdate, each-call, quiet-reply, Reply}
 use Rattle.desk.proofs.WriterLemmas.{Writes-refused}
-use Rattle.compose.specs.KindLaws.{never-refused}
 use Rattle.cell.proofs.PictureLemmas.{HasSize-lines_from, cell_or-lines_from}
 use Rattle.world.proofs.RefreshLaws.{found-unmarked, cursor-unmarked}
-use Rattle.ecma.specs.Terminals.{Terminal}
-use Rattle.ecma.specs.Streams.{Leads, LeadsWithBreaks, showing}
 use Rattle.ecma.proofs.Joining.{Leads-append}
 use Rattle.ecma.proofs.Leading.{Leads-nothing}
 use Rattle.ecma.proofs.PictureSizes.{size-effects}
-use Rattle.streams.specs.Counts.{count_after}
-use Rattle.streams.specs.Sinks.{Seen}
-use Rattle.paint.specs.Updates.{Agrees, PainterState, ShownPicture}
-use Rattle.streams.specs.declared.sending.WriteFault.{WriteFault}
 use Rattle.paint.proofs.Repair.{Agrees-update, Agrees-fault, IsKnown, reads-known}
 use Rattle.desk.proofs.ReadLemmas.{call-grew, same-grew}
 use Rattle.desk.proofs.MakesLemmas.{Makes-nothing, Makes-one}
 use Rattle.desk.proofs.StateLemmas.{IsWithin-refl, painter-quiet}
-use Rattle.desk.specs.States.{IsWithin, State, after, wanted, state_of, HasOneSize, KeepsSize, ScreenOver}
-use Rattle.desk.specs.Runs.{Outcome, MayAnswer, Run, all_sent, state_after, state_at_end}
 use Rattle.world.proofs.Sizes.{size-call}
-use Rattle.compose.specs.Desks.{DeskTable, world}
-use Rattle.desk.specs.Ends.{CallEnds, IsCut, Makes, RunEnds, Stops, cut_of}
-use Rattle.desk.specs.Methods.{CallMade}
-use Rattle.desk.specs.Showing.{EndsInDoupdate, EndsInUpdate, ShowsWorld, RunShows}
-use Rattle.world.specs.declared.call.Call.{Call}
 use Rattle.world.specs.declared.call.Call.TheVariants as calls
-use Rattle.world.specs.declared.call.Refresh.TheVariants.{UpdatePanels, Doupdate}
-use Rattle.desk.specs.steps.Quiet.{each-call, quiet-reply}
-use Rattle.world.specs.declared.call.Reply.{Reply}
 use Rattle.desk.specs.declared.screen.RunEnd.{RunEnd}
 use Rattle.desk.specs.declared.screen.Fault.{Fault}
 use Rattle.desk.specs.declared.screen.Fault.TheVariants.{Refused, Write}

@@ -1,26 +1,10 @@
 -- States with more lines damaged: the outcomes that calls may have in one, they may have in the other.
-use Rattle.std.proofs.Common.{◌≡◌, ◌≤◌, ℕ, ◌||◌, if◌then◌else◌, Bool, true, false, cond, List, [], ◌∷◌, Result, Ok, Err, subst, sym, ◌∙◌, arith}
-use Rattle.std.proofs.Math.Nat.{mul-le-mul_right}
-use Rattle.std.proofs.lemmas.List.Sums.{sum_by-le-sum_by}
-use Rattle.std.specs.List.{count_by}
-use Rattle.std.specs.Prelude.{MatchOption, None, Some, ⊤}
-use Rattle.cell.specs.Pictures.{Picture}
-use Rattle.cell.specs.declared.refusal.Refusal.{Refusal}
-use Rattle.paint.specs.Updates.{PainterState, ShownPicture}
-use Rattle.world.specs.Sound.{IsSound}
-use Rattle.world.specs.World.{World}
-use Rattle.world.specs.calls.Affected.{affected_after}
-use Rattle.world.specs.calls.Dispatch.{is_doupdate}
-use Rattle.compose.specs.Calling.{Called, MayRead}
+use Rattle.desk.specs.{◌≡◌, ◌≤◌, ℕ, ◌||◌, if◌then◌else◌, Bool, true, false, cond, List, [], ◌∷◌, Result, Ok, Err, subst, sym, ◌∙◌, arith, mul-le-mul_right}
+use Rattle.desk.specs.{sum_by-le-sum_by, count_by, MatchOption, None, Some, ⊤, Picture, Refusal, PainterState, ShownPicture, IsSound, World, affected_after}
+use Rattle.desk.specs.{is_doupdate, Called, MayRead, DifferOnly, DeskTable, world, HasOneSize, IsScreen, IsWithin, ScreenOver, State, after, state_of}
+use Rattle.desk.specs.{MayAnswer, Outcome, Run, state_after, state_at_end, Call, UpdatePanels, Reply}
 use Rattle.compose.proofs.DeskLemmas.{size-called, sound-called}
-use Rattle.extents.specs.Extents.{DifferOnly}
-use Rattle.compose.specs.Desks.{DeskTable, world}
-use Rattle.desk.specs.States.{HasOneSize, IsScreen, IsWithin, ScreenOver, State, after, state_of}
-use Rattle.desk.specs.Runs.{MayAnswer, Outcome, Run, state_after, state_at_end}
-use Rattle.world.specs.declared.call.Call.{Call}
 use Rattle.world.specs.declared.call.Call.TheVariants as calls
-use Rattle.world.specs.declared.call.Refresh.TheVariants.{UpdatePanels}
-use Rattle.world.specs.declared.call.Reply.{Reply}
 
 -- ---- lines
 

@@ -1,24 +1,10 @@
 -- What calls do to the writer of a screen.
-use Rattle.std.proofs.Common.{arith, ◌≡◌, ℕ, Bool, false, ◌||◌, List, [], ◌∷◌, ◌++◌, Ok, Err, refl, sym}
-use Rattle.std.proofs.KnownBytes.{Appends-nil, Appends-trans}
-use Rattle.std.proofs.lemmas.List.Folds.{list_any-append}
-use Rattle.cell.specs.declared.refusal.Refusal.{Refusal}
-use Rattle.streams.specs.Counts.{count_after}
-use Rattle.streams.specs.Sinks.{Seen}
-use Rattle.world.specs.calls.Dispatch.{is_doupdate, world_after}
-use Rattle.world.specs.declared.call.Call.{Call}
+use Rattle.desk.specs.{arith, ◌≡◌, ℕ, Bool, false, ◌||◌, List, [], ◌∷◌, ◌++◌, Ok, Err, refl, sym, Appends-nil, Appends-trans, list_any-append, Refusal}
+use Rattle.desk.specs.{count_after, Seen, is_doupdate, world_after, Call, Doupdate, Reply, DeskTable, world, IsWithin, ScreenOver, after, state_of, Called}
+use Rattle.desk.specs.{DamagesFew, MayRefuse, never-refused, flushes_after, each-call, quiet-reply, CallEnds, Writes}
 use Rattle.world.specs.declared.call.Call.TheVariants as calls
-use Rattle.world.specs.declared.call.Refresh.TheVariants.{Doupdate}
-use Rattle.world.specs.declared.call.Reply.{Reply}
-use Rattle.compose.specs.Desks.{DeskTable, world}
-use Rattle.desk.specs.States.{IsWithin, ScreenOver, after, state_of}
-use Rattle.compose.specs.Calling.{Called, DamagesFew, MayRefuse}
-use Rattle.compose.specs.KindLaws.{never-refused}
-use Rattle.desk.specs.Runs.{flushes_after}
-use Rattle.desk.specs.steps.Quiet.{each-call, quiet-reply}
 use Rattle.desk.proofs.StateLemmas.{painter-quiet}
 use Rattle.compose.proofs.DeskLemmas.{world-left}
-use Rattle.desk.specs.Ends.{CallEnds, Writes}
 use Rattle.desk.specs.declared.screen.Fault.TheVariants.{Refused}
 
 flushes_after-append : (flushes : ℕ) (calls more : List Call) → flushes_after flushes (calls ++ more) ≡ flushes_after (flushes_after flushes calls) more

@@ -1,19 +1,9 @@
 -- How calls on a screen end, and what they do to it.
-use Rattle.std.specs.Prelude.{◌≡◌, ◌≤◌, ◌==◌, ◌||◌, ℕ, List, [], ◌∷◌, ◌++◌, Bool, true, false, length, take, Option, Some, None, Result, Ok, Err, count_by, sum_by}
-use Rattle.std.specs.List.{list_any}
-use Rattle.std.specs.Io.KnownBytes.{Appends}
-use Rattle.streams.specs.Counts.{count_after}
-use Rattle.streams.specs.Sinks.{Seen}
-use Rattle.paint.specs.Updates.{IsUpdateText}
-use Rattle.streams.specs.declared.sending.WriteFault.{WriteFault}
-use Rattle.compose.specs.Calling.{CountsReads, MayRefuse}
-use Rattle.compose.specs.Desks.{world}
-use Rattle.world.specs.calls.Dispatch.{is_doupdate}
+use Rattle.desk.specs.Names.{◌≡◌, ◌≤◌, ◌==◌, ◌||◌, ℕ, List, [], ◌∷◌, ◌++◌, Bool, true, false, length, take, Option, Some, None, Result, Ok, Err, count_by}
+use Rattle.desk.specs.Names.{sum_by, list_any, Appends, count_after, Seen, IsUpdateText, WriteFault, CountsReads, MayRefuse, world, is_doupdate, Call, Reply}
 use Rattle.desk.specs.States.{IsWithin, ScreenOver, after, state_of, wanted}
 use Rattle.desk.specs.Runs.{Outcome, AreShort, MayAnswer, Run, all_sent, cells_read, flushes_after, is_accepted, is_refused, state_at_end}
 use Rattle.desk.specs.Reads.{CountGrew, ReadsFew, with_acceptance}
-use Rattle.world.specs.declared.call.Call.{Call}
-use Rattle.world.specs.declared.call.Reply.{Reply}
 use Rattle.desk.specs.declared.screen.Fault.{Fault}
 use Rattle.desk.specs.declared.screen.Fault.TheVariants.{Refused, Write}
 use Rattle.desk.specs.declared.screen.RunEnd.{RunEnd}

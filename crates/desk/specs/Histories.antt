@@ -1,19 +1,8 @@
 -- A history of a screen: calls in order, gone on with after each refusal and each failed write; and what terminals show
 -- after it.
 -- X/Open Curses Issue 7: doupdate shows the virtual screen.
-use Rattle.std.specs.Prelude.{◌≡◌, ℕ, List, [], ◌∷◌, ◌++◌, Bool, true, false, if◌then◌else◌}
-use Rattle.std.specs.Prelude.{Option, None, Result, Ok, Err, ⊤, count_by, is_ok, is_some, map, sum_by}
-use Rattle.std.specs.Io.KnownBytes.{Appends}
-use Rattle.ecma.specs.Terminals.{Terminal}
-use Rattle.ecma.specs.Streams.{LeadsWithBreaks}
-use Rattle.streams.specs.Sinks.{Seen}
-use Rattle.streams.specs.declared.sending.WriteFault.{WriteFault}
-use Rattle.paint.specs.Updates.{Agrees}
-use Rattle.compose.specs.Calling.{cells_of_reply}
-use Rattle.compose.specs.Desks.{world}
-use Rattle.world.specs.calls.Dispatch.{is_doupdate}
-use Rattle.world.specs.declared.call.Call.{Call}
-use Rattle.world.specs.declared.call.Reply.{Reply}
+use Rattle.desk.specs.Names.{◌≡◌, ℕ, List, [], ◌∷◌, ◌++◌, Bool, true, false, if◌then◌else◌, Option, None, Result, Ok, Err, ⊤, count_by, is_ok, is_some, map}
+use Rattle.desk.specs.Names.{sum_by, Appends, Terminal, LeadsWithBreaks, Seen, WriteFault, Agrees, cells_of_reply, world, is_doupdate, Call, Reply}
 use Rattle.desk.specs.States.{ScreenOver}
 use Rattle.desk.specs.Ends.{cut_of}
 use Rattle.desk.specs.Methods.{CallMade}
@@ -46,8 +35,8 @@ abbrev pub refuses : Result Reply Fault → Bool
 refuses (Err (Refused refusal)) = true
 refuses _ = false
 
-abbrev pub is_refused : {W : Type 0} → Step W → Bool
-is_refused step = refuses step.end
+abbrev pub is_refused_step : {W : Type 0} → Step W → Bool
+is_refused_step step = refuses step.end
 
 -- a doupdate whose text was cut short
 abbrev pub is_cut : {W : Type 0} → Step W → Bool
@@ -99,7 +88,7 @@ module _ {W : Type 0} (seen : W → Seen) (name : W → ℕ) where
     pub made : AreMade old steps
     pub left : screen_after old steps ≡ new
     pub done : end.done ≡ count_by is_done steps
-    pub refused : end.refused ≡ count_by is_refused steps
+    pub refused : end.refused ≡ count_by is_refused_step steps
     pub failed : end.failed ≡ count_by is_cut steps
     pub composed : end.composed ≡ sum_by cells_in steps
     pub fault : end.fault ≡ last_fault steps

@@ -1,3 +1,4 @@
+pub mod Names
 pub mod States
 pub mod Runs
 pub mod Reads
@@ -7,3 +8,13 @@ pub mod Methods
 pub mod Histories
 pub mod ScriptEnds
 pub mod steps
+unfoldable pub use Names.*
+unfoldable pub use States.*
+unfoldable pub use Runs.*
+unfoldable pub use Reads.*
+unfoldable pub use Ends.*
+unfoldable pub use Showing.*
+unfoldable pub use Methods.*
+unfoldable pub use Histories.*
+unfoldable pub use ScriptEnds.*
+unfoldable pub use steps.*

@@ -1,11 +1,5 @@
 -- A call made on a screen.
-use Rattle.std.specs.Prelude.{◌≡◌, ◌∷◌, ℕ, [], is_some, Result}
-use Rattle.streams.specs.Counts.{count_after}
-use Rattle.streams.specs.Sinks.{Seen}
-use Rattle.compose.specs.Desks.{world}
-use Rattle.world.specs.Sound.{IsSound}
-use Rattle.world.specs.declared.call.Call.{Call}
-use Rattle.world.specs.declared.call.Reply.{Reply}
+use Rattle.desk.specs.Names.{◌≡◌, ◌∷◌, ℕ, [], is_some, Result, count_after, Seen, world, IsSound, Call, Reply}
 use Rattle.desk.specs.Ends.{CallEnds, cut_of}
 use Rattle.desk.specs.Showing.{RunShows}
 use Rattle.desk.specs.States.{KeepsSize, ScreenOver}

@@ -1,15 +1,10 @@
 -- How many cells the update_panels of a run read: by how much the desk's count of them grew, and its bounds. The run's
 -- calls are listed with whether each was accepted.
 -- X/Open Curses Issue 7 and NetBSD panel(3) say nothing of it: these bounds are Curspan's own.
-use Rattle.std.specs.Prelude.{◌≡◌, ℕ, ◌+◌, ◌%◌, ◌^◌, ◌≤◌, if◌then◌else◌, List, [], ◌∷◌, Bool}
-use Rattle.cell.specs.Differences.{difference}
-use Rattle.world.specs.World.{World}
-use Rattle.world.specs.calls.Affected.{bound_on_reads}
-use Rattle.world.specs.calls.Dispatch.{is_update_panels, world_after}
-use Rattle.compose.specs.Desks.{DeskTable}
+use Rattle.desk.specs.Names.{◌≡◌, ℕ, ◌+◌, ◌%◌, ◌^◌, ◌≤◌, if◌then◌else◌, List, [], ◌∷◌, Bool, difference, World, bound_on_reads, is_update_panels, world_after}
+use Rattle.desk.specs.Names.{DeskTable, Call}
 use Rattle.desk.specs.States.{State}
 use Rattle.desk.specs.Runs.{Outcome, is_accepted}
-use Rattle.world.specs.declared.call.Call.{Call}
 
 -- the count of the cells that were read grew by so many, modulo 2^64
 pub record CountGrew (cells : ℕ) (old new : DeskTable) : Type 0 where

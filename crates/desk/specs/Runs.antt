@@ -1,17 +1,8 @@
 -- A run of calls: one outcome after another.
-use Rattle.std.specs.Prelude.{◌≡◌, ℕ, ◌≤◌, if◌then◌else◌, List, [], ◌∷◌, Bool, length, None, Result, Ok, Err, ⊤, is_ok, not}
-use Rattle.std.specs.List.{flat_map}
-use Rattle.cell.specs.declared.refusal.Refusal.{Refusal}
-use Rattle.paint.specs.Updates.{IsUpdateText, most_bytes}
-use Rattle.streams.specs.Counts.{count_after}
-use Rattle.compose.specs.Calling.{MayRefuse, MayTell, cells_of_reply}
-use Rattle.world.specs.calls.Dispatch.{is_doupdate, refusal}
+use Rattle.desk.specs.Names.{◌≡◌, ℕ, ◌≤◌, if◌then◌else◌, List, [], ◌∷◌, Bool, length, None, Result, Ok, Err, ⊤, is_ok, not, flat_map, Refusal, IsUpdateText}
+use Rattle.desk.specs.Names.{most_bytes, count_after, MayRefuse, MayTell, cells_of_reply, is_doupdate, refusal, Call, Doupdate, Reply, Sent}
 use Rattle.desk.specs.States.{State, after, wanted}
-use Rattle.world.specs.declared.call.Call.{Call}
 use Rattle.world.specs.declared.call.Call.TheVariants as calls
-use Rattle.world.specs.declared.call.Refresh.TheVariants.{Doupdate}
-use Rattle.world.specs.declared.call.Reply.{Reply}
-use Rattle.world.specs.declared.call.Reply.TheVariants.{Sent}
 
 -- the outcome of a call: its answer, and the bytes that were sent
 pub record Outcome : Type 0 where

@@ -1,24 +1,12 @@
 -- How a script ends.
-use Rattle.std.specs.Prelude.{◌≡◌, ◌⊎◌, ◌<◌, ◌∷◌, ◌++◌, ℕ, Bool, true, false, List, [], length, map, take, Option, Some, None, Result, Ok, Err}
-use Rattle.std.specs.List.{flat_map, list_any}
-use Rattle.std.specs.Io.KnownBytes.{Appends, Consumes, IsAtEnd, Keeps}
-use Rattle.streams.specs.Sinks.{Seen}
-use Rattle.streams.specs.Counts.{count_after, next_count}
-use Rattle.streams.specs.declared.sending.WriteFault.{WriteFault}
+use Rattle.desk.specs.Names.{◌≡◌, ◌⊎◌, ◌<◌, ◌∷◌, ◌++◌, ℕ, Bool, true, false, List, [], length, map, take, Option, Some, None, Result, Ok, Err, flat_map}
+use Rattle.desk.specs.Names.{list_any, Appends, Consumes, IsAtEnd, Keeps, Seen, count_after, next_count, WriteFault, SourceSeen, reading, log_line, Call}
+use Rattle.desk.specs.Names.{Refresh, Doupdate, TextFault, ScriptEnd, ScriptFault, Text, Reading as Reading_fault, Write, Log}
 use Rattle.desk.specs.Runs.{Outcome, is_refused}
 use Rattle.desk.specs.Ends.{IsCut, Makes}
 use Rattle.desk.specs.Showing.{RunShows}
-use Rattle.streams.specs.Sources.{SourceSeen}
-use Rattle.script.specs.Readings.{Reading, reading}
-use Rattle.script.specs.Log.{log_line}
-use Rattle.world.specs.declared.call.Call.{Call}
-use Rattle.world.specs.declared.call.Call.TheVariants.{Refresh}
-use Rattle.world.specs.declared.call.Refresh.TheVariants.{Doupdate}
+use Rattle.script.specs.Readings.{Reading}
 use Rattle.desk.specs.States.{ScreenOver}
-use Rattle.script.specs.declared.fault.TextFault.{TextFault}
-use Rattle.script.specs.declared.fault.ScriptEnd.{ScriptEnd}
-use Rattle.script.specs.declared.fault.ScriptFault.{ScriptFault}
-use Rattle.script.specs.declared.fault.ScriptFault.TheVariants.{Text, Reading as Reading_fault, Write, Log}
 
 abbrev pub read_failed : Option ScriptFault → Bool
 read_failed (Some Reading_fault) = true

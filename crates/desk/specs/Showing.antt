@@ -1,18 +1,6 @@
 -- What a terminal shows after a run of calls: the theorem of the screen.
-use Rattle.std.specs.Prelude.{◌≡◌, ℕ, ◌<◌, List, [], ◌∷◌, ◌++◌, Option, Some, None}
-use Rattle.std.specs.Io.KnownBytes.{Appends}
-use Rattle.cell.specs.Shown.{no_rendition}
-use Rattle.cell.specs.Pictures.{HasSize, shown_at}
-use Rattle.world.specs.World.{World, picture, topmost_cursor}
-use Rattle.ecma.specs.Terminals.{Terminal}
-use Rattle.ecma.specs.Streams.{Leads, LeadsWithBreaks, showing}
-use Rattle.streams.specs.Sinks.{Seen}
-use Rattle.paint.specs.Updates.{Agrees}
-use Rattle.streams.specs.declared.sending.WriteFault.{WriteFault}
-use Rattle.compose.specs.Desks.{world}
-use Rattle.world.specs.declared.call.Call.{Call}
-use Rattle.world.specs.declared.call.Call.TheVariants.{Refresh}
-use Rattle.world.specs.declared.call.Refresh.TheVariants.{UpdatePanels, Doupdate}
+use Rattle.desk.specs.Names.{◌≡◌, ℕ, ◌<◌, List, [], ◌∷◌, ◌++◌, Option, Some, None, Appends, no_rendition, HasSize, shown_at, World, picture, topmost_cursor}
+use Rattle.desk.specs.Names.{Terminal, Leads, LeadsWithBreaks, showing, Seen, Agrees, WriteFault, world, Call, Refresh, UpdatePanels, Doupdate}
 use Rattle.desk.specs.States.{ScreenOver}
 
 -- the calls end in doupdate

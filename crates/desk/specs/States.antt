@@ -1,14 +1,7 @@
 -- A screen between two calls.
 -- X/Open Curses Issue 7: doupdate shows the virtual screen.
-use Rattle.std.specs.Prelude.{◌≡◌, ℕ, Bool, true, MatchOption, Some, ⊤, if◌then◌else◌}
-use Rattle.world.specs.Sound.{IsSound}
-use Rattle.world.specs.World.{World}
-use Rattle.world.specs.calls.Affected.{affected_after}
-use Rattle.world.specs.calls.Dispatch.{is_doupdate, world_after}
-use Rattle.world.specs.declared.call.Call.{Call}
-use Rattle.extents.specs.Extents.{DifferOnly}
-use Rattle.paint.specs.Updates.{PainterState, ShownPicture, wanted_of}
-use Rattle.compose.specs.Desks.{DeskTable, is_damaged_line, world}
+use Rattle.desk.specs.Names.{◌≡◌, ℕ, Bool, true, MatchOption, Some, ⊤, if◌then◌else◌, IsSound, World, affected_after, is_doupdate, world_after, Call}
+use Rattle.desk.specs.Names.{DifferOnly, PainterState, ShownPicture, wanted_of, DeskTable, is_damaged_line, world}
 
 -- its world, what its painter knows, and the lines of the screen that may be damaged: those that are to be composed
 pub record State : Type 0 where

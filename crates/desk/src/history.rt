@@ -1,10 +1,6 @@
 //! A list of calls that are all made, whatever becomes of the writes.
 
-ghost use Rattle.std.specs.Prelude.{◌≡◌, ◌+◌, ◌-◌, ◌<◌, ◌^◌};
-ghost use Rattle.world.specs.Sound.{IsSound};
-ghost use Rattle.world.specs.calls.Dispatch.{is_doupdate};
-ghost use Rattle.compose.specs.Desks.{world};
-ghost use Rattle.desk.specs.Ends.{cut_of};
+ghost use Rattle.desk.specs.{◌≡◌, ◌+◌, ◌-◌, ◌<◌, ◌^◌, IsSound, is_doupdate, world, cut_of};
 
 use crate::screen::{Fault, Screen, cells_of};
 use calls::Calls;

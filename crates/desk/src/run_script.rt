@@ -1,16 +1,7 @@
 //! Runs scripts.
 
-ghost use Rattle.std.specs.Prelude.{◌≡◌, ◌≤◌, ◌||◌, Ok, Some, length, is_some, false};
-ghost use Rattle.script.specs.Lines.{end_failed, met_end};
-ghost use Rattle.script.specs.Readings.{parse_line};
-ghost use Rattle.script.specs.Words.{entry_of};
-ghost use Rattle.world.specs.Sound.{IsSound};
-ghost use Rattle.desk.specs.Methods.{CallMade};
-ghost use Rattle.desk.specs.steps.Answers.{call_end};
-ghost use Rattle.streams.specs.Counts.{count_after};
-ghost use Rattle.compose.specs.Desks.{world};
-ghost use Rattle.desk.specs.ScriptEnds.{LineEnds, LogCloses, RunsLines, ScriptEnds, log_failed, read_failed, write_fault};
-ghost use Rattle.desk.specs.States.{KeepsSize};
+ghost use Rattle.desk.specs.{◌≡◌, ◌≤◌, ◌||◌, Ok, Some, length, is_some, false, end_failed, met_end, parse_line, entry_of, IsSound, CallMade, call_end};
+ghost use Rattle.desk.specs.{count_after, world, LineEnds, LogCloses, RunsLines, ScriptEnds, log_failed, read_failed, write_fault, KeepsSize};
 
 use crate::screen::{Fault, Screen};
 use calls::Calls;

@@ -2,16 +2,8 @@
 
 mod writer;
 
-ghost use Rattle.std.specs.Prelude.{◌≡◌, ◌∷◌, ℕ, [], IfOk, None, is_some, false};
-ghost use Rattle.world.specs.calls.Making.{new_refusal};
-ghost use Rattle.cell.specs.Refusals.{RefusedBy};
-ghost use Rattle.world.specs.Sound.{IsSound};
-ghost use Rattle.world.specs.World.{first_world};
-ghost use Rattle.world.specs.calls.Dispatch.{is_doupdate};
-ghost use Rattle.streams.specs.Counts.{count_after};
-ghost use Rattle.paint.specs.Updates.{first_painter};
-ghost use Rattle.compose.specs.Calling.{cells_of_reply};
-ghost use Rattle.compose.specs.Desks.{is_damaged_line, world};
+ghost use Rattle.desk.specs.{◌≡◌, ◌∷◌, ℕ, [], IfOk, None, is_some, false, new_refusal, RefusedBy, IsSound, first_world, is_doupdate, count_after};
+ghost use Rattle.desk.specs.{first_painter, cells_of_reply, is_damaged_line, world};
 ghost use Rattle.desk.specs.declared.screen.Fault.TheVariants.{Refused};
 
 use calls::Calls;

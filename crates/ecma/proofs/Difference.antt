@@ -1,11 +1,6 @@
 -- Pictures that differ in no place are one.
-use Rattle.std.proofs.Common.{◌≡◌, ℕ, List, [], ◌∷◌, length, refl, sym, ◌∙◌, arith}
-use Rattle.std.specs.Prelude.{◌↔◌}
-use Rattle.std.specs.List.{AllByRecursion}
-use Rattle.std.proofs.lemmas.Bool.{cases_Bool}
-use Rattle.cell.specs.Shown.{Shown}
-use Rattle.cell.specs.Pictures.{Picture, HasSize}
-use Rattle.cell.specs.Differences.{line_difference, difference}
+use Rattle.ecma.specs.{◌≡◌, ℕ, List, [], ◌∷◌, length, refl, sym, ◌∙◌, arith, ◌↔◌, AllByRecursion, cases_Bool, Shown, Picture, HasSize, line_difference}
+use Rattle.ecma.specs.{difference}
 pub use Rattle.cell.specs.EqualityLaws.{same_rendition-equal, same_shown-equal, same_shown-self}
 
 -- ---- lines

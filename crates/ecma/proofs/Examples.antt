@@ -1,12 +1,7 @@
 -- Worked streams on a terminal of 4 by 10, for a reader of the definitions.
-use Rattle.std.proofs.Common.{◌≡◌, ℕ, [], ◌∷◌, ◌++◌, replicate, Option, Some, None, refl, arith}
-use Rattle.std.specs.Prelude.{codes}
-use Rattle.cell.specs.Shown.{Rendition, shown_blank, shown_with, no_rendition}
-use Rattle.cell.specs.Pictures.{Place, blank_picture, origin}
-use Rattle.ecma.specs.Items.{Printable, Control, Unfinished, CUP, ED, EL, SGR, AreParameters, IsBeginning, escape}
-use Rattle.ecma.specs.Terminals.{Terminal, effect, effects, position, erasure, select_all, select}
-use Rattle.ecma.specs.Streams.{IsInProfile}
-use Rattle.cell.specs.Differences.{difference}
+use Rattle.ecma.specs.{◌≡◌, ℕ, [], ◌∷◌, ◌++◌, replicate, Option, Some, None, refl, arith, codes, Rendition, shown_blank, shown_with, no_rendition, Place}
+use Rattle.ecma.specs.{blank_picture, origin, Printable, Control, Unfinished, CUP, ED, EL, SGR, AreParameters, IsBeginning, escape, Terminal, effect, effects}
+use Rattle.ecma.specs.{position, erasure, select_all, select, IsInProfile, difference}
 use Rattle.ecma.specs.declared.token.Erase.TheVariants.{ToEnd}
 
 -- a blank picture with its cursor and rendition

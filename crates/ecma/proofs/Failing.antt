@@ -1,7 +1,5 @@
 -- What a stream reaches, and where it fails.
-use Rattle.std.proofs.Common.{◌≡◌, ℕ, List, length, arith, subst}
-use Rattle.ecma.specs.Terminals.{Terminal}
-use Rattle.ecma.specs.Streams.{FailsAt, IsInProfile, Reaches}
+use Rattle.ecma.specs.{◌≡◌, ℕ, List, length, arith, subst, Terminal, FailsAt, IsInProfile, Reaches}
 use Rattle.ecma.proofs.Unique.{Splits-same}
 use Rattle.ecma.proofs.Joining.{Reaches-in_profile}
 

@@ -1,14 +1,9 @@
 -- Streams one after another, and what a stream that was cut off leads to.
-use Rattle.std.proofs.Common.{◌≡◌, ℕ, zero, suc, ◌+◌, ◌-◌, ◌<◌, List, [], ◌∷◌, ◌++◌, length, take, drop, Some, None, inl, inr, refl, sym, ap, ◌∙◌, subst, arith, append_assoc}
-use Rattle.std.proofs.lemmas.List.{append-nil, take-append-drop, take-append-le, length-append, length-take-le, length-drop, take_all}
-use Rattle.std.proofs.Math.Seq.{take-append-add}
-use Rattle.std.specs.List.{AllByRecursion}
-use Rattle.std.specs.Option.{option_and_then}
+use Rattle.ecma.specs.{◌≡◌, ℕ, zero, suc, ◌+◌, ◌-◌, ◌<◌, List, [], ◌∷◌, ◌++◌, length, take, drop, Some, None, inl, inr, refl, sym, ap, ◌∙◌, subst, arith}
+use Rattle.ecma.specs.{append_assoc, append-nil, take-append-drop, take-append-le, length-append, length-take-le, length-drop, take_all, take-append-add}
+use Rattle.ecma.specs.{AllByRecursion, option_and_then, Item, Printable, Control, Unfinished, IsItem, IsFinished, bytes_of, MayPrecede, EndsOrEscapes, Splits}
+use Rattle.ecma.specs.{Terminal, effect, effects, Leads, LeadsWithBreaks, EndsFinished, IsInProfile, Reaches, cases_lt}
 use Rattle.ecma.proofs.Each.{each-append}
-use Rattle.ecma.specs.Items.{Item, Printable, Control, Unfinished, IsItem, IsFinished, bytes_of, MayPrecede, EndsOrEscapes, Splits}
-use Rattle.ecma.specs.Terminals.{Terminal, effect, effects}
-use Rattle.ecma.specs.Streams.{Leads, LeadsWithBreaks, EndsFinished, IsInProfile, Reaches}
-use Rattle.std.proofs.lemmas.Bool.{cases_lt}
 
 -- ---- effects of items one after another
 

@@ -1,17 +1,10 @@
 -- How many bytes a token has.
-use Rattle.std.proofs.Common.{◌≡◌, ℕ, ◌+◌, ◌*◌, ◌/◌, ◌%◌, ◌<◌, ◌≤◌, true, List, [], ◌∷◌, ◌++◌, length, refl, ap, arith, length-append, ◌∙◌, sym}
-use Rattle.std.specs.Prelude.{decimal, ◌==◌, if◌then◌else◌, Option, Some, None}
-use Rattle.std.specs.Int.RustNames.{count_ones}
-use Rattle.std.proofs.lemmas.Bool.{agree_below_at, eqb-true}
-use Rattle.std.specs.List.{AllByRecursion}
-use Rattle.std.proofs.lemmas.List.Concat.{flat_map-append}
-use Rattle.std.proofs.lemmas.Fmt.{decimal_digit, decimal_step, length-decimal-le}
-use Rattle.cell.specs.Shown.{Rendition, IsColour, IsRendition, has_colour}
-use Rattle.cell.specs.declared.limits.TheConstants.{LARGEST_SCREEN, LAST_COLOUR}
+use Rattle.ecma.specs.{◌≡◌, ℕ, ◌+◌, ◌*◌, ◌/◌, ◌%◌, ◌<◌, ◌≤◌, true, List, [], ◌∷◌, ◌++◌, length, refl, ap, arith, length-append, ◌∙◌, sym, decimal, ◌==◌}
+use Rattle.ecma.specs.{if◌then◌else◌, Option, Some, None, count_ones, agree_below_at, eqb-true, AllByRecursion, flat_map-append, decimal_digit, decimal_step}
+use Rattle.ecma.specs.{length-decimal-le, Rendition, IsColour, IsRendition, has_colour, LARGEST_SCREEN, LAST_COLOUR, first_foreground, first_background}
+use Rattle.ecma.specs.{spelling, selection, codes_of, codes_of_attributes, code_of_colour, longest, IsToken}
 use Rattle.ecma.specs.declared.token.Token.{Token}
 use Rattle.ecma.specs.declared.token.Token.TheVariants.{Cup, Sgr}
-use Rattle.ecma.specs.Terminals.{first_foreground, first_background}
-use Rattle.ecma.specs.Spelling.{spelling, selection, codes_of, codes_of_attributes, code_of_colour, longest, IsToken}
 use Rattle.ecma.proofs.ParameterNumbers.{one_digit, few_attributes}
 
 pub length-cup : (line column : ℕ) → line < LARGEST_SCREEN → column < LARGEST_SCREEN → length (spelling (Cup line column)) ≤ 10

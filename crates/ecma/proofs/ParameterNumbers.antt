@@ -1,18 +1,9 @@
 -- Numbers in parameters, and the codes of a set of attributes.
-use Rattle.std.proofs.Common.{◌≡◌, ℕ, ◌+◌, ◌^◌, ◌<◌, ◌≤◌, Bool, true, List, [], ◌∷◌, ◌++◌, length, length-append, Option, Some, None, refl, arith, rules}
-use Rattle.std.specs.Prelude.{unwrap_or, is_none, ◌&&◌, ◌==◌, nat_lt, decimal}
-use Rattle.std.specs.List.{list_all, AllByRecursion}
-use Rattle.std.specs.Str.Parse.{digits_value}
-use Rattle.std.proofs.lemmas.Str.Parse.{IsNumeralModel, numerals_by_value}
-use Rattle.std.proofs.lemmas.Fmt.{decimal_nonempty, digits_decimal, digits_value-decimal}
-use Rattle.std.proofs.lemmas.Bool.{and_parts, ltb-true, eqb-true, agree_below_at}
-use Rattle.std.specs.Option.{option_and_then}
-use Rattle.std.proofs.lemmas.Bool.Decides.{nat_tests}
-use Rattle.cell.specs.Shown.{Rendition, IsRendition, no_rendition}
-use Rattle.cell.specs.declared.limits.TheConstants.{LAST_COLOUR}
-use Rattle.ecma.specs.Items.{IsDigit}
-use Rattle.ecma.specs.Terminals.{first_foreground, first_background, number_or, select, select_all}
-use Rattle.ecma.specs.Spelling.{codes_of_attributes, code_of_colour, codes_of}
+use Rattle.ecma.specs.{◌≡◌, ℕ, ◌+◌, ◌^◌, ◌<◌, ◌≤◌, Bool, true, List, [], ◌∷◌, ◌++◌, length, length-append, Option, Some, None, refl, arith, rules, unwrap_or}
+use Rattle.ecma.specs.{is_none, ◌&&◌, ◌==◌, nat_lt, decimal, list_all, AllByRecursion, digits_value, IsNumeralModel, numerals_by_value, decimal_nonempty}
+use Rattle.ecma.specs.{digits_decimal, digits_value-decimal, and_parts, ltb-true, eqb-true, agree_below_at, option_and_then, nat_tests, Rendition}
+use Rattle.ecma.specs.{IsRendition, no_rendition, LAST_COLOUR, IsDigit, first_foreground, first_background, number_or, select, select_all}
+use Rattle.ecma.specs.{codes_of_attributes, code_of_colour, codes_of}
 use Rattle.ecma.proofs.Each.{each-append, each-weaker}
 
 numerals : IsNumeralModel (AllByRecursion IsDigit) (digits_value 10)

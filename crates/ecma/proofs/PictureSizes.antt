@@ -1,15 +1,10 @@
 -- No effect changes the size of the picture.
-use Rattle.std.proofs.Common.{◌≡◌, ℕ, zero, suc, ◌+◌, ◌<◌, Bool, true, false, cond, List, [], ◌∷◌, length, set, take, drop, map, Option, Some, None, ◌∙◌, arith, length-append}
-use Rattle.std.proofs.Common.{length-take, length-drop}
-use Rattle.std.specs.Option.{option_map, option_and_then}
-use Rattle.std.specs.List.{AllByRecursion}
-use Rattle.std.proofs.lemmas.List.{length-set, length-map}
-use Rattle.cell.specs.Shown.{Shown, shown_blank, shown_with, is_empty}
-use Rattle.cell.specs.Pictures.{Picture, Place, line_of, HasSize}
+use Rattle.ecma.specs.{◌≡◌, ℕ, zero, suc, ◌+◌, ◌<◌, Bool, true, false, cond, List, [], ◌∷◌, length, set, take, drop, map, Option, Some, None, ◌∙◌, arith}
+use Rattle.ecma.specs.{length-append, length-take, length-drop, option_map, option_and_then, AllByRecursion, length-set, length-map, Shown, shown_blank}
+use Rattle.ecma.specs.{shown_with, is_empty, Picture, Place, line_of, HasSize, Item, Printable, Control, Unfinished, CUP, ED, EL, SGR, Terminal, blank_line}
+use Rattle.ecma.specs.{erased_line, erased_at, erased_page, erase_line, erase_page, print_at, effect, effects, erasure}
 use Rattle.ecma.specs.declared.token.Erase.{Erase}
 use Rattle.ecma.specs.declared.token.Erase.TheVariants.{ToEnd, FromStart, All}
-use Rattle.ecma.specs.Items.{Item, Printable, Control, Unfinished, CUP, ED, EL, SGR}
-use Rattle.ecma.specs.Terminals.{Terminal, blank_line, erased_line, erased_at, erased_page, erase_line, erase_page, print_at, effect, effects, erasure}
 use Rattle.ecma.proofs.Each.{each-append}
 use Rattle.ecma.proofs.Joining.{effects_first}
 

@@ -1,9 +1,5 @@
 -- A cell can hold what is from the space to the tilde.
-use Rattle.std.proofs.Common.{ℕ, ◌≤◌, refl}
-use Rattle.std.specs.Prelude.{IsTrue}
-use Rattle.std.proofs.lemmas.Bool.{and_parts, le-leb, leb-true}
-use Rattle.cell.specs.declared.limits.TheConstants.{FIRST_CHARACTER, LAST_CHARACTER}
-use Rattle.cell.specs.Glyphs.{is_printable}
+use Rattle.ecma.specs.{ℕ, ◌≤◌, refl, IsTrue, and_parts, le-leb, leb-true, FIRST_CHARACTER, LAST_CHARACTER, is_printable}
 
 pub from_space : (byte : ℕ) → IsTrue (is_printable byte) → FIRST_CHARACTER ≤ byte
 from_space byte h = leb-true FIRST_CHARACTER byte (and_parts _ _ h).0

@@ -1,22 +1,12 @@
 -- What a reader has after one more byte.
-use Rattle.std.proofs.Common.{rules}
-use Rattle.std.proofs.Common.{◌≡◌, ℕ, ◌+◌, ◌<◌, ◌≤◌, Bool, true, false, List, [], ◌∷◌, ◌++◌, length, map, Option, Some, None, inl, inr, refl, sym, ap, ◌∙◌, subst, arith, append_assoc, length-append}
-use Rattle.std.specs.Prelude.{◌⊎◌, if◌then◌else◌, IsTrue, codes}
-use Rattle.std.specs.List.{join_with_byte}
-use Rattle.std.specs.Option.{option_and_then}
-use Rattle.std.proofs.lemmas.Bool.{cases_eq, cases_lt, ne_eqb}
-use Rattle.std.proofs.lemmas.List.{append-nil, length-map, map_push}
-use Rattle.std.proofs.lemmas.Int.Digits.{digits_value_push}
-use Rattle.std.proofs.lemmas.Str.{digit_value_digit}
-use Rattle.cell.specs.Glyphs.{is_printable}
+use Rattle.ecma.specs.{rules, ◌≡◌, ℕ, ◌+◌, ◌<◌, ◌≤◌, Bool, true, false, List, [], ◌∷◌, ◌++◌, length, map, Option, Some, None, inl, inr, refl, sym, ap, ◌∙◌}
+use Rattle.ecma.specs.{subst, arith, append_assoc, length-append, ◌⊎◌, if◌then◌else◌, IsTrue, codes, join_with_byte, option_and_then, cases_eq, cases_lt}
+use Rattle.ecma.specs.{ne_eqb, append-nil, length-map, map_push, digits_value_push, digit_value_digit, is_printable, Function, SGR, Printable, Control}
+use Rattle.ecma.specs.{Unfinished, IsDigit, AreParameters, IsBeginning, EndsOrEscapes, final_byte, control_sequence, escape, introducer, separator, Terminal}
+use Rattle.ecma.specs.{print, effect, FailsAt, IsInProfile, Leads, Parameter, parameter_of, no_digits, longer, function_of, Reader, saturating_u64, InText}
+use Rattle.ecma.specs.{InItem, InParameters, HasFailed, HasReadIn, Follows}
 use Rattle.ecma.specs.declared.reader.State.{State}
 use Rattle.ecma.specs.declared.reader.State.TheVariants.{Text, Escape, Parameters, Failed}
-use Rattle.ecma.specs.Items.{Function, SGR, Printable, Control, Unfinished, IsDigit, AreParameters, IsBeginning, EndsOrEscapes, final_byte, control_sequence, escape, introducer, separator}
-use Rattle.ecma.specs.Terminals.{Terminal, print, effect}
-use Rattle.ecma.specs.Streams.{FailsAt, IsInProfile, Leads}
-use Rattle.ecma.specs.Parameters.{Parameter, parameter_of}
-use Rattle.ecma.specs.steps.Parameters.{no_digits, longer, function_of}
-use Rattle.ecma.specs.Readers.{Reader, saturating_u64, InText, InItem, InParameters, HasFailed, HasReadIn, Follows}
 use Rattle.ecma.proofs.Each.{each-append, each-back, each-prefix}
 use Rattle.ecma.proofs.Beginnings.{NoEffect-text, NoEffect-escape, NoEffect-parameters, join-more, no-more_digits, no-more_parameters, no-colon, final-no_digit, final-no_separator}
 use Rattle.ecma.proofs.Joining.{InProfile-append, LeadsWithBreaks-append, LeadsWithBreaks-in_profile, Leads-repairs, Reaches-in_profile}

@@ -1,15 +1,7 @@
 -- Renditions selected by the parameters of a control sequence.
-use Rattle.std.proofs.Common.{◌≡◌, ℕ, ◌+◌, ◌-◌, ◌<◌, List, [], ◌∷◌, ◌++◌, length, map, take, get_or, Option, Some, None, refl, ap, ◌∙◌, arith}
-use Rattle.std.specs.Int.RustNames.{bit_or}
-use Rattle.std.proofs.lemmas.Bool.{ne_eqb}
-use Rattle.std.proofs.lemmas.Nat.{and_mask, or_lt, and_le_l}
-use Rattle.std.proofs.lemmas.List.{append_assoc, map-append, map_push, take-append-drop, take_more}
-use Rattle.cell.specs.Attributes.{valid_attributes, without}
-use Rattle.cell.specs.Shown.{Rendition, rendition_with}
-use Rattle.cell.specs.declared.colour.ColourPair.{ColourPair}
-use Rattle.ecma.specs.Parameters.{Parameter, parameter_of}
-use Rattle.ecma.specs.steps.Parameters.{number_of}
-use Rattle.ecma.specs.Terminals.{number_or, select, select_all, with_on, with_off}
+use Rattle.ecma.specs.{◌≡◌, ℕ, ◌+◌, ◌-◌, ◌<◌, List, [], ◌∷◌, ◌++◌, length, map, take, get_or, Option, Some, None, refl, ap, ◌∙◌, arith, bit_or, ne_eqb}
+use Rattle.ecma.specs.{and_mask, or_lt, and_le_l, append_assoc, map-append, map_push, take-append-drop, take_more, valid_attributes, without, Rendition}
+use Rattle.ecma.specs.{rendition_with, ColourPair, Parameter, parameter_of, number_of, number_or, select, select_all, with_on, with_off}
 use Rattle.ecma.proofs.ParameterNumbers.{select_all-append}
 
 -- ---- attributes

@@ -1,17 +1,10 @@
 -- The spelling of a token is one item, with the token's effect.
-use Rattle.std.proofs.Common.{◌≡◌, ℕ, ◌+◌, ◌<◌, ◌≤◌, List, [], ◌∷◌, ◌++◌, length, map, Some, refl, sym, ap, arith}
-use Rattle.std.proofs.lemmas.List.{length-map, append-nil}
-use Rattle.std.specs.Prelude.{decimal}
-use Rattle.std.specs.List.{AllByRecursion, join_with_byte, flat_map}
-use Rattle.std.proofs.lemmas.Fmt.{length-decimal-le}
-use Rattle.std.proofs.lemmas.Bool.{lt-ltb}
-use Rattle.cell.specs.Shown.{Rendition, IsRendition, no_rendition}
+use Rattle.ecma.specs.{◌≡◌, ℕ, ◌+◌, ◌<◌, ◌≤◌, List, [], ◌∷◌, ◌++◌, length, map, Some, refl, sym, ap, arith, length-map, append-nil, decimal, AllByRecursion}
+use Rattle.ecma.specs.{join_with_byte, flat_map, length-decimal-le, lt-ltb, Rendition, IsRendition, no_rendition, Printable, Control, CUP, ED, EL, SGR}
+use Rattle.ecma.specs.{IsDigit, AreParameters, number_or, select, erasure_of, place_from_one, codes_of, spelling, erasure_spelling, IsToken, IsItemOf}
 use Rattle.ecma.specs.declared.token.Erase.{Erase}
 use Rattle.ecma.specs.declared.token.Token.{Token}
 use Rattle.ecma.specs.declared.token.Token.TheVariants.{Print, Cup, Sgr, El, Ed}
-use Rattle.ecma.specs.Items.{Printable, Control, CUP, ED, EL, SGR, IsDigit, AreParameters}
-use Rattle.ecma.specs.Terminals.{number_or, select, erasure_of, place_from_one}
-use Rattle.ecma.specs.Spelling.{codes_of, spelling, erasure_spelling, IsToken, IsItemOf}
 use Rattle.ecma.proofs.ParameterNumbers.{are_digits-decimal, number_or-decimal, select_all-codes_of, codes_small, codes_few}
 
 abbrev AreSmall : List ℕ → Type 0

@@ -1,12 +1,10 @@
 -- A stream is one sequence of items at most, and so is each prefix of it.
-use Rattle.std.proofs.Common.{◌≡◌, ℕ, ◌<◌, ◌≤◌, List, [], ◌∷◌, ◌++◌, length, refl, ap, arith, append_assoc, length-append, inl, inr}
-use Rattle.std.specs.Prelude.{◌⊎◌, ⊤}
+use Rattle.ecma.specs.{◌≡◌, ℕ, ◌<◌, ◌≤◌, List, [], ◌∷◌, ◌++◌, length, refl, ap, arith, append_assoc, length-append, inl, inr, ◌⊎◌, ⊤, append-nil}
+use Rattle.ecma.specs.{AllByRecursion, join_with_byte, Function, Item, Control, Unfinished, IsDigit, AreParameters, IsBeginning, IsItem, MayPrecede}
+use Rattle.ecma.specs.{EndsOrEscapes, Splits, final_byte, bytes_of}
 use Rattle.ecma.proofs.Each.{each-append, each-weaker}
 use Rattle.ecma.proofs.Joining.{bytes_of_some}
 use Rattle.ecma.proofs.Printing.{from_space}
-use Rattle.std.proofs.lemmas.List.{append-nil}
-use Rattle.std.specs.List.{AllByRecursion, join_with_byte}
-use Rattle.ecma.specs.Items.{Function, Item, Control, Unfinished, IsDigit, AreParameters, IsBeginning, IsItem, MayPrecede, EndsOrEscapes, Splits, final_byte, bytes_of}
 
 -- a digit or a semicolon
 abbrev pub IsInner : ℕ → Type 0

@@ -1,8 +1,5 @@
 -- In how many places two pictures of one size differ where the new one has a colour, a measure of our own.
-use Rattle.std.specs.Prelude.{ℕ, ◌+◌, if◌then◌else◌, [], ◌∷◌, List}
-use Rattle.cell.specs.Differences.{same_shown}
-use Rattle.cell.specs.Shown.{Shown, has_colour}
-use Rattle.cell.specs.Pictures.{Picture}
+use Rattle.ecma.specs.Names.{ℕ, ◌+◌, if◌then◌else◌, [], ◌∷◌, List, same_shown, Shown, has_colour, Picture}
 
 -- in how many columns two lines differ where the new one has a colour
 abbrev pub line_colour_difference : List Shown → List Shown → ℕ

@@ -1,6 +1,5 @@
 -- A parameter of a control sequence, as a reader keeps it.
-use Rattle.std.specs.Prelude.{ℕ, List, length}
-use Rattle.std.specs.Str.Parse.{digits_value}
+use Rattle.ecma.specs.Names.{ℕ, List, length, digits_value}
 
 -- the number that its digits write, 0 without any, and how many there are
 pub record Parameter : Type 0 where

@@ -1,2 +1,4 @@
 pub mod Parameters
 pub mod Numbers
+unfoldable pub use Parameters.*
+unfoldable pub use Numbers.*

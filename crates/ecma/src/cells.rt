@@ -1,9 +1,7 @@
 //! The cells of a page, and from which column on each line is known to be blank.
 
-ghost use Rattle.std.specs.Prelude.{◌≡◌, ◌≤◌, ◌<◌, ◌==◌, ◌&&◌, ℕ, nat_le, nat_lt, if◌then◌else◌, length, IfOk};
-ghost use Rattle.cell.specs.Pictures.{HasSize, blank_picture, line_of, shown_at, with_shown};
-ghost use Rattle.cell.specs.Shown.{shown_blank};
-ghost use Rattle.cell.specs.declared.limits.TheConstants.{LARGEST_SCREEN};
+ghost use Rattle.ecma.specs.{◌≡◌, ◌≤◌, ◌<◌, ◌==◌, ◌&&◌, ℕ, nat_le, nat_lt, if◌then◌else◌, length, IfOk, HasSize, blank_picture, line_of, shown_at};
+ghost use Rattle.ecma.specs.{with_shown, shown_blank, LARGEST_SCREEN};
 
 use cell::{Grid, LARGEST_SCREEN, Shown};
 use std::alloc::{AllocError, Global};

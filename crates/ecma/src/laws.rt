@@ -1,14 +1,8 @@
 //! What holds of streams and terminals by definition. Each function does nothing, and its contract is the law.
 
-ghost use Rattle.std.specs.Prelude.{◌≡◌, ◌↔◌, ℕ, ◌<◌, ◌≤◌, List, [], ◌++◌, length, take};
-ghost use Rattle.cell.specs.Pictures.{HasSize, Picture};
-ghost use Rattle.cell.specs.Differences.{difference};
-ghost use Rattle.ecma.specs.Items.{EndsOrEscapes, Item, Splits};
-ghost use Rattle.ecma.specs.Readers.{Reader, HasRead};
-ghost use Rattle.ecma.specs.Terminals.{Terminal};
-ghost use Rattle.ecma.specs.Spelling.{spelling, IsToken, IsItemOf};
+ghost use Rattle.ecma.specs.{◌≡◌, ◌↔◌, ℕ, ◌<◌, ◌≤◌, List, [], ◌++◌, length, take, HasSize, Picture, difference, EndsOrEscapes, Item, Splits, Reader, HasRead};
+ghost use Rattle.ecma.specs.{Terminal, spelling, IsToken, IsItemOf, FailsAt, Leads, LeadsWithBreaks, IsInProfile, Reaches};
 ghost use Rattle.ecma.specs.declared.token.Token.{Token};
-ghost use Rattle.ecma.specs.Streams.{FailsAt, Leads, LeadsWithBreaks, IsInProfile, Reaches};
 
 /// A stream is one sequence of items at most. Of two sequences of items at its start, the one that leaves no more bytes
 /// begins with the other, also where items were never finished.

@@ -1,16 +1,8 @@
 //! What a terminal shows, and what characters and control functions do to it.
 
-ghost use Rattle.std.specs.Prelude.{◌≡◌, ◌≤◌, ◌<◌, ℕ, All, false, if◌then◌else◌, IfOk, List, ◌∷◌, [], ◌++◌, ◌-◌, length, map, take, drop};
-ghost use Rattle.std.specs.Option.{option_and_then};
-ghost use Rattle.cell.specs.Glyphs.{is_printable};
-ghost use Rattle.cell.specs.Pictures.{HasSize, is_place, line_of, shown_at};
-ghost use Rattle.cell.specs.Shown.{is_empty};
-ghost use Rattle.cell.specs.declared.limits.TheConstants.{LARGEST_SCREEN};
-ghost use Rattle.ecma.specs.Items.{Control, SGR};
-ghost use Rattle.ecma.specs.Parameters.{parameter_of};
-ghost use Rattle.ecma.specs.steps.Parameters.{function_of};
-ghost use Rattle.ecma.specs.Readers.{blank_terminal};
-ghost use Rattle.ecma.specs.Terminals.{blank_line, effect, erase_line, erase_page, erased_at, move_to, print};
+ghost use Rattle.ecma.specs.{◌≡◌, ◌≤◌, ◌<◌, ℕ, All, false, if◌then◌else◌, IfOk, List, ◌∷◌, [], ◌++◌, ◌-◌, length, map, take, drop, option_and_then};
+ghost use Rattle.ecma.specs.{is_printable, HasSize, is_place, line_of, shown_at, is_empty, LARGEST_SCREEN, Control, SGR, parameter_of, function_of};
+ghost use Rattle.ecma.specs.{blank_terminal, blank_line, effect, erase_line, erase_page, erased_at, move_to, print};
 
 use crate::cells::Cells;
 use crate::parameter::{Parameter, erasure, position};

@@ -1,10 +1,7 @@
 //! The parameters of control sequences.
 
-ghost use Rattle.std.specs.Prelude.{◌≡◌, nat_lt, if◌then◌else◌, ℕ, List, ◌∷◌, [], ◌++◌, map};
-ghost use Rattle.ecma.specs.Items.{IsDigit, most_digits};
-ghost use Rattle.ecma.specs.Parameters.{parameter_of};
-ghost use Rattle.ecma.specs.steps.Parameters.{longer, number_of};
-ghost use Rattle.ecma.specs.Terminals.{erasure, position};
+ghost use Rattle.ecma.specs.{◌≡◌, nat_lt, if◌then◌else◌, ℕ, List, ◌∷◌, [], ◌++◌, map, IsDigit, most_digits, parameter_of, longer, number_of, erasure};
+ghost use Rattle.ecma.specs.{position};
 
 use crate::token::Erase;
 use std::marker::Model;

@@ -1,9 +1,6 @@
 //! Positions of a screen, whose numbers are spelled once.
 
-ghost use Rattle.std.specs.Prelude.{◌≡◌, ◌+◌, ◌<◌, ◌≤◌, ◌++◌, IfOk, decimal, length, take};
-ghost use Rattle.cell.specs.declared.limits.TheConstants.{LARGEST_SCREEN};
-ghost use Rattle.ecma.specs.Spelling.{spelling};
-ghost use Rattle.ecma.specs.steps.Numbers.{IsNumber};
+ghost use Rattle.ecma.specs.{◌≡◌, ◌+◌, ◌<◌, ◌≤◌, ◌++◌, IfOk, decimal, length, take, LARGEST_SCREEN, spelling, IsNumber};
 
 use crate::spelling::{INTRODUCER, LONGEST_SPELLING, append, digits};
 use crate::token::Token;

@@ -1,9 +1,6 @@
 //! Selecting graphic renditions.
 
-ghost use Rattle.std.specs.Prelude.{◌≡◌, ◌<◌, ℕ, List, ◌∷◌, [], ◌++◌, map};
-ghost use Rattle.cell.specs.Attributes.{bits_of};
-ghost use Rattle.ecma.specs.Parameters.{parameter_of};
-ghost use Rattle.ecma.specs.Terminals.{number_or, select, select_all, with_off, with_on};
+ghost use Rattle.ecma.specs.{◌≡◌, ◌<◌, ℕ, List, ◌∷◌, [], ◌++◌, map, bits_of, parameter_of, number_or, select, select_all, with_off, with_on};
 
 use crate::parameter::Parameter;
 use bitflags::Flags;

@@ -1,11 +1,7 @@
 //! The spelling of tokens.
 
-ghost use Rattle.std.specs.Prelude.{◌≡◌, ◌+◌, ◌*◌, ◌%◌, ◌<◌, ◌≤◌, [], ◌∷◌, ◌++◌, decimal, length, take};
-ghost use Rattle.cell.specs.Attributes.{bits_of};
-ghost use Rattle.cell.specs.Shown.{IsRendition};
-ghost use Rattle.cell.specs.declared.limits.TheConstants.{LARGEST_SCREEN};
-ghost use Rattle.ecma.specs.Items.{introducer};
-ghost use Rattle.ecma.specs.Spelling.{spelling, selection, codes_of_attributes, code_of_colour, erasure_spelling, longest, IsToken, IsItemOf};
+ghost use Rattle.ecma.specs.{◌≡◌, ◌+◌, ◌*◌, ◌%◌, ◌<◌, ◌≤◌, [], ◌∷◌, ◌++◌, decimal, length, take, bits_of, IsRendition, LARGEST_SCREEN, introducer, spelling};
+ghost use Rattle.ecma.specs.{selection, codes_of_attributes, code_of_colour, erasure_spelling, longest, IsToken, IsItemOf};
 
 use crate::token::{Erase, Token};
 use bitflags::Flags;

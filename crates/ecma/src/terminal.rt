@@ -1,10 +1,7 @@
 //! A terminal: it reads a stream of bytes in pieces, and shows what the stream says.
 
-ghost use Rattle.std.specs.Prelude.{◌≡◌, ◌↔◌, ◌⊎◌, ◌||◌, ◌<◌, ◌≤◌, ℕ, All, IfOk, IfErr, IfNone, IfSome, IsErrOf, IsTrue, List, [], length, Some, if◌then◌else◌};
-ghost use Rattle.cell.specs.Limits.{is_no_size};
-ghost use Rattle.cell.specs.Pictures.{is_place, line_of, shown_at};
-ghost use Rattle.ecma.specs.Readers.{HasRead, HasReadSome, Follows, HasFailed, blank_terminal};
-ghost use Rattle.ecma.specs.Streams.{IsInProfile};
+ghost use Rattle.ecma.specs.{◌≡◌, ◌↔◌, ◌⊎◌, ◌||◌, ◌<◌, ◌≤◌, ℕ, All, IfOk, IfErr, IfNone, IfSome, IsErrOf, IsTrue, List, [], length, Some, if◌then◌else◌};
+ghost use Rattle.ecma.specs.{is_no_size, is_place, line_of, shown_at, HasRead, HasReadSome, Follows, HasFailed, blank_terminal, IsInProfile};
 ghost use Rattle.ecma.specs.Terminals;
 
 use crate::reader::{NotInProfile, Reader};

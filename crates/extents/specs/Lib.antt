@@ -1,1 +1,4 @@
+pub mod Names
 pub mod Extents
+unfoldable pub use Names.*
+unfoldable pub use Extents.*

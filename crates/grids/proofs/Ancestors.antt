@@ -1,13 +1,9 @@
 -- From parent to parent: which windows are the ancestors of one, and where it begins in each.
-use Rattle.std.proofs.Common.{◌≡◌, ℕ, zero, suc, ◌+◌, ◌≤◌, false, ◌==◌, ◌||◌, Some, None, IsSome, IsSomeAnd, [], ◌∷◌, arith}
-use Rattle.std.specs.Option.{option_map}
-use Rattle.cell.specs.Glyphs.{Glyph}
-use Rattle.world.specs.Windows.{Backing, own_grid, part_of, GridPlace, HasPlace, Window, WindowMap, Windows, ancestors, ancestors_within, derives, own, own_within}
-use Rattle.world.specs.Sound.{AreSoundWindows, IsSoundWindow}
+use Rattle.grids.specs.{◌≡◌, ℕ, zero, suc, ◌+◌, ◌≤◌, false, ◌==◌, ◌||◌, Some, None, IsSome, IsSomeAnd, [], ◌∷◌, arith, option_map, Glyph, Backing, own_grid}
+use Rattle.grids.specs.{part_of, GridPlace, HasPlace, Window, WindowMap, Windows, ancestors, ancestors_within, derives, own, own_within, AreSoundWindows}
+use Rattle.grids.specs.{IsSoundWindow, in_parent, part_in_parent}
 use Rattle.grids.specs.declared.slot.Part.{Part}
 use Rattle.grids.specs.declared.place.Place.{Place}
-use Rattle.grids.specs.Slots.{in_parent}
-use Rattle.grids.specs.steps.Syncs.{part_in_parent}
 use Rattle.grids.proofs.Chain.{from_parent, no_parent, some_and, some_of}
 use Rattle.grids.proofs.LongerWalks.{own_of_part, own-parent}
 

@@ -1,24 +1,14 @@
 -- The chain of parents: it ends, and it is no longer than the number of windows.
-use Rattle.std.proofs.Common.{◌≡◌, ℕ, zero, suc, ◌+◌, ◌-◌, ◌<◌, ◌≤◌, Option, Some, None, IsSome, IsSomeAnd, List, length, ap, arith, refl, sym, ◌∙◌}
-use Rattle.std.proofs.Common.{inl, inr, ◌⊎◌, true, map, eqb}
-use Rattle.std.specs.List.{list_any, range_with_len}
-use Rattle.std.proofs.lemmas.Bool.{eq-eqb}
-use Rattle.std.proofs.lemmas.List.Folds.{list_any_at}
-use Rattle.std.proofs.lemmas.List.FromFn.{get_or-map-range_with_len, length-map-range_with_len}
-use Rattle.std.proofs.lemmas.Map.Steps.{le-length_from_below}
-use Rattle.std.specs.Option.{option_map}
-use Rattle.cell.specs.Glyphs.{Glyph}
-use Rattle.cell.specs.Pictures.{glyph_at}
-use Rattle.cell.specs.declared.limits.TheConstants.{MOST_WINDOWS}
-use Rattle.world.specs.Windows.{own_grid, own, own_within, window_limit}
+use Rattle.grids.specs.{◌≡◌, ℕ, zero, suc, ◌+◌, ◌-◌, ◌<◌, ◌≤◌, Option, Some, None, IsSome, IsSomeAnd, List, length, ap, arith, refl, sym, ◌∙◌, inl, inr, ◌⊎◌}
+use Rattle.grids.specs.{true, map, eqb, list_any, range_with_len, eq-eqb, list_any_at, get_or-map-range_with_len, length-map-range_with_len}
+use Rattle.grids.specs.{le-length_from_below, option_map, Glyph, glyph_at, MOST_WINDOWS, own_grid, own, own_within, window_limit, Kept, IsKept, backing_of}
+use Rattle.grids.specs.{window_of, slot_at, window_map, FitsIn, HasParentIn, IsChained, IsRoot, part_in, in_parent, depth_at, lines_at, columns_at}
 use Rattle.grids.specs.declared.place.Place.{Place}
 use Rattle.grids.specs.declared.slot.Part.{Part}
 use Rattle.grids.specs.declared.slot.Cells.{Cells}
 use Rattle.grids.specs.declared.slot.Cells.TheVariants.{Own, Shared}
-use Rattle.grids.specs.Kept.{Kept, IsKept, backing_of, window_of}
 use Rattle.grids.proofs.LongerWalks.{own_of_part}
 use Rattle.grids.proofs.OneSlot.{slot_below}
-use Rattle.grids.specs.Slots.{slot_at, window_map, FitsIn, HasParentIn, IsChained, IsRoot, part_in, in_parent, depth_at, lines_at, columns_at}
 
 pub some_of : {A : Type 0} (o : Option A) → IsSome o → (a : A) × (o ≡ Some a)
 some_of o h = grind arith

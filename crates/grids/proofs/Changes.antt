@@ -1,15 +1,8 @@
 -- What a change of one slot does to the table and to the windows.
-use Rattle.std.proofs.Common.{◌≡◌, ℕ, inl, inr, ◌<◌, ◌≢◌, Option, Some, None, IsSomeAnd, List, ap, arith, sym, ◌∙◌, subst, eq-eqb, ne_eqb}
-use Rattle.std.specs.Option.{option_map, option_map_or}
-use Rattle.std.proofs.lemmas.Bool.{cases_eq}
-use Rattle.world.specs.Windows.{HasPlace, Window, WindowMap, with_change, with_window}
-use Rattle.world.specs.Sound.{IsOnScreen, IsStandardScreen}
-use Rattle.world.specs.Effects.{under_number}
-use Rattle.grids.specs.Kept.{Kept, IsKept, window_of}
-use Rattle.grids.specs.Tables.{WindowTable, IsWindowTable, windows}
-use Rattle.grids.specs.Slots.{slot_at, window_map, depth_at, grid_place, AreOrigins, HasParentIn, IsChained}
-use Rattle.grids.specs.steps.Lines.{HasLine}
-use Rattle.grids.specs.Changes.{Changed, ChangedBy, SetAt, StaysInPlace}
+use Rattle.grids.specs.{◌≡◌, ℕ, inl, inr, ◌<◌, ◌≢◌, Option, Some, None, IsSomeAnd, List, ap, arith, sym, ◌∙◌, subst, eq-eqb, ne_eqb, option_map}
+use Rattle.grids.specs.{option_map_or, cases_eq, HasPlace, Window, WindowMap, with_change, with_window, IsOnScreen, IsStandardScreen, under_number, Kept}
+use Rattle.grids.specs.{IsKept, window_of, WindowTable, IsWindowTable, windows, slot_at, window_map, depth_at, grid_place, AreOrigins, HasParentIn, IsChained}
+use Rattle.grids.specs.{HasLine, SlotChanged, ChangedBy, SetAt, StaysInPlace}
 use Rattle.grids.proofs.Chain.{each_at, some_and, own_source, own_alone}
 use Rattle.grids.proofs.OneSlot.{SetAt-set, slot_below, each_set, KeepsShape, chained_set, parent_too}
 use Rattle.grids.proofs.Origins.{HasOrigin, origin-is, origins-changed, origins-filled}
@@ -43,10 +36,10 @@ IsWindowTable-filled t new at k s set free kept chained placed from_one origin =
 
 -- by what is done with it where it is
 abbrev pub changed_by : {R : Type 0} {relation : Kept → R → Kept → Type 0} {old new : List (Option Kept)} {at : ℕ} {answer : R} {change : Window → Window} → (h : ChangedBy relation old new at answer)
-    → window_of h.after ≡ change (window_of h.before) → StaysInPlace h.before h.after → Changed old new at change
+    → window_of h.after ≡ change (window_of h.before) → StaysInPlace h.before h.after → SlotChanged old new at change
 changed_by h window stays = record { before = h.before; after = h.after; was = h.was; set = h.set; window = window; stays = stays }
 
-module _ {t : WindowTable} {new : List (Option Kept)} {at : ℕ} {change : Window → Window} (s : IsWindowTable t) (h : Changed t.slots new at change) where
+module _ {t : WindowTable} {new : List (Option Kept)} {at : ℕ} {change : Window → Window} (s : IsWindowTable t) (h : SlotChanged t.slots new at change) where
   set_at : SetAt t.slots new at (Some h.after)
   set_at = rw h.set (SetAt-set t.slots at (Some h.after) s.few_slots (slot_below t.slots at h.before h.was))
 
@@ -102,7 +95,7 @@ pub replaced-changed : (window : WindowMap) (w : ℕ) (change : Window → Windo
 replaced-changed window w change a e = grind (arith, cases_eq, eq-eqb, ne_eqb)
 
 -- the windows after it, as the definitions say it
-pub windows-changed : {t : WindowTable} {new : List (Option Kept)} {at : ℕ} {change : Window → Window} → IsWindowTable t → Changed t.slots new at change
+pub windows-changed : {t : WindowTable} {new : List (Option Kept)} {at : ℕ} {change : Window → Window} → IsWindowTable t → SlotChanged t.slots new at change
     → windows (record t { slots = new }) ≡ record (windows t) { window = with_change (window_map t.slots) at change }
 windows-changed {t = t} {new = new} {at = at} {change = change} s h =
     windows-set t new at (Some h.after) (set_at s h)

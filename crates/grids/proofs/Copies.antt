@@ -1,11 +1,6 @@
 -- The drawings of copies: where they have nothing, and one cell or one line more.
-use Rattle.std.proofs.Common.{◌≡◌, ℕ, ◌+◌, ◌-◌, ◌<◌, ◌≤◌, Bool, true, false, if◌then◌else◌, ◌||◌, Option, ◌⊎◌, None, is_some, arith}
-use Rattle.std.proofs.lemmas.Bool.Decides.{nat_tests}
-use Rattle.cell.specs.Glyphs.{Glyph}
-use Rattle.world.specs.Windows.{WindowMap, over, cell_at}
-use Rattle.world.specs.Rows.{filled_cells, overlaid_cell, copied_cells}
-use Rattle.world.specs.calls.Copying.{rectangle_copied}
-use Rattle.grids.specs.Copies.{piece_of}
+use Rattle.grids.specs.{◌≡◌, ℕ, ◌+◌, ◌-◌, ◌<◌, ◌≤◌, Bool, true, false, if◌then◌else◌, ◌||◌, Option, ◌⊎◌, None, is_some, arith, nat_tests, Glyph, WindowMap}
+use Rattle.grids.specs.{over, cell_at, filled_cells, overlaid_cell, copied_cells, rectangle_copied, piece_of}
 
 -- ---- where nothing is copied
 

@@ -1,17 +1,11 @@
 -- Copies step by step: each writes a piece that was not written before it is read.
-use Rattle.std.proofs.Common.{◌≡◌, ℕ, ◌+◌, ◌-◌, ◌<◌, ◌≤◌, Bool, Option, Some, None, IsSome, ap, arith, sym, ◌∙◌}
-use Rattle.std.specs.Option.{option_map}
-use Rattle.std.proofs.lemmas.Bool.Decides.{nat_tests}
-use Rattle.cell.specs.declared.window.Rect.{Rect}
-use Rattle.world.specs.Windows.{Window, WindowMap, Windows, GridPlace, Drawing, grid_drawing, onward, over, own, put, put_windows, within}
-use Rattle.world.specs.Frames.{frame_of_two}
-use Rattle.world.specs.Rows.{copied_cells}
-use Rattle.world.specs.Effects.{drawing_frame}
+use Rattle.grids.specs.{◌≡◌, ℕ, ◌+◌, ◌-◌, ◌<◌, ◌≤◌, Bool, Option, Some, None, IsSome, ap, arith, sym, ◌∙◌, option_map, nat_tests, Rect, Window, WindowMap}
+use Rattle.grids.specs.{Windows, GridPlace, Drawing, grid_drawing, onward, over, own, put, put_windows, within, frame_of_two, copied_cells, drawing_frame}
+use Rattle.grids.specs.{AreRectanglesThere, AreRowsThere, AreThere, Drawn, RowCopied}
 use Rattle.world.proofs.FrameLaws.{drawing_frame-over, drawing_frame-put}
 use Rattle.world.proofs.WindowLaws.{own-onward, put-put, cell_at-kept, put-nothing}
 use Rattle.grids.specs.declared.place.Place.{Place}
 use Rattle.grids.proofs.Chain.{some_of}
-use Rattle.grids.specs.Copies.{AreRectanglesThere, AreRowsThere, AreThere, Drawn, RowCopied}
 use Rattle.grids.proofs.Copies.{copied-same}
 use Rattle.grids.proofs.CopyFrames.{nothing-frame}
 

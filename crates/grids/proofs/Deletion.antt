@@ -1,15 +1,9 @@
 -- A window from which none derives is deleted.
-use Rattle.std.proofs.Common.{◌≡◌, ℕ, ◌+◌, ◌≤◌, ◌≢◌, false, Option, Some, None, List, length, arith, eq-eqb}
-use Rattle.cell.specs.declared.limits.TheConstants.{MOST_WINDOWS}
-use Rattle.world.specs.Windows.{window_limit}
-use Rattle.world.specs.calls.Making.{has_derived}
+use Rattle.grids.specs.{◌≡◌, ℕ, ◌+◌, ◌≤◌, ◌≢◌, false, Option, Some, None, List, length, arith, eq-eqb, MOST_WINDOWS, window_limit, has_derived, Kept, IsKept}
+use Rattle.grids.specs.{WindowTable, IsWindowTable, slot_at, window_map, HasParentIn, names_parent, SetAt}
 use Rattle.world.proofs.Below.{any_below-some}
 use Rattle.grids.specs.declared.slot.Part.{Part}
 use Rattle.grids.specs.declared.slot.Cells.TheVariants.{Shared}
-use Rattle.grids.specs.Kept.{Kept, IsKept}
-use Rattle.grids.specs.Tables.{WindowTable, IsWindowTable}
-use Rattle.grids.specs.Slots.{slot_at, window_map, HasParentIn, names_parent}
-use Rattle.grids.specs.Changes.{SetAt}
 use Rattle.grids.proofs.Chain.{limit-is}
 use Rattle.grids.proofs.OneSlot.{each_set, slot_below}
 use Rattle.grids.proofs.Changes.{standard-still}

@@ -1,12 +1,6 @@
 -- A test of each slot over the list is the one over the numbers.
-use Rattle.std.specs.Prelude.{slice_index_or}
-use Rattle.std.proofs.Common.{◌≡◌, ℕ, zero, suc, ◌+◌, ◌≤◌, Bool, true, false, ◌||◌, Option, None, List, [], ◌∷◌, length, ap, arith, refl, sym, ◌∙◌}
-use Rattle.std.specs.List.{list_any}
-use Rattle.cell.specs.declared.limits.TheConstants.{MOST_WINDOWS}
-use Rattle.world.specs.Windows.{any_below, window_limit}
-use Rattle.world.specs.calls.Making.{has_derived}
-use Rattle.grids.specs.Kept.{Kept}
-use Rattle.grids.specs.Slots.{window_map, names_parent}
+use Rattle.grids.specs.{slice_index_or, ◌≡◌, ℕ, zero, suc, ◌+◌, ◌≤◌, Bool, true, false, ◌||◌, Option, None, List, [], ◌∷◌, length, ap, arith, refl, sym, ◌∙◌}
+use Rattle.grids.specs.{list_any, MOST_WINDOWS, any_below, window_limit, has_derived, Kept, window_map, names_parent}
 use Rattle.grids.proofs.Chain.{limit-is}
 
 or_swap : (a b c : Bool) → (a || (b || c)) ≡ (b || (a || c))

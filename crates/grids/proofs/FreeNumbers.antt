@@ -1,12 +1,6 @@
 -- The search for the number of the next window, step by step.
-use Rattle.std.proofs.Common.{◌≡◌, ℕ, suc, ◌+◌, ◌-◌, ◌<◌, ◌≤◌, true, false, if◌then◌else◌, Option, Some, None, is_none, List, length, ap, arith, refl, ◌∙◌}
-use Rattle.std.specs.Option.{option_map}
-use Rattle.std.proofs.lemmas.List.{get_or_past}
-use Rattle.cell.specs.declared.limits.TheConstants.{MOST_WINDOWS}
-use Rattle.world.specs.Windows.{Window, WindowMap, window_limit}
-use Rattle.world.specs.calls.Making.{free_among}
-use Rattle.grids.specs.Kept.{Kept, window_of}
-use Rattle.grids.specs.Slots.{slot_at, window_map}
+use Rattle.grids.specs.{◌≡◌, ℕ, suc, ◌+◌, ◌-◌, ◌<◌, ◌≤◌, true, false, if◌then◌else◌, Option, Some, None, is_none, List, length, ap, arith, refl, ◌∙◌}
+use Rattle.grids.specs.{option_map, get_or_past, MOST_WINDOWS, Window, WindowMap, window_limit, free_among, Kept, window_of, slot_at, window_map}
 use Rattle.grids.proofs.Chain.{limit-is}
 
 taken-step : (n k : ℕ) (window : WindowMap) (a : Option Window) → is_none a ≡ false → (if is_none a then Some k else free_among n (k + 1) window) ≡ free_among n (k + 1) window

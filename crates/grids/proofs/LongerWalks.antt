@@ -1,6 +1,5 @@
 -- A place of a derived window leads where its place of the parent leads: a longer walk comes to the same place.
-use Rattle.std.proofs.Common.{◌≡◌, ℕ, zero, suc, ◌+◌, ◌≤◌, Some, IsSome, arith, refl, sym, ◌∙◌}
-use Rattle.world.specs.Windows.{part_of, GridPlace, Window, WindowMap, own, own_within}
+use Rattle.grids.specs.{◌≡◌, ℕ, zero, suc, ◌+◌, ◌≤◌, Some, IsSome, arith, refl, sym, ◌∙◌, part_of, GridPlace, Window, WindowMap, own, own_within}
 use Rattle.world.proofs.WindowLaws.{own-onward}
 use Rattle.grids.specs.declared.slot.Part.{Part}
 

@@ -1,23 +1,14 @@
 -- The cells of a slot, and the lines of a grid.
-use Rattle.std.proofs.Common.{◌≡◌, ℕ, ◌+◌, ◌<◌, ◌≤◌, [], length, take, drop, replicate, get_or, map, Option, None, arith, zero-add, lit≤, lit<}
-use Rattle.std.proofs.lemmas.Bool.{cases_lt}
-use Rattle.std.specs.List.{AllByRecursion, range_with_len}
-use Rattle.std.proofs.lemmas.List.Elements.{All-from_recursion, recursion_from_All, All-get_or, All-take, All-drop}
-use Rattle.std.proofs.lemmas.List.{ext_get_or, get_or-take, get_or-drop, get_or-replicate, get_or_past, length-replicate, length-take-le, length-drop}
-use Rattle.std.proofs.lemmas.List.FromFn.{length-map-range_with_len, get_or-map-range_with_len}
+use Rattle.grids.specs.{◌≡◌, ℕ, ◌+◌, ◌<◌, ◌≤◌, [], length, take, drop, replicate, get_or, map, Option, None, arith, zero-add, lit≤, lit<, cases_lt}
+use Rattle.grids.specs.{AllByRecursion, range_with_len, All-from_recursion, recursion_from_All, All-get_or, All-take, All-drop, ext_get_or, get_or-take}
+use Rattle.grids.specs.{get_or-drop, get_or-replicate, get_or_past, length-replicate, length-take-le, length-drop, length-map-range_with_len}
+use Rattle.grids.specs.{get_or-map-range_with_len, blank, IsCell, Sheet, Place, AreCells, HasSize, line_of, glyph_at, blank_sheet, LARGEST_PAD, own_grid}
+use Rattle.grids.specs.{first_settings, blank_grid, new_window, Kept, IsKept, IsGridOf, window_of, StaysInPlace, Columns}
 use mathlib.Core.Path.{fun_ext}
-use Rattle.cell.specs.Glyphs.{blank, IsCell}
-use Rattle.cell.specs.Pictures.{Sheet, Place, AreCells, HasSize, line_of, glyph_at, blank_sheet}
-use Rattle.cell.specs.declared.limits.TheConstants.{LARGEST_PAD}
-use Rattle.world.specs.Windows.{own_grid}
-use Rattle.world.specs.World.{first_settings, blank_grid, new_window}
 use Rattle.cell.proofs.PictureLemmas.{IsCell-blank, HasSize-all_of, EachCell-all_of}
 use Rattle.grids.specs.declared.slot.Cells.{Cells}
 use Rattle.grids.specs.declared.slot.Cells.TheVariants.{Own}
 use Rattle.grids.specs.declared.slot.Origin.{Origin}
-use Rattle.grids.specs.Kept.{Kept, IsKept, IsGridOf, window_of}
-use Rattle.grids.specs.Changes.{StaysInPlace}
-use Rattle.world.specs.declared.settings.Columns.{Columns}
 
 -- a piece of a line
 pub piece-of_line : (sheet : Sheet) (line left len : ℕ) → left + len ≤ length (line_of sheet line)

@@ -1,17 +1,9 @@
 -- What is known of a new window: its size, and where it is.
-use Rattle.std.proofs.Common.{◌≡◌, ℕ, ◌+◌, ◌≤◌, Option, Some, None, List, arith}
-use Rattle.std.specs.Option.{option_map}
-use Rattle.world.specs.Windows.{Backing, part_of, Window, WindowMap}
-use Rattle.world.specs.Sound.{IsOnScreen}
-use Rattle.world.specs.calls.Making.{extent, derived_window, place_from}
-use Rattle.world.specs.Effects.{under_number}
-use Rattle.world.specs.World.{new_window}
+use Rattle.grids.specs.{◌≡◌, ℕ, ◌+◌, ◌≤◌, Option, Some, None, List, arith, option_map, Backing, part_of, Window, WindowMap, IsOnScreen, extent}
+use Rattle.grids.specs.{derived_window, place_from, under_number, new_window, Kept, IsKept, window_of, WindowTable, IsWindowTable, windows, slot_at}
+use Rattle.grids.specs.{IsChained, HasParentIn, part_in, SetAt, IsFree}
 use Rattle.grids.specs.declared.slot.Part.{Part}
 use Rattle.grids.specs.declared.slot.Cells.{Cells}
-use Rattle.grids.specs.Kept.{Kept, IsKept, window_of}
-use Rattle.grids.specs.Tables.{WindowTable, IsWindowTable, windows}
-use Rattle.grids.specs.Slots.{slot_at, IsChained, HasParentIn, part_in}
-use Rattle.grids.specs.Changes.{SetAt, IsFree}
 use Rattle.grids.proofs.Chain.{shared_of}
 use Rattle.grids.proofs.Changes.{windows-set, IsWindowTable-filled}
 use Rattle.grids.proofs.Origins.{HasOrigin}

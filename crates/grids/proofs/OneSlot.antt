@@ -1,13 +1,7 @@
 -- One slot has another window, or none: which slots are chained then.
-use Rattle.std.proofs.Common.{◌≡◌, ℕ, ◌+◌, ◌<◌, ◌≤◌, Option, Some, None, MatchOption, List, length, slice_set, arith, get_or-set_other, get_or-set_same}
-use Rattle.std.specs.Prelude.{⊤}
-use Rattle.std.proofs.lemmas.Bool.{cases_eq, cases_lt}
-use Rattle.std.proofs.lemmas.List.{get_or_past, length-set}
-use Rattle.cell.specs.declared.limits.TheConstants.{MOST_WINDOWS}
+use Rattle.grids.specs.{◌≡◌, ℕ, ◌+◌, ◌<◌, ◌≤◌, Option, Some, None, MatchOption, List, length, slice_set, arith, get_or-set_other, get_or-set_same, ⊤}
+use Rattle.grids.specs.{cases_eq, cases_lt, get_or_past, length-set, MOST_WINDOWS, Kept, IsKept, slot_at, part_in, HasParentIn, IsChained, SameShape, SetAt}
 use Rattle.grids.specs.declared.slot.Cells.{Cells}
-use Rattle.grids.specs.Kept.{Kept, IsKept}
-use Rattle.grids.specs.Slots.{slot_at, part_in, HasParentIn, IsChained}
-use Rattle.grids.specs.Changes.{SameShape, SetAt}
 
 pub SetAt-set : (slots : List (Option Kept)) (at : ℕ) (o : Option Kept) → length slots ≤ MOST_WINDOWS + 1 → at < length slots → SetAt slots (slice_set slots at o) at o
 SetAt-set slots at o few below = grind (arith, get_or-set_same, get_or-set_other, length-set)

@@ -1,16 +1,10 @@
 -- Where the first place of each window leads: what the walk from parent to parent finds, and which changes keep it.
-use Rattle.std.proofs.Common.{◌≡◌, ◌≢◌, ℕ, zero, suc, ◌+◌, ◌≤◌, Option, Some, None, IsSome, MatchOption, List, [], ◌∷◌, length, ap, arith, refl}
-use Rattle.std.specs.Prelude.{⊤}
-use Rattle.std.specs.Option.{option_map}
-use Rattle.std.proofs.lemmas.Bool.{cases_eq}
-use Rattle.cell.specs.declared.limits.TheConstants.{MOST_WINDOWS}
-use Rattle.world.specs.Windows.{GridPlace, own, own_within, window_limit}
+use Rattle.grids.specs.{◌≡◌, ◌≢◌, ℕ, zero, suc, ◌+◌, ◌≤◌, Option, Some, None, IsSome, MatchOption, List, [], ◌∷◌, length, ap, arith, refl, ⊤, option_map}
+use Rattle.grids.specs.{cases_eq, MOST_WINDOWS, GridPlace, own, own_within, window_limit, Kept, backing_of, window_of, AreOrigins, IsChained, IsRoot}
+use Rattle.grids.specs.{grid_place, slot_at, window_map, part_in, SamePart, SetAt}
 use Rattle.world.proofs.WindowLaws.{own-onward, own-own_grid}
 use Rattle.grids.specs.declared.slot.Cells.TheVariants.{Shared}
 use Rattle.grids.specs.declared.slot.Part.{Part}
-use Rattle.grids.specs.Kept.{Kept, backing_of, window_of}
-use Rattle.grids.specs.Slots.{AreOrigins, IsChained, IsRoot, grid_place, slot_at, window_map, part_in}
-use Rattle.grids.specs.Changes.{SamePart, SetAt}
 use Rattle.grids.proofs.Chain.{chain_ends, own_source, parent_at, shared_of, some-root}
 use Rattle.grids.proofs.LongerWalks.{own-parent}
 

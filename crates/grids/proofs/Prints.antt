@@ -1,11 +1,6 @@
 -- Characters that are printed after others in a line.
-use Rattle.std.proofs.Common.{List, ◌≡◌, ℕ, ◌+◌, ◌-◌, ◌<◌, ◌≤◌, ◌==◌, ◌&&◌, nat_le, nat_lt, if◌then◌else◌, length, map, take, drop, arith, length-take, length-drop}
-use Rattle.std.specs.Prelude.{slice_index_or}
-use Rattle.std.proofs.lemmas.Bool.Decides.{nat_tests}
-use Rattle.std.proofs.lemmas.List.{get_or-drop, get_or-map, get_or-take, length-map}
-use Rattle.cell.specs.Glyphs.{Glyph, blank}
-use Rattle.cell.specs.Pictures.{cell_or}
-use Rattle.grids.specs.Inks.{printed_cell}
+use Rattle.grids.specs.{List, ◌≡◌, ℕ, ◌+◌, ◌-◌, ◌<◌, ◌≤◌, ◌==◌, ◌&&◌, nat_le, nat_lt, if◌then◌else◌, length, map, take, drop, arith, length-take, length-drop}
+use Rattle.grids.specs.{slice_index_or, nat_tests, get_or-drop, get_or-map, get_or-take, length-map, Glyph, blank, cell_or, printed_cell}
 
 -- columns of a line that were filled, and those that were filled after them, some of them again
 pub filled-on : {A : Type 0} (none : A) (old mid new : List (List A)) (y start from to end : ℕ) (f g : ℕ → A) → start ≤ from → from ≤ to → to ≤ end

@@ -1,13 +1,6 @@
 -- The rectangle of a window in which it shows a part of another.
-use Rattle.std.proofs.Common.{◌≡◌, ℕ, ◌+◌, ◌-◌, ◌<◌, ◌≤◌, ◌&&◌, nat_le, Option, Some, None, IsSomeAnd, arith, refl, sym, subst}
-use Rattle.std.proofs.lemmas.Bool.Decides.{nat_tests}
-use Rattle.cell.specs.declared.window.Rect.{Rect}
-use Rattle.world.specs.Frames.{AreRectangle}
-use Rattle.world.specs.Sharing.{SharesPart}
-use Rattle.world.specs.Sound.{AreColumnsWithin}
-use Rattle.world.specs.Windows.{GridPlace, Window, WindowMap, own}
-use Rattle.world.specs.declared.settings.Columns.{Columns}
-use Rattle.world.specs.calls.Refresh.{among}
+use Rattle.grids.specs.{◌≡◌, ℕ, ◌+◌, ◌-◌, ◌<◌, ◌≤◌, ◌&&◌, nat_le, Option, Some, None, IsSomeAnd, arith, refl, sym, subst, nat_tests, Rect, AreRectangle}
+use Rattle.grids.specs.{SharesPart, AreColumnsWithin, GridPlace, Window, WindowMap, own, Columns, among}
 use Rattle.grids.proofs.Shared.{shared-in, from-shared}
 
 -- ---- lines, or columns, from a first to a last one, as they are counted from another place on

@@ -1,16 +1,8 @@
 -- The origins of the slots, set one by one.
-use Rattle.std.proofs.Common.{◌≡◌, ℕ, ◌+◌, ◌<◌, ◌≤◌, false, is_some, Option, Some, None, MatchOption, List, length, arith, refl, sym, ◌∙◌, subst}
-use Rattle.std.specs.Prelude.{⊤}
+use Rattle.grids.specs.{◌≡◌, ℕ, ◌+◌, ◌<◌, ◌≤◌, false, is_some, Option, Some, None, MatchOption, List, length, arith, refl, sym, ◌∙◌, subst, ⊤, cases_eq}
+use Rattle.grids.specs.{length-set, MOST_WINDOWS, own, Kept, IsChained, grid_place, slot_at, window_map, Led, SameShape, SetAt}
 use mathlib.Core.Path.{fun_ext}
-use Rattle.std.proofs.lemmas.Bool.{cases_eq}
-use Rattle.std.proofs.lemmas.List.{length-set}
-use Rattle.cell.specs.declared.limits.TheConstants.{MOST_WINDOWS}
-use Rattle.world.specs.Windows.{own}
 use Rattle.grids.specs.declared.slot.Origin.{Origin}
-use Rattle.grids.specs.Kept.{Kept}
-use Rattle.grids.specs.Slots.{IsChained, grid_place, slot_at, window_map}
-use Rattle.grids.specs.steps.Origins.{Led}
-use Rattle.grids.specs.Changes.{SameShape, SetAt}
 use Rattle.grids.proofs.Chain.{each_at}
 use Rattle.grids.proofs.OneSlot.{SetAt-set, chained_set, slot_below, parent_too}
 use Rattle.grids.proofs.Origins.{HasOrigin}

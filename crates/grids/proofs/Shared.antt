@@ -1,8 +1,5 @@
 -- Which places of a window show cells of a rectangle of another, in lines and columns of a grid.
-use Rattle.std.proofs.Common.{◌≡◌, ℕ, ◌+◌, ◌-◌, ◌≤◌, true, Some, arith, sym, ◌∙◌}
-use Rattle.cell.specs.declared.window.Rect.{Rect}
-use Rattle.world.specs.Windows.{GridPlace, WindowMap, onward, own}
-use Rattle.world.specs.Sharing.{is_same_place, shows_part_of}
+use Rattle.grids.specs.{◌≡◌, ℕ, ◌+◌, ◌-◌, ◌≤◌, true, Some, arith, sym, ◌∙◌, Rect, GridPlace, WindowMap, onward, own, is_same_place, shows_part_of}
 use Rattle.world.proofs.Below.{any_in-some, any_in-true}
 use Rattle.world.proofs.SharingLaws.{same-true, true-same}
 use Rattle.world.proofs.WindowLaws.{own-onward}

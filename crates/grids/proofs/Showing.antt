@@ -1,16 +1,9 @@
 -- The cells that a window shows, read from the grid that it leads to.
-use Rattle.std.proofs.Common.{◌≡◌, ℕ, ◌+◌, ◌<◌, Option, Some, IsSome, IsSomeAnd, List, length, map, get_or, refl, zero-add, arith}
-use Rattle.std.specs.Option.{option_map}
-use Rattle.std.specs.List.{range_with_len}
-use Rattle.std.proofs.lemmas.List.FromFn.{length-map-range_with_len, get_or-map-range_with_len}
-use Rattle.cell.specs.Glyphs.{Glyph, blank}
-use Rattle.world.specs.Windows.{GridPlace, Window, WindowMap, HasPlace, own, cell_of, cell_at}
-use Rattle.world.specs.Rows.{line_shown}
+use Rattle.grids.specs.{◌≡◌, ℕ, ◌+◌, ◌<◌, Option, Some, IsSome, IsSomeAnd, List, length, map, get_or, refl, zero-add, arith, option_map, range_with_len}
+use Rattle.grids.specs.{length-map-range_with_len, get_or-map-range_with_len, Glyph, blank, GridPlace, Window, WindowMap, HasPlace, own, cell_of, cell_at}
+use Rattle.grids.specs.{line_shown, Kept, window_of, slot_at, window_map, columns_at, WindowTable}
 use Rattle.world.proofs.WindowLaws.{own-onward}
-use Rattle.grids.specs.Kept.{Kept, window_of}
-use Rattle.grids.specs.Slots.{slot_at, window_map, columns_at}
 use Rattle.grids.proofs.Chain.{some_and}
-use Rattle.grids.specs.Tables.{WindowTable}
 
 is_taken : (o : Option Kept) (y : ℕ) → IsSomeAnd (option_map window_of o) (λ a. (y < a.lines) × (0 < a.columns)) → IsSome o
 is_taken o y h = grind arith

@@ -1,21 +1,11 @@
 -- The windows of a table are sound.
-use Rattle.std.proofs.Common.{ℕ, ◌<◌, Option, IsSomeAnd, MatchOption, List, arith}
-use Rattle.std.specs.Prelude.{⊤}
-use Rattle.std.specs.Option.{option_map}
-use Rattle.std.specs.List.{AllByRecursion}
-use Rattle.std.proofs.lemmas.List.Elements.{All-from_recursion, All-get_or}
-use Rattle.cell.specs.Glyphs.{IsCell, blank}
-use Rattle.cell.specs.Pictures.{Sheet, line_of, glyph_at, AreCells, HasSize}
-use Rattle.cell.specs.declared.limits.TheConstants.{LARGEST_PAD}
-use Rattle.world.specs.Windows.{HasPlace, Windows}
-use Rattle.world.specs.Sound.{HasCells, IsPartOf, IsSoundWindow, AreSoundWindows}
+use Rattle.grids.specs.{ℕ, ◌<◌, Option, IsSomeAnd, MatchOption, List, arith, ⊤, option_map, AllByRecursion, All-from_recursion, All-get_or, IsCell, blank}
+use Rattle.grids.specs.{Sheet, line_of, glyph_at, AreCells, HasSize, LARGEST_PAD, HasPlace, Windows, HasCells, IsPartOf, IsSoundWindow, AreSoundWindows, Kept}
+use Rattle.grids.specs.{IsGridOf, window_of, backing_of, WindowTable, IsWindowTable, windows, slot_at, window_map, FitsIn, HasParentIn}
 use Rattle.cell.proofs.PictureLemmas.{length-line}
 use Rattle.grids.specs.declared.slot.Part.{Part}
 use Rattle.grids.specs.declared.slot.Cells.{Cells}
 use Rattle.grids.specs.declared.slot.Cells.TheVariants.{Own, Shared}
-use Rattle.grids.specs.Kept.{Kept, IsGridOf, window_of, backing_of}
-use Rattle.grids.specs.Tables.{WindowTable, IsWindowTable, windows}
-use Rattle.grids.specs.Slots.{slot_at, window_map, FitsIn, HasParentIn}
 use Rattle.grids.proofs.Chain.{each_at, chain_ends}
 use Rattle.grids.proofs.OneSlot.{slot_below}
 

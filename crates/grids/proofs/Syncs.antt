@@ -1,23 +1,12 @@
 -- What is touched of a window, passed on from window to window.
-use Rattle.std.proofs.Common.{◌≡◌, ◌≢◌, ℕ, ◌+◌, ◌-◌, ◌≤◌, Bool, true, false, if◌then◌else◌, ◌==◌, ◌||◌, Option, Some, None, IsSome, IsSomeAnd, [], ◌∷◌, ap, arith, refl}
-use Rattle.std.proofs.Common.{sym, ◌∙◌, eq-eqb, ne_eqb, zero-add}
-use Rattle.std.specs.List.{list_any}
-use Rattle.std.specs.Option.{option_map, option_map_or}
-use Rattle.std.proofs.lemmas.Bool.{cases_eq, cases_lt, lt-ltb, le-ltb}
-use Rattle.std.proofs.lemmas.Bool.Decides.{nat_tests}
-use Rattle.world.specs.Windows.{part_of, GridPlace, HasPlace, Window, WindowMap, Windows, ancestors, with_change, onward, own}
-use Rattle.world.specs.Sharing.{shows_part_of}
-use Rattle.world.specs.Sound.{AreSoundWindows}
-use Rattle.world.specs.calls.Copying.{after_copying, in_line, shows_touched_of, with_touches}
-use Rattle.world.specs.declared.call.Copying.TheVariants.{Syncdown, Syncup}
-use Rattle.world.specs.declared.settings.Columns.{Columns}
+use Rattle.grids.specs.{◌≡◌, ◌≢◌, ℕ, ◌+◌, ◌-◌, ◌≤◌, Bool, true, false, if◌then◌else◌, ◌==◌, ◌||◌, Option, Some, None, IsSome, IsSomeAnd, [], ◌∷◌, ap, arith}
+use Rattle.grids.specs.{refl, sym, ◌∙◌, eq-eqb, ne_eqb, zero-add, list_any, option_map, option_map_or, cases_eq, cases_lt, lt-ltb, le-ltb, nat_tests, part_of}
+use Rattle.grids.specs.{GridPlace, HasPlace, Window, WindowMap, Windows, ancestors, with_change, onward, own, shows_part_of, AreSoundWindows, after_copying}
+use Rattle.grids.specs.{in_line, shows_touched_of, with_touches, Syncdown, Syncup, Columns, in_parent, among, part_in_parent, shows_touched, touched_shown}
 use Rattle.world.proofs.Below.{any_below-some, any_below-true}
 use Rattle.world.proofs.WindowLaws.{own-onward, touched-touched}
 use Rattle.grids.specs.declared.place.Place.{Place}
 use Rattle.grids.specs.declared.slot.Part.{Part}
-use Rattle.grids.specs.Slots.{in_parent}
-use Rattle.world.specs.calls.Refresh.{among}
-use Rattle.grids.specs.steps.Syncs.{part_in_parent, shows_touched, touched_shown}
 use Rattle.grids.proofs.Chain.{from_parent, no_parent, some_of}
 use Rattle.grids.proofs.Shared.{shared-in, from-shared}
 use Rattle.grids.proofs.Touches.{changed-here, changed-nothing, changed-other, changed-same, changed-twice, touching-is, touching-none}

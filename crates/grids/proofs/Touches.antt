@@ -1,17 +1,8 @@
 -- A window that is touched line by line.
-use Rattle.std.proofs.Common.{◌≡◌, ◌≢◌, ℕ, zero, suc, ◌+◌, ◌-◌, ◌<◌, ◌≤◌, Bool, false, if◌then◌else◌, ◌&&◌, nat_lt, nat_le, Option, Some, IsSomeAnd, ap, arith, refl, sym}
-use Rattle.std.proofs.Common.{eq-eqb, ne_eqb}
-use Rattle.std.specs.Option.{option_map}
+use Rattle.grids.specs.{◌≡◌, ◌≢◌, ℕ, zero, suc, ◌+◌, ◌-◌, ◌<◌, ◌≤◌, Bool, false, if◌then◌else◌, ◌&&◌, nat_lt, nat_le, Option, Some, IsSomeAnd, ap, arith}
+use Rattle.grids.specs.{refl, sym, eq-eqb, ne_eqb, option_map, cases_eq, cases_lt, lt-ltb, le-ltb, nat_tests, Place, LARGEST_PAD, Window, WindowMap, Windows}
+use Rattle.grids.specs.{with_change, touched_below, joined_columns, with_touches, Columns, with_touched, EndsWithin}
 use mathlib.Core.Path.{fun_ext}
-use Rattle.std.proofs.lemmas.Bool.{cases_eq, cases_lt, lt-ltb, le-ltb}
-use Rattle.std.proofs.lemmas.Bool.Decides.{nat_tests}
-use Rattle.cell.specs.Pictures.{Place}
-use Rattle.cell.specs.declared.limits.TheConstants.{LARGEST_PAD}
-use Rattle.world.specs.Windows.{Window, WindowMap, Windows, with_change, touched_below, joined_columns}
-use Rattle.world.specs.calls.Copying.{with_touches}
-use Rattle.world.specs.declared.settings.Columns.{Columns}
-use Rattle.grids.specs.Changes.{with_touched}
-use Rattle.grids.specs.steps.Syncs.{EndsWithin}
 use Rattle.grids.proofs.Chain.{some_and}
 use Rattle.grids.proofs.Writes.{touched-none, touched-past}
 

@@ -1,18 +1,10 @@
 -- A row written through a window is one put.
-use Rattle.std.proofs.Common.{◌≡◌, ℕ, zero, suc, ◌+◌, ◌-◌, ◌<◌, ◌≤◌, Bool, true, false, if◌then◌else◌, ◌==◌, ◌&&◌, nat_le, nat_lt, Option, Some, None, is_some, IsSomeAnd, List, length}
-use Rattle.std.proofs.Common.{get_or, ap, ◌∙◌, subst, arith, refl, inl, inr, eq-eqb, ne_eqb, add-zero, add-suc}
-use Rattle.std.specs.Option.{option_map}
+use Rattle.grids.specs.{◌≡◌, ℕ, zero, suc, ◌+◌, ◌-◌, ◌<◌, ◌≤◌, Bool, true, false, if◌then◌else◌, ◌==◌, ◌&&◌, nat_le, nat_lt, Option, Some, None, is_some}
+use Rattle.grids.specs.{IsSomeAnd, List, length, get_or, ap, ◌∙◌, subst, arith, refl, inl, inr, eq-eqb, ne_eqb, add-zero, add-suc, option_map, cases_eq}
+use Rattle.grids.specs.{cases_lt, eqb-true, nat_tests, Glyph, blank, GridPlace, Window, WindowMap, Windows, Drawing, within, grid_drawing, laid_over}
+use Rattle.grids.specs.{joined_columns, touched_below, touched_by, put_windows, put, HasPlace, own, cell_at, with_change, set, set_in, Settings, filled_cells}
+use Rattle.grids.specs.{listed_cells, copied_cells, Columns, with_touched, with_drawing}
 use mathlib.Core.Path.{fun_ext}
-use Rattle.std.proofs.lemmas.Bool.{cases_eq, cases_lt, eqb-true}
-use Rattle.std.proofs.lemmas.Bool.Decides.{nat_tests}
-use Rattle.cell.specs.Glyphs.{Glyph, blank}
-use Rattle.world.specs.Windows.{GridPlace, Window, WindowMap, Windows, Drawing, within, grid_drawing, laid_over, joined_columns, touched_below, touched_by, put_windows, put}
-use Rattle.world.specs.Windows.{HasPlace, own, cell_at, with_change}
-use Rattle.world.specs.Settings.{set, set_in}
-use Rattle.world.specs.declared.settings.Settings.{Settings}
-use Rattle.world.specs.Rows.{filled_cells, listed_cells, copied_cells}
-use Rattle.world.specs.declared.settings.Columns.{Columns}
-use Rattle.grids.specs.Changes.{with_touched, with_drawing}
 
 -- touching column after column
 

@@ -1,17 +1,7 @@
 -- A call made on a table of windows.
-use Rattle.std.specs.Prelude.{◌≡◌, ℕ, Bool, false, IfOk, OnErr, OnOk, Option, Result, Some}
-use Rattle.std.specs.Result.{result_err}
-use Rattle.cell.specs.declared.refusal.Refusal.{Refusal}
-use Rattle.world.specs.Effects.{Change, after_change, change_reply, change_takes_memory}
-use Rattle.world.specs.Sound.{AreSoundWindows}
-use Rattle.world.specs.calls.Copying.{copying_change, copying_refusal}
-use Rattle.world.specs.calls.Making.{making_change, making_refusal}
-use Rattle.world.specs.calls.Queries.{query_refusal}
-use Rattle.world.specs.calls.Refused.{Refused}
-use Rattle.world.specs.declared.call.Copying.{Copying}
-use Rattle.world.specs.declared.call.Making.{Making}
-use Rattle.world.specs.declared.call.Query.{Query}
-use Rattle.world.specs.declared.call.Reply.{Reply}
+use Rattle.grids.specs.Names.{◌≡◌, ℕ, Bool, false, IfOk, OnErr, OnOk, Option, Result, Some, result_err, Refusal, Change, after_change, change_reply}
+use Rattle.grids.specs.Names.{change_takes_memory, AreSoundWindows, copying_change, copying_refusal, making_change, making_refusal, query_refusal, Refused}
+use Rattle.grids.specs.Names.{Copying, Making, Query, Reply}
 use Rattle.grids.specs.Tables.{WindowTable, windows}
 
 -- it was refused by its tests, and then nothing changed; else the answer and the windows are those of its effect

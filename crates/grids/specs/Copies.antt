@@ -1,10 +1,6 @@
 -- A copy from one place on to another: what it wants, and what it does.
-use Rattle.std.specs.Prelude.{◌≡◌, ℕ, ◌+◌, ◌-◌, if◌then◌else◌, Bool, Option}
-use Rattle.cell.specs.declared.window.Rect.{Rect}
-use Rattle.world.specs.Windows.{Drawing, HasPlace, WindowMap, Windows, put}
-use Rattle.world.specs.Rows.{copied_cells}
-use Rattle.world.specs.Effects.{drawing_frame}
-use Rattle.world.specs.calls.Copying.{rectangle_copied}
+use Rattle.grids.specs.Names.{◌≡◌, ℕ, ◌+◌, ◌-◌, if◌then◌else◌, Bool, Option, Rect, Drawing, HasPlace, WindowMap, Windows, put, copied_cells, drawing_frame}
+use Rattle.grids.specs.Names.{rectangle_copied}
 use Rattle.grids.specs.declared.place.Place.{Place}
 use Rattle.grids.specs.declared.rows.TheConstants.{PIECE}
 

@@ -1,6 +1,5 @@
 -- What printed characters become.
-use Rattle.std.specs.Prelude.{ℕ, if◌then◌else◌, ◌==◌}
-use Rattle.cell.specs.Glyphs.{Glyph}
+use Rattle.grids.specs.Names.{ℕ, if◌then◌else◌, ◌==◌, Glyph}
 
 -- A character has the attributes and the pair of a pen; a space becomes the pen itself.
 abbrev pub printed_cell : Glyph → ℕ → Glyph

@@ -1,11 +1,6 @@
 -- What is asked about a window beside the calls.
 -- ncurses, curs_opaque(3X): wgetparent.
-use Rattle.std.specs.Prelude.{ℕ, ok_or, Result, Err}
-use Rattle.std.specs.Option.{option_map, option_map_or}
-use Rattle.cell.specs.declared.refusal.Refusal.{Refusal}
-use Rattle.cell.specs.declared.refusal.Refusal.TheVariants.{NoSuchWindow, NotDerived}
-use Rattle.cell.specs.declared.window.WinId.{WinId}
-use Rattle.world.specs.Windows.{WindowMap, parent_number}
+use Rattle.grids.specs.Names.{ℕ, ok_or, Result, Err, option_map, option_map_or, Refusal, NoSuchWindow, NotDerived, WinId, WindowMap, parent_number}
 
 -- the window from which window w derives
 abbrev pub parent_answer : WindowMap → ℕ → Result WinId Refusal

@@ -1,16 +1,12 @@
 -- The list of slots, and the windows that they represent.
-use Rattle.std.specs.Prelude.{◌≡◌, ℕ, ◌+◌, ◌≤◌, Bool, false, List, Option, Some, None, IsSomeAnd, MatchOption, slice_index_or, ⊤}
-use Rattle.std.specs.Option.{option_map, option_map_or}
-use Rattle.cell.specs.declared.limits.TheConstants.{LARGEST_PAD}
-use Rattle.world.specs.Windows.{GridPlace, WindowMap, own}
-use Rattle.world.specs.Sound.{IsPartOf}
-use Rattle.world.specs.calls.Making.{is_part_of}
+use Rattle.grids.specs.Names.{◌≡◌, ℕ, ◌+◌, ◌≤◌, Bool, false, List, Option, Some, None, IsSomeAnd, MatchOption, slice_index_or, ⊤, option_map, option_map_or}
+use Rattle.grids.specs.Names.{LARGEST_PAD, GridPlace, WindowMap, own, IsPartOf, is_part_of}
 use Rattle.grids.specs.declared.slot.Part.{Part}
 use Rattle.grids.specs.declared.slot.Cells.{Cells}
 use Rattle.grids.specs.declared.slot.Cells.TheVariants.{Own, Shared}
 use Rattle.grids.specs.declared.slot.Origin.{Origin}
 use Rattle.grids.specs.declared.place.Place.{Place}
-use Rattle.grids.specs.Kept.{Kept, IsKept, window_of}
+use Rattle.grids.specs.KeptSlots.{Kept, IsKept, window_of}
 
 -- the slot of a number, if it is taken
 abbrev pub slot_at : List (Option Kept) → ℕ → Option Kept

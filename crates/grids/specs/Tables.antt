@@ -1,10 +1,7 @@
 -- The table of windows, and the windows that it represents.
-use Rattle.std.specs.Prelude.{ℕ, ◌+◌, ◌<◌, ◌≤◌, List, length, Option, MatchOption, IsSomeAnd, ⊤}
-use Rattle.cell.specs.declared.limits.TheConstants.{LARGEST_SCREEN, MOST_WINDOWS}
-use Rattle.world.specs.Windows.{Windows}
-use Rattle.world.specs.Panels.{standard_screen}
-use Rattle.world.specs.Sound.{IsOnScreen, IsStandardScreen}
-use Rattle.grids.specs.Kept.{Kept, window_of}
+use Rattle.grids.specs.Names.{ℕ, ◌+◌, ◌<◌, ◌≤◌, List, length, Option, MatchOption, IsSomeAnd, ⊤, LARGEST_SCREEN, MOST_WINDOWS, Windows, standard_screen}
+use Rattle.grids.specs.Names.{IsOnScreen, IsStandardScreen}
+use Rattle.grids.specs.KeptSlots.{Kept, window_of}
 use Rattle.grids.specs.Slots.{slot_at, window_map, AreOrigins, IsChained}
 
 -- a screen of this size, and a slot for each number from 0 on that was given so far

@@ -1,7 +1,6 @@
 //! Rectangles of a window.
 
-ghost use Rattle.std.specs.Prelude.{◌≡◌};
-ghost use Rattle.world.specs.Frames.{frame_of_two};
+ghost use Rattle.grids.specs.{◌≡◌, frame_of_two};
 
 use cell::Rect;
 

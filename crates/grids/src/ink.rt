@@ -1,11 +1,7 @@
 //! Characters printed with a pen.
 
-ghost use Rattle.std.specs.Prelude.{◌≡◌, ℕ, ◌+◌, ◌-◌, ◌<◌, ◌≤◌, ◌==◌, ◌&&◌, nat_le, nat_lt, if◌then◌else◌, length, map, slice_index, slice_index_or};
-ghost use Rattle.std.specs.Prelude.{EachIndex, true};
-ghost use Rattle.cell.specs.Glyphs.{IsCell, blank, is_printable};
-ghost use Rattle.cell.specs.declared.limits.TheConstants.{LARGEST_PAD};
-ghost use Rattle.cell.specs.Pictures.{EachCell, HasSize, cell_or, line_of};
-ghost use Rattle.grids.specs.Inks.{printed_cell};
+ghost use Rattle.grids.specs.{◌≡◌, ℕ, ◌+◌, ◌-◌, ◌<◌, ◌≤◌, ◌==◌, ◌&&◌, nat_le, nat_lt, if◌then◌else◌, length, map, slice_index, slice_index_or, EachIndex};
+ghost use Rattle.grids.specs.{true, IsCell, blank, is_printable, LARGEST_PAD, EachCell, HasSize, cell_or, line_of, printed_cell};
 
 use cell::{Cell, Grid};
 

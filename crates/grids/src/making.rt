@@ -1,14 +1,8 @@
 //! Making, moving and deleting windows and pads. The table knows no panels: it moves and deletes as if no window were
 //! in one.
 
-ghost use Rattle.std.specs.Prelude.{◌≡◌, ◌<◌, ◌≤◌, ◌+◌, ◌^◌, IsSome, IfOk, IfErr, MatchOption, ⊤, true, false, nat_le};
-ghost use Rattle.cell.specs.Refusals.{first_of};
-ghost use Rattle.world.specs.calls.Making.{is_inside, extent, place_from, part_tests, derived_from, next_window};
-ghost use Rattle.world.specs.Effects.{makes};
-ghost use Rattle.world.specs.Replies.{its_number, no_answer};
-ghost use Rattle.world.specs.declared.call.Making.{Making};
-ghost use Rattle.grids.specs.Calls.{Changed, Made};
-ghost use Rattle.grids.specs.Tables.{windows};
+ghost use Rattle.grids.specs.{◌≡◌, ◌<◌, ◌≤◌, ◌+◌, ◌^◌, IsSome, IfOk, IfErr, MatchOption, ⊤, true, false, nat_le, first_of, is_inside, extent, place_from};
+ghost use Rattle.grids.specs.{part_tests, derived_from, next_window, makes, its_number, no_answer, Making, Changed, Made, windows};
 
 use crate::list::{change_slot, fill_slot_at, free_number, free_slot, has_derived, origin_of};
 use crate::parents::settle;

@@ -1,6 +1,6 @@
 //! Places of windows.
 
-ghost use Rattle.std.specs.Prelude.{◌≡◌, ◌<◌, ◌+◌, ◌^◌};
+ghost use Rattle.grids.specs.{◌≡◌, ◌<◌, ◌+◌, ◌^◌};
 
 use cell::WinId;
 

@@ -1,12 +1,6 @@
 //! Queries about a window or pad.
 
-ghost use Rattle.std.specs.Prelude.{◌≡◌, is_some};
-ghost use Rattle.world.specs.Sound.{AreSoundWindows};
-ghost use Rattle.world.specs.calls.Queries.{cursor_of, place_on_screen, window_size, offset_in_parent};
-ghost use Rattle.world.specs.declared.call.Query.{Query};
-ghost use Rattle.grids.specs.Calls.{Asked};
-ghost use Rattle.grids.specs.Questions.{parent_answer};
-ghost use Rattle.grids.specs.Tables.{windows};
+ghost use Rattle.grids.specs.{◌≡◌, is_some, AreSoundWindows, cursor_of, place_on_screen, window_size, offset_in_parent, Query, Asked, parent_answer, windows};
 
 use crate::table::Grids;
 use cell::{Refusal, WinId};

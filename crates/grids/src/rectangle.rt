@@ -1,9 +1,6 @@
 //! Copies of a rectangle.
 
-ghost use Rattle.std.specs.Prelude.{◌<◌};
-ghost use Rattle.world.specs.Sound.{AreSoundWindows};
-ghost use Rattle.grids.specs.Copies.{AreRectanglesThere, RectangleCopied};
-ghost use Rattle.grids.specs.Tables.{windows};
+ghost use Rattle.grids.specs.{◌<◌, AreSoundWindows, AreRectanglesThere, RectangleCopied, windows};
 
 use crate::frame::frame_of_two;
 use crate::list::origin_of;

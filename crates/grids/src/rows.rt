@@ -1,15 +1,8 @@
 //! Reading a line of a window, and the writes of one line of which every write is made.
 
-ghost use Rattle.std.specs.Prelude.{◌≡◌, ◌<◌, ◌≤◌, ◌+◌, ◌-◌, is_some, length, map, slice_index, EachIndex, true, false};
-ghost use Rattle.std.specs.List.{AllByRecursion};
-ghost use Rattle.cell.specs.Glyphs.{IsCell, is_printable};
-ghost use Rattle.grids.specs.Inks.{printed_cell};
-ghost use Rattle.world.specs.Settings.{set, with_cursor};
-ghost use Rattle.world.specs.Windows.{HasPlace, cell_at, put};
-ghost use Rattle.world.specs.Sound.{AreSoundWindows};
-ghost use Rattle.world.specs.Rows.{filled_cells, listed_cells, overlaid_cell, copied_cells, line_shown};
-ghost use Rattle.grids.specs.Copies.{AreRowsThere, AreThere, RowCopied, piece_of};
-ghost use Rattle.grids.specs.Tables.{windows};
+ghost use Rattle.grids.specs.{◌≡◌, ◌<◌, ◌≤◌, ◌+◌, ◌-◌, is_some, length, map, slice_index, EachIndex, true, false, AllByRecursion, IsCell, is_printable};
+ghost use Rattle.grids.specs.{printed_cell, set, with_cursor, HasPlace, cell_at, put, AreSoundWindows, filled_cells, listed_cells, overlaid_cell};
+ghost use Rattle.grids.specs.{copied_cells, line_shown, AreRowsThere, AreThere, RowCopied, piece_of, windows};
 ghost use Rattle.grids.specs.declared.rows.TheConstants.{PIECE};
 
 use crate::frame::{frame_of_two, place};

@@ -1,13 +1,7 @@
 //! Which windows show cells of one another.
 
-ghost use Rattle.std.specs.Prelude.{◌≡◌, ◌<◌, ◌≤◌, IsSome, IsSomeAnd, MatchOption, ⊤, option_map};
-ghost use Rattle.world.specs.Frames.{AreRectangle};
-ghost use Rattle.world.specs.Sharing.{SharesPart};
-ghost use Rattle.world.specs.Sound.{AreSoundWindows};
-ghost use Rattle.world.specs.Windows.{HasPlace, derives};
-ghost use Rattle.grids.specs.Tables.{windows};
-ghost use Rattle.grids.specs.Slots.{depth_at, in_parent};
-ghost use Rattle.grids.specs.steps.Syncs.{part_in_parent};
+ghost use Rattle.grids.specs.{◌≡◌, ◌<◌, ◌≤◌, IsSome, IsSomeAnd, MatchOption, ⊤, option_map, AreRectangle, SharesPart, AreSoundWindows, HasPlace, derives};
+ghost use Rattle.grids.specs.{windows, depth_at, in_parent, part_in_parent};
 
 use crate::list::origin_of;
 use crate::parents::place_in_parent;

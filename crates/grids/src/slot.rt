@@ -1,19 +1,9 @@
 //! What the table keeps of one window.
 
-ghost use Rattle.std.specs.Prelude.{◌≡◌, ◌<◌, ◌≤◌, ◌+◌, ◌^◌, ◌&&◌, EachIndex, IfOk, IsSome, is_some, Some, None, length};
-ghost use Rattle.std.specs.Prelude.{map, slice_index, true};
-ghost use Rattle.std.specs.List.{AllByRecursion, range_with_len};
-ghost use Rattle.cell.specs.Glyphs.{IsCell, is_printable};
-ghost use Rattle.world.specs.calls.Copying.{lines_marked};
-ghost use Rattle.world.specs.Effects.{without_marks, with_place, with_part};
-ghost use Rattle.world.specs.Rows.{filled_cells, listed_cells};
-ghost use Rattle.world.specs.Settings.{set_in, with_cursor, with_settings};
-ghost use Rattle.world.specs.World.{new_window, first_settings, blank_grid};
-ghost use Rattle.world.specs.Windows.{any_below, cell_of, part_of};
-ghost use Rattle.grids.specs.Kept.{window_of, IsKept, Kept, HasShape};
-ghost use Rattle.grids.specs.Inks.{printed_cell};
-ghost use Rattle.grids.specs.Slots.{part_in, names_parent};
-ghost use Rattle.grids.specs.Changes.{with_touched, with_drawing, SameShape, with_new_offset, StaysInPlace};
+ghost use Rattle.grids.specs.{◌≡◌, ◌<◌, ◌≤◌, ◌+◌, ◌^◌, ◌&&◌, EachIndex, IfOk, IsSome, is_some, Some, None, length, map, slice_index, true, AllByRecursion};
+ghost use Rattle.grids.specs.{range_with_len, IsCell, is_printable, lines_marked, without_marks, with_place, with_part, filled_cells, listed_cells, set_in};
+ghost use Rattle.grids.specs.{with_cursor, with_settings, new_window, first_settings, blank_grid, any_below, cell_of, part_of, window_of, IsKept, Kept};
+ghost use Rattle.grids.specs.{HasShape, printed_cell, part_in, names_parent, with_touched, with_drawing, SameShape, with_new_offset, StaysInPlace};
 
 use crate::ink::print_in;
 use crate::touched::Touched;

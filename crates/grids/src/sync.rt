@@ -1,17 +1,7 @@
 //! What is touched of a window, passed on to its ancestors or taken from them.
 
-ghost use Rattle.std.specs.Prelude.{◌≡◌, ◌≢◌, ℕ, ◌<◌, ◌≤◌, ◌+◌, ◌-◌, ◌&&◌, nat_le, ⊤, IsSome, IsSomeAnd, MatchOption};
-ghost use Rattle.cell.specs.declared.limits.TheConstants.{LARGEST_PAD};
-ghost use Rattle.world.specs.Replies.{no_answer};
-ghost use Rattle.world.specs.Sound.{AreColumnsWithin};
-ghost use Rattle.world.specs.Windows.{HasPlace, with_change};
-ghost use Rattle.world.specs.calls.Copying.{with_touches, after_copying};
-ghost use Rattle.world.specs.calls.Refresh.{among};
-ghost use Rattle.world.specs.declared.call.Copying.{Copying};
-ghost use Rattle.grids.specs.Calls.{Marked};
-ghost use Rattle.grids.specs.Tables.{windows};
-ghost use Rattle.grids.specs.Slots.{depth_at};
-ghost use Rattle.grids.specs.steps.Syncs.{EndsWithin, touched_shown};
+ghost use Rattle.grids.specs.{◌≡◌, ◌≢◌, ℕ, ◌<◌, ◌≤◌, ◌+◌, ◌-◌, ◌&&◌, nat_le, ⊤, IsSome, IsSomeAnd, MatchOption, LARGEST_PAD, no_answer, AreColumnsWithin};
+ghost use Rattle.grids.specs.{HasPlace, with_change, with_touches, after_copying, among, Copying, Marked, windows, depth_at, EndsWithin, touched_shown};
 
 use crate::place::Place;
 use crate::table::Grids;

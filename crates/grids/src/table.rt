@@ -1,20 +1,9 @@
 //! The windows and pads of a screen.
 
-ghost use Rattle.std.specs.Prelude.{◌≡◌, ℕ, ◌<◌, ◌≤◌, ◌-◌, None, IsSome, IsSomeAnd, MatchResult, IfOk, Some};
-ghost use Rattle.std.specs.Option.{option_map};
-ghost use Rattle.cell.specs.Refusals.{RefusedBy};
-ghost use Rattle.world.specs.Settings.{after_set_settings, set, set_in, with_cursor};
-ghost use Rattle.world.specs.Sound.{AreSoundWindows};
-ghost use Rattle.world.specs.Windows.{HasPlace};
-ghost use Rattle.world.specs.World.{first_world};
-ghost use Rattle.world.specs.calls.Making.{new_refusal};
-ghost use Rattle.grids.specs.Tables.{windows, WindowTable, IsWindowTable};
-ghost use Rattle.grids.specs.Slots.{slot_at, depth_at, grid_place};
-ghost use Rattle.grids.specs.steps.Lines.{HasLine};
-ghost use Rattle.grids.specs.Kept.{Kept, window_of};
-ghost use Rattle.grids.specs.Changes.{ChangedBy, StaysInPlace, with_touched};
-ghost use Rattle.std.specs.Fn.{FnOnceReturnsAtMut, FnOnceTakesAtMut};
-ghost use Rattle.world.specs.Windows.{Window, with_change};
+ghost use Rattle.grids.specs.{◌≡◌, ℕ, ◌<◌, ◌≤◌, ◌-◌, None, IsSome, IsSomeAnd, MatchResult, IfOk, Some, option_map, RefusedBy, after_set_settings, set};
+ghost use Rattle.grids.specs.{set_in, with_cursor, AreSoundWindows, HasPlace, first_world, new_refusal, windows, WindowTable, IsWindowTable, slot_at};
+ghost use Rattle.grids.specs.{depth_at, grid_place, HasLine, Kept, window_of, ChangedBy, StaysInPlace, with_touched, FnOnceReturnsAtMut, FnOnceTakesAtMut};
+ghost use Rattle.grids.specs.{Window, with_change};
 
 use crate::list::change_slot;
 use crate::slot::{Origin, Slot};

@@ -1,7 +1,6 @@
 //! The touched columns of a line.
 
-ghost use Rattle.std.specs.Prelude.{◌≡◌, ◌≤◌, IfSome, None};
-ghost use Rattle.world.specs.Windows.{joined_columns};
+ghost use Rattle.grids.specs.{◌≡◌, ◌≤◌, IfSome, None, joined_columns};
 
 use std::marker::Model;
 use world::Columns;

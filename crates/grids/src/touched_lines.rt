@@ -1,9 +1,7 @@
 //! The touched columns of the lines of a window.
 
-ghost use Rattle.std.specs.Prelude.{◌≡◌, ℕ, ◌+◌, ◌<◌, ◌≤◌, ◌==◌, ◌&&◌, nat_le, nat_lt, if◌then◌else◌, IfOk, None, is_some, length, replicate};
-ghost use Rattle.std.specs.List.{list_any};
-ghost use Rattle.world.specs.Windows.{joined_columns};
-ghost use Rattle.grids.specs.Touches.{touched_in};
+ghost use Rattle.grids.specs.{◌≡◌, ℕ, ◌+◌, ◌<◌, ◌≤◌, ◌==◌, ◌&&◌, nat_le, nat_lt, if◌then◌else◌, IfOk, None, is_some, length, replicate, list_any};
+ghost use Rattle.grids.specs.{joined_columns, touched_in};
 
 use crate::touched::Touched;
 use std::alloc::{AllocError, Global};

@@ -1,26 +1,15 @@
 -- Runs of cells: printed one after another, and drawn in a line.
-use Rattle.std.proofs.Common.{◌≡◌, Bool, ℕ, zero, suc, ◌+◌, ◌-◌, ◌<◌, ◌≤◌, true, false, List, [], ◌∷◌, ◌++◌, length, get_or, take, drop}
-use Rattle.std.proofs.Common.{Some, inl, inr, refl, sym, ap, ◌∙◌, subst, arith, length-append, length-set}
-use Rattle.std.specs.Prelude.{not}
-use Rattle.std.proofs.lemmas.Bool.{and_parts, cases_lt, lt-ltb}
-use Rattle.std.proofs.Math.Seq.{take-add}
-use Rattle.std.proofs.lemmas.List.{drop-drop, get_or_default, get_or_past, get_or-drop, get_or-set_same, get_or-take, length-drop, length-take, length-take-le, set-get_or}
-use Rattle.cell.specs.Shown.{IsRendition, IsShown, Rendition, Shown, shown_blank}
-use Rattle.cell.specs.Pictures.{Picture, line_of, with_shown}
-use Rattle.cell.specs.Differences.{DiffersAt, same_rendition, same_shown}
-use Rattle.cell.specs.EqualityLaws.{same_rendition-equal}
+use Rattle.paint.specs.{◌≡◌, Bool, ℕ, zero, suc, ◌+◌, ◌-◌, ◌<◌, ◌≤◌, true, false, List, [], ◌∷◌, ◌++◌, length, get_or, take, drop, Some, inl, inr, refl, sym}
+use Rattle.paint.specs.{ap, ◌∙◌, subst, arith, length-append, length-set, not, and_parts, cases_lt, lt-ltb, take-add, drop-drop, get_or_default, get_or_past}
+use Rattle.paint.specs.{get_or-drop, get_or-set_same, get_or-take, length-drop, length-take, length-take-le, set-get_or, IsRendition, IsShown, Rendition}
+use Rattle.paint.specs.{Shown, shown_blank, Picture, line_of, with_shown, DiffersAt, same_rendition, same_shown, same_rendition-equal, Leads, Terminal, Print}
+use Rattle.paint.specs.{Seen, Gathers, cells_between, AreOfRun, IsRun, all_have, Draws, DrawsWithin, characters, line_bytes, most_approach, run_bytes}
+use Rattle.paint.specs.{with_cells, within}
 use Rattle.ecma.proofs.Joining.{Leads-append}
 use Rattle.ecma.proofs.Leading.{Leads-nothing, Leads-token}
 use Rattle.ecma.proofs.Lengths.{length-selection}
 use Rattle.ecma.proofs.Printing.{printable}
-use Rattle.ecma.specs.Streams.{Leads}
-use Rattle.ecma.specs.Terminals.{Terminal}
-use Rattle.ecma.specs.declared.token.Token.TheVariants.{Print}
-use Rattle.streams.specs.Sinks.{Seen}
 use Rattle.paint.specs.declared.pen.Pen.{Pen}
-use Rattle.paint.specs.steps.Gathering.{Gathers}
-use Rattle.paint.specs.steps.Runs.{cells_between, AreOfRun, IsRun}
-use Rattle.paint.specs.steps.Pens.{all_have, Draws, DrawsWithin, characters, line_bytes, most_approach, run_bytes, with_cells, within}
 use Rattle.paint.proofs.PenSteps.{DrawsWithin-more, cells-within, spelled-print}
 use Rattle.paint.proofs.Costs.{left, line_bytes-other}
 

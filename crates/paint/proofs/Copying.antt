@@ -1,14 +1,8 @@
 -- The columns in which two pictures may differ are copied from one to the other.
-use Rattle.std.proofs.Common.{◌≡◌, ℕ, ◌+◌, ◌-◌, ◌<◌, ◌≤◌, ◌==◌, ◌&&◌, nat_le, nat_lt, inl, inr, Option, None, List, [], length, get_or, take, drop, ap, arith}
-use Rattle.std.specs.Prelude.{if◌then◌else◌}
-use Rattle.std.proofs.lemmas.Bool.{cases_eq, cases_lt}
-use Rattle.std.proofs.lemmas.Bool.Decides.{nat_tests}
-use Rattle.std.proofs.lemmas.List.{get_or-drop, get_or-take, get_or_past}
-use Rattle.cell.specs.Pictures.{Picture, HasSize, line_of, shown_at}
-use Rattle.cell.specs.Shown.{Shown, shown_blank}
+use Rattle.paint.specs.{◌≡◌, ℕ, ◌+◌, ◌-◌, ◌<◌, ◌≤◌, ◌==◌, ◌&&◌, nat_le, nat_lt, inl, inr, Option, None, List, [], length, get_or, take, drop, ap, arith}
+use Rattle.paint.specs.{if◌then◌else◌, cases_eq, cases_lt, nat_tests, get_or-drop, get_or-take, get_or_past, Picture, HasSize, line_of, shown_at, Shown}
+use Rattle.paint.specs.{shown_blank, Columns, DifferOnly, IsWithin, columns_of}
 use Rattle.cell.proofs.PictureLemmas.{length-line, same_pictures}
-use Rattle.world.specs.declared.settings.Columns.{Columns}
-use Rattle.extents.specs.Extents.{DifferOnly, IsWithin, columns_of}
 
 -- nothing but blanks is shown outside of a picture
 shown-outside : {lines columns : ℕ} {picture : Picture} → HasSize lines columns picture → (y x : ℕ) → (y < lines → x < columns → ⊥) → shown_at picture (y, x) ≡ shown_blank

@@ -1,14 +1,8 @@
 -- What changed cells may cost.
-use Rattle.std.proofs.Common.{◌≡◌, ℕ, zero, suc, ◌+◌, ◌-◌, ◌<◌, ◌≤◌, false, List, [], ◌∷◌, length, get_or, drop, inl, inr, sym, ap, ◌∙◌, subst, arith}
-use Rattle.std.proofs.lemmas.Bool.{cases_Bool, cases_lt}
-use Rattle.std.proofs.lemmas.Bool.Decides.{nat_tests}
-use Rattle.std.proofs.lemmas.List.{drop_all, drop-drop, drop_more, get_or_past}
-use Rattle.cell.specs.Shown.{Shown, shown_blank}
-use Rattle.cell.specs.Differences.{DiffersAt, same_shown}
-use Rattle.cell.specs.Pictures.{Picture, Place, line_of}
+use Rattle.paint.specs.{◌≡◌, ℕ, zero, suc, ◌+◌, ◌-◌, ◌<◌, ◌≤◌, false, List, [], ◌∷◌, length, get_or, drop, inl, inr, sym, ap, ◌∙◌, subst, arith, cases_Bool}
+use Rattle.paint.specs.{cases_lt, nat_tests, drop_all, drop-drop, drop_more, get_or_past, Shown, shown_blank, DiffersAt, same_shown, Picture, Place, line_of}
+use Rattle.paint.specs.{bytes_from, is_before, cell_bytes, line_bytes, picture_bytes}
 use Rattle.ecma.proofs.Difference.{same_shown-equal}
-use Rattle.paint.specs.steps.Strokes.{bytes_from, is_before}
-use Rattle.paint.specs.steps.Pens.{cell_bytes, line_bytes, picture_bytes}
 
 -- ---- of a line
 

@@ -1,28 +1,16 @@
 -- Strokes that are drawn in any order: what they write is what is wanted.
-use Rattle.std.proofs.Common.{◌≡◌, ℕ, zero, suc, ◌+◌, ◌-◌, ◌<◌, ◌≤◌, Bool, true, false, List, [], ◌∷◌, ◌++◌, length, get_or, set, map, take, drop, inl, inr, refl, sym, ap, ◌∙◌, subst, arith, length-set}
-use Rattle.std.specs.Prelude.{◌==◌, ◌&&◌, not, nat_le, if◌then◌else◌}
-use Rattle.std.proofs.Math.ListN.{get_or-append, get_or-map}
-use Rattle.std.proofs.lemmas.Bool.{cases_Bool, cases_eq, cases_lt, eq-eqb, le-leb, lt-leb, ne_eqb}
-use Rattle.std.proofs.lemmas.Bool.Decides.{nat_tests}
-use Rattle.std.proofs.lemmas.List.{ext_get_or, get_or-append_right, get_or-set_other, get_or-set_same, get_or-take, get_or_past, length-take-le, set_past}
-use Rattle.std.proofs.lemmas.List.Sums.{sum_by_push}
-use Rattle.cell.specs.Shown.{Shown, shown_blank}
-use Rattle.cell.specs.Pictures.{HasSize, Picture, Place, line_of, shown_at, with_shown}
+use Rattle.paint.specs.{◌≡◌, ℕ, zero, suc, ◌+◌, ◌-◌, ◌<◌, ◌≤◌, Bool, true, false, List, [], ◌∷◌, ◌++◌, length, get_or, set, map, take, drop, inl, inr, refl}
+use Rattle.paint.specs.{sym, ap, ◌∙◌, subst, arith, length-set, ◌==◌, ◌&&◌, not, nat_le, if◌then◌else◌, get_or-append, get_or-map, cases_Bool, cases_eq}
+use Rattle.paint.specs.{cases_lt, eq-eqb, le-leb, lt-leb, ne_eqb, nat_tests, ext_get_or, get_or-append_right, get_or-set_other, get_or-set_same, get_or-take}
+use Rattle.paint.specs.{get_or_past, length-take-le, set_past, sum_by_push, Shown, shown_blank, HasSize, Picture, Place, line_of, shown_at, with_shown}
+use Rattle.paint.specs.{spelling, blank_line, erased_at, erased_line, erased_page, ToEnd, Token, Ed, El, Seen, AreDrawn, HasInk, IsErasure, IsStroke}
+use Rattle.paint.specs.{ink_bytes, is_before, layers, stroke_bytes, writes, HaveOneRendition, cells_between, Draws, DrawsWithin, run_bytes, under, with_cells}
 use Rattle.cell.proofs.PictureLemmas.{length-line}
 use Rattle.ecma.proofs.Lengths.{length-spelling}
 use Rattle.ecma.proofs.PictureSizes.{size-effects}
-use Rattle.ecma.specs.Spelling.{spelling}
-use Rattle.ecma.specs.Terminals.{blank_line, erased_at, erased_line, erased_page}
-use Rattle.ecma.specs.declared.token.Erase.TheVariants.{ToEnd}
-use Rattle.ecma.specs.declared.token.Token.{Token}
-use Rattle.ecma.specs.declared.token.Token.TheVariants.{Ed, El}
-use Rattle.streams.specs.Sinks.{Seen}
 use Rattle.paint.specs.declared.pen.Pen.{Pen}
 use Rattle.paint.specs.declared.strokes.Ink.TheVariants.{EraseLine, ErasePage, Print}
 use Rattle.paint.specs.declared.strokes.Stroke.{Stroke}
-use Rattle.paint.specs.steps.Strokes.{AreDrawn, HasInk, IsErasure, IsStroke, ink_bytes, is_before, layers, stroke_bytes, writes}
-use Rattle.paint.specs.steps.Runs.{HaveOneRendition, cells_between}
-use Rattle.paint.specs.steps.Pens.{Draws, DrawsWithin, run_bytes, under, with_cells}
 use Rattle.paint.proofs.CellRuns.{length-between, part-of}
 use Rattle.paint.proofs.PenSteps.{DrawsWithin-more, DrawsWithin-nothing, DrawsWithin-then}
 

@@ -1,24 +1,13 @@
 -- Strokes are found line by line: they write all that isn't shown as wanted, within what that may cost.
-use Rattle.std.proofs.Common.{◌≡◌, ℕ, ◌+◌, ◌-◌, ◌<◌, ◌≤◌, true, false, List, [], ◌∷◌, ◌++◌, length, get_or, drop, take, inl, inr, refl, sym, ap, ◌∙◌, subst, arith, append_assoc, append-nil, Option}
-use Rattle.std.specs.Prelude.{◌&&◌, not, if◌then◌else◌}
-use Rattle.std.proofs.lemmas.Bool.{cases_Bool, cases_lt}
-use Rattle.std.proofs.lemmas.Bool.Decides.{nat_tests}
-use Rattle.std.proofs.lemmas.List.{get_or_past}
-use Rattle.std.proofs.lemmas.List.Elements.{All-push}
-use Rattle.std.proofs.lemmas.List.Sums.{sum_by_push}
-use Rattle.cell.specs.Shown.{shown_blank}
-use Rattle.cell.specs.Pictures.{HasSize, Picture, Place, line_of, shown_at}
+use Rattle.paint.specs.{◌≡◌, ℕ, ◌+◌, ◌-◌, ◌<◌, ◌≤◌, true, false, List, [], ◌∷◌, ◌++◌, length, get_or, drop, take, inl, inr, refl, sym, ap, ◌∙◌, subst, arith}
+use Rattle.paint.specs.{append_assoc, append-nil, Option, ◌&&◌, not, if◌then◌else◌, cases_Bool, cases_lt, nat_tests, get_or_past, All-push, sum_by_push}
+use Rattle.paint.specs.{shown_blank, HasSize, Picture, Place, line_of, shown_at, Seen, IsWithin, columns_of, Columns, IsFrame, AreAlike, AreDrawn, AreFound}
+use Rattle.paint.specs.{ArePlanned, AreSameBetween, HasInk, IsStroke, IsUnderWay, bytes_from, ink_bytes, is_before, is_before_end, layers, stroke_bytes}
+use Rattle.paint.specs.{strokes_bytes, writes, DrawsWithin, cell_bytes, picture_bytes, IsStretch, cells_between}
 use Rattle.cell.proofs.PictureLemmas.{length-line, same_pictures}
-use Rattle.streams.specs.Sinks.{Seen}
-use Rattle.extents.specs.Extents.{IsWithin, columns_of}
-use Rattle.world.specs.declared.settings.Columns.{Columns}
-use Rattle.paint.specs.Changes.{IsFrame}
 use Rattle.paint.specs.declared.pen.Pen.{Pen}
 use Rattle.paint.specs.declared.strokes.Ink.TheVariants.{EraseLine, ErasePage, Print}
 use Rattle.paint.specs.declared.strokes.Stroke.{Stroke}
-use Rattle.paint.specs.steps.Strokes.{AreAlike, AreDrawn, AreFound, ArePlanned, AreSameBetween, HasInk, IsStroke, IsUnderWay, bytes_from, ink_bytes, is_before, is_before_end, layers, stroke_bytes, strokes_bytes, writes}
-use Rattle.paint.specs.steps.Pens.{DrawsWithin, cell_bytes, picture_bytes}
-use Rattle.paint.specs.steps.Runs.{IsStretch, cells_between}
 use Rattle.paint.proofs.CellRuns.{length-between, part-of, part-same}
 use Rattle.paint.proofs.Costs.{bytes_from-changed, bytes_from-later, bytes_from-line, left, line_bytes-other}
 use Rattle.paint.proofs.DrawnStrokes.{drawn-none, drawn-size}

@@ -1,11 +1,6 @@
 -- A text that is gathered, appended to, and passed on.
-use Rattle.std.proofs.Common.{◌≡◌, ℕ, ◌+◌, ◌-◌, ◌^◌, true, false, List, [], ◌++◌, length, Err, arith, append-nil}
-use Rattle.std.specs.Prelude.{min}
-use Rattle.streams.specs.Sinks.{Seen}
-use Rattle.streams.specs.Sending.{Sends}
-use Rattle.streams.specs.declared.sending.WriteFault.{WriteFault}
+use Rattle.paint.specs.{◌≡◌, ℕ, ◌+◌, ◌-◌, ◌^◌, true, false, List, [], ◌++◌, length, Err, arith, append-nil, min, Seen, Sends, WriteFault, GoesOut}
 use Rattle.streams.proofs.Sends.{Sends-then}
-use Rattle.paint.specs.steps.Gathering.{GoesOut}
 
 -- once a write failed the room is of no account
 pub goes_out-failed : (start now : Seen) (sent : ℕ) (text : List ℕ) → GoesOut true start now [] sent text → GoesOut true start now [] sent (text ++ [])

@@ -1,28 +1,16 @@
 -- The strokes of a doupdate make a text of it.
-use Rattle.std.proofs.Common.{◌≡◌, Bool, ℕ, ◌*◌, ◌<◌, ◌≤◌, List, [], ◌∷◌, ◌++◌, length, Option, Some, None, refl, sym, ap, ◌∙◌, subst, arith, append_assoc, length-append}
-use Rattle.std.specs.List.{AllByRecursion}
-use Rattle.std.proofs.lemmas.List.{nil_from_length}
-use Rattle.cell.specs.Shown.{Shown, no_rendition}
-use Rattle.cell.specs.Pictures.{Picture, Place, HasSize, line_of}
+use Rattle.paint.specs.{◌≡◌, Bool, ℕ, ◌*◌, ◌<◌, ◌≤◌, List, [], ◌∷◌, ◌++◌, length, Option, Some, None, refl, sym, ap, ◌∙◌, subst, arith, append_assoc}
+use Rattle.paint.specs.{length-append, AllByRecursion, nil_from_length, Shown, no_rendition, Picture, Place, HasSize, line_of, line_difference, difference}
+use Rattle.paint.specs.{line_colour_difference, colour_difference, Leads, Shows, showing, Terminal, Seen, PainterState, ShownPicture, IsUpdateText, MayRead}
+use Rattle.paint.specs.{known_picture, move, opening, opening_from, start_from, start_of_update, IsGathered, IsFrame, CanDraw, HoldsUpdate, IsStart, Columns}
+use Rattle.paint.specs.{change, move_from, under, Draws, IsPlainAt, DrawsWithin, picture_bytes, LARGEST_SCREEN}
 use Rattle.cell.proofs.PictureLemmas.{length-line}
-use Rattle.cell.specs.Differences.{line_difference, difference}
-use Rattle.ecma.specs.Difference.{line_colour_difference, colour_difference}
-use Rattle.ecma.specs.Streams.{Leads, Shows, showing}
-use Rattle.ecma.specs.Terminals.{Terminal}
 use Rattle.ecma.proofs.Joining.{Leads-append, Leads-in_profile, Reaches-in_profile}
 use Rattle.ecma.proofs.Leading.{Leads-nothing}
 use Rattle.ecma.proofs.Failing.{Reaches-unique}
-use Rattle.streams.specs.Sinks.{Seen}
 use Rattle.paint.specs.declared.pen.Pen.{Pen}
-use Rattle.paint.specs.Updates.{PainterState, ShownPicture, IsUpdateText, MayRead, known_picture, move, opening, opening_from, start_from, start_of_update}
-use Rattle.paint.specs.steps.Gathering.{IsGathered}
-use Rattle.paint.specs.Changes.{IsFrame}
-use Rattle.paint.specs.steps.Holding.{CanDraw, HoldsUpdate, IsStart}
-use Rattle.world.specs.declared.settings.Columns.{Columns}
-use Rattle.paint.specs.steps.Pens.{change, move_from, under, Draws, IsPlainAt, DrawsWithin, picture_bytes}
 use Rattle.paint.proofs.Shows.{opening-leads}
 use Rattle.paint.proofs.PenSteps.{length-ended, length-move}
-use Rattle.cell.specs.declared.limits.TheConstants.{LARGEST_SCREEN}
 
 -- ---- an empty text
 

@@ -1,10 +1,6 @@
 -- The characters of cells, gathered piece by piece.
-use Rattle.std.proofs.Common.{◌≡◌, ℕ, ◌+◌, ◌-◌, ◌<◌, ◌≤◌, List, ◌++◌, get_or, take, drop, subst, sym, ap, ◌∙◌, inl, inr, arith, append_assoc}
-use Rattle.std.proofs.Math.Seq.{take-add}
-use Rattle.std.proofs.lemmas.Bool.{cases_lt}
-use Rattle.std.proofs.lemmas.List.{get_or-drop, get_or-take, map-append}
-use Rattle.cell.specs.Shown.{IsShown, Shown, shown_blank}
-use Rattle.paint.specs.steps.Pens.{characters}
+use Rattle.paint.specs.{◌≡◌, ℕ, ◌+◌, ◌-◌, ◌<◌, ◌≤◌, List, ◌++◌, get_or, take, drop, subst, sym, ap, ◌∙◌, inl, inr, arith, append_assoc, take-add, cases_lt}
+use Rattle.paint.specs.{get_or-drop, get_or-take, map-append, IsShown, Shown, shown_blank, characters}
 
 -- the bytes of a piece after those before it
 pub characters-further : (items now more : List ℕ) (cells : List Shown) (start end : ℕ) → start ≤ end → now ≡ items ++ characters (take start cells)

@@ -1,22 +1,12 @@
 -- The strokes of a pen, one after another, and what each shows.
-use Rattle.std.proofs.Common.{◌≡◌, ℕ, ◌+◌, ◌<◌, ◌≤◌, true, false, List, [], ◌∷◌, ◌++◌, length, Option, Some, refl, sym, ap, ◌∙◌, subst, arith, append_assoc, append-nil, length-append}
-use Rattle.std.proofs.lemmas.Bool.{and_parts, cases_Bool, eqb-true, lt-ltb}
-use Rattle.std.proofs.lemmas.List.{length-map}
-use Rattle.cell.specs.Shown.{no_rendition, Shown, Rendition, IsRendition}
-use Rattle.cell.specs.Pictures.{Picture, Place, line_of}
-use Rattle.cell.specs.Differences.{same_rendition}
-use Rattle.ecma.specs.declared.token.Token.{Token}
-use Rattle.ecma.specs.declared.token.Token.TheVariants.{Print, Cup, Sgr}
-use Rattle.std.specs.Fmt.{digits}
-use Rattle.ecma.specs.Spelling.{spelling, codes_of_attributes, token_effect, IsToken}
+use Rattle.paint.specs.{◌≡◌, ℕ, ◌+◌, ◌<◌, ◌≤◌, true, false, List, [], ◌∷◌, ◌++◌, length, Option, Some, refl, sym, ap, ◌∙◌, subst, arith, append_assoc}
+use Rattle.paint.specs.{append-nil, length-append, and_parts, cases_Bool, eqb-true, lt-ltb, length-map, no_rendition, Shown, Rendition, IsRendition, Picture}
+use Rattle.paint.specs.{Place, line_of, same_rendition, Token, Print, Cup, Sgr, digits, spelling, codes_of_attributes, token_effect, IsToken, LARGEST_SCREEN}
+use Rattle.paint.specs.{Seen, Gathers, Outbox, change, characters, is_at, most_approach, move_from, under, Draws, IsPlainAt, DrawsWithin}
 use Rattle.ecma.proofs.Joining.{Leads-append}
 use Rattle.ecma.proofs.Leading.{Leads-nothing, Leads-token}
 use Rattle.ecma.proofs.Lengths.{length-spelling}
-use Rattle.cell.specs.declared.limits.TheConstants.{LARGEST_SCREEN}
-use Rattle.streams.specs.Sinks.{Seen}
 use Rattle.paint.specs.declared.pen.Pen.{Pen}
-use Rattle.paint.specs.steps.Gathering.{Gathers, Outbox}
-use Rattle.paint.specs.steps.Pens.{change, characters, is_at, most_approach, move_from, under, Draws, IsPlainAt, DrawsWithin}
 
 -- ---- one after another
 

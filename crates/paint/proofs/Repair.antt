@@ -1,14 +1,9 @@
 -- The text of a doupdate after a stream that agrees with the painter: where it clears, it doesn't matter what was sent before.
-use Rattle.std.proofs.Common.{◌≡◌, Bool, ℕ, ◌<◌, ◌≤◌, List, [], ◌++◌, length, take, Option, Some, None, refl, arith}
-use Rattle.std.specs.Prelude.{⊤, MatchOption}
-use Rattle.std.proofs.lemmas.Option.{MatchOption-from_none}
-use Rattle.cell.specs.Pictures.{HasSize}
-use Rattle.ecma.specs.Items.{EndsOrEscapes}
-use Rattle.ecma.specs.Terminals.{Terminal}
-use Rattle.ecma.specs.Streams.{IsInProfile, LeadsWithBreaks, Shows, showing}
+use Rattle.paint.specs.{◌≡◌, Bool, ℕ, ◌<◌, ◌≤◌, List, [], ◌++◌, length, take, Option, Some, None, refl, arith, ⊤, MatchOption, MatchOption-from_none, HasSize}
+use Rattle.paint.specs.{EndsOrEscapes, Terminal, IsInProfile, LeadsWithBreaks, Shows, showing, PainterState, ShownPicture, IsUpdateText, MayRead, Agrees}
+use Rattle.paint.specs.{known_picture, opening, opening_from}
 use Rattle.ecma.proofs.PictureSizes.{size-effects}
 use Rattle.ecma.proofs.Joining.{Leads-repairs, Leads-take, InProfile-append, LeadsWithBreaks-append, LeadsWithBreaks-in_profile, LeadsWithBreaks-in_profile_then}
-use Rattle.paint.specs.Updates.{PainterState, ShownPicture, IsUpdateText, MayRead, Agrees, known_picture, opening, opening_from}
 
 -- ---- a text that begins with the opening
 

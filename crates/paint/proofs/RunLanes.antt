@@ -1,16 +1,8 @@
 -- The first of some cells that isn't of a run, by a mask with a bit for each.
-use Rattle.std.proofs.Common.{◌≡◌, ℕ, zero, suc, ◌-◌, ◌^◌, ◌%◌, ◌<◌, ◌≤◌, Bool, true, false, List, [], ◌∷◌, length, get_or, map, sym, ap, ◌∙◌, subst, arith}
-use Rattle.std.proofs.Common.{eq-eqb, ne_eqb, eqb, cond, w32}
-use Rattle.std.specs.Prelude.{if◌then◌else◌, not, replicate}
-use Rattle.std.specs.List.{prefix_len}
+use Rattle.paint.specs.{◌≡◌, ℕ, zero, suc, ◌-◌, ◌^◌, ◌%◌, ◌<◌, ◌≤◌, Bool, true, false, List, [], ◌∷◌, length, get_or, map, sym, ap, ◌∙◌, subst, arith, eq-eqb}
+use Rattle.paint.specs.{ne_eqb, eqb, cond, w32, if◌then◌else◌, not, replicate, prefix_len, mask_l, top, zip2, cases_Bool, bitmask_splat, first_set_mask_l}
+use Rattle.paint.specs.{same_rendition, same_shown, same_rendition-equal, Rendition, Shown, shown_blank, AreEnds, AreOfRun, is_over}
 use lib.Count.{count_trailing_zeros}
-use Rattle.std.specs.Simd.Lanes.{mask_l, top, zip2}
-use Rattle.std.proofs.lemmas.Bool.{cases_Bool}
-use Rattle.std.proofs.lemmas.Simd.{bitmask_splat, first_set_mask_l}
-use Rattle.cell.specs.Differences.{same_rendition, same_shown}
-use Rattle.cell.specs.EqualityLaws.{same_rendition-equal}
-use Rattle.cell.specs.Shown.{Rendition, Shown, shown_blank}
-use Rattle.paint.specs.steps.Runs.{AreEnds, AreOfRun, is_over}
 
 -- ---- the first items, as far as they pass a test
 

@@ -1,20 +1,11 @@
 -- What a terminal shows after the opening.
-use Rattle.std.proofs.Common.{◌≡◌, ℕ, ◌<◌, List, [], ◌∷◌, ◌++◌, length, map, Some, refl, sym, ap, ◌∙◌, subst, arith}
-use Rattle.std.specs.List.{AllByRecursion}
-use Rattle.std.specs.Fmt.{digits}
-use Rattle.std.proofs.lemmas.Simd.{splat_is_map}
-use Rattle.std.proofs.lemmas.Bool.{lt-ltb}
-use Rattle.cell.specs.Shown.{no_rendition, shown_blank}
-use Rattle.cell.specs.Pictures.{Picture, HasSize, blank_picture, line_of, origin}
+use Rattle.paint.specs.{◌≡◌, ℕ, ◌<◌, List, [], ◌∷◌, ◌++◌, length, map, Some, refl, sym, ap, ◌∙◌, subst, arith, AllByRecursion, digits, splat_is_map, lt-ltb}
+use Rattle.paint.specs.{no_rendition, shown_blank, Picture, HasSize, blank_picture, line_of, origin, Cup, Sgr, Ed, Terminal, blank_line, Leads, showing}
+use Rattle.paint.specs.{spelling, codes_of_attributes, opening}
 use Rattle.cell.proofs.PictureLemmas.{HasSize-all_of, IsRendition-none, length-line}
 use Rattle.ecma.specs.declared.token.Erase.TheVariants.{All}
-use Rattle.ecma.specs.declared.token.Token.TheVariants.{Cup, Sgr, Ed}
-use Rattle.ecma.specs.Terminals.{Terminal, blank_line}
-use Rattle.ecma.specs.Streams.{Leads, showing}
-use Rattle.ecma.specs.Spelling.{spelling, codes_of_attributes}
 use Rattle.ecma.proofs.Leading.{Leads-token}
 use Rattle.ecma.proofs.Joining.{Leads-append}
-use Rattle.paint.specs.Updates.{opening}
 
 -- the opening is three tokens
 pub opening-spelled : opening ≡ spelling (Sgr no_rendition) ++ spelling (Ed All) ++ spelling (Cup 0 0)

@@ -1,9 +1,6 @@
 //! Where a line, and a page, are blank up to their end, which one erasure draws.
 
-ghost use Rattle.std.specs.Prelude.{◌≡◌, ℕ, ◌<◌, ◌≤◌, ⊤, MatchOption, length, slice_index_or};
-ghost use Rattle.cell.specs.Pictures.{shown_at};
-ghost use Rattle.cell.specs.Shown.{shown_blank};
-ghost use Rattle.paint.specs.steps.Strokes.{IsLastChange, IsPageEnd};
+ghost use Rattle.paint.specs.{◌≡◌, ℕ, ◌<◌, ◌≤◌, ⊤, MatchOption, length, slice_index_or, shown_at, shown_blank, IsLastChange, IsPageEnd};
 
 use crate::changes::Frame;
 use cell::{Grid, LANES, Shown, last_diff};

@@ -1,9 +1,6 @@
 //! A picture that is wanted over the one that is shown, and where they may differ.
 
-ghost use Rattle.std.proofs.Props.{props};
-ghost use Rattle.std.specs.Prelude.{◌≤◌};
-ghost use Rattle.cell.specs.declared.limits.TheConstants.{LARGEST_SCREEN};
-ghost use Rattle.paint.specs.Changes.{IsFrame};
+ghost use Rattle.paint.specs.{props, ◌≤◌, LARGEST_SCREEN, IsFrame};
 
 use cell::{Grid, Shown};
 use ecma::Positions;

@@ -1,18 +1,12 @@
 //! Strokes drawn by a pen, one after another or rendition by rendition.
 
-ghost use Rattle.std.specs.Prelude.{◌≡◌, ◌+◌, ◌-◌, ◌<◌, ◌≤◌, ◌++◌, ◌∷◌, [], ℕ, ⊤, All, List, MatchOption, None, Some, drop, filter, length, slice_index_or, take, true};
-ghost use Rattle.cell.specs.Pictures.{Picture, Place, line_of};
-ghost use Rattle.cell.specs.Shown.{no_rendition, shown_blank};
-ghost use Rattle.ecma.specs.Spelling.{position_bytes};
-ghost use Rattle.extents.specs.Extents.{columns_of};
-ghost use Rattle.cell.specs.declared.limits.TheConstants.{LARGEST_SCREEN};
-ghost use Rattle.streams.specs.Sinks.{Seen};
+ghost use Rattle.paint.specs.{◌≡◌, ◌+◌, ◌-◌, ◌<◌, ◌≤◌, ◌++◌, ◌∷◌, [], ℕ, ⊤, All, List, MatchOption, None, Some, drop, filter, length, slice_index_or, take};
+ghost use Rattle.paint.specs.{true, Picture, Place, line_of, no_rendition, shown_blank, position_bytes, columns_of, LARGEST_SCREEN, Seen, AreDrawn};
+ghost use Rattle.paint.specs.{IsPageEnd, IsStroke, IsUnderWay, IsWay, is_of, no_stroke, HaveOneRendition, cells_between, SameTerminals, DrawsWithin};
+ghost use Rattle.paint.specs.{IsPlainAt, most_approach, picture_bytes, run_bytes, with_cells};
 ghost use Rattle.paint.specs.declared.pen.Pen.{Pen as AnyPen};
 ghost use Rattle.paint.specs.declared.strokes.TheConstants.{ROOM};
 ghost use Rattle.paint.specs.declared.strokes.Stroke.{Stroke as AnyStroke};
-ghost use Rattle.paint.specs.steps.Strokes.{AreDrawn, IsPageEnd, IsStroke, IsUnderWay, IsWay, is_of, no_stroke};
-ghost use Rattle.paint.specs.steps.Runs.{HaveOneRendition, cells_between};
-ghost use Rattle.paint.specs.steps.Pens.{SameTerminals, DrawsWithin, IsPlainAt, most_approach, picture_bytes, run_bytes, with_cells};
 
 use crate::blanks::{PageEnd, last_changed, page_end};
 use crate::changes::Frame;

@@ -1,11 +1,8 @@
 //! What a painter's texts show after all that was sent to a terminal before. Each function does nothing, and
 //! its contract is the law.
 
-ghost use Rattle.std.specs.Prelude.{◌≡◌, ◌≤◌, ℕ, Bool, List, [], ◌++◌, length, take, Some, None};
-ghost use Rattle.cell.specs.Pictures.{HasSize};
-ghost use Rattle.ecma.specs.Terminals.{Terminal};
-ghost use Rattle.ecma.specs.Streams.{IsInProfile, LeadsWithBreaks, showing};
-ghost use Rattle.paint.specs.Updates.{PainterState, ShownPicture, IsUpdateText, Agrees};
+ghost use Rattle.paint.specs.{◌≡◌, ◌≤◌, ℕ, Bool, List, [], ◌++◌, length, take, Some, None, HasSize, Terminal, IsInProfile, LeadsWithBreaks, showing};
+ghost use Rattle.paint.specs.{PainterState, ShownPicture, IsUpdateText, Agrees};
 
 /// A painter that knows nothing agrees with every stream in the profile, and so with the empty one.
 pub fn unknown_agrees()

@@ -1,11 +1,8 @@
 //! The changed cells of a line, and runs of them that have one rendition.
 
-ghost use Rattle.std.specs.Prelude.{◌≡◌, ◌-◌, ◌<◌, ◌≤◌, ℕ, false, true, length, slice_index_or};
-ghost use Rattle.cell.specs.Differences.{same_shown};
-ghost use Rattle.cell.specs.Shown.{shown_blank};
-ghost use Rattle.cell.specs.declared.lanes.TheConstants.{LANES};
+ghost use Rattle.paint.specs.{◌≡◌, ◌-◌, ◌<◌, ◌≤◌, ℕ, false, true, length, slice_index_or, same_shown, shown_blank, LANES, AreEnds, AreOfRun, IsRun};
+ghost use Rattle.paint.specs.{IsStretch, is_over};
 ghost use Rattle.paint.specs.declared.line.TheConstants.{FEW};
-ghost use Rattle.paint.specs.steps.Runs.{AreEnds, AreOfRun, IsRun, IsStretch, is_over};
 
 use cell::{LANES, Rendition, Shown, first_diff};
 use std::simd::prelude::*;

@@ -1,14 +1,8 @@
 //! Gathers a text in a buffer of fixed size, from which it goes out in pieces.
 
-ghost use Rattle.std.specs.Prelude.{◌≡◌, ◌≤◌, ◌<◌, ◌+◌, ◌++◌, ◌^◌, ℕ, IfOk, List, [], length, slice_index_or};
-ghost use Rattle.arrayvec.specs.ArrayVec.{array_vec_len};
-ghost use Rattle.cell.specs.Shown.{IsShown, shown_blank};
-ghost use Rattle.cell.specs.declared.lanes.TheConstants.{LANES};
-ghost use Rattle.streams.specs.Sending.{Sends};
-ghost use Rattle.streams.specs.Sinks.{Seen};
+ghost use Rattle.paint.specs.{◌≡◌, ◌≤◌, ◌<◌, ◌+◌, ◌++◌, ◌^◌, ℕ, IfOk, List, [], length, slice_index_or, array_vec_len, IsShown, shown_blank, LANES, Sends};
+ghost use Rattle.paint.specs.{Seen, Gathers, GoesOut, IsGathered, empty_outbox, characters};
 ghost use Rattle.paint.specs.declared.outbox.TheConstants.{ROOM};
-ghost use Rattle.paint.specs.steps.Gathering.{Gathers, GoesOut, IsGathered, empty_outbox};
-ghost use Rattle.paint.specs.steps.Pens.{characters};
 
 use arrayvec::ArrayVec;
 use cell::{LANES, Shown};

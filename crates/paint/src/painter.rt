@@ -1,16 +1,9 @@
 //! A painter: it sends pictures to terminals of one size.
 
-ghost use Rattle.std.specs.Prelude.{◌≡◌, ℕ, ◌<◌, ◌≤◌, ◌↔◌, ⊤, MatchOption, length, ◌⊎◌, ◌||◌, Bool, IfNone, IfOk, IfErr, IsErrOf, IsTrue, None, if◌then◌else◌};
-ghost use Rattle.std.specs.Option.{option_map_or};
-ghost use Rattle.cell.specs.Pictures.{HasSize, Picture, Place, blank_picture, origin};
-ghost use Rattle.cell.specs.Limits.{is_no_size};
-ghost use Rattle.cell.specs.declared.limits.TheConstants.{LARGEST_SCREEN};
-ghost use Rattle.streams.specs.Sinks.{Seen};
-ghost use Rattle.extents.specs.Extents.{DifferOnly};
-ghost use Rattle.paint.specs.Updates.{CanShow, PainterState, ShownPicture, UpdateEnds, UpdateMade, first_painter, known_picture, opening_from, start_from};
-ghost use Rattle.paint.specs.steps.Gathering.{IsGathered};
-ghost use Rattle.paint.specs.steps.Holding.{CanDraw, HoldsUpdate, IsStart, last_shown};
-ghost use Rattle.paint.specs.steps.Pens.{SameTerminals};
+ghost use Rattle.paint.specs.{◌≡◌, ℕ, ◌<◌, ◌≤◌, ◌↔◌, ⊤, MatchOption, length, ◌⊎◌, ◌||◌, Bool, IfNone, IfOk, IfErr, IsErrOf, IsTrue, None, if◌then◌else◌};
+ghost use Rattle.paint.specs.{option_map_or, HasSize, Picture, Place, blank_picture, origin, is_no_size, LARGEST_SCREEN, Seen, DifferOnly, CanShow};
+ghost use Rattle.paint.specs.{PainterState, ShownPicture, UpdateEnds, UpdateMade, first_painter, known_picture, opening_from, start_from, IsGathered};
+ghost use Rattle.paint.specs.{CanDraw, HoldsUpdate, IsStart, last_shown, SameTerminals};
 
 use crate::changes::Frame;
 use crate::drawing::paint;
@@ -43,7 +36,7 @@ impl Model for Painter {
     ghost use Rattle.std.specs.Prelude.{◌≡◌, ◌≤◌, length};
     ghost use Rattle.cell.specs.Pictures.{HasSize};
     ghost use Rattle.cell.specs.declared.limits.TheConstants.{LARGEST_SCREEN};
-    ghost use Rattle.paint.specs.Updates.{PainterState};
+    ghost use Rattle.paint.specs.Doupdates.{PainterState};
 
     ghost Value = { PainterState };
 

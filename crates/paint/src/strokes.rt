@@ -1,11 +1,10 @@
 //! Strokes: each writes what is wanted where it writes, so that a pen may draw them in any order. They are found line by
 //! line, and are as many as there is room for.
 
-ghost use Rattle.std.specs.Prelude.{◌≡◌, ◌+◌, ◌-◌, ◌<◌, ◌≤◌, ◌++◌, ◌∷◌, [], IfOk, List, if◌then◌else◌, length, min};
-ghost use Rattle.cell.specs.declared.limits.TheConstants.{LARGEST_SCREEN};
+ghost use Rattle.paint.specs.{◌≡◌, ◌+◌, ◌-◌, ◌<◌, ◌≤◌, ◌++◌, ◌∷◌, [], IfOk, List, if◌then◌else◌, length, min, LARGEST_SCREEN, AreAlike, ArePlanned};
+ghost use Rattle.paint.specs.{IsPageEnd};
 ghost use Rattle.paint.specs.declared.strokes.Stroke.{Stroke as AnyStroke};
 ghost use Rattle.paint.specs.declared.strokes.TheConstants.{ROOM};
-ghost use Rattle.paint.specs.steps.Strokes.{AreAlike, ArePlanned, IsPageEnd};
 
 use crate::blanks::{PageEnd, tail_over, tail_start};
 use crate::changes::Frame;

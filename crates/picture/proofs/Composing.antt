@@ -1,18 +1,8 @@
 -- Damaged lines are composed one after another.
-use Rattle.std.proofs.Common.{◌≡◌, ℕ, zero, suc, ◌+◌, ◌-◌, ◌*◌, ◌<◌, ◌≤◌, false, ◌==◌, ◌&&◌, nat_le, nat_lt, if◌then◌else◌, Option, Some, None, List, length, refl, sym, ap}
-use Rattle.std.proofs.Common.{subst, ◌∙◌, arith, get_or-set_other, get_or-set_same}
-use Rattle.std.specs.Prelude.{slice_set}
-use Rattle.std.proofs.Math.Nat.{mul-le-mul_left, mul-le-mul_right}
-use Rattle.std.proofs.lemmas.Bool.{cases_eq, eq-eqb, ne_eqb}
-use Rattle.std.proofs.lemmas.Bool.Decides.{nat_tests}
-use Rattle.std.proofs.lemmas.List.{length-set}
-use Rattle.cell.specs.Pictures.{Picture, HasSize, shown_at}
-use Rattle.cell.specs.Shown.{Shown}
-use Rattle.cell.specs.declared.limits.TheConstants.{LARGEST_SCREEN}
-use Rattle.world.specs.Sound.{AreColumnsWithin}
-use Rattle.world.specs.declared.settings.Columns.{Columns}
-use Rattle.extents.specs.Extents.{columns_of, is_among}
-use Rattle.picture.specs.Damages.{cells_above, cells_of_line}
+use Rattle.picture.specs.{◌≡◌, ℕ, zero, suc, ◌+◌, ◌-◌, ◌*◌, ◌<◌, ◌≤◌, false, ◌==◌, ◌&&◌, nat_le, nat_lt, if◌then◌else◌, Option, Some, None, List, length}
+use Rattle.picture.specs.{refl, sym, ap, subst, ◌∙◌, arith, get_or-set_other, get_or-set_same, slice_set, mul-le-mul_left, mul-le-mul_right, cases_eq, eq-eqb}
+use Rattle.picture.specs.{ne_eqb, nat_tests, length-set, Picture, HasSize, shown_at, Shown, LARGEST_SCREEN, AreColumnsWithin, Columns, columns_of, is_among}
+use Rattle.picture.specs.{cells_above, cells_of_line}
 use Rattle.picture.proofs.Lines.{ShownAbove}
 
 -- ---- how many cells

@@ -1,19 +1,9 @@
 -- What steps do to the damage, one after another; and what is damaged of a rectangle.
-use Rattle.std.proofs.Common.{◌≡◌, ℕ, ◌+◌, ◌<◌, ◌≤◌, Bool, true, false, ◌&&◌, ◌||◌, nat_lt, if◌then◌else◌, Option, Some, None, is_some, List, length, inl, inr, refl, ap}
-use Rattle.std.proofs.Common.{arith, get_or-set_other, get_or-set_same, rules}
-use Rattle.std.specs.Prelude.{MatchOption, slice_set, ⊤}
-use Rattle.std.specs.Option.{option_map}
-use Rattle.std.proofs.lemmas.Bool.{and_parts, and_from, or_left, or_right, or_cases, cases_eq, cases_lt, leb-true, le-leb}
-use Rattle.std.proofs.lemmas.Bool.Decides.{nat_tests}
-use Rattle.std.proofs.lemmas.List.{length-set}
-use Rattle.cell.specs.declared.window.Rect.{Rect}
-use Rattle.world.specs.declared.settings.Columns.{Columns}
-use Rattle.world.specs.Windows.{any_below, joined_columns}
-use Rattle.world.specs.calls.Refresh.{among}
+use Rattle.picture.specs.{◌≡◌, ℕ, ◌+◌, ◌<◌, ◌≤◌, Bool, true, false, ◌&&◌, ◌||◌, nat_lt, if◌then◌else◌, Option, Some, None, is_some, List, length, inl, inr}
+use Rattle.picture.specs.{refl, ap, arith, get_or-set_other, get_or-set_same, rules, MatchOption, slice_set, ⊤, option_map, and_parts, and_from, or_left}
+use Rattle.picture.specs.{or_right, or_cases, cases_eq, cases_lt, leb-true, le-leb, nat_tests, length-set, Rect, Columns, any_below, joined_columns, among}
+use Rattle.picture.specs.{columns_of, has_columns, is_among, AreEnds, Damages, IsFrameWithin, frame_has_line, frame_holds}
 use Rattle.world.proofs.Below.{any_below-some}
-use Rattle.extents.specs.Extents.{columns_of, has_columns, is_among}
-use Rattle.picture.specs.Damages.{AreEnds, Damages}
-use Rattle.picture.specs.Parts.{IsFrameWithin, frame_has_line, frame_holds}
 
 -- ---- one step after another
 

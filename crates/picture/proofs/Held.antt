@@ -1,14 +1,6 @@
 -- A place that a rectangle holds lies between its sides, and one that a window's rectangle holds is a place of the window.
-use Rattle.std.proofs.Common.{◌≡◌, ℕ, ◌-◌, ◌<◌, ◌≤◌, true, false, Option, arith}
-use Rattle.std.specs.Prelude.{IsSomeAnd, is_some}
-use Rattle.std.specs.Option.{option_map_or}
-use Rattle.std.proofs.lemmas.Bool.{and_parts, leb-true, ltb-true}
-use Rattle.cell.specs.Pictures.{origin}
-use Rattle.cell.specs.declared.window.Rect.{Rect}
-use Rattle.world.specs.Panels.{holds, holds_place, place_of, screen_place}
-use Rattle.world.specs.calls.Making.{is_no_pad}
-use Rattle.world.specs.Windows.{HasPlace, Window, WindowMap}
-use Rattle.picture.specs.Parts.{frame_holds}
+use Rattle.picture.specs.{◌≡◌, ℕ, ◌-◌, ◌<◌, ◌≤◌, true, false, Option, arith, IsSomeAnd, is_some, option_map_or, and_parts, leb-true, ltb-true, origin, Rect}
+use Rattle.picture.specs.{holds, holds_place, place_of, screen_place, is_no_pad, HasPlace, Window, WindowMap, frame_holds}
 
 pub record IsBetween (r : Rect) (y x : ℕ) : Type 0 where
   pub top : r.top ≤ y

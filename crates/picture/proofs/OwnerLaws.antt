@@ -1,16 +1,8 @@
 -- The owner of a column is found from the bottom up as well: each visible panel that holds the column takes it over.
-use Rattle.std.proofs.Common.{◌≡◌, ◌≢◌, ◌+◌, ◌≤◌, ℕ, Bool, true, false, if◌then◌else◌, Option, Some, None, List, [], ◌∷◌, reverse, refl, sym, ap, subst, ◌∙◌, arith}
-use Rattle.std.specs.Prelude.{find}
-use Rattle.std.specs.Option.{option_map_or, option_or}
-use Rattle.std.proofs.lemmas.List.{reverse-append}
-use Rattle.std.proofs.lemmas.List.Folds.{find-append}
-use Rattle.cell.specs.declared.window.Rect.{Rect}
-use Rattle.stack.specs.Nodes.{AreOnce, IsOut}
-use Rattle.world.specs.Panels.{Panels, holds, owner, panel_holds}
-use Rattle.world.specs.Windows.{WindowMap}
-use Rattle.picture.specs.Parts.{frame_holds}
+use Rattle.picture.specs.{◌≡◌, ◌≢◌, ◌+◌, ◌≤◌, ℕ, Bool, true, false, if◌then◌else◌, Option, Some, None, List, [], ◌∷◌, reverse, refl, sym, ap, subst, ◌∙◌}
+use Rattle.picture.specs.{arith, find, option_map_or, option_or, reverse-append, find-append, Rect, AreOnce, IsOut, Panels, holds, owner, panel_holds}
+use Rattle.picture.specs.{WindowMap, frame_holds, AreSpans}
 use Rattle.picture.specs.declared.spans.Spans.{Spans}
-use Rattle.picture.specs.steps.Owners.{AreSpans}
 
 -- the last of a list that passes a test, or another one
 abbrev pub last_or : (ℕ → Bool) → List ℕ → Option ℕ → Option ℕ

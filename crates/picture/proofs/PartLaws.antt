@@ -1,12 +1,6 @@
 -- The part of the screen on which a window is, or on which it shows cells of another.
-use Rattle.std.proofs.Common.{◌≡◌, ℕ, ◌+◌, Bool, true, Some, arith, rules}
-use Rattle.std.proofs.lemmas.Bool.{and_parts, and_from, leb-true, le-leb, ltb-true, lt-ltb}
-use Rattle.cell.specs.declared.window.Rect.{Rect}
-use Rattle.world.specs.Frames.{AreRectangle, IsSmallest}
-use Rattle.world.specs.Sharing.{SharesPart}
-use Rattle.world.specs.Windows.{Windows}
-use Rattle.world.specs.calls.Affected.{shows_at}
-use Rattle.picture.specs.Parts.{frame_holds}
+use Rattle.picture.specs.{◌≡◌, ℕ, ◌+◌, Bool, true, Some, arith, rules, and_parts, and_from, leb-true, le-leb, ltb-true, lt-ltb, Rect, AreRectangle}
+use Rattle.picture.specs.{IsSmallest, SharesPart, Windows, shows_at, frame_holds}
 use Rattle.picture.proofs.Held.{held-between}
 use Rattle.picture.proofs.Placement.{IsPlacedAt}
 

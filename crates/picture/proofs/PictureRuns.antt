@@ -1,23 +1,12 @@
 -- A line of the picture is made run by run, each from a piece of one window's line.
-use Rattle.std.proofs.Common.{◌≡◌, ℕ, ◌+◌, ◌-◌, ◌≤◌, ◌==◌, ◌&&◌, true, if◌then◌else◌, List, length, nat_le, nat_lt, sym, ap, ◌∙◌, arith, add_assoc}
-use Rattle.std.specs.Prelude.{slice_index_or}
-use Rattle.std.proofs.lemmas.Bool.Decides.{nat_tests}
-use Rattle.cell.specs.Glyphs.{Glyph, blank}
-use Rattle.cell.specs.Pictures.{HasSize, Picture, Place, line_of, shown_at}
-use Rattle.cell.specs.Shown.{Pairs, shown}
-use Rattle.cell.specs.declared.window.Rect.{Rect}
-use Rattle.world.specs.Windows.{HasPlace, WindowMap, Windows}
-use Rattle.world.specs.calls.Making.{is_no_pad}
-use Rattle.world.specs.calls.Stacking.{panel_number}
-use Rattle.world.specs.Panels.{Panels, found_from_top, holds, owner, place_of, standard_screen, window_or_standard}
-use Rattle.picture.specs.Counts.{GrewBy}
-use Rattle.picture.specs.Parts.{IsPiece, frame_holds}
-use Rattle.picture.specs.Spans.{IsSpan}
+use Rattle.picture.specs.{◌≡◌, ℕ, ◌+◌, ◌-◌, ◌≤◌, ◌==◌, ◌&&◌, true, if◌then◌else◌, List, length, nat_le, nat_lt, sym, ap, ◌∙◌, arith, add_assoc}
+use Rattle.picture.specs.{slice_index_or, nat_tests, Glyph, blank, HasSize, Picture, Place, line_of, shown_at, Pairs, shown, Rect, HasPlace, WindowMap}
+use Rattle.picture.specs.{Windows, is_no_pad, panel_number, Panels, found_from_top, holds, owner, place_of, standard_screen, window_or_standard, GrewBy}
+use Rattle.picture.specs.{IsPiece, frame_holds, IsSpan, mod-add-mod}
 use Rattle.picture.specs.declared.span.Span.{Span}
 use Rattle.picture.proofs.Held.{IsBetween, held-between, held-no-pad, held-place}
 use Rattle.picture.proofs.Lines.{LineShown}
 use Rattle.picture.proofs.Searching.{owner-held}
-use Rattle.std.proofs.Math.Nat.{mod-add-mod}
 
 -- the search finds window w from a column on, up to a last one
 pub record IsRun (window : WindowMap) (panels : Panels) (y x edge w last : ℕ) : Type 0 where

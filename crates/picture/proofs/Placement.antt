@@ -1,12 +1,6 @@
 -- A window is at a place of the screen.
-use Rattle.std.proofs.Common.{◌≡◌, ℕ, ◌+◌, ◌<◌, ◌≤◌, Option, Some, None, refl, ap, ◌∙◌, arith}
-use Rattle.std.specs.Prelude.{option_and_then}
-use Rattle.std.specs.Option.{option_map}
-use Rattle.cell.specs.Pictures.{Place}
-use Rattle.cell.specs.declared.limits.TheConstants.{LARGEST_SCREEN}
-use Rattle.world.specs.Windows.{Window, Windows}
-use Rattle.world.specs.Sound.{AreColumnsWithin, AreSoundWindows}
-use Rattle.world.specs.calls.Queries.{place_on_screen, window_size}
+use Rattle.picture.specs.{◌≡◌, ℕ, ◌+◌, ◌<◌, ◌≤◌, Option, Some, None, refl, ap, ◌∙◌, arith, option_and_then, option_map, Place, LARGEST_SCREEN, Window}
+use Rattle.picture.specs.{Windows, AreColumnsWithin, AreSoundWindows, place_on_screen, window_size}
 
 -- the window is there, at this place of the screen
 pub record IsPlacedAt (windows : Windows) (w : ℕ) (place : Place) (lines : ℕ) : Type 0 where

@@ -1,12 +1,7 @@
 -- A piece of a window's line is cut out of its row.
-use Rattle.std.proofs.Common.{◌≡◌, ℕ, ◌+◌, ◌-◌, ◌<◌, ◌≤◌, Option, List, length, take, drop, ◌∙◌, arith}
-use Rattle.std.specs.Prelude.{IsSomeAnd}
-use Rattle.std.proofs.lemmas.List.{get_or-drop, get_or-take, length-drop, length-take}
-use Rattle.cell.specs.Glyphs.{Glyph, blank}
-use Rattle.world.specs.Windows.{HasPlace, Window, WindowMap}
+use Rattle.picture.specs.{◌≡◌, ℕ, ◌+◌, ◌-◌, ◌<◌, ◌≤◌, Option, List, length, take, drop, ◌∙◌, arith, IsSomeAnd, get_or-drop, get_or-take, length-drop}
+use Rattle.picture.specs.{length-take, Glyph, blank, HasPlace, Window, WindowMap, line_shown, IsPiece}
 use Rattle.grids.proofs.Showing.{line-has}
-use Rattle.world.specs.Rows.{line_shown}
-use Rattle.picture.specs.Parts.{IsPiece}
 
 -- a place further left on the same line
 place_before : (o : Option Window) (y x z : ℕ) → IsSomeAnd o (λ a. (y < a.lines) × (x < a.columns)) → z ≤ x → IsSomeAnd o (λ a. (y < a.lines) × (z < a.columns))

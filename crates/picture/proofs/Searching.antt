@@ -1,11 +1,6 @@
 -- No panel is visible twice, and the one that the search finds holds the place.
-use Rattle.std.proofs.Common.{◌≡◌, ◌≢◌, ℕ, suc, Bool, true, Option, Some, List, [], ◌∷◌, refl, arith}
-use Rattle.std.specs.Prelude.{AllPairs, find}
-use Rattle.std.specs.List.{AllByRecursion}
-use Rattle.std.proofs.lemmas.List.Elements.{recursion_from_All}
-use Rattle.stack.specs.Nodes.{AreOnce, IsOut}
-use Rattle.world.specs.Panels.{Panels, holds, owner, standard_screen, window_or_standard}
-use Rattle.world.specs.Windows.{WindowMap}
+use Rattle.picture.specs.{◌≡◌, ◌≢◌, ℕ, suc, Bool, true, Option, Some, List, [], ◌∷◌, refl, arith, AllPairs, find, AllByRecursion, recursion_from_All, AreOnce}
+use Rattle.picture.specs.{IsOut, Panels, holds, owner, standard_screen, window_or_standard, WindowMap}
 
 -- ---- no panel is visible twice
 

@@ -1,15 +1,9 @@
 -- The spans of a line after a panel is laid over it, and that one of them is what the search finds.
-use Rattle.std.proofs.Common.{◌≡◌, ◌≢◌, ℕ, ◌+◌, ◌-◌, ◌<◌, ◌≤◌, ◌==◌, ◌&&◌, nat_le, nat_lt, true, false, if◌then◌else◌, Option, Some, None, List, inl, inr, slice_index, sym, ap, subst, ◌∙◌, arith}
-use Rattle.std.proofs.lemmas.Bool.{cases_eq, cases_lt}
-use Rattle.std.proofs.lemmas.Bool.Decides.{nat_tests}
-use Rattle.small_set.specs.Sets.{contains}
-use Rattle.world.specs.Panels.{Panels, owner}
-use Rattle.world.specs.Windows.{WindowMap}
-use Rattle.world.specs.calls.Stacking.{panel_number}
-use Rattle.picture.specs.Spans.{IsSpan}
+use Rattle.picture.specs.{◌≡◌, ◌≢◌, ℕ, ◌+◌, ◌-◌, ◌<◌, ◌≤◌, ◌==◌, ◌&&◌, nat_le, nat_lt, true, false, if◌then◌else◌, Option, Some, None, List, inl, inr}
+use Rattle.picture.specs.{slice_index, sym, ap, subst, ◌∙◌, arith, cases_eq, cases_lt, nat_tests, contains, Panels, owner, WindowMap, panel_number, IsSpan}
+use Rattle.picture.specs.{AreSpans, IsEndFrom, numbered}
 use Rattle.picture.specs.declared.span.Span.{Span}
 use Rattle.picture.specs.declared.spans.Spans.{Spans}
-use Rattle.picture.specs.steps.Owners.{AreSpans, IsEndFrom, numbered}
 
 -- ---- a column's owner
 

@@ -1,12 +1,6 @@
 -- In a sound world the standard screen holds each place of the screen, and the window of each visible panel is there.
-use Rattle.std.proofs.Common.{◌≡◌, ℕ, ◌<◌, true, false, Option, arith}
-use Rattle.std.specs.Prelude.{IsSomeAnd}
-use Rattle.std.specs.Option.{option_map_or}
-use Rattle.std.proofs.lemmas.Bool.{lt-ltb, le-leb}
-use Rattle.world.specs.Windows.{Window, WindowMap, Windows}
-use Rattle.world.specs.Panels.{Panels, holds, holds_place, standard_screen}
-use Rattle.world.specs.Sound.{AreSoundPanels, AreSoundWindows, IsStandardScreen}
-use Rattle.picture.specs.Spans.{HasPanelWindows}
+use Rattle.picture.specs.{◌≡◌, ℕ, ◌<◌, true, false, Option, arith, IsSomeAnd, option_map_or, lt-ltb, le-leb, Window, WindowMap, Windows, Panels, holds}
+use Rattle.picture.specs.{holds_place, standard_screen, AreSoundPanels, AreSoundWindows, IsStandardScreen, HasPanelWindows}
 
 holds-there : (windows : Windows) (o : Option Window) (y x : ℕ) → IsSomeAnd o (IsStandardScreen windows) → y < windows.lines → x < windows.columns
     → option_map_or (holds_place y x) o false ≡ true

@@ -1,12 +1,6 @@
 -- What is wanted of a picture so that composing its damaged places alone makes it that of the windows and panels.
-use Rattle.std.specs.Prelude.{◌≡◌, ℕ, ◌<◌, false, List, length, Option}
-use Rattle.cell.specs.Pictures.{HasSize, Picture, shown_at}
-use Rattle.cell.specs.Shown.{Pairs, shown}
-use Rattle.world.specs.Panels.{Panels, found_from_top}
-use Rattle.world.specs.Sound.{AreColumnsWithin, AreSoundPanels, AreSoundWindows}
-use Rattle.world.specs.Windows.{Windows}
-use Rattle.world.specs.declared.settings.Columns.{Columns}
-use Rattle.extents.specs.Extents.{columns_of, is_among}
+use Rattle.picture.specs.Names.{◌≡◌, ℕ, ◌<◌, false, List, length, Option, HasSize, Picture, shown_at, Pairs, shown, Panels, found_from_top, AreColumnsWithin}
+use Rattle.picture.specs.Names.{AreSoundPanels, AreSoundWindows, Windows, Columns, columns_of, is_among}
 
 -- The windows and the panels are sound, and everywhere but at the damage a picture of the screen's size shows what the search from the top finds.
 pub record IsRepairable (ws : Windows) (ps : Panels) (pairs : Pairs) (damage : List (Option Columns)) (picture : Picture) : Type 0 where

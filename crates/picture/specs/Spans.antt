@@ -1,10 +1,6 @@
 -- The spans of a line: columns side by side at which the search from the top finds the same panel, or the standard
 -- screen.
-use Rattle.std.specs.Prelude.{◌≡◌, ◌≢◌, ℕ, ◌+◌, ◌<◌, ◌≤◌, true, All, MatchOption, ⊤}
-use Rattle.world.specs.Panels.{Panels, owner}
-use Rattle.world.specs.Windows.{WindowMap}
-use Rattle.world.specs.calls.Making.{is_no_pad}
-use Rattle.world.specs.calls.Stacking.{panel_number}
+use Rattle.picture.specs.Names.{◌≡◌, ◌≢◌, ℕ, ◌+◌, ◌<◌, ◌≤◌, true, All, MatchOption, ⊤, Panels, owner, WindowMap, is_no_pad, panel_number}
 use Rattle.picture.specs.declared.span.Span.{Span}
 
 -- the window of each visible panel is there, and no pad

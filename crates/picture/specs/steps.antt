@@ -1,1 +1,2 @@
 pub mod Owners
+unfoldable pub use Owners.*

@@ -1,13 +1,7 @@
 //! A part of a line of the picture, composed of pieces of windows.
 
-ghost use Rattle.std.specs.Prelude.{◌≡◌, ◌<◌, ◌≤◌, ◌+◌, ◌-◌, ◌==◌, ◌&&◌, ℕ, true, if◌then◌else◌, length, nat_le, nat_lt};
-ghost use Rattle.cell.specs.Pictures.{HasSize, line_of, shown_at};
-ghost use Rattle.cell.specs.Shown.{shown};
-ghost use Rattle.world.specs.Panels.{found_from_top, holds, standard_screen};
-ghost use Rattle.stack.specs.Tables.{panels};
-ghost use Rattle.picture.specs.Counts.{GrewBy};
-ghost use Rattle.picture.specs.Spans.{HasPanelWindows};
-ghost use Rattle.picture.specs.steps.Owners.{KnowsOwners};
+ghost use Rattle.picture.specs.{◌≡◌, ◌<◌, ◌≤◌, ◌+◌, ◌-◌, ◌==◌, ◌&&◌, ℕ, true, if◌then◌else◌, length, nat_le, nat_lt, HasSize, line_of, shown_at, shown};
+ghost use Rattle.picture.specs.{found_from_top, holds, standard_screen, panels, GrewBy, HasPanelWindows, KnowsOwners};
 
 use crate::owners::Owners;
 use crate::rows::Rows;

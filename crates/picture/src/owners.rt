@@ -1,14 +1,8 @@
 //! The search from the top, along the lines of the screen. What it finds in one line holds in those below it up to
 //! where a panel begins or ends, and is kept for them.
 
-ghost use Rattle.std.specs.Prelude.{◌≡◌, ◌≢◌, ◌<◌, ◌≤◌, ℕ, Some, Option, if◌then◌else◌};
-ghost use Rattle.cell.specs.declared.limits.TheConstants.{LARGEST_SCREEN};
-ghost use Rattle.world.specs.Panels.{Panels};
-ghost use Rattle.world.specs.Windows.{WindowMap};
-ghost use Rattle.stack.specs.Tables.{panels};
-ghost use Rattle.picture.specs.Parts.{frame_holds};
-ghost use Rattle.picture.specs.Spans.{HasPanelWindows, IsSpan};
-ghost use Rattle.picture.specs.steps.Owners.{AreInside, AreSpans, KnowsOwners};
+ghost use Rattle.picture.specs.{◌≡◌, ◌≢◌, ◌<◌, ◌≤◌, ℕ, Some, Option, if◌then◌else◌, LARGEST_SCREEN, Panels, WindowMap, panels, frame_holds, HasPanelWindows};
+ghost use Rattle.picture.specs.{IsSpan, AreInside, AreSpans, KnowsOwners};
 
 use crate::rows::Rows;
 use crate::span::Span;

@@ -1,15 +1,7 @@
 //! Which part of the screen shows something of a window.
 
-ghost use Rattle.std.specs.Prelude.{◌≡◌, ◌≤◌, ◌==◌, ℕ, false, All, IsSome, MatchOption, ⊤};
-ghost use Rattle.std.specs.List.{list_any};
-ghost use Rattle.world.specs.Panels.{holds, place_of};
-ghost use Rattle.world.specs.Sound.{AreSoundPanels};
-ghost use Rattle.world.specs.Windows.{HasPlace};
-ghost use Rattle.world.specs.calls.Making.{is_no_pad};
-ghost use Rattle.world.specs.calls.Affected.{follows_at, panel_shows_at, shows_at};
-ghost use Rattle.grids.specs.Tables.{windows as windows_of};
-ghost use Rattle.stack.specs.Tables.{panels};
-ghost use Rattle.picture.specs.Parts.{IsFrameWithin, part_holds};
+ghost use Rattle.picture.specs.{◌≡◌, ◌≤◌, ◌==◌, ℕ, false, All, IsSome, MatchOption, ⊤, list_any, holds, place_of, AreSoundPanels, HasPlace, is_no_pad};
+ghost use Rattle.picture.specs.{follows_at, panel_shows_at, shows_at, windows as windows_of, panels, IsFrameWithin, part_holds};
 
 use cell::{Rect, WinId};
 use grids::Grids;

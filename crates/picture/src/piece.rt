@@ -1,11 +1,7 @@
 //! A part of a window's line, put into a picture.
 
-ghost use Rattle.std.specs.Prelude.{◌≡◌, ◌<◌, ◌≤◌, ◌+◌, ◌-◌, ◌==◌, ◌&&◌, ℕ, if◌then◌else◌, nat_le, nat_lt};
-ghost use Rattle.cell.specs.Pictures.{HasSize, shown_at};
-ghost use Rattle.cell.specs.Shown.{shown};
-ghost use Rattle.world.specs.Windows.{HasPlace, cell_at};
-ghost use Rattle.grids.specs.Tables.{windows as windows_of};
-ghost use Rattle.picture.specs.Parts.{IsPiece};
+ghost use Rattle.picture.specs.{◌≡◌, ◌<◌, ◌≤◌, ◌+◌, ◌-◌, ◌==◌, ◌&&◌, ℕ, if◌then◌else◌, nat_le, nat_lt, HasSize, shown_at, shown, HasPlace, cell_at};
+ghost use Rattle.picture.specs.{windows as windows_of, IsPiece};
 
 use cell::{Cell, Grid, Pairs, Shown, WinId, show_cells};
 use grids::{Grids, Place};

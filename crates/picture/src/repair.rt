@@ -1,14 +1,7 @@
 //! Composes the damaged part of the picture of windows and panels again.
 
-ghost use Rattle.std.specs.Prelude.{◌≡◌, ◌≤◌, ℕ, None, length};
-ghost use Rattle.cell.specs.Pictures.{AreShown, picture_of};
-ghost use Rattle.cell.specs.Shown.{shown};
-ghost use Rattle.world.specs.Panels.{found_from_top};
-ghost use Rattle.stack.specs.Tables.{panels};
-ghost use Rattle.picture.specs.Counts.{GrewBy};
-ghost use Rattle.extents.specs.Extents.{AddsChanges, columns_of, is_among};
-ghost use Rattle.picture.specs.Damages.{Damages, cells_above};
-ghost use Rattle.picture.specs.Repairs.{IsRepairable};
+ghost use Rattle.picture.specs.{◌≡◌, ◌≤◌, ℕ, None, length, AreShown, picture_of, shown, found_from_top, panels, GrewBy, AddsChanges, columns_of, is_among};
+ghost use Rattle.picture.specs.{Damages, cells_above, IsRepairable};
 
 use crate::line::compose_columns;
 use crate::owners::Owners;

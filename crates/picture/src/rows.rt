@@ -1,13 +1,7 @@
 //! Where the lines of windows come from that a picture is composed of, and how many of their cells were read.
 
-ghost use Rattle.std.specs.Prelude.{◌≡◌, ◌<◌, ◌≤◌, ◌+◌, ◌-◌, ℕ, true};
-ghost use Rattle.cell.specs.declared.limits.TheConstants.{LARGEST_SCREEN};
-ghost use Rattle.world.specs.Panels.{cursor_on_screen, holds, place_of};
-ghost use Rattle.world.specs.Windows.{HasPlace, Windows};
-ghost use Rattle.world.specs.calls.Making.{is_no_pad};
-ghost use Rattle.grids.specs.Tables.{windows as windows_of};
-ghost use Rattle.picture.specs.Counts.{GrewBy};
-ghost use Rattle.picture.specs.Parts.{IsPiece, frame_holds};
+ghost use Rattle.picture.specs.{◌≡◌, ◌<◌, ◌≤◌, ◌+◌, ◌-◌, ℕ, true, LARGEST_SCREEN, cursor_on_screen, holds, place_of, HasPlace, Windows, is_no_pad};
+ghost use Rattle.picture.specs.{windows as windows_of, GrewBy, IsPiece, frame_holds};
 
 use crate::parts::window_part;
 use crate::piece::piece;

@@ -1,11 +1,7 @@
 //! The search from the top visible panel down to the standard screen, and the topmost's cursor.
 
-ghost use Rattle.std.specs.Prelude.{◌≡◌, ◌<◌};
-ghost use Rattle.world.specs.Panels.{cursor_of_topmost, cursor_on_screen, found_from_top, place_of, topmost, window_or_standard};
-ghost use Rattle.world.specs.Sound.{AreSoundPanels, AreSoundWindows};
-ghost use Rattle.world.specs.calls.Stacking.{panel_number};
-ghost use Rattle.grids.specs.Tables.{windows as windows_of};
-ghost use Rattle.stack.specs.Tables.{panels};
+ghost use Rattle.picture.specs.{◌≡◌, ◌<◌, cursor_of_topmost, cursor_on_screen, found_from_top, place_of, topmost, window_or_standard, AreSoundPanels};
+ghost use Rattle.picture.specs.{AreSoundWindows, panel_number, windows as windows_of, panels};
 
 use crate::rows::{Rows, TableRows};
 use crate::span::owner_span;

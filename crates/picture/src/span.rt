@@ -1,8 +1,6 @@
 //! The spans of a line: columns side by side at which the search from the top finds the same panel.
 
-ghost use Rattle.std.specs.Prelude.{◌≤◌};
-ghost use Rattle.stack.specs.Tables.{panels};
-ghost use Rattle.picture.specs.Spans.{HasPanelWindows, IsSpan};
+ghost use Rattle.picture.specs.{◌≤◌, panels, HasPanelWindows, IsSpan};
 
 use crate::owners::Owners;
 use crate::rows::Rows;

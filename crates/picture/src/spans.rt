@@ -1,12 +1,7 @@
 //! The spans of a line, and panels that are laid over it one after another.
 
-ghost use Rattle.std.specs.Prelude.{◌≡◌, ◌≢◌, ◌+◌, ◌<◌, ◌≤◌, ◌==◌, ◌&&◌, ◌||◌, ℕ, Some, None, Option, true, false, if◌then◌else◌, nat_le, nat_lt, slice_index};
-ghost use Rattle.small_set.specs.Sets.{IsNext, contains};
-ghost use Rattle.world.specs.Panels.{Panels, owner};
-ghost use Rattle.world.specs.Windows.{WindowMap};
-ghost use Rattle.world.specs.calls.Stacking.{panel_number};
-ghost use Rattle.picture.specs.Spans.{IsSpan};
-ghost use Rattle.picture.specs.steps.Owners.{AreInside, AreSpans, numbered};
+ghost use Rattle.picture.specs.{◌≡◌, ◌≢◌, ◌+◌, ◌<◌, ◌≤◌, ◌==◌, ◌&&◌, ◌||◌, ℕ, Some, None, Option, true, false, if◌then◌else◌, nat_le, nat_lt, slice_index};
+ghost use Rattle.picture.specs.{IsNext, contains, Panels, owner, WindowMap, panel_number, IsSpan, AreInside, AreSpans, numbered};
 
 use crate::span::Span;
 use small_set::SmallSet;

@@ -1,14 +1,6 @@
 -- Lemmas on the arguments of a call, one after another.
-use Rattle.std.proofs.Common.{◌≡◌, ℕ, ◌+◌, ◌<◌, true, List, [], ◌∷◌, length, drop, refl, arith, Option, Some, None}
-use Rattle.std.proofs.lemmas.List.{drop_all}
-use Rattle.std.specs.List.{slice_split, join_with_byte}
-use Rattle.std.specs.Borrow.{Bor}
-use Rattle.std.proofs.lemmas.List.Splits.{join_with_byte-slice_split, length-slice_split}
-use Rattle.script.specs.Characters.{is_space}
-use Rattle.script.specs.Readings.{arguments, is_text}
-use Rattle.script.specs.Texts.{parse_arguments}
-use Rattle.script.specs.Words.{Arguments}
-use Rattle.script.specs.Pieces.{pieces_of}
+use Rattle.script.specs.{◌≡◌, ℕ, ◌+◌, ◌<◌, true, List, [], ◌∷◌, length, drop, refl, arith, Option, Some, None, drop_all, slice_split, join_with_byte, Bor}
+use Rattle.script.specs.{join_with_byte-slice_split, length-slice_split, is_space, arguments, is_text, parse_arguments, Arguments, pieces_of}
 use Rattle.script.specs.declared.words.Form.{Form}
 
 pub arguments_none : (forms : List Form) → arguments forms [] ≡ []

@@ -1,22 +1,11 @@
 -- A line is gathered a byte at a time.
-use Rattle.std.proofs.Common.{zero, suc, ◌+◌, ◌-◌, take, drop, get_or, position, add-one, drop-cons, length-take, Some, None, if◌then◌else◌}
-use Rattle.std.specs.Prelude.{◌↔◌, IsOk, OnOk, Result, is_err}
-use Rattle.std.proofs.lemmas.Bool.{eqb-true}
-use Rattle.std.proofs.lemmas.List.{drop-drop, drop-take, take-append-drop}
-use Rattle.std.proofs.lemmas.List.Quantifiers.{position-Some}
-use Rattle.std.proofs.lemmas.List.Sums.{fails_before_first}
-use Rattle.std.specs.List.{position_or_len}
-use Rattle.std.proofs.Common.{◌≡◌, ℕ, ◌≤◌, ◌<◌, Bool, true, false, ◌==◌, List, [], ◌∷◌, ◌++◌, length, refl, sym, ap, ◌∙◌, arith, append_assoc, append-nil, length-append}
-use Rattle.std.specs.Io.KnownBytes.{Consumes}
-use Rattle.std.proofs.KnownBytes.{Consumes-nil, Consumes-trans}
-use Rattle.std.proofs.lemmas.List.Folds.{list_any-append}
-use Rattle.std.proofs.lemmas.Bool.Decides.{nat_tests}
-use Rattle.script.specs.Characters.{is_newline, newline}
+use Rattle.script.specs.{zero, suc, ◌+◌, ◌-◌, take, drop, get_or, position, add-one, drop-cons, length-take, Some, None, if◌then◌else◌, ◌↔◌, IsOk, OnOk}
+use Rattle.script.specs.{Result, is_err, eqb-true, drop-drop, drop-take, take-append-drop, position-Some, fails_before_first, position_or_len, ◌≡◌, ℕ, ◌≤◌}
+use Rattle.script.specs.{◌<◌, Bool, true, false, ◌==◌, List, [], ◌∷◌, ◌++◌, length, refl, sym, ap, ◌∙◌, arith, append_assoc, append-nil, length-append}
+use Rattle.script.specs.{Consumes, Consumes-nil, Consumes-trans, list_any-append, nat_tests, is_newline, newline, SourceSeen, HasNoNewline, ReadingEnds}
+use Rattle.script.specs.{ReadsLine, ReadsWhole, work_left, MovesBytes, ReadsByte}
 use Rattle.script.specs.declared.bytes.TheConstants.{LONGEST_PIECE}
 use Rattle.script.specs.declared.limits.TheConstants.{LONGEST_LINE}
-use Rattle.streams.specs.Sources.{SourceSeen}
-use Rattle.script.specs.Lines.{HasNoNewline, ReadingEnds, ReadsLine, ReadsWhole, work_left}
-use Rattle.script.specs.steps.Bytes.{MovesBytes, ReadsByte}
 use Rattle.script.specs.declared.bytes.LineEnd.{LineEnd}
 use Rattle.script.specs.declared.bytes.LineEnd.TheVariants.{Newline, ScriptEnd, ReadFailed}
 use Rattle.script.specs.declared.bytes.Next.TheVariants.{Byte, End, Failed}

@@ -1,12 +1,6 @@
 -- Lemmas on the pieces of a line.
-use Rattle.std.proofs.Common.{◌≡◌, ℕ, ◌+◌, ◌-◌, Some, None, position, List, [], ◌∷◌, length, take, drop, arith, length-drop}
-use Rattle.std.specs.List.{slice_split}
-use Rattle.std.proofs.lemmas.List.{take_all}
-use Rattle.std.proofs.lemmas.List.Sums.{fails_before_first, position_or_len_is}
-use Rattle.std.proofs.lemmas.List.Splits.{slice_split_first, slice_split_none}
-use Rattle.std.proofs.lemmas.Bool.Decides.{nat_tests}
-use Rattle.std.proofs.lemmas.List.Quantifiers.{position-Some}
-use Rattle.script.specs.Characters.{is_space}
+use Rattle.script.specs.{◌≡◌, ℕ, ◌+◌, ◌-◌, Some, None, position, List, [], ◌∷◌, length, take, drop, arith, length-drop, slice_split, take_all}
+use Rattle.script.specs.{fails_before_first, position_or_len_is, slice_split_first, slice_split_none, nat_tests, position-Some, is_space}
 
 -- the text from a place on
 pub rest_of : (xs : List ℕ) (i : ℕ) → take (length xs - i) (drop i xs) ≡ drop i xs

@@ -1,8 +1,5 @@
 -- Lemmas on texts that are read a character at a time.
-use Rattle.std.proofs.Common.{arith, ◌≡◌, ℕ, false, ◌==◌, List, [], ◌∷◌, ◌++◌, Option, Some, option_map, refl, append_assoc}
-use Rattle.std.specs.List.{list_any}
-use Rattle.script.specs.Characters.{backslash}
-use Rattle.script.specs.Texts.{text_of}
+use Rattle.script.specs.{arith, ◌≡◌, ℕ, false, ◌==◌, List, [], ◌∷◌, ◌++◌, Option, Some, option_map, refl, append_assoc, list_any, backslash, text_of}
 
 pub nothing_before : (r : Option (List ℕ)) (xs : List ℕ) → xs ≡ [] → r ≡ option_map (λ t. xs ++ t) r
 nothing_before r xs e = grind arith

@@ -1,9 +1,6 @@
 -- Each word is found among the words, and in the row of its first letter.
-use Rattle.std.proofs.Common.{◌≡◌, ℕ, List, Option, None, Some, refl, sym, ap, ◌∙◌}
-use Rattle.std.proofs.lemmas.Slice.Eq.{bytes_eq-Decides}
+use Rattle.script.specs.{◌≡◌, ℕ, List, Option, None, Some, refl, sym, ap, ◌∙◌, bytes_eq-Decides, find_named, words_like, entry_of, word_of, words}
 use Rattle.script.proofs.WordLemmas.{find-passes}
-use Rattle.script.specs.steps.Rows.{find_named, words_like}
-use Rattle.script.specs.Words.{entry_of, word_of, words}
 use Rattle.script.specs.declared.words.Word.{Word}
 use Rattle.script.specs.declared.words.Word.TheVariants.{Making, Writing, Copying, Query, Stacking, Refresh}
 use Rattle.script.specs.declared.written_words.MakingWord.TheVariants.{Newwin}

@@ -1,6 +1,5 @@
 -- The bytes that have a meaning in a script, by name. Which ones have is Curspan's own choice.
-use Rattle.std.specs.Prelude.{◌==◌, ℕ, Bool, not}
-use Rattle.cell.specs.Glyphs.{is_printable}
+use Rattle.script.specs.Names.{◌==◌, ℕ, Bool, not, is_printable}
 
 abbrev pub backspace : ℕ
 backspace = 8

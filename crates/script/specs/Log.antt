@@ -1,17 +1,11 @@
 -- The lines of a script's log. Their form is Curspan's own; docs/curspan.1 describes it under LOG.
-use Rattle.std.specs.Prelude.{ℕ, if◌then◌else◌, List, [], ◌∷◌, ◌++◌, codes, decimal, Option, Some, None, Result, Ok, Err}
-use Rattle.std.specs.Option.{option_map_or}
+use Rattle.script.specs.Names.{ℕ, if◌then◌else◌, List, [], ◌∷◌, ◌++◌, codes, decimal, Option, Some, None, Result, Ok, Err, option_map_or, hex_digits}
+use Rattle.script.specs.Names.{refusal_text, Refusal, PanelId, Reply, Nothing, Number, TwoNumbers, Cell, Flag, Panel, Composed, Sent}
 use Rattle.script.specs.Characters.{newline, space}
-use Rattle.cell.specs.Attributes.{hex_digits}
-use Rattle.cell.specs.Refusals.{refusal_text}
-use Rattle.cell.specs.declared.refusal.Refusal.{Refusal}
 use Rattle.script.specs.declared.fault.ScriptFault.{ScriptFault}
 use Rattle.script.specs.declared.fault.ScriptFault.TheVariants.{Text, Reading, Write, Log}
 use Rattle.script.specs.declared.fault.TextFault.{TextFault}
 use Rattle.script.specs.declared.fault.TextFault.TheVariants.{LineTooLong, BadByte, UnknownCall, WrongNumberOfArguments, BadArgument}
-use Rattle.world.specs.declared.panel.PanelId.{PanelId}
-use Rattle.world.specs.declared.call.Reply.{Reply}
-use Rattle.world.specs.declared.call.Reply.TheVariants.{Nothing, Number, TwoNumbers, Cell, Flag, Panel, Composed, Sent}
 
 -- the number of a panel, or that there is none
 abbrev pub panel_text : Option PanelId → List ℕ

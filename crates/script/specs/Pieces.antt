@@ -1,7 +1,5 @@
 -- What is left of a line, if something is, and the pieces between its single spaces.
-use Rattle.std.specs.Prelude.{◌+◌, ℕ, List, [], length, Option, Some, None}
-use Rattle.std.specs.List.{slice_split}
-use Rattle.std.specs.Borrow.{Bor}
+use Rattle.script.specs.Names.{◌+◌, ℕ, List, [], length, Option, Some, None, slice_split, Bor}
 use Rattle.script.specs.Characters.{is_space}
 
 -- the pieces between single spaces of what is left of a line, if something is

@@ -1,13 +1,11 @@
 -- What a script says: its calls with the numbers of their lines, up to the first fault. The form of scripts is
 -- Curspan's own; docs/curspan.1 describes it under SCRIPT and Arguments, and the faults in their order under LOG.
-use Rattle.std.specs.Prelude.{◌+◌, ◌-◌, ◌^◌, ◌==◌, ◌&&◌, ℕ, Bool, true, false, not, List, [], ◌∷◌, length, min, Option, Some, None, Result, Ok, Err, nat_lt, if◌then◌else◌}
-use Rattle.std.specs.List.{join_with_byte, list_any, slice_split}
-use Rattle.std.specs.Option.{option_map_or}
+use Rattle.script.specs.Names.{◌+◌, ◌-◌, ◌^◌, ◌==◌, ◌&&◌, ℕ, Bool, true, false, not, List, [], ◌∷◌, length, min, Option, Some, None, Result, Ok, Err, nat_lt}
+use Rattle.script.specs.Names.{if◌then◌else◌, join_with_byte, list_any, slice_split, option_map_or, Call}
 use Rattle.script.specs.Characters.{is_bad_byte, is_newline, is_space, number_sign, space}
 use Rattle.script.specs.declared.limits.TheConstants.{LONGEST_LINE}
 use Rattle.script.specs.Words.{Entry, entry_of, no_arguments, word_of}
 use Rattle.script.specs.Texts.{parse_arguments}
-use Rattle.world.specs.declared.call.Call.{Call}
 use Rattle.script.specs.declared.words.Form.{Form}
 use Rattle.script.specs.declared.words.Form.TheVariants.{Number, NumberOrNone, Signed, Attributes, Flag, Character, Text}
 use Rattle.script.specs.declared.fault.ScriptFault.{ScriptFault}

@@ -2,22 +2,13 @@
 -- of the calls in X/Open Curses Issue 7, and of those on panels in NetBSD's panel(3), without the `w` that some begin
 -- with; their arguments come in the order that they have there. That a window is given by its number, and a character
 -- with attributes by both, is Curspan's own (docs/curspan.1).
-use Rattle.std.specs.Prelude.{ℕ, ℤ, pos, Bool, false, List, [], ◌∷◌, codes, slice_index, Option, None, option_map, find}
-use Rattle.std.specs.List.{flat_map}
-use Rattle.std.specs.Str.{bytes_eq}
-use Rattle.std.specs.Borrow.{Bor}
-use Rattle.cell.specs.declared.attr.Attr.{Attr}
-use Rattle.cell.specs.declared.window.WinId.{WinId}
-use Rattle.world.specs.declared.panel.PanelId.{PanelId}
-use Rattle.world.specs.declared.call.Call.{Call}
-use Rattle.world.specs.declared.call.Call.TheVariants.{Making, Writing, Copying, Query, Stacking, Refresh}
-use Rattle.world.specs.declared.call.Making.TheVariants.{Newwin, Subwin, Derwin, Newpad, Subpad, Delwin, Mvwin, Mvderwin}
-use Rattle.world.specs.declared.call.Writing.TheVariants.{Move, Addch, Addstr, Insch, Delch, Insertln, Deleteln, Erase, Clear, Clrtoeol, Clrtobot, Scrl, Setscrreg, Scrollok, Clearok, Attrset}
-use Rattle.world.specs.declared.call.Writing.TheVariants.{Attron, Attroff, Bkgdset, ColorSet, Bkgdpair}
-use Rattle.world.specs.declared.call.Copying.TheVariants.{Overlay, Overwrite, Copywin, Touchwin, Untouchwin, Touchline, Touchln, Syncup, Syncdown, IsLinetouched, IsWintouched}
-use Rattle.world.specs.declared.call.Query.TheVariants.{Getyx, Getbegyx, Getmaxyx, Getparyx, Inch}
-use Rattle.world.specs.declared.call.Stacking.TheVariants.{NewPanel, DelPanel, ShowPanel, HidePanel, TopPanel, BottomPanel, MovePanel, ReplacePanel, PanelAbove, PanelBelow, PanelWindow, PanelHidden}
-use Rattle.world.specs.declared.call.Refresh.TheVariants.{Noutrefresh, Pnoutrefresh, UpdatePanels, Doupdate, InitPair}
+use Rattle.script.specs.Names.{ℕ, ℤ, pos, Bool, false, List, [], ◌∷◌, codes, slice_index, Option, None, option_map, find, flat_map, bytes_eq, Bor, Attr}
+use Rattle.script.specs.Names.{WinId, PanelId, Call, Making, Writing, Copying, Query, Stacking, Refresh, Newwin, Subwin, Derwin, Newpad, Subpad, Delwin}
+use Rattle.script.specs.Names.{Mvwin, Mvderwin, Move, Addch, Addstr, Insch, Delch, Insertln, Deleteln, Erase, Clear, Clrtoeol, Clrtobot, Scrl, Setscrreg}
+use Rattle.script.specs.Names.{Scrollok, Clearok, Attrset, Attron, Attroff, Bkgdset, ColorSet, Bkgdpair, Overlay, Overwrite, Copywin, Touchwin, Untouchwin}
+use Rattle.script.specs.Names.{Touchline, Touchln, Syncup, Syncdown, IsLinetouched, IsWintouched, Getyx, Getbegyx, Getmaxyx, Getparyx, Inch, NewPanel}
+use Rattle.script.specs.Names.{DelPanel, ShowPanel, HidePanel, TopPanel, BottomPanel, MovePanel, ReplacePanel, PanelAbove, PanelBelow, PanelWindow}
+use Rattle.script.specs.Names.{PanelHidden, Noutrefresh, Pnoutrefresh, UpdatePanels, Doupdate, InitPair}
 use Rattle.script.specs.declared.written_words.TheConstants.{WORDS}
 use Rattle.script.specs.declared.words.Form.{Form}
 use Rattle.script.specs.declared.words.Form.TheVariants.{Number, NumberOrNone, Signed, Attributes, Flag, Character, Text}

@@ -1,10 +1,8 @@
 //! The bytes of a script, one after another, and its lines.
 
-ghost use Rattle.std.specs.Prelude.{◌≡◌, ◌≤◌, ◌<◌, ◌+◌, ◌∷◌, ℕ, [], length, slice_index, take, drop, position, IfSome, true, false};
-ghost use Rattle.script.specs.Characters.{is_newline};
-ghost use Rattle.script.specs.Lines.{ReadingEnds, ReadsLine, ReadsWhole, end_failed, goes_on, has_newline, line_ended, line_failed, met_end};
-ghost use Rattle.std.specs.List.{position_or_len};
-ghost use Rattle.script.specs.steps.Bytes.{MovesBytes, ReadsByte, byte_ended, byte_failed, is_byte};
+ghost use Rattle.script.specs.{◌≡◌, ◌≤◌, ◌<◌, ◌+◌, ◌∷◌, ℕ, [], length, slice_index, take, drop, position, IfSome, true, false, is_newline, ReadingEnds};
+ghost use Rattle.script.specs.{ReadsLine, ReadsWhole, end_failed, goes_on, has_newline, line_ended, line_failed, met_end, position_or_len, MovesBytes};
+ghost use Rattle.script.specs.{ReadsByte, byte_ended, byte_failed, is_byte};
 
 use crate::limits::LONGEST_LINE;
 use arrayvec::ArrayVec;

@@ -1,6 +1,6 @@
 //! What is wrong with a script's text, and how a script ends.
 
-ghost use Rattle.std.specs.Prelude.{◌≡◌, ◌≤◌, length};
+ghost use Rattle.script.specs.{◌≡◌, ◌≤◌, length};
 
 use streams::WriteFault;
 use thiserror::Error;

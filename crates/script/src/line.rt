@@ -1,16 +1,9 @@
 //! What a line of a script says.
 
-ghost use Rattle.std.specs.Prelude.{◌≡◌, ◌≤◌, ◌+◌, ◌<◌, ◌∷◌, ◌≢◌, ◌↔◌, ℕ, List, length, position, slice_index, IfSome, Some, None, false, true};
-ghost use Rattle.std.specs.List.{list_all, list_any, slice_split};
-ghost use Rattle.std.specs.Bool.{OnTrue};
-ghost use Rattle.cell.specs.Glyphs.{is_printable};
+ghost use Rattle.script.specs.{◌≡◌, ◌≤◌, ◌+◌, ◌<◌, ◌∷◌, ◌≢◌, ◌↔◌, ℕ, List, length, position, slice_index, IfSome, Some, None, false, true, list_all};
+ghost use Rattle.script.specs.{list_any, slice_split, OnTrue, is_printable, no_arguments, parse_arguments, is_bad_byte, is_space, arguments, is_skipped};
+ghost use Rattle.script.specs.{is_text, parse_line, pieces_of, room_of, Reads, TakesFirst};
 ghost use Rattle.script.specs.declared.words.Form.{Form};
-ghost use Rattle.script.specs.Words.{no_arguments};
-ghost use Rattle.script.specs.Texts.{parse_arguments};
-ghost use Rattle.script.specs.Characters.{is_bad_byte, is_space};
-ghost use Rattle.script.specs.Readings.{arguments, is_skipped, is_text, parse_line};
-ghost use Rattle.script.specs.Pieces.{pieces_of, room_of};
-ghost use Rattle.script.specs.steps.Reads.{Reads, TakesFirst};
 
 use crate::arguments::Arguments;
 use crate::fault::TextFault;

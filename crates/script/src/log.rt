@@ -1,12 +1,7 @@
 //! The lines of the log.
 
-ghost use Rattle.std.specs.Prelude.{◌≡◌, ◌≤◌, ◌+◌, ◌<◌, ◌++◌, length, take, Some, is_err, is_some, true, IfErr, OnOk};
-ghost use Rattle.std.specs.Option.{option_map_or};
-ghost use Rattle.std.specs.Io.KnownBytes.{Appends};
-ghost use Rattle.std.specs.Prelude.{codes, decimal, [], ◌∷◌};
-ghost use Rattle.script.specs.Characters.{newline};
-ghost use Rattle.script.specs.Log.{answer_text, last_line, log_line, panel_text, reply_text};
-ghost use Rattle.streams.specs.Counts.{count_after};
+ghost use Rattle.script.specs.{◌≡◌, ◌≤◌, ◌+◌, ◌<◌, ◌++◌, length, take, Some, is_err, is_some, true, IfErr, OnOk, option_map_or, Appends, codes, decimal, []};
+ghost use Rattle.script.specs.{◌∷◌, newline, answer_text, last_line, log_line, panel_text, reply_text, count_after};
 
 use crate::fault::ScriptFault;
 use arrayvec::ArrayVec;

@@ -1,12 +1,7 @@
 //! Numbers, attributes and flags as a script has them.
 
-ghost use Rattle.std.specs.Prelude.{◌≡◌, ◌≤◌, ◌<◌, ◌∷◌, length, take, slice_index, IfSome, None, true, false};
-ghost use Rattle.std.specs.Char.{is_ascii_digit};
-ghost use Rattle.std.specs.List.{list_all, slice_split};
-ghost use Rattle.script.specs.Characters.{is_space};
-ghost use Rattle.script.specs.Pieces.{pieces_of};
-ghost use Rattle.script.specs.steps.Numbers.{DigitsSoFar};
-ghost use Rattle.script.specs.Texts.{attributes_of, flag_of, hex_byte, hex_value, negative, number_or_none, number_up_to, signed_number};
+ghost use Rattle.script.specs.{◌≡◌, ◌≤◌, ◌<◌, ◌∷◌, length, take, slice_index, IfSome, None, true, false, is_ascii_digit, list_all, slice_split, is_space};
+ghost use Rattle.script.specs.{pieces_of, DigitsSoFar, attributes_of, flag_of, hex_byte, hex_value, negative, number_or_none, number_up_to, signed_number};
 
 use crate::limits::{ALL_ATTRIBUTES, GREATEST_NUMBER, GREATEST_SIGNED, MOST_DIGITS};
 

@@ -1,9 +1,7 @@
 //! The calls by their script words: how a word is found, and what its row says.
 
-ghost use Rattle.std.specs.Prelude.{◌≡◌, ◌≤◌, ◌<◌, [], IfSome, length, map, option_map, slice_index_or};
-ghost use Rattle.std.specs.Str.{bytes_eq};
-ghost use Rattle.script.specs.Words.{entry_of, placeless, word_of};
-ghost use Rattle.script.specs.steps.Rows.{IsRow, find_named, words_like};
+ghost use Rattle.script.specs.{◌≡◌, ◌≤◌, ◌<◌, [], IfSome, length, map, option_map, slice_index_or, bytes_eq, entry_of, placeless, word_of, IsRow, find_named};
+ghost use Rattle.script.specs.{words_like};
 
 use crate::arguments::Arguments;
 use crate::limits::MOST_ARGUMENTS;

@@ -1,1 +1,4 @@
+pub mod Names
 pub mod Sets
+unfoldable pub use Names.*
+unfoldable pub use Sets.*

@@ -1,9 +1,7 @@
 -- Chains of nodes that name one another, over the two functions that say which is above and which below.
-use Rattle.std.proofs.Common.{◌≡◌, ℕ, zero, suc, ◌<◌, ◌≤◌, List, [], ◌∷◌, ◌++◌, length, reverse, sym, ap, subst, ◌∙◌, arith}
+use Rattle.stack.specs.{◌≡◌, ℕ, zero, suc, ◌<◌, ◌≤◌, List, [], ◌∷◌, ◌++◌, length, reverse, sym, ap, subst, ◌∙◌, arith, AllByRecursion, eq-eqb, ne_eqb}
+use Rattle.stack.specs.{AreOnce, IsChain, IsOut, way}
 use mathlib.Core.List.{reverse_aux}
-use Rattle.std.specs.List.{AllByRecursion}
-use Rattle.std.proofs.lemmas.Bool.{eq-eqb, ne_eqb}
-use Rattle.stack.specs.Nodes.{AreOnce, IsChain, IsOut, way}
 use Rattle.stack.proofs.DistinctNumbers.{out-back, out-prefix}
 
 -- ---- a chain alone

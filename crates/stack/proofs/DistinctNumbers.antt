@@ -1,11 +1,8 @@
 -- Lists of numbers without duplicates.
-use Rattle.std.proofs.Common.{◌≡◌, ℕ, ◌<◌, ◌≤◌, true, false, ◌==◌, List, [], ◌∷◌, ◌++◌, length, reverse, sym, ap, subst, ◌⊎◌, inl, inr, refl, eqb, arith}
+use Rattle.stack.specs.{◌≡◌, ℕ, ◌<◌, ◌≤◌, true, false, ◌==◌, List, [], ◌∷◌, ◌++◌, length, reverse, sym, ap, subst, ◌⊎◌, inl, inr, refl, eqb, arith}
+use Rattle.stack.specs.{AllByRecursion, IsDistinct, list_any, cases_eq, eq-eqb, ne_eqb, or_cases, eqb-true, length-le_from_distinct_below, without, first_in}
+use Rattle.stack.specs.{next_in, AreOnce, IsOut}
 use mathlib.Core.List.{reverse_aux}
-use Rattle.std.specs.List.{AllByRecursion, IsDistinct, list_any}
-use Rattle.std.proofs.lemmas.Bool.{cases_eq, eq-eqb, ne_eqb, or_cases, eqb-true}
-use Rattle.std.proofs.lemmas.Map.Steps.{length-le_from_distinct_below}
-use Rattle.world.specs.calls.Stacking.{without, first_in, next_in}
-use Rattle.stack.specs.Nodes.{AreOnce, IsOut}
 
 -- ---- outside a list
 

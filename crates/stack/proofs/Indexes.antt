@@ -1,18 +1,9 @@
 -- How the numbers that are taken and the panels of windows follow the nodes.
-use Rattle.std.proofs.Common.{◌≡◌, ℕ, zero, suc, ◌+◌, ◌-◌, ◌<◌, ◌≤◌, ◌==◌, if◌then◌else◌, Option, None, rules, []}
-use Rattle.std.proofs.Common.{Some, is_some, MatchOption, List, ◌∷◌, ◌++◌, length, set, take, replicate}
-use Rattle.std.proofs.Common.{slice_index_or, length-set, get_or-set_same, get_or-set_other, refl, sym, subst, ◌∙◌, inl, inr, arith}
-use Rattle.std.proofs.lemmas.Bool.{cases_eq, eq-eqb, ne_eqb}
-use Rattle.std.proofs.lemmas.List.{length_push, take_all}
-use Rattle.cell.specs.declared.limits.TheConstants.{MOST_PANELS}
-use Rattle.cell.specs.declared.window.WinId.{WinId}
-use Rattle.std.specs.Option.{option_map}
-use Rattle.world.specs.Effects.{with_entry}
-use Rattle.stack.specs.Indexes.{held_by, holder_at, window_limit, IsIndexed}
-use Rattle.stack.specs.Nodes.{node_at, above_at, below_at, window_at, window_in}
-use Rattle.stack.specs.steps.Entries.{Windowed}
+use Rattle.stack.specs.{◌≡◌, ℕ, zero, suc, ◌+◌, ◌-◌, ◌<◌, ◌≤◌, ◌==◌, if◌then◌else◌, Option, None, rules, [], Some, is_some, MatchOption, List, ◌∷◌, ◌++◌}
+use Rattle.stack.specs.{length, set, take, replicate, slice_index_or, length-set, get_or-set_same, get_or-set_other, refl, sym, subst, ◌∙◌, inl, inr, arith}
+use Rattle.stack.specs.{cases_eq, eq-eqb, ne_eqb, length_push, take_all, MOST_PANELS, WinId, option_map, with_entry, held_by, holder_at, window_limit}
+use Rattle.stack.specs.{IsIndexed, node_at, above_at, below_at, window_at, window_in, Windowed, contains}
 use Rattle.stack.specs.declared.nodes.Node.{Node}
-use Rattle.small_set.specs.Sets.{contains}
 use Rattle.stack.proofs.Windows.{given-other, given-same, window-free}
 
 -- nothing that they say changed

@@ -1,11 +1,8 @@
 -- What the nodes say of the neighbours of a panel is what the order says.
-use Rattle.std.proofs.Common.{◌≡◌, ℕ, ◌<◌, false, not, ◌==◌, if◌then◌else◌, Option, None, Some, List, [], ◌∷◌, ◌++◌, reverse, sym, ap, subst, ◌∙◌, refl, arith}
+use Rattle.stack.specs.{◌≡◌, ℕ, ◌<◌, false, not, ◌==◌, if◌then◌else◌, Option, None, Some, List, [], ◌∷◌, ◌++◌, reverse, sym, ap, subst, ◌∙◌, refl, arith}
+use Rattle.stack.specs.{AllByRecursion, last_or, list_any, eq-eqb, ne_eqb, append_assoc, reverse-append, first_in, next_in, above_at, below_at, AreOnce}
+use Rattle.stack.specs.{IsChain, IsPanel, IsThreaded}
 use mathlib.Core.List.{reverse_aux}
-use Rattle.std.specs.List.{AllByRecursion, last_or, list_any}
-use Rattle.std.proofs.lemmas.Bool.{eq-eqb, ne_eqb}
-use Rattle.std.proofs.lemmas.List.{append_assoc, reverse-append}
-use Rattle.world.specs.calls.Stacking.{first_in, next_in}
-use Rattle.stack.specs.Nodes.{above_at, below_at, AreOnce, IsChain, IsPanel, IsThreaded}
 use Rattle.stack.specs.declared.nodes.Node.{Node}
 use Rattle.stack.proofs.Chains.{chain-back, chain-prefix, chain-reverse, not-first}
 use Rattle.stack.proofs.DistinctNumbers.{Split, any-split, any_is-out, each-back, each-prefix, each-reverse, next_in-split, once-after, once-before, out-reverse, out_or_in}

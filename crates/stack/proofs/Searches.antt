@@ -1,15 +1,8 @@
 -- The search for the number of the next panel, and for the panel of a window, step by step.
-use Rattle.std.proofs.Common.{◌≡◌, ℕ, zero, suc, ◌+◌, ◌-◌, ◌<◌, ◌≤◌, ◌==◌, Bool, if◌then◌else◌, true, false, Option, None, Some, is_none, is_some, List, find, sym, ◌∙◌, refl, arith}
-use Rattle.std.specs.List.{range_with_len}
-use Rattle.std.proofs.lemmas.Bool.{cases_eq, eq-eqb, false≢true, ne_eqb, false_from_ne_true}
-use Rattle.cell.specs.declared.limits.TheConstants.{MOST_PANELS}
-use Rattle.world.specs.Panels.{is_in_panel, panel_limit}
-use Rattle.world.specs.calls.Stacking.{new_panel_number, panel_number}
-use Rattle.world.specs.declared.panel.PanelId.{PanelId}
+use Rattle.stack.specs.{◌≡◌, ℕ, zero, suc, ◌+◌, ◌-◌, ◌<◌, ◌≤◌, ◌==◌, Bool, if◌then◌else◌, true, false, Option, None, Some, is_none, is_some, List, find, sym}
+use Rattle.stack.specs.{◌∙◌, refl, arith, range_with_len, cases_eq, eq-eqb, false≢true, ne_eqb, false_from_ne_true, MOST_PANELS, is_in_panel, panel_limit}
+use Rattle.stack.specs.{new_panel_number, panel_number, PanelId, is_taken, window_at, panels, table_of, IsPanelTable}
 use Rattle.world.proofs.PanelLaws.{in_panel-some, in_panel-true}
-use Rattle.stack.specs.Indexes.{is_taken}
-use Rattle.stack.specs.Nodes.{window_at}
-use Rattle.stack.specs.Tables.{panels, table_of, IsPanelTable}
 use Rattle.stack.specs.declared.nodes.Node.{Node}
 use Rattle.stack.proofs.Tables.{is-panel}
 use Rattle.stack.proofs.Threads.{panel-below}

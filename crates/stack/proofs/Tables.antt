@@ -1,20 +1,9 @@
 -- Tables of panels: what is known of each, and each call's table.
-use Rattle.std.proofs.Common.{◌≡◌, ℕ, true, false, ◌<◌, ◌⊎◌, Option, None, Some, IsSome, List, [], ◌∷◌, ◌++◌, length, sym, subst}
-use Rattle.std.proofs.Common.{◌∙◌, refl, inl, inr, arith, eqb, rules}
-use Rattle.std.specs.Option.{is_none, is_some}
-use Rattle.std.proofs.lemmas.Bool.{eqb-false, cases_eq}
-use Rattle.std.proofs.lemmas.List.{length_push}
-use Rattle.std.proofs.lemmas.List.Elements.{All-from_recursion}
-use Rattle.std.proofs.lemmas.Map.Keys.{apart_from_distinct}
-use Rattle.cell.specs.declared.refusal.Refusal.TheVariants.{Hidden}
-use Rattle.cell.specs.Refusals.{first_of}
-use Rattle.world.specs.Panels.{Panels, first_panels}
-use Rattle.world.specs.calls.Stacking.{after_del_panel, after_replace_panel, is_hidden, without, IsSoundOrder, visible_tests}
-use Rattle.world.specs.Effects.{with_panel, with_entry}
-use Rattle.stack.specs.Nodes.{no_node, node_at, window_at, window_in, from_bottom, IsOut, IsPanel, IsThreaded}
-use Rattle.stack.specs.Tables.{panels, table_of, IsPanelTable, PanelTable}
-use Rattle.stack.specs.steps.Entries.{Entered, IsFree, NodeMade, Windowed}
-use Rattle.stack.specs.steps.Links.{Reordered}
+use Rattle.stack.specs.{◌≡◌, ℕ, true, false, ◌<◌, ◌⊎◌, Option, None, Some, IsSome, List, [], ◌∷◌, ◌++◌, length, sym, subst, ◌∙◌, refl, inl, inr, arith, eqb}
+use Rattle.stack.specs.{rules, is_none, is_some, eqb-false, cases_eq, length_push, All-from_recursion, apart_from_distinct, Hidden, first_of, Panels}
+use Rattle.stack.specs.{first_panels, after_del_panel, after_replace_panel, is_hidden, without, IsSoundOrder, visible_tests, with_panel, with_entry, no_node}
+use Rattle.stack.specs.{node_at, window_at, window_in, from_bottom, IsOut, IsPanel, IsThreaded, panels, table_of, IsPanelTable, PanelTable, Entered, IsFree}
+use Rattle.stack.specs.{NodeMade, Windowed, Reordered}
 use Rattle.stack.specs.declared.nodes.Node.{Node}
 use Rattle.stack.proofs.DistinctNumbers.{distinct-once, each-weaker, out-each}
 use Rattle.stack.proofs.Threads.{from_bottom-is, panel-below, panel-same}

@@ -1,15 +1,6 @@
 -- A call on panels, made on a table of panels.
-use Rattle.std.specs.Prelude.{◌≡◌, ℕ, Bool, IfOk, List, None, OnErr, OnOk, Option, Result, Some}
-use Rattle.std.specs.Result.{result_err}
-use Rattle.cell.specs.declared.window.WinId.{WinId}
-use Rattle.cell.specs.Refusals.{first_of}
-use Rattle.cell.specs.declared.refusal.Refusal.{Refusal}
-use Rattle.world.specs.Effects.{order_reply, order_takes_memory}
-use Rattle.world.specs.calls.Refused.{Refused}
-use Rattle.world.specs.Windows.{Windows}
-use Rattle.world.specs.calls.Stacking.{IsSoundOrder, after_stacking, stacking_order, stacking_refusal}
-use Rattle.world.specs.declared.call.Reply.{Reply}
-use Rattle.world.specs.declared.call.Stacking.{Stacking}
+use Rattle.stack.specs.Names.{◌≡◌, ℕ, Bool, IfOk, List, None, OnErr, OnOk, Option, Result, Some, result_err, WinId, first_of, Refusal, order_reply}
+use Rattle.stack.specs.Names.{order_takes_memory, Refused, Windows, IsSoundOrder, after_stacking, stacking_order, stacking_refusal, Reply, Stacking}
 use Rattle.stack.specs.Tables.{PanelTable, panels}
 
 -- it was refused by its tests of panels, and then nothing changed; else the answer and the panels are those of its

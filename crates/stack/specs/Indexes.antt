@@ -1,10 +1,9 @@
 -- The indexes by which the least free number and the panel of a window are found: the set of the numbers that are
 -- taken, and a panel for each number that a window of a screen can have.
-use Rattle.std.specs.Prelude.{◌≡◌, ℕ, ◌+◌, ◌<◌, ◌≤◌, ◌==◌, ◌||◌, Bool, if◌then◌else◌, Option, None, Some, is_some, List, length, slice_index_or}
-use Rattle.cell.specs.declared.limits.TheConstants.{MOST_PANELS, MOST_WINDOWS}
+use Rattle.stack.specs.Names.{◌≡◌, ℕ, ◌+◌, ◌<◌, ◌≤◌, ◌==◌, ◌||◌, Bool, if◌then◌else◌, Option, None, Some, is_some, List, length, slice_index_or, MOST_PANELS}
+use Rattle.stack.specs.Names.{MOST_WINDOWS, contains}
 use Rattle.stack.specs.Nodes.{window_at}
 use Rattle.stack.specs.declared.nodes.Node.{Node}
-use Rattle.small_set.specs.Sets.{contains}
 
 -- more than the number of any window of a screen
 abbrev pub window_limit : ℕ

@@ -1,7 +1,5 @@
 -- The panels as the stack shows them, and the panels of the world that they represent.
-use Rattle.std.specs.Prelude.{◌≡◌, ℕ, ◌+◌, ◌<◌, ◌≤◌, Option, Some, None, List, length, map, slice_index_or}
-use Rattle.cell.specs.declared.limits.TheConstants.{MOST_PANELS}
-use Rattle.world.specs.Panels.{Panels}
+use Rattle.stack.specs.Names.{◌≡◌, ℕ, ◌+◌, ◌<◌, ◌≤◌, Option, Some, None, List, length, map, slice_index_or, MOST_PANELS, Panels}
 use Rattle.stack.specs.Nodes.{from_bottom, IsThreaded, window_at, window_in}
 use Rattle.stack.specs.declared.nodes.Node.{Node}
 

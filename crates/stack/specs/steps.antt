@@ -1,2 +1,4 @@
 pub mod Links
 pub mod Entries
+unfoldable pub use Links.*
+unfoldable pub use Entries.*

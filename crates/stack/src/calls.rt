@@ -1,10 +1,6 @@
 //! The calls that make panels, delete them and change their order.
 
-ghost use Rattle.world.specs.Replies.{its_panel, no_answer};
-ghost use Rattle.world.specs.calls.Stacking.{new_panel_tests, panel_tests, replace_panel_tests, visible_tests};
-ghost use Rattle.world.specs.declared.call.Stacking.{Stacking};
-ghost use Rattle.stack.specs.Calls.{Arranged};
-ghost use Rattle.stack.specs.Tables.{panels};
+ghost use Rattle.stack.specs.{its_panel, no_answer, new_panel_tests, panel_tests, replace_panel_tests, visible_tests, Stacking, Arranged, panels};
 
 use crate::entries::{enter, free_number, holder, require_panel, require_visible};
 use crate::links::{move_to_bottom, move_to_top, put_on_top, take_out};

@@ -1,13 +1,8 @@
 //! Which numbers belong to panels, and the window of each.
 
-ghost use Rattle.std.specs.Prelude.{◌≡◌, ◌==◌, if◌then◌else◌, ℕ, None, Some, IfSome, MatchOption, OnOk, OnErr, is_some, false, ⊤};
-ghost use Rattle.std.specs.Result.{result_err};
-ghost use Rattle.cell.specs.Refusals.{first_of};
-ghost use Rattle.world.specs.Panels.{is_in_panel};
-ghost use Rattle.world.specs.calls.Stacking.{is_hidden, new_panel_number, panel_number, panel_tests, visible_tests};
-ghost use Rattle.stack.specs.Nodes.{window_at, IsPanel};
-ghost use Rattle.stack.specs.Tables.{panels, table_of, IsPanelTable};
-ghost use Rattle.stack.specs.steps.Entries.{Entered, IsFree, NodeMade};
+ghost use Rattle.stack.specs.{◌≡◌, ◌==◌, if◌then◌else◌, ℕ, None, Some, IfSome, MatchOption, OnOk, OnErr, is_some, false, ⊤, result_err, first_of};
+ghost use Rattle.stack.specs.{is_in_panel, is_hidden, new_panel_number, panel_number, panel_tests, visible_tests, window_at, IsPanel, panels, table_of};
+ghost use Rattle.stack.specs.{IsPanelTable, Entered, IsFree, NodeMade};
 
 use crate::nodes::{Node, Nodes};
 use cell::{MOST_PANELS, Refusal, WinId};

@@ -1,8 +1,6 @@
 //! Which panel each window is in.
 
-ghost use Rattle.std.specs.Prelude.{◌≡◌, ◌<◌, ◌≤◌, ℕ, length, OnOk};
-ghost use Rattle.std.specs.Option.{option_map};
-ghost use Rattle.stack.specs.Indexes.{holder_at, held_by, window_limit};
+ghost use Rattle.stack.specs.{◌≡◌, ◌<◌, ◌≤◌, ℕ, length, OnOk, option_map, holder_at, held_by, window_limit};
 
 use cell::{MOST_WINDOWS, WinId};
 use std::alloc::{AllocError, Global};

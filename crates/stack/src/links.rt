@@ -1,9 +1,6 @@
 //! Changes of the order: two nodes become neighbours, a panel leaves the order, a panel enters it.
 
-ghost use Rattle.std.specs.Prelude.{◌<◌, ◌++◌, ◌∷◌, [], length};
-ghost use Rattle.world.specs.calls.Stacking.{without};
-ghost use Rattle.stack.specs.Nodes.{from_bottom, IsThreaded, IsPanel, IsOut};
-ghost use Rattle.stack.specs.steps.Links.{Linked, Reordered};
+ghost use Rattle.stack.specs.{◌<◌, ◌++◌, ◌∷◌, [], length, without, from_bottom, IsThreaded, IsPanel, IsOut, Linked, Reordered};
 
 use crate::nodes::Nodes;
 

@@ -1,12 +1,7 @@
 //! The nodes of the doubly linked list of the visible panels.
 
-ghost use Rattle.std.specs.Prelude.{◌≡◌, ◌<◌, ◌≤◌, ◌-◌, ◌++◌, ◌∷◌, ◌==◌, [], ℕ, false, true, None, Some, MatchOption, length, slice_set, is_ok, if◌then◌else◌, ⊤};
-ghost use Rattle.std.specs.Option.{option_map};
-ghost use Rattle.cell.specs.declared.limits.TheConstants.{MOST_PANELS};
-ghost use Rattle.small_set.specs.Sets.{contains};
-ghost use Rattle.stack.specs.Indexes.{is_taken};
-ghost use Rattle.stack.specs.Nodes.{no_node, node_at, window_at, window_in};
-ghost use Rattle.stack.specs.steps.Entries.{Windowed};
+ghost use Rattle.stack.specs.{◌≡◌, ◌<◌, ◌≤◌, ◌-◌, ◌++◌, ◌∷◌, ◌==◌, [], ℕ, false, true, None, Some, MatchOption, length, slice_set, is_ok, if◌then◌else◌, ⊤};
+ghost use Rattle.stack.specs.{option_map, MOST_PANELS, contains, is_taken, no_node, node_at, window_at, window_in, Windowed};
 
 use crate::holders::Holders;
 use cell::{MOST_PANELS, MOST_WINDOWS, WinId};

@@ -1,12 +1,7 @@
 //! Queries about panels. None changes the stack.
 
-ghost use Rattle.std.specs.Prelude.{◌≡◌, Some, IfSome, is_some, reverse, length, ◌≤◌};
-ghost use Rattle.cell.specs.declared.limits.TheConstants.{MOST_PANELS};
-ghost use Rattle.world.specs.Panels.{is_in_panel};
-ghost use Rattle.world.specs.calls.Stacking.{is_hidden, panel_above, panel_below, panel_number, IsSoundOrder};
-ghost use Rattle.world.specs.declared.call.Stacking.{Stacking};
-ghost use Rattle.stack.specs.Calls.{Asked, as_is, window_number};
-ghost use Rattle.stack.specs.Tables.{panels};
+ghost use Rattle.stack.specs.{◌≡◌, Some, IfSome, is_some, reverse, length, ◌≤◌, MOST_PANELS, is_in_panel, is_hidden, panel_above, panel_below, panel_number};
+ghost use Rattle.stack.specs.{IsSoundOrder, Stacking, Asked, as_is, window_number, panels};
 
 use crate::entries::{holder, panel_at, require_panel, require_visible};
 use crate::table::Stack;

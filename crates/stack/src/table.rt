@@ -1,8 +1,6 @@
 //! The panels of a screen.
 
-ghost use Rattle.std.specs.Prelude.{◌≡◌};
-ghost use Rattle.world.specs.Panels.{first_panels};
-ghost use Rattle.stack.specs.Tables.{panels};
+ghost use Rattle.stack.specs.{◌≡◌, first_panels, panels};
 
 use crate::nodes::Nodes;
 use std::alloc::Global;

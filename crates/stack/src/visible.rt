@@ -1,8 +1,6 @@
 //! Walks through the order.
 
-ghost use Rattle.std.specs.Prelude.{◌≡◌};
-ghost use Rattle.std.specs.Iterator.{YieldsFirstBy, item_count};
-ghost use Rattle.stack.specs.Nodes.{from_bottom, from_top};
+ghost use Rattle.stack.specs.{◌≡◌, YieldsFirstBy, item_count, from_bottom, from_top};
 
 use crate::nodes::Nodes;
 use std::marker::Model;

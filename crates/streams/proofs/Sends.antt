@@ -1,12 +1,6 @@
 -- Texts that are sent one after another.
-use Rattle.std.proofs.lemmas.Bool.{eq-eqb, ne_eqb}
-use Rattle.std.proofs.Common.{◌≡◌, ℕ, ◌+◌, ◌<◌, ◌≤◌, ◌==◌, List, [], ◌++◌, length, take, drop, Option, Result, Ok, Err, ◌∙◌, arith, append_assoc, length-append}
-use Rattle.std.specs.Io.KnownBytes.{Appends, Keeps}
-use Rattle.std.proofs.lemmas.List.{append-nil, take-append-drop, length-take-le}
-use Rattle.std.proofs.Math.Seq.{take-append-add}
-use Rattle.streams.specs.Counts.{next_count, count_after}
-use Rattle.streams.specs.Sinks.{Seen}
-use Rattle.streams.specs.Sending.{Sends}
+use Rattle.streams.specs.{eq-eqb, ne_eqb, ◌≡◌, ℕ, ◌+◌, ◌<◌, ◌≤◌, ◌==◌, List, [], ◌++◌, length, take, drop, Option, Result, Ok, Err, ◌∙◌, arith, append_assoc}
+use Rattle.streams.specs.{length-append, Appends, Keeps, append-nil, take-append-drop, length-take-le, take-append-add, next_count, count_after, Seen, Sends}
 use Rattle.streams.specs.declared.sending.WriteFault.{WriteFault}
 
 -- one flush more exactly where all of a text was sent

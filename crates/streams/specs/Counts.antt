@@ -1,6 +1,6 @@
 -- How the failures of a sink or a source, and the flushes of a sink, are counted. No standard says it; the answers are
 -- those of std::io.
-use Rattle.std.specs.Prelude.{ℕ, ◌+◌, ◌%◌, ◌^◌, ◌==◌, ◌&&◌, nat_lt, if◌then◌else◌, Bool, List, length}
+use Rattle.streams.specs.Names.{ℕ, ◌+◌, ◌%◌, ◌^◌, ◌==◌, ◌&&◌, nat_lt, if◌then◌else◌, Bool, List, length}
 
 -- a counter that wraps around from the greatest u64 to 0
 abbrev pub next_count : ℕ → ℕ

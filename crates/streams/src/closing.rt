@@ -1,9 +1,6 @@
 //! An output that notes that nobody reads it, and the log beside it, which is silent then.
 
-ghost use Rattle.std.specs.Prelude.{◌≡◌, IsErrAnd, true};
-ghost use Rattle.std.specs.Io.{WritesAtMost};
-ghost use Rattle.std.specs.Io.KnownBytes.{WriteAppends};
-ghost use Rattle.std.specs.IoError.{error_kind};
+ghost use Rattle.streams.specs.{◌≡◌, IsErrAnd, true, WritesAtMost, WriteAppends, error_kind};
 
 use crate::outcome::fails_by;
 use std::cell::Cell;

@@ -1,6 +1,6 @@
 //! A sink that keeps nothing.
 
-ghost use Rattle.std.specs.Prelude.{◌≡◌, None, false};
+ghost use Rattle.streams.specs.{◌≡◌, None, false};
 
 use crate::sink::Sink;
 use std::io;

@@ -1,6 +1,6 @@
 //! Gathering a text in a buffer of fixed size before it is sent.
 
-ghost use Rattle.std.specs.Prelude.{◌≡◌, ◌≤◌, ◌+◌, ◌++◌, decimal, length};
+ghost use Rattle.streams.specs.{◌≡◌, ◌≤◌, ◌+◌, ◌++◌, decimal, length};
 
 use arrayvec::ArrayVec;
 use itoa::Buffer;

@@ -1,7 +1,6 @@
 //! By which kind of error a call of a stream failed.
 
-ghost use Rattle.std.specs.Prelude.{◌≡◌, ◌↔◌, IsErrAnd, IsTrue};
-ghost use Rattle.std.specs.IoError.{error_kind};
+ghost use Rattle.streams.specs.{◌≡◌, ◌↔◌, IsErrAnd, IsTrue, error_kind};
 
 use std::io;
 use std::io::ErrorKind;

@@ -1,9 +1,6 @@
 //! A stream whose reads and writes are made again where a signal interrupted them.
 
-ghost use Rattle.std.specs.Prelude.{◌≡◌, ◌≢◌, IfErr};
-ghost use Rattle.std.specs.Io.{ReadsAtMost, WritesAtMost};
-ghost use Rattle.std.specs.Io.KnownBytes.{ReadConsumes, WriteAppends};
-ghost use Rattle.std.specs.IoError.{error_kind};
+ghost use Rattle.streams.specs.{◌≡◌, ◌≢◌, IfErr, ReadsAtMost, WritesAtMost, ReadConsumes, WriteAppends, error_kind};
 
 use crate::outcome::fails_by;
 use std::io;

@@ -1,7 +1,6 @@
 //! Sending a text to a sink.
 
-ghost use Rattle.std.specs.Prelude.{◌≡◌, ◌+◌, ◌^◌, ◌<◌, length};
-ghost use Rattle.streams.specs.Sending.{Sends};
+ghost use Rattle.streams.specs.{◌≡◌, ◌+◌, ◌^◌, ◌<◌, length, Sends};
 
 use crate::sink::Sink;
 

@@ -1,10 +1,6 @@
 //! Sources: what gives the bytes of a text.
 
-ghost use Rattle.std.specs.Prelude.{◌≡◌, ◌-◌, ◌^◌, ◌||◌, false, is_err, IsErr};
-ghost use Rattle.std.specs.Io.{ReadsAtMost};
-ghost use Rattle.std.specs.Io.KnownBytes.{ReadConsumes};
-ghost use Rattle.streams.specs.Counts.{count_after};
-ghost use Rattle.streams.specs.Sources.{SourceSeen, met_end_after_read};
+ghost use Rattle.streams.specs.{◌≡◌, ◌-◌, ◌^◌, ◌||◌, false, is_err, IsErr, ReadsAtMost, ReadConsumes, count_after, SourceSeen, met_end_after_read};
 
 use std::io;
 use std::io::{ErrorKind, Read};

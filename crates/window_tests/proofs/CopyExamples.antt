@@ -2,9 +2,9 @@
 use Rattle.std.proofs.Common.{◌≡◌, ℕ, Bool, true, false, List, ◌∷◌, Some, refl}
 use Rattle.std.specs.Prelude.{codes, map, ◌++◌}
 use Rattle.std.specs.List.{range_with_len}
-use Rattle.world.specs.Windows.{cell_at, window_limit}
+use Rattle.world.specs.WindowMaps.{cell_at, window_limit}
 use Rattle.world.specs.Frames.{frame_above, frame_in_line}
-use Rattle.world.specs.World.{World}
+use Rattle.world.specs.Worlds.{World}
 use Rattle.world.specs.calls.Dispatch.{call_frame, refusal, reply_of, world_after}
 use Rattle.world.specs.calls.Queries.{touched_columns}
 use Rattle.window_tests.proofs.Examples.{screen_after, win}

@@ -2,10 +2,10 @@
 use Rattle.std.proofs.Common.{◌≡◌, ℕ, Bool, true, false, List, [], ◌∷◌, Some, None, if◌then◌else◌, ◌==◌, ◌||◌, refl}
 use Rattle.std.specs.Prelude.{fold, filter}
 use Rattle.std.specs.List.{range_with_len}
-use Rattle.world.specs.Windows.{ancestors, derives, window_limit}
+use Rattle.world.specs.WindowMaps.{ancestors, derives, window_limit}
 use Rattle.world.specs.Frames.{frame_above, frame_in_line}
-use Rattle.world.specs.Panels.{owner, topmost, panel_limit}
-use Rattle.world.specs.World.{World, first_world}
+use Rattle.world.specs.PanelOrder.{owner, topmost, panel_limit}
+use Rattle.world.specs.Worlds.{World, first_world}
 use Rattle.world.specs.calls.Dispatch.{refusal, world_after}
 use Rattle.world.specs.calls.Affected.{affected_lines, bound_on_reads, no_lines, affects_place}
 use Rattle.cell.specs.declared.refusal.Refusal.TheVariants.{HasDerived, InPanel}

@@ -2,9 +2,9 @@
 use Rattle.std.proofs.Common.{◌≡◌, ℕ, true, List, [], ◌∷◌, Option, Some, None, if◌then◌else◌, ◌==◌, ◌||◌, refl}
 use Rattle.std.specs.Prelude.{filter}
 use Rattle.std.specs.List.{range_with_len}
-use Rattle.world.specs.Windows.{window_limit}
-use Rattle.world.specs.Panels.{Panels, panel_limit}
-use Rattle.world.specs.World.{World}
+use Rattle.world.specs.WindowMaps.{window_limit}
+use Rattle.world.specs.PanelOrder.{Panels, panel_limit}
+use Rattle.world.specs.Worlds.{World}
 use Rattle.world.specs.Effects.{with_panel}
 use Rattle.world.specs.calls.Stacking.{after_bottom_panel, after_del_panel, after_hide_panel, after_replace_panel, after_show_panel, is_hidden, new_panel_number, panel_above, panel_below}
 use Rattle.world.specs.calls.Dispatch.{refusal, reply_of, world_after}

@@ -3,8 +3,8 @@ use Rattle.std.proofs.Common.{◌≡◌, ℕ, true, false, List, [], ◌∷◌, 
 use Rattle.std.specs.Prelude.{codes, filter, map}
 use Rattle.std.specs.List.{range_with_len}
 use Rattle.cell.specs.Pictures.{shown_at}
-use Rattle.world.specs.Windows.{window_limit}
-use Rattle.world.specs.World.{World}
+use Rattle.world.specs.WindowMaps.{window_limit}
+use Rattle.world.specs.Worlds.{World}
 use Rattle.world.specs.calls.Affected.{affected_lines}
 use Rattle.world.specs.calls.Dispatch.{refusal, reply_of, world_after}
 use Rattle.world.specs.calls.Queries.{touched_columns}

@@ -1,14 +1,5 @@
 -- One cell: its rectangle, and its write.
-use Rattle.std.proofs.Common.{◌≡◌, ℕ, ◌<◌, Some, arith}
-use Rattle.std.proofs.lemmas.Bool.{cases_eq}
-use Rattle.std.proofs.lemmas.Bool.Decides.{nat_tests}
-use Rattle.cell.specs.Glyphs.{Glyph}
-use Rattle.cell.specs.Pictures.{Place}
-use Rattle.world.specs.Windows.{Windows, Window, put}
-use Rattle.world.specs.Rows.{filled_cells}
-use Rattle.world.specs.Drawings.{at_place}
-use Rattle.world.specs.Frames.{frame_of}
-use Rattle.windows.specs.steps.State.{IsStateOf}
+use Rattle.windows.specs.{◌≡◌, ℕ, ◌<◌, Some, arith, cases_eq, nat_tests, Glyph, Place, Windows, Window, put, filled_cells, at_place, frame_of, IsStateOf}
 use Rattle.windows.specs.declared.state.WindowState.{WindowState}
 use Rattle.windows.proofs.NextWrites.{once}
 use Rattle.windows.proofs.Rectangles.{block}

@@ -1,14 +1,6 @@
 -- What a call does to a window of a known state, and the rectangle that it answers.
-use Rattle.std.proofs.Common.{◌≡◌, ℕ, Option, Some, None, Ok, arith}
-use Rattle.std.specs.Prelude.{option_and_then}
-use Rattle.world.specs.Windows.{Drawing, Window, Windows, put, if_there}
-use Rattle.world.specs.Effects.{Change, after_change, change_frame, after_edit, draws}
-use Rattle.world.specs.Sound.{AreSoundWindows}
-use Rattle.cell.specs.declared.refusal.Refusal.{Refusal}
-use Rattle.cell.specs.declared.window.Rect.{Rect}
-use Rattle.grids.specs.Tables.{WindowTable, windows}
-use Rattle.windows.specs.Calls.{Drew}
-use Rattle.windows.specs.steps.State.{IsStateOf, window_in_state}
+use Rattle.windows.specs.{◌≡◌, ℕ, Option, Some, None, Ok, arith, option_and_then, Drawing, Window, Windows, put, if_there, Change, after_change, change_frame}
+use Rattle.windows.specs.{after_edit, draws, AreSoundWindows, Refusal, Rect, WindowTable, windows, Drew, IsStateOf, window_in_state}
 use Rattle.windows.specs.declared.state.WindowState.{WindowState}
 
 -- a call that was accepted

@@ -1,17 +1,6 @@
 -- A character deleted: the rectangle, its two writes, and the frame of the call.
-use Rattle.std.proofs.Common.{◌≡◌, ℕ, ◌+◌, ◌-◌, ◌<◌, false, Some, arith}
-use Rattle.std.proofs.lemmas.Bool.{cases_eq}
-use Rattle.std.proofs.lemmas.Bool.Decides.{nat_tests}
-use Rattle.cell.specs.Glyphs.{Glyph}
-use Rattle.cell.specs.Pictures.{Place}
-use Rattle.cell.specs.declared.window.Rect.{Rect}
-use Rattle.world.specs.Windows.{WindowMap, Windows, Window, put}
-use Rattle.world.specs.Rows.{filled_cells, copied_cells}
-use Rattle.world.specs.Drawings.{character_deleted}
-use Rattle.world.specs.Frames.{frame_of}
-use Rattle.world.specs.Effects.{drawing_frame}
-use Rattle.world.specs.calls.Writing.{delch_drawing}
-use Rattle.windows.specs.steps.State.{IsStateOf}
+use Rattle.windows.specs.{◌≡◌, ℕ, ◌+◌, ◌-◌, ◌<◌, false, Some, arith, cases_eq, nat_tests, Glyph, Place, Rect, WindowMap, Windows, Window, put, filled_cells}
+use Rattle.windows.specs.{copied_cells, character_deleted, frame_of, drawing_frame, delch_drawing, IsStateOf}
 use Rattle.windows.specs.declared.state.WindowState.{WindowState}
 use Rattle.windows.proofs.NextWrites.{twice}
 use Rattle.windows.proofs.Rectangles.{block}

@@ -1,27 +1,12 @@
 -- Characters that are printed in one line, before its last column, are one write of that line.
-use Rattle.std.proofs.Common.{◌≡◌, ℕ, zero, suc, ◌+◌, ◌-◌, ◌<◌, true, false, Option, Some}
-use Rattle.std.proofs.Common.{IsSome, List, [], ◌∷◌, ◌++◌, length, get_or, take, drop, map, ap, arith, refl, sym, ◌∙◌, eq-eqb}
-use Rattle.std.specs.List.{list_any}
+use Rattle.windows.specs.{◌≡◌, ℕ, zero, suc, ◌+◌, ◌-◌, ◌<◌, true, false, Option, Some, IsSome, List, [], ◌∷◌, ◌++◌, length, get_or, take, drop, map, ap}
+use Rattle.windows.specs.{arith, refl, sym, ◌∙◌, eq-eqb, list_any, cases_eq, ne_eqb, eqb-true, nat_tests, take_more, take-append-drop, list_any-append, Glyph}
+use Rattle.windows.specs.{is_printable, Place, Rect, Window, WindowMap, Windows, GridPlace, Drawing, own, own_within, window_limit, with_change}
+use Rattle.windows.specs.{after_drawing, put, set_in, set, with_cursor, listed_cells, written_glyph, at_place, frame_of_two, drawn_to, character_printed}
+use Rattle.windows.specs.{character_drawing, typed_in, typed_drawing, after_character, after_text, is_bad_character, Settings, printed_cell, IsStateOf}
 use mathlib.Core.Path.{fun_ext}
-use Rattle.std.proofs.lemmas.Bool.{cases_eq, ne_eqb, eqb-true}
-use Rattle.std.proofs.lemmas.Bool.Decides.{nat_tests}
-use Rattle.std.proofs.lemmas.List.{take_more, take-append-drop}
-use Rattle.std.proofs.lemmas.List.Folds.{list_any-append}
-use Rattle.cell.specs.Glyphs.{Glyph, is_printable}
-use Rattle.cell.specs.Pictures.{Place}
-use Rattle.cell.specs.declared.window.Rect.{Rect}
-use Rattle.world.specs.Windows.{Window, WindowMap, Windows, GridPlace, Drawing, own, own_within, window_limit, with_change, after_drawing, put}
-use Rattle.world.specs.Settings.{set_in, set, with_cursor}
-use Rattle.world.specs.Rows.{listed_cells}
-use Rattle.world.specs.Drawings.{written_glyph, at_place}
-use Rattle.world.specs.Frames.{frame_of_two}
-use Rattle.world.specs.Typing.{drawn_to, character_printed, character_drawing, typed_in, typed_drawing, after_character, after_text}
-use Rattle.world.specs.calls.Writing.{is_bad_character}
-use Rattle.world.specs.declared.settings.Settings.{Settings}
 use Rattle.world.proofs.WindowLaws.{own-put, put-nothing}
 use Rattle.world.proofs.PutLaws.{put-then}
-use Rattle.grids.specs.Inks.{printed_cell}
-use Rattle.windows.specs.steps.State.{IsStateOf}
 use Rattle.windows.specs.declared.state.WindowState.{WindowState}
 use Rattle.windows.proofs.Calls.{with_state}
 use Rattle.windows.proofs.AtPlace.{frame-at_place}

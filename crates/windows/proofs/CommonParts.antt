@@ -1,13 +1,6 @@
 -- The places of the screen that two windows cover are a rectangle of each.
-use Rattle.std.proofs.Common.{◌≡◌, ℕ, ◌+◌, ◌-◌, ◌<◌, max, min, Bool, true, ◌&&◌, nat_lt, nat_le, Some, arith}
-use Rattle.std.proofs.lemmas.Bool.{cases_lt}
-use Rattle.std.proofs.lemmas.Bool.Decides.{nat_tests}
-use Rattle.cell.specs.Pictures.{Place}
-use Rattle.world.specs.Windows.{Window, Windows, Drawing, put}
-use Rattle.world.specs.Frames.{frame_of}
-use Rattle.world.specs.calls.Copying.{common_cells, rectangle_copied}
-use Rattle.world.specs.calls.Queries.{place_on_screen}
-use Rattle.world.specs.Effects.{drawing_frame}
+use Rattle.windows.specs.{◌≡◌, ℕ, ◌+◌, ◌-◌, ◌<◌, max, min, Bool, true, ◌&&◌, nat_lt, nat_le, Some, arith, cases_lt, nat_tests, Place, Window, Windows}
+use Rattle.windows.specs.{Drawing, put, frame_of, common_cells, rectangle_copied, place_on_screen, drawing_frame}
 use Rattle.world.proofs.PutLaws.{AreSame, put-same}
 use Rattle.world.proofs.FrameLaws.{frame_of-is, frame-same, only_frame}
 

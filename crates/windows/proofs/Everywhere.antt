@@ -1,16 +1,6 @@
 -- All cells: their rectangle, the writes of their lines, and what the calls that clear a window do and answer.
-use Rattle.std.proofs.Common.{◌≡◌, ℕ, ◌-◌, ◌<◌, ◌≤◌, Some, arith}
-use Rattle.std.proofs.lemmas.Bool.Decides.{nat_tests}
-use Rattle.cell.specs.Glyphs.{Glyph}
-use Rattle.cell.specs.Pictures.{origin}
-use Rattle.cell.specs.declared.window.Rect.{Rect}
-use Rattle.world.specs.Windows.{Windows, Window, put}
-use Rattle.world.specs.Settings.{set, with_cursor}
-use Rattle.world.specs.Drawings.{everywhere}
-use Rattle.world.specs.Frames.{frame_of}
-use Rattle.world.specs.Effects.{drawing_frame, after_edit, draws}
-use Rattle.world.specs.calls.Writing.{erase_drawing, after_clear}
-use Rattle.windows.specs.steps.State.{IsStateOf}
+use Rattle.windows.specs.{◌≡◌, ℕ, ◌-◌, ◌<◌, ◌≤◌, Some, arith, nat_tests, Glyph, origin, Rect, Windows, Window, put, set, with_cursor, everywhere, frame_of}
+use Rattle.windows.specs.{drawing_frame, after_edit, draws, erase_drawing, after_clear, IsStateOf}
 use Rattle.windows.specs.declared.state.WindowState.{WindowState}
 use Rattle.windows.proofs.LineDrawings.{above}
 use Rattle.windows.proofs.NextWrites.{ends_above}

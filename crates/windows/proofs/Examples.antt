@@ -1,14 +1,8 @@
 -- What drawings do to two small windows, for a reader of the definitions. Each has three lines of three letters, window 0 lower-case ones
 -- and window 1 capitals. After each drawing come drawings with one argument changed, which are others.
-use Rattle.std.proofs.Common.{◌≡◌, ◌++◌, ◌+◌, ◌*◌, ℕ, List, Some, None, true, false, refl, codes, map}
-use Rattle.std.specs.Prelude.{is_some, negsuc, pos}
-use Rattle.cell.specs.Glyphs.{Glyph}
-use Rattle.cell.specs.Pictures.{origin}
-use Rattle.world.specs.Windows.{Drawing, Window, WindowMap, Windows, no_windows, own_grid, put, with_window, window_limit}
-use Rattle.world.specs.World.{first_settings}
-use Rattle.world.specs.Rows.{line_shown}
-use Rattle.world.specs.Drawings.{at_place, character_deleted, character_inserted, everywhere, lines_down, lines_up, to_bottom, to_end_of_line}
-use Rattle.world.specs.calls.Writing.{scrl_drawing}
+use Rattle.windows.specs.{◌≡◌, ◌++◌, ◌+◌, ◌*◌, ℕ, List, Some, None, true, false, refl, codes, map, is_some, negsuc, pos, Glyph, origin, Drawing, Window}
+use Rattle.windows.specs.{WindowMap, Windows, no_windows, own_grid, put, with_window, window_limit, first_settings, line_shown, at_place, character_deleted}
+use Rattle.windows.specs.{character_inserted, everywhere, lines_down, lines_up, to_bottom, to_end_of_line, scrl_drawing}
 
 letter : ℕ → Glyph
 letter character = record { character = character; attributes = 0; pair = 0 }

@@ -1,6 +1,5 @@
 -- A drawing line by line: the lines of it above line k, and those from line k on.
-use Rattle.std.proofs.Common.{ℕ, if◌then◌else◌, nat_lt, nat_le, None}
-use Rattle.world.specs.Windows.{Drawing}
+use Rattle.windows.specs.{ℕ, if◌then◌else◌, nat_lt, nat_le, None, Drawing}
 
 abbrev pub above : ℕ → Drawing → Drawing
 above k f y x = if nat_lt y k then f y x else None

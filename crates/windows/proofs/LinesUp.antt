@@ -1,16 +1,6 @@
 -- Lines moved up: their rectangle, what the call that deletes a line does and answers, and the writes, downwards.
-use Rattle.std.proofs.Common.{◌≡◌, ℕ, ◌+◌, ◌-◌, ◌<◌, ◌≤◌, false, Some, None, arith, inl, inr}
-use Rattle.std.proofs.lemmas.Bool.{cases_lt}
-use Rattle.std.proofs.lemmas.Bool.Decides.{nat_tests}
-use Rattle.cell.specs.Glyphs.{Glyph}
-use Rattle.cell.specs.declared.window.Rect.{Rect}
-use Rattle.world.specs.Windows.{WindowMap, Windows, Window, put}
-use Rattle.world.specs.Rows.{filled_cells, copied_cells}
-use Rattle.world.specs.Drawings.{lines_up}
-use Rattle.world.specs.Frames.{frame_of}
-use Rattle.world.specs.Effects.{drawing_frame, after_edit, draws}
-use Rattle.world.specs.calls.Writing.{deleteln_drawing}
-use Rattle.windows.specs.steps.State.{IsStateOf}
+use Rattle.windows.specs.{◌≡◌, ℕ, ◌+◌, ◌-◌, ◌<◌, ◌≤◌, false, Some, None, arith, inl, inr, cases_lt, nat_tests, Glyph, Rect, WindowMap, Windows, Window, put}
+use Rattle.windows.specs.{filled_cells, copied_cells, lines_up, frame_of, drawing_frame, after_edit, draws, deleteln_drawing, IsStateOf}
 use Rattle.windows.specs.declared.state.WindowState.{WindowState}
 use Rattle.windows.proofs.LineDrawings.{above}
 use Rattle.windows.proofs.NextWrites.{starts_above, ends_above, line_cleared, line_taken_below}

@@ -1,11 +1,6 @@
 -- What one more write of a line adds to a drawing, for a window of a known state.
-use Rattle.std.proofs.Common.{◌≡◌, ℕ, ◌+◌, ◌-◌, ◌<◌, ◌≤◌, false, Some, None, arith, sym}
-use Rattle.std.proofs.lemmas.Bool.{cases_eq}
-use Rattle.std.proofs.lemmas.Bool.Decides.{nat_tests}
-use Rattle.cell.specs.Glyphs.{Glyph}
-use Rattle.world.specs.Windows.{WindowMap, Windows, Drawing, cell_at, put, over}
-use Rattle.world.specs.Rows.{filled_cells, copied_cells}
-use Rattle.windows.specs.steps.State.{IsStateOf}
+use Rattle.windows.specs.{◌≡◌, ℕ, ◌+◌, ◌-◌, ◌<◌, ◌≤◌, false, Some, None, arith, sym, cases_eq, nat_tests, Glyph, WindowMap, Windows, Drawing, cell_at, put}
+use Rattle.windows.specs.{over, filled_cells, copied_cells, IsStateOf}
 use Rattle.windows.specs.declared.state.WindowState.{WindowState}
 use Rattle.windows.proofs.States.{spot-of}
 use Rattle.world.proofs.WindowLaws.{put-nothing}

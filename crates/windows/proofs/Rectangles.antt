@@ -1,9 +1,5 @@
 -- Drawings that write a rectangle, or nothing.
-use Rattle.std.proofs.Common.{◌≡◌, ℕ, ◌<◌, ◌≤◌, ◌&&◌, nat_le, Some, None, is_some, arith}
-use Rattle.std.proofs.lemmas.Bool.Decides.{nat_tests}
-use Rattle.world.specs.Windows.{Window, Drawing}
-use Rattle.world.specs.Frames.{frame_of}
-use Rattle.cell.specs.declared.window.Rect.{Rect}
+use Rattle.windows.specs.{◌≡◌, ℕ, ◌<◌, ◌≤◌, ◌&&◌, nat_le, Some, None, is_some, arith, nat_tests, Window, Drawing, frame_of, Rect}
 use Rattle.world.proofs.FrameLaws.{frame_of-only, frame_of-none}
 
 -- the drawing has a cell for just these places of the window

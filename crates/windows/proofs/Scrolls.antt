@@ -1,11 +1,6 @@
 -- The lines of a region, scrolled by a number of lines.
-use Rattle.std.proofs.Common.{◌≡◌, ℕ, ℤ, pos, ◌-◌, Some, None, ap, refl, sym, ◌∙◌, arith}
-use Rattle.world.specs.Windows.{Windows, put}
-use Rattle.world.specs.Frames.{frame_of}
-use Rattle.world.specs.calls.Writing.{scrl_drawing}
-use Rattle.cell.specs.declared.window.Rect.{Rect}
+use Rattle.windows.specs.{◌≡◌, ℕ, ℤ, pos, ◌-◌, Some, None, ap, refl, sym, ◌∙◌, arith, Windows, put, frame_of, scrl_drawing, Rect, IsStateOf, window_in_state}
 use Rattle.world.proofs.WindowLaws.{put-nothing}
-use Rattle.windows.specs.steps.State.{IsStateOf, window_in_state}
 use Rattle.windows.specs.declared.state.WindowState.{WindowState}
 use Rattle.windows.proofs.LinesUp.{frame-lines_up}
 use Rattle.windows.proofs.LinesDown.{frame-lines_down}

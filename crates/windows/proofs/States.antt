@@ -1,15 +1,7 @@
 -- A window keeps its size and its settings where something is written; and other settings are one change of it.
-use Rattle.std.proofs.Common.{◌≡◌, ℕ, ◌<◌, Option, Some, None, IsSome, IsSomeAnd, arith, refl, ◌∙◌}
-use Rattle.std.specs.Option.{option_map}
-use Rattle.std.proofs.lemmas.Bool.{eqb-true}
-use Rattle.std.proofs.lemmas.Nat.{and_le_l, and_mask, or_lt}
-use Rattle.cell.specs.Attributes.{bits_of, valid_attributes, without}
-use Rattle.std.specs.Int.RustNames.{bit_or}
-use Rattle.world.specs.Windows.{Window, WindowMap, Windows, GridPlace, Drawing, own, after_drawing, put_windows, put, HasPlace}
-use Rattle.world.specs.Settings.{after_set_settings, set}
-use Rattle.world.specs.Sound.{AreSoundWindows}
-use Rattle.world.specs.declared.settings.Settings.{Settings}
-use Rattle.windows.specs.steps.State.{IsStateOf}
+use Rattle.windows.specs.{◌≡◌, ℕ, ◌<◌, Option, Some, None, IsSome, IsSomeAnd, arith, refl, ◌∙◌, option_map, eqb-true, and_le_l, and_mask, or_lt, bits_of}
+use Rattle.windows.specs.{valid_attributes, without, bit_or, Window, WindowMap, Windows, GridPlace, Drawing, own, after_drawing, put_windows, put, HasPlace}
+use Rattle.windows.specs.{after_set_settings, set, AreSoundWindows, Settings, IsStateOf}
 use Rattle.windows.specs.declared.state.WindowState.{WindowState}
 
 -- a window of a sound world has the state that its size and its settings make

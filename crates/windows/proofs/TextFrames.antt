@@ -1,11 +1,6 @@
 -- The rectangle of a text is the smallest that holds those of its characters.
-use Rattle.std.proofs.Common.{◌≡◌, ℕ, Option, None, List, [], ◌∷◌, ◌++◌, ap, arith, refl, sym, ◌∙◌}
-use Rattle.std.specs.Prelude.{option_and_then}
-use Rattle.cell.specs.declared.window.Rect.{Rect}
-use Rattle.world.specs.Windows.{Drawing, Window, Windows}
-use Rattle.world.specs.Frames.{frame_of, frame_of_two}
-use Rattle.world.specs.Typing.{after_character, after_text, drawing_of_character, text_drawing}
-use Rattle.world.specs.Effects.{drawing_frame, edit_frame, types}
+use Rattle.windows.specs.{◌≡◌, ℕ, Option, None, List, [], ◌∷◌, ◌++◌, ap, arith, refl, sym, ◌∙◌, option_and_then, Rect, Drawing, Window, Windows, frame_of}
+use Rattle.windows.specs.{frame_of_two, after_character, after_text, drawing_of_character, text_drawing, drawing_frame, edit_frame, types}
 use Rattle.world.proofs.FrameLaws.{drawing_frame-over, frame_of-none}
 use Rattle.world.proofs.ViewLaws.{outline_of}
 use Rattle.world.proofs.WritingLaws.{view-edit}

@@ -1,17 +1,7 @@
 -- Writing a character makes and deletes no window; and the rectangle of several characters.
-use Rattle.std.proofs.Common.{◌≡◌, ℕ, Bool, true, false, if◌then◌else◌, Option, None, is_some, List, [], ◌∷◌, arith, refl}
-use Rattle.std.specs.Option.{option_map}
-use Rattle.std.specs.List.{list_all, list_any}
-use Rattle.std.proofs.lemmas.Bool.{and_parts}
-use Rattle.cell.specs.Glyphs.{is_printable}
-use Rattle.cell.specs.Pictures.{Place}
-use Rattle.world.specs.Windows.{Window, WindowMap, Windows, GridPlace, Drawing, put_from, put}
-use Rattle.world.specs.Settings.{set}
-use Rattle.world.specs.Frames.{frame_of_two}
-use Rattle.world.specs.Typing.{drawn_to, to_next_line, character_printed, line_ended, typed_in}
-use Rattle.cell.specs.declared.window.Rect.{Rect}
-use Rattle.world.specs.calls.Writing.{is_bad_character}
-use Rattle.world.specs.declared.settings.Settings.{Settings}
+use Rattle.windows.specs.{◌≡◌, ℕ, Bool, true, false, if◌then◌else◌, Option, None, is_some, List, [], ◌∷◌, arith, refl, option_map, list_all, list_any}
+use Rattle.windows.specs.{and_parts, is_printable, Place, Window, WindowMap, Windows, GridPlace, Drawing, put_from, put, set, frame_of_two, drawn_to}
+use Rattle.windows.specs.{to_next_line, character_printed, line_ended, typed_in, Rect, is_bad_character, Settings}
 
 -- ---- no window comes or goes
 

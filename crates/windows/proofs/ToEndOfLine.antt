@@ -1,17 +1,6 @@
 -- The rest of a line: its rectangle, its write, and the frame of the call that clears it.
-use Rattle.std.proofs.Common.{◌≡◌, ℕ, ◌-◌, ◌<◌, Some, arith}
-use Rattle.std.proofs.lemmas.Bool.{cases_eq}
-use Rattle.std.proofs.lemmas.Bool.Decides.{nat_tests}
-use Rattle.cell.specs.Glyphs.{Glyph}
-use Rattle.cell.specs.Pictures.{Place}
-use Rattle.cell.specs.declared.window.Rect.{Rect}
-use Rattle.world.specs.Windows.{Windows, Window, put}
-use Rattle.world.specs.Rows.{filled_cells}
-use Rattle.world.specs.Drawings.{to_end_of_line}
-use Rattle.world.specs.Frames.{frame_of}
-use Rattle.world.specs.Effects.{drawing_frame}
-use Rattle.world.specs.calls.Writing.{clrtoeol_drawing}
-use Rattle.windows.specs.steps.State.{IsStateOf}
+use Rattle.windows.specs.{◌≡◌, ℕ, ◌-◌, ◌<◌, Some, arith, cases_eq, nat_tests, Glyph, Place, Rect, Windows, Window, put, filled_cells, to_end_of_line}
+use Rattle.windows.specs.{frame_of, drawing_frame, clrtoeol_drawing, IsStateOf}
 use Rattle.windows.specs.declared.state.WindowState.{WindowState}
 use Rattle.windows.proofs.NextWrites.{once}
 use Rattle.windows.proofs.Rectangles.{block}

@@ -1,19 +1,8 @@
 -- A character written at the cursor of a window of a known state.
-use Rattle.std.proofs.Common.{◌≡◌, ℕ, ◌+◌, ◌-◌, ◌<◌, ◌≤◌, Bool, true, false, if◌then◌else◌, ◌==◌, ◌&&◌, Option, Some, None, arith, refl, sym, ◌∙◌}
-use Rattle.std.specs.Int.RustNames.{bit_or}
-use Rattle.std.proofs.lemmas.Bool.Decides.{nat_tests}
-use Rattle.cell.specs.Attributes.{bits_of, valid_attributes}
-use Rattle.cell.specs.Glyphs.{Glyph}
-use Rattle.cell.specs.Pictures.{Place}
-use Rattle.world.specs.Windows.{Windows, put}
-use Rattle.world.specs.Rows.{filled_cells}
-use Rattle.world.specs.Settings.{set, with_cursor}
-use Rattle.world.specs.Drawings.{written_glyph, at_place, to_end_of_line, lines_up}
-use Rattle.world.specs.Frames.{frame_of, frame_of_two}
-use Rattle.world.specs.Typing.{to_next_line, next_line_drawing, character_printed, character_drawing, line_ended, line_ended_drawing, typed_in, typed_drawing, after_character}
-use Rattle.cell.specs.declared.window.Rect.{Rect}
-use Rattle.world.specs.declared.settings.Settings.{Settings}
-use Rattle.windows.specs.steps.State.{IsStateOf, window_in_state}
+use Rattle.windows.specs.{◌≡◌, ℕ, ◌+◌, ◌-◌, ◌<◌, ◌≤◌, Bool, true, false, if◌then◌else◌, ◌==◌, ◌&&◌, Option, Some, None, arith, refl, sym, ◌∙◌, bit_or}
+use Rattle.windows.specs.{nat_tests, bits_of, valid_attributes, Glyph, Place, Windows, put, filled_cells, set, with_cursor, written_glyph, at_place}
+use Rattle.windows.specs.{to_end_of_line, lines_up, frame_of, frame_of_two, to_next_line, next_line_drawing, character_printed, character_drawing, line_ended}
+use Rattle.windows.specs.{line_ended_drawing, typed_in, typed_drawing, after_character, Rect, Settings, IsStateOf, window_in_state}
 use Rattle.windows.specs.declared.state.WindowState.{WindowState}
 use Rattle.world.proofs.EditLaws.{frame-if-there}
 use Rattle.world.proofs.FrameLaws.{frame-over, frame_of-none}

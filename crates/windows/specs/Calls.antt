@@ -1,15 +1,6 @@
 -- A call that writes in a window, copies to it, or sets how it is written in, made on a table of windows.
-use Rattle.std.specs.Prelude.{◌≡◌, IfOk, None, OnErr, OnOk, Option, Result}
-use Rattle.std.specs.Result.{result_err}
-use Rattle.cell.specs.declared.refusal.Refusal.{Refusal}
-use Rattle.cell.specs.declared.window.Rect.{Rect}
-use Rattle.world.specs.Effects.{Change, after_change, change_frame, edits}
-use Rattle.world.specs.Sound.{AreSoundWindows}
-use Rattle.world.specs.calls.Copying.{copying_change, copying_refusal}
-use Rattle.world.specs.calls.Writing.{writing_edit, writing_refusal}
-use Rattle.world.specs.declared.call.Copying.{Copying}
-use Rattle.world.specs.declared.call.Writing.{Writing}
-use Rattle.grids.specs.Tables.{WindowTable, windows}
+use Rattle.windows.specs.Names.{◌≡◌, IfOk, None, OnErr, OnOk, Option, Result, result_err, Refusal, Rect, Change, after_change, change_frame, edits}
+use Rattle.windows.specs.Names.{AreSoundWindows, copying_change, copying_refusal, writing_edit, writing_refusal, Copying, Writing, WindowTable, windows}
 
 -- it was refused exactly by its tests, and then nothing changed; else the frame and the windows are those of its effect
 pub record Drew {T : Type 0} (frame_of : T → Option Rect) (old : WindowTable) (refusal : Option Refusal) (change : Change) (r : Result T Refusal) (new : WindowTable)

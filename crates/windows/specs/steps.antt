@@ -1,2 +1,4 @@
 pub mod State
 pub mod Writes
+unfoldable pub use State.*
+unfoldable pub use Writes.*

@@ -1,12 +1,7 @@
 //! The calls that copy cells from window to window.
 
-ghost use Rattle.std.specs.Prelude.{◌≡◌, None, ◌+◌, ◌-◌, ◌<◌, ◌^◌, max, min, nat_lt};
-ghost use Rattle.cell.specs.Refusals.{first_of};
-ghost use Rattle.world.specs.calls.Copying.{common_cells, overlay_tests};
-ghost use Rattle.world.specs.Effects.{draws, edits};
-ghost use Rattle.world.specs.declared.call.Copying.{Copying};
-ghost use Rattle.grids.specs.Tables.{windows};
-ghost use Rattle.windows.specs.Calls.{Copied, Drew, its_frame};
+ghost use Rattle.windows.specs.{◌≡◌, None, ◌+◌, ◌-◌, ◌<◌, ◌^◌, max, min, nat_lt, first_of, common_cells, overlay_tests, draws, edits, Copying, windows};
+ghost use Rattle.windows.specs.{Copied, Drew, its_frame};
 
 use crate::state::state_of;
 use crate::table::Windows;

@@ -1,6 +1,6 @@
 //! Rectangles of a window.
 
-ghost use Rattle.std.specs.Prelude.{◌≡◌, ◌-◌, ◌<◌};
+ghost use Rattle.windows.specs.{◌≡◌, ◌-◌, ◌<◌};
 
 use crate::state::WindowState;
 use cell::Rect;

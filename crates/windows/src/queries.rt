@@ -1,9 +1,6 @@
 //! The query about a window that reads a cell.
 
-ghost use Rattle.world.specs.calls.Queries.{cell_at_cursor};
-ghost use Rattle.world.specs.declared.call.Query.{Query};
-ghost use Rattle.grids.specs.Calls.{Asked};
-ghost use Rattle.grids.specs.Tables.{windows};
+ghost use Rattle.windows.specs.{cell_at_cursor, Query, Asked, windows};
 
 use crate::state::state_of;
 use crate::table::Windows;

@@ -1,13 +1,7 @@
 //! What a call reads of its window first, and sets of it.
 
-ghost use Rattle.std.specs.Prelude.{◌≡◌, ◌<◌, ◌≤◌, IsSomeAnd, MatchResult, None};
-ghost use Rattle.cell.specs.Attributes.{bits_of};
-ghost use Rattle.world.specs.Settings.{set, with_cursor};
-ghost use Rattle.world.specs.Windows.{HasPlace};
-ghost use Rattle.world.specs.Sound.{AreSoundWindows};
-ghost use Rattle.grids.specs.Tables.{windows};
-ghost use Rattle.windows.specs.steps.State.{IsStateOf};
-ghost use Rattle.windows.specs.steps.Writes.{HasStateAndPlace};
+ghost use Rattle.windows.specs.{◌≡◌, ◌<◌, ◌≤◌, IsSomeAnd, MatchResult, None, bits_of, set, with_cursor, HasPlace, AreSoundWindows, windows, IsStateOf};
+ghost use Rattle.windows.specs.{HasStateAndPlace};
 
 use cell::{Refusal, WinId};
 use grids::Grids;

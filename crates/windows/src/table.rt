@@ -1,11 +1,6 @@
 //! The windows and pads of a screen.
 
-ghost use Rattle.std.specs.Prelude.{◌≡◌, IfOk};
-ghost use Rattle.cell.specs.Refusals.{RefusedBy};
-ghost use Rattle.world.specs.Sound.{AreSoundWindows};
-ghost use Rattle.world.specs.World.{first_world};
-ghost use Rattle.world.specs.calls.Making.{new_refusal};
-ghost use Rattle.grids.specs.Tables.{windows};
+ghost use Rattle.windows.specs.{◌≡◌, IfOk, RefusedBy, AreSoundWindows, first_world, new_refusal, windows};
 
 use cell::Refusal;
 use grids::Grids;

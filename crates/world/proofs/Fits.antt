@@ -1,18 +1,9 @@
 -- What each effect requires of a sound world, so that it leaves one.
-use Rattle.std.proofs.Common.{◌≡◌, ◌≢◌, ℕ, ◌+◌, ◌<◌, ◌≤◌, true, false, Some, None}
-use Rattle.std.specs.Prelude.{IsSome, IsSomeAnd, MatchOption, ⊤}
-use Rattle.std.specs.List.{list_any}
-use Rattle.cell.specs.Glyphs.{IsCell}
-use Rattle.cell.specs.Shown.{ArePairs}
-use Rattle.cell.specs.declared.limits.TheConstants.{LARGEST_PAD, MOST_PANELS, MOST_WINDOWS}
-use Rattle.world.specs.Windows.{Backing, own_grid, part_of, Drawing, Window, Windows}
-use Rattle.world.specs.Panels.{Panels, is_in_panel, standard_screen}
-use Rattle.world.specs.World.{World}
-use Rattle.world.specs.Sound.{AreColumnsWithin, AreSettingsWithin, AreSoundPanels, HasCells, IsOnScreen, IsPartOf}
-use Rattle.world.specs.Effects.{Change, asks, edits, marks, makes, deletes, moves, shifts, Edit, sets, draws, types}
-use Rattle.world.specs.Effects.{Effect, arranges, refreshes, composes, shows, colours, Order, changes, adds, orders, carries, with_colours}
-use Rattle.world.specs.calls.Making.{has_derived}
-use Rattle.world.specs.calls.Writing.{is_bad_character}
+use Rattle.world.specs.{◌≡◌, ◌≢◌, ℕ, ◌+◌, ◌<◌, ◌≤◌, true, false, Some, None, IsSome, IsSomeAnd, MatchOption, ⊤, list_any, IsCell, ArePairs, LARGEST_PAD}
+use Rattle.world.specs.{MOST_PANELS, MOST_WINDOWS, Backing, own_grid, part_of, Drawing, Window, Windows, Panels, is_in_panel, standard_screen, World}
+use Rattle.world.specs.{AreColumnsWithin, AreSettingsWithin, AreSoundPanels, HasCells, IsOnScreen, IsPartOf, Change, asks, edits, marks, makes, deletes}
+use Rattle.world.specs.{moves, shifts, Edit, sets, draws, types, Effect, arranges, refreshes, composes, shows, colours, Order, changes, adds, orders, carries}
+use Rattle.world.specs.{with_colours, has_derived, is_bad_character}
 use Rattle.world.specs.declared.settings.Settings.{Settings}
 
 -- ---- edits

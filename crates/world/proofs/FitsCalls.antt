@@ -1,13 +1,6 @@
 -- The tests of the calls that write and copy ensure what their effects require.
-use Rattle.std.proofs.Common.{◌≡◌, ℕ, true, Some, None, arith}
-use Rattle.std.proofs.lemmas.Bool.Decides.{nat_tests}
-use Rattle.std.proofs.lemmas.Nat.{and_le_l, and_le_r}
-use Rattle.cell.specs.Glyphs.{IsCell, is_printable}
-use Rattle.world.specs.Drawings.{written_glyph}
-use Rattle.world.specs.Windows.{Window, Windows}
-use Rattle.world.specs.Sound.{AreSettingsWithin, AreSoundWindows}
-use Rattle.world.specs.calls.Copying.{copying_change, copying_refusal}
-use Rattle.world.specs.calls.Writing.{writing_edit, writing_refusal}
+use Rattle.world.specs.{◌≡◌, ℕ, true, Some, None, arith, nat_tests, and_le_l, and_le_r, IsCell, is_printable, written_glyph, Window, Windows}
+use Rattle.world.specs.{AreSettingsWithin, AreSoundWindows, copying_change, copying_refusal, writing_edit, writing_refusal}
 use Rattle.world.proofs.Allowed.{passed}
 use Rattle.world.proofs.Fits.{FitsChange, FitsEdit}
 use Rattle.world.proofs.SoundCells.{IsCell-written, attributes-or, copied-cells, held-cell, overlaid, shown, touched-within}

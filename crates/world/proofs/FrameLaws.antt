@@ -1,10 +1,6 @@
 -- The rectangle of a drawing is the smallest one that holds its places.
-use Rattle.std.proofs.Common.{◌≡◌, ℕ, zero, suc, ◌<◌, min, max, Bool, true, if◌then◌else◌, Option, Some, None, is_some, arith, ◌⊎◌}
-use Rattle.std.proofs.lemmas.Bool.{cases_lt}
-use Rattle.world.specs.Windows.{Window, Windows, Drawing, over, put}
-use Rattle.world.specs.Frames.{frame_of_two, frame_at, frame_in_line, frame_above, frame_of, Covers, IsSmallest, IsFrameOf}
-use Rattle.world.specs.Effects.{drawing_frame}
-use Rattle.cell.specs.declared.window.Rect.{Rect}
+use Rattle.world.specs.{◌≡◌, ℕ, zero, suc, ◌<◌, min, max, Bool, true, if◌then◌else◌, Option, Some, None, is_some, arith, ◌⊎◌, cases_lt, Window, Windows}
+use Rattle.world.specs.{Drawing, over, put, frame_of_two, frame_at, frame_in_line, frame_above, frame_of, Covers, IsSmallest, IsFrameOf, drawing_frame, Rect}
 
 -- ---- there is only one
 

@@ -1,7 +1,5 @@
 -- A line that a call doesn't affect has no place that it affects.
-use Rattle.std.proofs.Common.{arith, ◌≡◌, ℕ, ◌<◌, false}
-use Rattle.world.specs.World.{World}
-use Rattle.world.specs.calls.Affected.{affects_line, affects_place}
+use Rattle.world.specs.{arith, ◌≡◌, ℕ, ◌<◌, false, World, affects_line, affects_place}
 use Rattle.world.proofs.Below.{any_below-some}
 use Rattle.world.specs.declared.call.Call.{Call}
 

@@ -1,9 +1,5 @@
 -- Which windows are in panels.
-use Rattle.std.proofs.Common.{◌≡◌, ℕ, ◌≤◌, true, false, ◌==◌, Some, arith, eq-eqb}
-use Rattle.std.specs.Option.{option_map_or}
-use Rattle.std.proofs.lemmas.Bool.{eqb-true}
-use Rattle.cell.specs.declared.limits.TheConstants.{MOST_PANELS}
-use Rattle.world.specs.Panels.{Panels, is_in_panel, panel_limit}
+use Rattle.world.specs.{◌≡◌, ℕ, ◌≤◌, true, false, ◌==◌, Some, arith, eq-eqb, option_map_or, eqb-true, MOST_PANELS, Panels, is_in_panel, panel_limit}
 use Rattle.world.proofs.Below.{any_below-some, any_below-true}
 
 -- exactly those that some panel has

@@ -1,21 +1,14 @@
 -- A write through a window leaves the picture as it is at every place of the screen where its frame isn't shown.
-use Rattle.std.proofs.Common.{◌≡◌, ℕ, ◌-◌, ◌<◌, Bool, true, false, Option, Some, None, IsSome, List, [], ◌∷◌, ap, arith, refl}
-use Rattle.std.specs.Option.{option_map_or}
-use Rattle.std.specs.List.{list_any}
+use Rattle.world.specs.{◌≡◌, ℕ, ◌-◌, ◌<◌, Bool, true, false, Option, Some, None, IsSome, List, [], ◌∷◌, ap, arith, refl, option_map_or, list_any, and_parts}
+use Rattle.world.specs.{and_from, or_parts, Drawing, GridPlace, HasPlace, Window, WindowMap, Windows, own, put_windows, Covers, IsFrameOf, IsIn, frame_of}
+use Rattle.world.specs.{frame_of_two, Panels, cell_on_screen, found_from_top, holds, place_of, standard_screen, windows_from_top, windows_of_picture}
+use Rattle.world.specs.{is_same_place, AreSoundWindows, frame_shows_at, shows_at, Rect}
 use mathlib.Core.Path.{fun_ext}
-use Rattle.std.proofs.lemmas.Bool.{and_parts, and_from, or_parts}
-use Rattle.world.specs.Windows.{Drawing, GridPlace, HasPlace, Window, WindowMap, Windows, own, put_windows}
-use Rattle.world.specs.Frames.{Covers, IsFrameOf, IsIn, frame_of, frame_of_two}
-use Rattle.world.specs.Panels.{Panels, cell_on_screen, found_from_top, holds, place_of, standard_screen, windows_from_top, windows_of_picture}
-use Rattle.world.specs.Sharing.{is_same_place}
-use Rattle.world.specs.Sound.{AreSoundWindows}
-use Rattle.world.specs.calls.Affected.{frame_shows_at, shows_at}
 use Rattle.world.proofs.Below.{any_in-some, any_in-true}
 use Rattle.world.proofs.FrameLaws.{frame_of-is}
 use Rattle.world.proofs.SharingLaws.{true-same}
 use Rattle.world.proofs.ViewLaws.{found-same, holds-same, on_screen-same, outline, outline_of, passes-none, place-same}
 use Rattle.world.proofs.WindowLaws.{own-put, put-keeps}
-use Rattle.cell.specs.declared.window.Rect.{Rect}
 
 -- ---- a write leaves sizes and places
 

@@ -1,13 +1,7 @@
 -- Which windows have a place on the screen after each effect, and that panels stay sound.
-use Rattle.std.proofs.Common.{◌≡◌, ℕ, Bool, true, false, if◌then◌else◌, Option, Some, None, ◌≢◌, arith}
-use Rattle.std.specs.Prelude.{IsSome, IsSomeAnd, is_some}
-use Rattle.std.specs.Option.{option_map, option_map_or}
-use Rattle.std.proofs.lemmas.Bool.{ne_eqb}
-use Rattle.cell.specs.Pictures.{Place}
-use Rattle.world.specs.Windows.{Window, WindowMap, Windows, with_change}
-use Rattle.world.specs.Panels.{Panels, standard_screen}
-use Rattle.world.specs.Sound.{AreSoundPanels}
-use Rattle.world.specs.Effects.{Change, Edit, after_change, after_edit, deletes, edits, moved_to, under_number}
+use Rattle.world.specs.{◌≡◌, ℕ, Bool, true, false, if◌then◌else◌, Option, Some, None, ◌≢◌, arith, IsSome, IsSomeAnd, is_some, option_map, option_map_or}
+use Rattle.world.specs.{ne_eqb, Place, Window, WindowMap, Windows, with_change, Panels, standard_screen, AreSoundPanels, Change, Edit, after_change}
+use Rattle.world.specs.{after_edit, deletes, edits, moved_to, under_number}
 use Rattle.world.proofs.Allowed.{IsAllowed, not-in-panel}
 use Rattle.world.proofs.PictureLaws.{SameView}
 use Rattle.world.proofs.WritingLaws.{view-edit}

@@ -1,12 +1,8 @@
 -- The places at which one window shows cells of a rectangle of another are a rectangle, or there are none.
-use Rattle.std.proofs.Common.{◌≡◌, ℕ, ◌+◌, ◌-◌, ◌<◌, ◌≤◌, min, true, Option, Some, arith, refl, eq-eqb}
-use Rattle.std.proofs.lemmas.Bool.{cases_eq, cases_lt, and_parts, and_from, eqb-true}
-use Rattle.world.specs.Windows.{Window, WindowMap, GridPlace, own}
-use Rattle.world.specs.Frames.{AreRectangle}
-use Rattle.world.specs.Sharing.{SharesPart, is_same_place}
+use Rattle.world.specs.{◌≡◌, ℕ, ◌+◌, ◌-◌, ◌<◌, ◌≤◌, min, true, Option, Some, arith, refl, eq-eqb, cases_eq, cases_lt, and_parts, and_from, eqb-true, Window}
+use Rattle.world.specs.{WindowMap, GridPlace, own, AreRectangle, SharesPart, is_same_place, Rect}
 use Rattle.world.proofs.Below.{FoundIn, any_in-some, any_in-true}
 use Rattle.world.proofs.WindowLaws.{own-onward}
-use Rattle.cell.specs.declared.window.Rect.{Rect}
 
 -- ---- one place of a grid
 

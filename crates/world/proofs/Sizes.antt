@@ -1,12 +1,6 @@
 -- No effect changes the size of the screen, and so no call.
-use Rattle.std.proofs.Common.{arith, ◌≡◌, ℕ, Option, List, [], ◌∷◌}
-use Rattle.std.specs.Option.{option_map_or}
-use Rattle.world.specs.Windows.{Window, Windows}
-use Rattle.world.specs.Panels.{Panels}
-use Rattle.world.specs.World.{World}
-use Rattle.world.specs.Typing.{after_text}
-use Rattle.world.specs.Effects.{Change, Edit, Effect, Order, after, after_change, after_edit, windows_after}
-use Rattle.world.specs.calls.Dispatch.{world_after}
+use Rattle.world.specs.{arith, ◌≡◌, ℕ, Option, List, [], ◌∷◌, option_map_or, Window, Windows, Panels, World, after_text, Change, Edit, Effect, Order, after}
+use Rattle.world.specs.{after_change, after_edit, windows_after, world_after}
 use Rattle.world.specs.declared.call.Call.{Call}
 
 pub record SameSize (one other : Windows) : Type 0 where

@@ -1,17 +1,8 @@
 -- In sound windows each place of a window shows a cell, what is drawn are cells, and what is touched are columns of its line.
-use Rattle.std.proofs.Common.{◌≡◌, ℕ, zero, suc, ◌+◌, ◌-◌, ◌<◌, ◌≤◌, Bool, true, Option, Some, arith}
-use Rattle.std.specs.Prelude.{IsSome, MatchOption, ⊤}
-use Rattle.std.specs.Int.RustNames.{bit_or}
-use Rattle.std.proofs.lemmas.Bool.Decides.{nat_tests}
-use Rattle.std.proofs.lemmas.Nat.{or_lt}
-use Rattle.cell.specs.Glyphs.{Glyph, IsCell, is_printable}
-use Rattle.cell.specs.Pictures.{Place}
-use Rattle.world.specs.Windows.{HasPlace, Window, Windows, cell_at, cell_in_grid, own_within, touched_below, window_limit}
-use Rattle.world.specs.Panels.{cell_on_screen, holds}
-use Rattle.world.specs.Drawings.{at_place, to_end_of_line, written_glyph}
-use Rattle.world.specs.Rows.{overlaid_cell}
-use Rattle.world.specs.Sound.{AreColumnsWithin, AreSettingsWithin, AreSoundWindows}
-use Rattle.world.specs.calls.Copying.{copywin_drawing}
+use Rattle.world.specs.{◌≡◌, ℕ, zero, suc, ◌+◌, ◌-◌, ◌<◌, ◌≤◌, Bool, true, Option, Some, arith, IsSome, MatchOption, ⊤, bit_or, nat_tests, or_lt, Glyph}
+use Rattle.world.specs.{IsCell, is_printable, Place, HasPlace, Window, Windows, cell_at, cell_in_grid, own_within, touched_below, window_limit}
+use Rattle.world.specs.{cell_on_screen, holds, at_place, to_end_of_line, written_glyph, overlaid_cell, AreColumnsWithin, AreSettingsWithin, AreSoundWindows}
+use Rattle.world.specs.{copywin_drawing}
 use Rattle.world.proofs.Fits.{HasCellsOnly}
 use Rattle.world.proofs.WindowLaws.{own-onward}
 use Rattle.world.specs.declared.settings.Columns.{Columns}

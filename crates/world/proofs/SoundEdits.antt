@@ -1,19 +1,10 @@
 -- An edit leaves sound windows sound, and so do marks.
-use Rattle.std.proofs.Common.{◌≡◌, ℕ, ◌+◌, ◌<◌, Bool, true, false, if◌then◌else◌, ◌==◌, nat_lt, Option, Some, None, List, [], ◌∷◌, arith, refl}
-use Rattle.std.specs.Prelude.{MatchOption, ⊤}
-use Rattle.std.specs.List.{list_any}
-use Rattle.std.specs.Option.{option_map}
-use Rattle.std.proofs.lemmas.Bool.{eqb-true, or_parts}
-use Rattle.std.proofs.lemmas.Bool.Decides.{nat_tests}
-use Rattle.cell.specs.Glyphs.{is_printable}
-use Rattle.cell.specs.Pictures.{Place}
-use Rattle.world.specs.Windows.{Backing, Drawing, GridPlace, Window, WindowMap, Windows, grid_drawing, if_there, laid_over, own, parent_number, put, put_from, with_change, within}
-use Rattle.world.specs.Settings.{set, with_cursor}
-use Rattle.world.specs.Drawings.{at_place, written_glyph}
-use Rattle.world.specs.Typing.{after_text, backspace, carriage_return, character_printed, is_last_line, newline, scrolls, to_next_line, typed_in}
-use Rattle.world.specs.Effects.{Edit, after_edit, after_marks, draws, marks, sets, types, unmarked_lines, with_unmarked}
-use Rattle.world.specs.Sound.{AreColumnsWithin, AreSettingsWithin, AreSoundWindows, HasCells, IsSoundWindow, IsStandardScreen}
-use Rattle.world.specs.calls.Writing.{is_bad_character}
+use Rattle.world.specs.{◌≡◌, ℕ, ◌+◌, ◌<◌, Bool, true, false, if◌then◌else◌, ◌==◌, nat_lt, Option, Some, None, List, [], ◌∷◌, arith, refl, MatchOption, ⊤}
+use Rattle.world.specs.{list_any, option_map, eqb-true, or_parts, nat_tests, is_printable, Place, Backing, Drawing, GridPlace, Window, WindowMap, Windows}
+use Rattle.world.specs.{grid_drawing, if_there, laid_over, own, parent_number, put, put_from, with_change, within, set, with_cursor, at_place, written_glyph}
+use Rattle.world.specs.{after_text, backspace, carriage_return, character_printed, is_last_line, newline, scrolls, to_next_line, typed_in, Edit, after_edit}
+use Rattle.world.specs.{after_marks, draws, marks, sets, types, unmarked_lines, with_unmarked, AreColumnsWithin, AreSettingsWithin, AreSoundWindows, HasCells}
+use Rattle.world.specs.{IsSoundWindow, IsStandardScreen, is_bad_character}
 use Rattle.world.proofs.Fits.{FitsChange, FitsEdit, HasCellsOnly, KeepsSettings}
 use Rattle.world.proofs.PictureLaws.{SameView, outline-put}
 use Rattle.world.proofs.SoundCells.{IsCell-written, cell-sound, cells-at_place, cells-to_end_of_line, touched-within}

@@ -1,22 +1,11 @@
 -- Making, deleting, moving and shifting a window leave sound windows sound.
-use Rattle.std.proofs.Common.{◌≡◌, ◌≢◌, ℕ, zero, suc, ◌+◌, ◌-◌, ◌<◌, ◌≤◌, Bool, true, false, ◌==◌, ◌&&◌, ◌||◌, Option, Some, None, List, map, arith, refl, sym, eqb}
-use Rattle.std.specs.Prelude.{IsSome, IsSomeAnd, MatchOption, is_none, is_some, unwrap_or, ⊤}
-use Rattle.std.specs.Option.{option_map_or}
-use Rattle.std.specs.List.{list_any, range_with_len}
-use Rattle.std.proofs.lemmas.Bool.{eq-eqb, eqb-false, eqb-true, ne_eqb}
-use Rattle.std.proofs.lemmas.Bool.Decides.{nat_tests}
-use Rattle.std.proofs.lemmas.List.Folds.{list_any_at}
-use Rattle.std.proofs.lemmas.List.FromFn.{get_or-map-range_with_len, length-map-range_with_len}
-use Rattle.std.proofs.lemmas.Map.Steps.{le-length_from_below}
-use Rattle.cell.specs.Pictures.{Place}
-use Rattle.cell.specs.Limits.{is_no_size}
-use Rattle.cell.specs.declared.limits.TheConstants.{LARGEST_PAD, MOST_WINDOWS}
-use Rattle.world.specs.Windows.{Window, WindowMap, Windows, own, own_within, parent_number, parent_of, window_limit, with_change, with_window}
-use Rattle.world.specs.Panels.{standard_screen}
-use Rattle.world.specs.World.{blank_grid, new_window}
-use Rattle.world.specs.Sound.{AreSoundWindows, HasCells, IsSoundWindow}
-use Rattle.world.specs.Effects.{deletes, makes, moves, shifts, moved_to, shifted_to, under_number, with_part, with_place}
-use Rattle.world.specs.calls.Making.{derived_from, free_among, is_full, is_inside, is_outside, is_part_of, making_change, making_refusal, new_number, next_window, window_on_screen}
+use Rattle.world.specs.{◌≡◌, ◌≢◌, ℕ, zero, suc, ◌+◌, ◌-◌, ◌<◌, ◌≤◌, Bool, true, false, ◌==◌, ◌&&◌, ◌||◌, Option, Some, None, List, map, arith, refl, sym, eqb}
+use Rattle.world.specs.{IsSome, IsSomeAnd, MatchOption, is_none, is_some, unwrap_or, ⊤, option_map_or, list_any, range_with_len, eq-eqb, eqb-false, eqb-true}
+use Rattle.world.specs.{ne_eqb, nat_tests, list_any_at, get_or-map-range_with_len, length-map-range_with_len, le-length_from_below, Place, is_no_size}
+use Rattle.world.specs.{LARGEST_PAD, MOST_WINDOWS, Window, WindowMap, Windows, own, own_within, parent_number, parent_of, window_limit, with_change}
+use Rattle.world.specs.{with_window, standard_screen, blank_grid, new_window, AreSoundWindows, HasCells, IsSoundWindow, deletes, makes, moves, shifts}
+use Rattle.world.specs.{moved_to, shifted_to, under_number, with_part, with_place, derived_from, free_among, is_full, is_inside, is_outside, is_part_of}
+use Rattle.world.specs.{making_change, making_refusal, new_number, next_window, window_on_screen}
 use Rattle.world.specs.declared.written_calls.Making.{Making}
 use Rattle.world.proofs.Allowed.{free-number, passed}
 use Rattle.world.proofs.MoveLaws.{no-part}

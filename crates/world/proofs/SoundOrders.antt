@@ -1,18 +1,10 @@
 -- An order leaves sound panels sound.
-use Rattle.std.proofs.Common.{◌≡◌, ◌≢◌, ℕ, zero, suc, ◌+◌, ◌-◌, ◌<◌, ◌≤◌, false, not, if◌then◌else◌, ◌==◌, Option, Some, None, List, [], ◌∷◌, ◌++◌, refl, sym, arith, eq-eqb}
-use Rattle.std.specs.Prelude.{All, AllPairs, IsSome, IsSomeAnd, MatchOption, find, is_none, unwrap_or, ⊤}
-use Rattle.std.specs.List.{range_with_len}
-use Rattle.std.proofs.lemmas.Bool.{eqb-true, ne_eqb}
-use Rattle.std.proofs.lemmas.List.Elements.{All-cons, All-filter, All-push, filter_passes}
-use Rattle.std.proofs.lemmas.List.Kept.{AllPairs-cons, AllPairs-filter}
-use Rattle.std.proofs.lemmas.List.Quantifiers.{all_pairs_push}
-use Rattle.cell.specs.declared.limits.TheConstants.{MOST_PANELS}
-use Rattle.cell.specs.declared.refusal.Refusal.{Refusal}
-use Rattle.world.specs.Windows.{WindowMap, Windows}
-use Rattle.world.specs.Panels.{Panels, is_in_panel, panel_limit, standard_screen}
-use Rattle.world.specs.Sound.{AreSoundPanels, IsSoundPanel}
-use Rattle.world.specs.Effects.{Order, adds, orders, panels_after, windows_after, with_entry}
-use Rattle.world.specs.calls.Stacking.{next_panel, new_panel_number, stacking_order, stacking_refusal, without}
+use Rattle.world.specs.{◌≡◌, ◌≢◌, ℕ, zero, suc, ◌+◌, ◌-◌, ◌<◌, ◌≤◌, false, not, if◌then◌else◌, ◌==◌, Option, Some, None, List, [], ◌∷◌, ◌++◌, refl, sym}
+use Rattle.world.specs.{arith, eq-eqb, All, AllPairs, IsSome, IsSomeAnd, MatchOption, find, is_none, unwrap_or, ⊤, range_with_len, eqb-true, ne_eqb, All-cons}
+use Rattle.world.specs.{All-filter, All-push, filter_passes, AllPairs-cons, AllPairs-filter, all_pairs_push, MOST_PANELS, Refusal, WindowMap, Windows, Panels}
+use Rattle.world.specs.{is_in_panel, panel_limit, standard_screen, AreSoundPanels, IsSoundPanel, Order, adds, orders, panels_after, windows_after, with_entry}
+use Rattle.world.specs.{next_panel, new_panel_number, stacking_order, stacking_refusal}
+use Rattle.world.specs.calls.Stacking.{without}
 use Rattle.world.proofs.Allowed.{passed, sound-panel}
 use Rattle.world.proofs.Fits.{FitsOrder}
 use Rattle.world.proofs.PanelLaws.{in_panel-some}

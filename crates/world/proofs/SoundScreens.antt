@@ -1,22 +1,11 @@
 -- Refreshing leaves a sound virtual screen sound, and so does each other effect.
-use Rattle.std.proofs.Common.{◌≡◌, ℕ, ◌<◌, Bool, true, false, Option, Some, None, List, [], ◌∷◌, map, arith, zero-add}
-use Rattle.std.specs.Prelude.{if◌then◌else◌, MatchOption, ◌&&◌, find, ⊤}
-use Rattle.std.specs.Option.{option_map_or}
-use Rattle.std.specs.List.{AllByRecursion, range_with_len}
-use Rattle.std.proofs.lemmas.Bool.Decides.{nat_tests}
-use Rattle.std.proofs.lemmas.List.{length-set}
-use Rattle.std.proofs.lemmas.List.Elements.{All-from_recursion, All-from_get_or, All-get_or, recursion_from_All}
-use Rattle.std.proofs.lemmas.List.FromFn.{length-map-range_with_len, get_or-map-range_with_len}
-use Rattle.cell.specs.Glyphs.{Glyph, IsCell}
-use Rattle.cell.specs.Pictures.{Picture, Place, origin, AreShown, HasSize, picture_of, shown_at}
-use Rattle.cell.specs.Shown.{ArePairs, IsShown, Pairs, Shown, shown}
+use Rattle.world.specs.{◌≡◌, ℕ, ◌<◌, Bool, true, false, Option, Some, None, List, [], ◌∷◌, map, arith, zero-add, if◌then◌else◌, MatchOption, ◌&&◌, find, ⊤}
+use Rattle.world.specs.{option_map_or, AllByRecursion, range_with_len, nat_tests, length-set, All-from_recursion, All-from_get_or, All-get_or}
+use Rattle.world.specs.{recursion_from_All, length-map-range_with_len, get_or-map-range_with_len, Glyph, IsCell, Picture, Place, origin, AreShown, HasSize}
+use Rattle.world.specs.{picture_of, shown_at, ArePairs, IsShown, Pairs, Shown, shown, Window, WindowMap, Windows, World, picture, Panels, cursor_from}
+use Rattle.world.specs.{found_from_top, holds, panel_holds, screen_place, standard_screen, window_or_standard, IsSound, IsSoundVirtual, IsSoundWindow, Effect}
+use Rattle.world.specs.{after, composes, refreshes, shown_over, refresh_effect, refresh_refusal}
 use Rattle.cell.proofs.PictureLemmas.{HasSize-lines_from, each-set, length-line}
-use Rattle.world.specs.Windows.{Window, WindowMap, Windows}
-use Rattle.world.specs.World.{World, picture}
-use Rattle.world.specs.Panels.{Panels, cursor_from, found_from_top, holds, panel_holds, screen_place, standard_screen, window_or_standard}
-use Rattle.world.specs.Sound.{IsSound, IsSoundVirtual, IsSoundWindow}
-use Rattle.world.specs.Effects.{Effect, after, composes, refreshes, shown_over}
-use Rattle.world.specs.calls.Refresh.{refresh_effect, refresh_refusal}
 use Rattle.world.specs.declared.written_calls.Refresh.{Refresh}
 use Rattle.world.specs.declared.written_calls.Refresh.TheVariants.{Pnoutrefresh}
 use Rattle.world.proofs.Fits.{FitsEffect}

@@ -1,21 +1,13 @@
 -- A call on a panel leaves the picture as it is at every place of the screen where the panel isn't seen, before or
 -- after.
-use Rattle.std.proofs.Common.{◌≡◌, ◌≢◌, ℕ, ◌<◌, Bool, true, false, not, ◌==◌, ◌&&◌, ◌||◌, Option, Some, None, List, [], ◌∷◌, ◌++◌, inl, inr, ap, refl, arith}
-use Rattle.std.specs.Prelude.{find, is_none, reverse, unwrap_or, ⊤}
-use Rattle.std.specs.List.{last_or, list_any}
-use Rattle.std.specs.Option.{option_map_or}
+use Rattle.world.specs.{◌≡◌, ◌≢◌, ℕ, ◌<◌, Bool, true, false, not, ◌==◌, ◌&&◌, ◌||◌, Option, Some, None, List, [], ◌∷◌, ◌++◌, inl, inr, ap, refl, arith, find}
+use Rattle.world.specs.{is_none, reverse, unwrap_or, ⊤, last_or, list_any, option_map_or, cases_eq, eq-eqb, eqb-true, ne_eqb, or_parts, and-false, append-nil}
+use Rattle.world.specs.{filter-append, WindowMap, Windows, Panels, cell_on_screen, found_from_top, holds, panel_holds, standard_screen, topmost}
+use Rattle.world.specs.{window_or_standard, AreSoundPanels, AreSoundWindows, Order, adds, carries, changes, with_entry, moved_to, orders, panels_after}
+use Rattle.world.specs.{windows_after, order_shows_at, panel_shows_at, stays_on_top, stacking_order, stacking_refusal}
 use mathlib.Core.List.{reverse_aux}
 use mathlib.Core.Path.{fun_ext}
-use Rattle.std.proofs.lemmas.Bool.{cases_eq, eq-eqb, eqb-true, ne_eqb, or_parts}
-use Rattle.std.proofs.Math.Bool.{and-false}
-use Rattle.std.proofs.lemmas.List.{append-nil}
-use Rattle.std.proofs.lemmas.List.Elements.{filter-append}
-use Rattle.world.specs.Windows.{WindowMap, Windows}
-use Rattle.world.specs.Panels.{Panels, cell_on_screen, found_from_top, holds, panel_holds, standard_screen, topmost, window_or_standard}
-use Rattle.world.specs.Sound.{AreSoundPanels, AreSoundWindows}
-use Rattle.world.specs.Effects.{Order, adds, carries, changes, with_entry, moved_to, orders, panels_after, windows_after}
-use Rattle.world.specs.calls.Affected.{order_shows_at, panel_shows_at, stays_on_top}
-use Rattle.world.specs.calls.Stacking.{stacking_order, stacking_refusal, without}
+use Rattle.world.specs.calls.Stacking.{without}
 use Rattle.world.proofs.Allowed.{IsAllowed, passed, sound-panel}
 use Rattle.world.proofs.MoveLaws.{cell-placed, found-change, holds-placed}
 use Rattle.world.specs.declared.written_calls.Stacking.{Stacking}

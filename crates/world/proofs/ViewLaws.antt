@@ -1,14 +1,9 @@
 -- What determines which windows hold a place of the screen, and which cells they show; and where the search from the
 -- top finds the same.
-use Rattle.std.proofs.Common.{◌≡◌, ℕ, zero, suc, ◌-◌, Bool, true, false, if◌then◌else◌, Option, Some, None, List, [], ◌∷◌, ap, refl, arith}
-use Rattle.std.specs.Prelude.{find, reverse}
-use Rattle.std.specs.Option.{option_map}
-use Rattle.std.specs.List.{filter_map, list_any}
+use Rattle.world.specs.{◌≡◌, ℕ, zero, suc, ◌-◌, Bool, true, false, if◌then◌else◌, Option, Some, None, List, [], ◌∷◌, ap, refl, arith, find, reverse}
+use Rattle.world.specs.{option_map, filter_map, list_any, or_parts, Place, Backing, Window, WindowMap, cell_at, with_change, own, own_within, window_limit}
+use Rattle.world.specs.{Panels, cell_on_screen, found_from_top, holds, owner, panel_holds, place_of, standard_screen, window_or_standard, windows_from_top}
 use mathlib.Core.Path.{fun_ext}
-use Rattle.std.proofs.lemmas.Bool.{or_parts}
-use Rattle.cell.specs.Pictures.{Place}
-use Rattle.world.specs.Windows.{Backing, Window, WindowMap, cell_at, with_change, own, own_within, window_limit}
-use Rattle.world.specs.Panels.{Panels, cell_on_screen, found_from_top, holds, owner, panel_holds, place_of, standard_screen, window_or_standard, windows_from_top}
 
 -- what doesn't look at what a change changes is the same
 pub same-if : {X : Type 0} (P : Option Window → X) (change : Window → Window) → ((a : Window) → P (Some (change a)) ≡ P (Some a))

@@ -1,13 +1,9 @@
 -- Laws of windows that share cells.
-use Rattle.std.proofs.Common.{◌≡◌, ℕ, zero, suc, ◌+◌, ◌<◌, Bool, false, if◌then◌else◌, ◌==◌, ◌&&◌, ◌||◌, nat_lt, Option, Some, None, is_some, IsSome, ap, arith, refl, sym, ◌∙◌}
-use Rattle.std.specs.Prelude.{option_and_then}
-use Rattle.std.specs.Option.{option_map}
+use Rattle.world.specs.{◌≡◌, ℕ, zero, suc, ◌+◌, ◌<◌, Bool, false, if◌then◌else◌, ◌==◌, ◌&&◌, ◌||◌, nat_lt, Option, Some, None, is_some, IsSome, ap, arith}
+use Rattle.world.specs.{refl, sym, ◌∙◌, option_and_then, option_map, eqb-true, nat_tests, Glyph, Backing, own_grid, part_of, Window, WindowMap, GridPlace}
+use Rattle.world.specs.{Drawing, through_backing, own_within, own, cell_at, within, grid_drawing, laid_over, joined_columns, touched_below, touched_by}
+use Rattle.world.specs.{after_drawing, put_from, put_windows, HasPlace, window_limit, onward, over}
 use mathlib.Core.Path.{fun_ext}
-use Rattle.std.proofs.lemmas.Bool.{eqb-true}
-use Rattle.std.proofs.lemmas.Bool.Decides.{nat_tests}
-use Rattle.cell.specs.Glyphs.{Glyph}
-use Rattle.world.specs.Windows.{Backing, own_grid, part_of, Window, WindowMap, GridPlace, Drawing, through_backing, own_within, own, cell_at, within, grid_drawing, laid_over}
-use Rattle.world.specs.Windows.{joined_columns, touched_below, touched_by, after_drawing, put_from, put_windows, HasPlace, window_limit, onward, over}
 use Rattle.world.specs.declared.settings.Columns.{Columns}
 
 -- a window's places lead to the places of one rectangle of a grid: own is own of (0, 0), moved

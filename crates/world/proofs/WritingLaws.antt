@@ -1,16 +1,11 @@
 -- What an edit writes: it leaves the picture as it is at every place of the screen where its frame isn't shown.
-use Rattle.std.proofs.Common.{◌≡◌, ℕ, ◌<◌, ◌≤◌, true, false, Option, Some, arith, refl, ◌∙◌}
-use Rattle.world.specs.Windows.{Drawing, HasPlace, Window, WindowMap, Windows, put_windows}
-use Rattle.world.specs.Panels.{Panels, found_from_top, holds, standard_screen}
-use Rattle.world.specs.Sound.{AreSoundWindows}
-use Rattle.world.specs.Effects.{Edit, after_edit, edit_drawing, edit_frame, edit_window}
-use Rattle.world.specs.calls.Affected.{edit_shows_at}
+use Rattle.world.specs.{◌≡◌, ℕ, ◌<◌, ◌≤◌, true, false, Option, Some, arith, refl, ◌∙◌, Drawing, HasPlace, Window, WindowMap, Windows, put_windows, Panels}
+use Rattle.world.specs.{found_from_top, holds, standard_screen, AreSoundWindows, Edit, after_edit, edit_drawing, edit_frame, edit_window, edit_shows_at, Rect}
 use Rattle.world.proofs.EditLaws.{differ-cells, edit-draws, frame-edit}
 use Rattle.world.proofs.FrameLaws.{frame_of-is}
 use Rattle.world.proofs.PictureLaws.{SameView, found-put, outline-put, standard-holds}
 use Rattle.world.proofs.ViewLaws.{SameCells, found-dressed, own-same}
 use Rattle.world.proofs.WindowLaws.{own-put}
-use Rattle.cell.specs.declared.window.Rect.{Rect}
 
 -- ---- what stays
 

@@ -1,19 +1,14 @@
 -- What calls do, said once for each effect: a call is its tests and one of these effects.
 -- X/Open Curses Issue 7 and NetBSD panel(3) say what each call does; that these few effects cover them all is Curspan's
 -- own finding.
-use Rattle.std.specs.Prelude.{◌≡◌, ℕ, Bool, true, false, if◌then◌else◌, ◌==◌, ◌||◌, Option, Some, None, List, [], ◌∷◌, ◌++◌, slice_set}
-use Rattle.std.specs.List.{list_any}
-use Rattle.std.specs.Option.{option_and_then, option_map, option_map_or}
-use Rattle.cell.specs.Pictures.{Picture, Place, picture_of, shown_at}
-use Rattle.cell.specs.Shown.{Pairs, Shown, shown}
-use Rattle.world.specs.Windows.{Backing, own_grid, part_of, Drawing, Window, WindowMap, Windows, with_change, drawing_if_there, if_there, no_cells, put, with_window}
+use Rattle.world.specs.Names.{◌≡◌, ℕ, Bool, true, false, if◌then◌else◌, ◌==◌, ◌||◌, Option, Some, None, List, [], ◌∷◌, ◌++◌, slice_set, list_any}
+use Rattle.world.specs.Names.{option_and_then, option_map, option_map_or, Picture, Place, picture_of, shown_at, Pairs, Shown, shown, VirtualScreen, Rect}
+use Rattle.world.specs.WindowMaps.{Backing, own_grid, part_of, Drawing, Window, WindowMap, Windows, with_change, drawing_if_there, if_there, no_cells, put, with_window}
 use Rattle.world.specs.Settings.{set}
-use Rattle.world.specs.Panels.{Panels, window_or_standard, windows_of_picture}
+use Rattle.world.specs.PanelOrder.{Panels, window_or_standard, windows_of_picture}
 use Rattle.world.specs.Frames.{frame_of}
 use Rattle.world.specs.Typing.{after_text, text_drawing}
-use Rattle.cell.specs.VirtualScreens.{VirtualScreen}
-use Rattle.world.specs.World.{World, picture, topmost_cursor}
-use Rattle.cell.specs.declared.window.Rect.{Rect}
+use Rattle.world.specs.Worlds.{World, picture, topmost_cursor}
 use Rattle.world.specs.declared.call.Reply.{Reply}
 use Rattle.world.specs.declared.call.Reply.TheVariants.{Nothing, Number, Panel}
 use Rattle.world.specs.declared.settings.Settings.{Settings}

@@ -1,9 +1,8 @@
 -- The rectangle that a drawing covers in a window: the smallest that holds each place of the window for which the
 -- drawing has a cell.
 -- The functions of `windows` that write answer it; X/Open Curses has no such answer.
-use Rattle.std.specs.Prelude.{◌≡◌, ℕ, zero, suc, ◌<◌, ◌≤◌, min, max, true, if◌then◌else◌, Option, Some, None, is_some, IsSomeAnd}
-use Rattle.world.specs.Windows.{Drawing, Window}
-use Rattle.cell.specs.declared.window.Rect.{Rect}
+use Rattle.world.specs.Names.{◌≡◌, ℕ, zero, suc, ◌<◌, ◌≤◌, min, max, true, if◌then◌else◌, Option, Some, None, is_some, IsSomeAnd, Rect}
+use Rattle.world.specs.WindowMaps.{Drawing, Window}
 
 -- the smallest rectangle that holds two
 abbrev pub frame_of_two : Option Rect → Option Rect → Option Rect

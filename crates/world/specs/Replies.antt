@@ -1,7 +1,6 @@
 -- What a function that makes a call answers, as the call's reply: nothing, a window's number, two numbers, yes or no,
 -- or a panel.
-use Rattle.std.specs.Prelude.{ℕ, Bool, Some}
-use Rattle.cell.specs.declared.window.WinId.{WinId}
+use Rattle.world.specs.Names.{ℕ, Bool, Some, WinId}
 use Rattle.world.specs.declared.call.Reply.{Reply}
 use Rattle.world.specs.declared.call.Reply.TheVariants.{Nothing, Number, TwoNumbers, Flag, Panel}
 use Rattle.world.specs.declared.panel.PanelId.{PanelId}

@@ -1,10 +1,8 @@
 -- The cells of one line of a window: what is read, and the three writes of which each call's write is made.
 -- X/Open Curses Issue 7: "Characters"; copywin, overlay.
-use Rattle.std.specs.Prelude.{ℕ, ◌+◌, ◌-◌, Bool, if◌then◌else◌, ◌==◌, nat_lt, nat_le, ◌&&◌, Option, Some, None, List, [], length, slice_index_or, map}
-use Rattle.std.specs.List.{range_with_len}
-use Rattle.std.specs.Option.{option_map_or}
-use Rattle.cell.specs.Glyphs.{Glyph, blank}
-use Rattle.world.specs.Windows.{WindowMap, Drawing, cell_at}
+use Rattle.world.specs.Names.{ℕ, ◌+◌, ◌-◌, Bool, if◌then◌else◌, ◌==◌, nat_lt, nat_le, ◌&&◌, Option, Some, None, List, [], length, slice_index_or, map}
+use Rattle.world.specs.Names.{range_with_len, option_map_or, Glyph, blank}
+use Rattle.world.specs.WindowMaps.{WindowMap, Drawing, cell_at}
 
 -- x is one of n numbers from a first one on
 abbrev pub is_among : ℕ → ℕ → ℕ → Bool

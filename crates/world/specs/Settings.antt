@@ -1,9 +1,7 @@
 -- The settings of a window.
 -- X/Open Curses Issue 7: move, attrset, bkgdset, setscrreg, scrollok, clearok.
-use Rattle.std.specs.Prelude.{ℕ}
-use Rattle.cell.specs.Attributes.{bits_of, valid_attributes}
-use Rattle.cell.specs.Pictures.{Place}
-use Rattle.world.specs.Windows.{Window, Windows, with_change}
+use Rattle.world.specs.Names.{ℕ, bits_of, valid_attributes, Place}
+use Rattle.world.specs.WindowMaps.{Window, Windows, with_change}
 use Rattle.world.specs.declared.settings.Settings.{Settings}
 
 -- other settings, without bits beyond the six attributes

@@ -1,8 +1,7 @@
 -- Which places of a window show cells of a part of another.
 -- X/Open Curses Issue 7: subwin and derwin (a derived window shares the cells of its parent).
-use Rattle.std.specs.Prelude.{◌≡◌, ℕ, ◌+◌, Bool, true, false, ◌==◌, ◌&&◌, nat_le, Option, Some, None}
-use Rattle.world.specs.Windows.{GridPlace, HasPlace, WindowMap, any_below, own}
-use Rattle.cell.specs.declared.window.Rect.{Rect}
+use Rattle.world.specs.Names.{◌≡◌, ℕ, ◌+◌, Bool, true, false, ◌==◌, ◌&&◌, nat_le, Option, Some, None, Rect}
+use Rattle.world.specs.WindowMaps.{GridPlace, HasPlace, WindowMap, any_below, own}
 
 -- both are there, and one place of a grid
 abbrev pub is_same_place : Option GridPlace → Option GridPlace → Bool

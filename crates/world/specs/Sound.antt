@@ -1,14 +1,9 @@
 -- The sound worlds: those that there can be. Each call leaves a sound world sound.
-use Rattle.std.specs.Prelude.{◌≡◌, ◌≢◌, ℕ, ◌+◌, ◌<◌, ◌≤◌, Option, Some, None, is_some, IsSome, IsSomeAnd, MatchOption, ⊤, All, AllPairs}
-use Rattle.cell.specs.Attributes.{bits_of}
-use Rattle.cell.specs.Glyphs.{Glyph, IsCell}
-use Rattle.cell.specs.Pictures.{origin, HasSize, AreShown}
-use Rattle.cell.specs.Shown.{ArePairs}
-use Rattle.cell.specs.declared.limits.TheConstants.{LARGEST_PAD, LARGEST_SCREEN, LAST_PAIR, MOST_PANELS, MOST_WINDOWS}
-use Rattle.world.specs.Windows.{Backing, own_grid, part_of, Window, WindowMap, Windows, own}
-use Rattle.world.specs.Panels.{Panels, standard_screen}
-use Rattle.cell.specs.VirtualScreens.{VirtualScreen}
-use Rattle.world.specs.World.{World}
+use Rattle.world.specs.Names.{◌≡◌, ◌≢◌, ℕ, ◌+◌, ◌<◌, ◌≤◌, Option, Some, None, is_some, IsSome, IsSomeAnd, MatchOption, ⊤, All, AllPairs, bits_of, Glyph}
+use Rattle.world.specs.Names.{IsCell, origin, HasSize, AreShown, ArePairs, LARGEST_PAD, LARGEST_SCREEN, LAST_PAIR, MOST_PANELS, MOST_WINDOWS, VirtualScreen}
+use Rattle.world.specs.WindowMaps.{Backing, own_grid, part_of, Window, WindowMap, Windows, own}
+use Rattle.world.specs.PanelOrder.{Panels, standard_screen}
+use Rattle.world.specs.Worlds.{World}
 use Rattle.world.specs.declared.settings.Columns.{Columns}
 use Rattle.world.specs.declared.settings.Settings.{Settings}
 

@@ -1,25 +1,17 @@
 //! What holds of the definitions alone. Each function does nothing, and its contract is the law.
 
-ghost use Rattle.std.specs.Prelude.{◌≡◌, ◌<◌, ◌≤◌, ℕ, false, List, Option, Some, None, IsSome, option_map, ◌⊎◌};
-ghost use Rattle.cell.specs.declared.window.Rect.{Rect};
-ghost use Rattle.world.specs.Frames.{AreRectangle, Covers, IsFrameOf, frame_of, frame_of_two};
-ghost use Rattle.world.specs.Panels.{Panels, cursor_of_topmost, found_from_top, is_in_panel};
-ghost use Rattle.world.specs.Sharing.{SharesPart};
-ghost use Rattle.world.specs.Sound.{AreSoundPanels, AreSoundWindows, IsSound};
-ghost use Rattle.world.specs.World.{World, picture};
-ghost use Rattle.world.specs.calls.Dispatch.{call_frame, effect_of, is_update_panels, refusal, world_after};
-ghost use Rattle.world.specs.calls.Affected.{affects_line, affects_place, change_shows_at, edit_shows_at, frame_shows_at, move_shows_at, order_shows_at};
-ghost use Rattle.world.specs.calls.Written.{Writes, WritesAt, leads_elsewhere, windows_after_call};
-ghost use Rattle.world.specs.calls.Making.{after_making, has_no_parent, making_change, making_refusal};
-ghost use Rattle.world.specs.calls.Stacking.{stacking_order, stacking_refusal};
-ghost use Rattle.world.specs.Effects.{DifferInSettings, Edit, after_edit, edit_drawing, edit_frame, edit_window, panels_after, shifted_to, windows_after, with_unmarked};
-ghost use Rattle.cell.specs.Glyphs.{Glyph};
-ghost use Rattle.cell.specs.Pictures.{shown_at};
+ghost use Rattle.world.specs.{◌≡◌, ◌<◌, ◌≤◌, ℕ, false, List, Option, Some, None, IsSome, option_map, ◌⊎◌, Rect, AreRectangle, Covers, IsFrameOf, frame_of};
+ghost use Rattle.world.specs.{frame_of_two, Panels, cursor_of_topmost, found_from_top, is_in_panel, SharesPart, AreSoundPanels, AreSoundWindows, IsSound};
+ghost use Rattle.world.specs.{World, picture, call_frame, effect_of, is_update_panels, refusal, world_after, affects_line, affects_place, change_shows_at};
+ghost use Rattle.world.specs.{edit_shows_at, frame_shows_at, move_shows_at, order_shows_at, Writes, WritesAt, leads_elsewhere, windows_after_call};
+ghost use Rattle.world.specs.{after_making, has_no_parent, making_change, making_refusal, stacking_order, stacking_refusal, DifferInSettings, Edit};
+ghost use Rattle.world.specs.{after_edit, edit_drawing, edit_frame, edit_window, panels_after, shifted_to, windows_after, with_unmarked, Glyph, shown_at};
+ghost use Rattle.world.specs.{Drawing, GridPlace, HasPlace, IsWrite, Window, WindowMap, Windows, cell_at, cell_in_grid, derives, onward, over, own, put};
+ghost use Rattle.world.specs.{put_windows};
 ghost use Rattle.world.specs.declared.call.Call.{Call};
 ghost use Rattle.world.specs.declared.written_calls.Making.{Making};
 ghost use Rattle.world.specs.declared.written_calls.Refresh.{Refresh};
 ghost use Rattle.world.specs.declared.written_calls.Stacking.{Stacking};
-ghost use Rattle.world.specs.Windows.{Drawing, GridPlace, HasPlace, IsWrite, Window, WindowMap, Windows, cell_at, cell_in_grid, derives, onward, over, own, put, put_windows};
 
 /// The places of a window lead to a rectangle of one grid: where one leads is where the first one leads, moved.
 pub fn own_is_moved()

@@ -1,7 +1,6 @@
 //! The settings of a window, and the columns of a line.
 
-ghost use Rattle.std.specs.Prelude.{◌≡◌, Some};
-ghost use Rattle.world.specs.Windows.{joined_columns};
+ghost use Rattle.world.specs.{◌≡◌, Some, joined_columns};
 
 use cell::{Attr, Cell, PairId};
 

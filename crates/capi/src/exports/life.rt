@@ -1,8 +1,6 @@
 //! Opening a screen, taking its bytes, and closing it.
 
-ghost use Rattle.std.specs.Prelude.{◌≡◌, None};
-ghost use Rattle.capi.specs.Lives.{Forgotten, Opened, Taken};
-ghost use Rattle.capi.specs.Numbers.{saturated};
+ghost use Rattle.capi.specs.{◌≡◌, None, Forgotten, Opened, Taken, saturated};
 
 use crate::answer::Answer;
 use crate::handle::Handle;

@@ -1,15 +1,7 @@
 -- What reporting a script's lines one after another does: definitions for the contracts of single steps.
-use Rattle.std.specs.Prelude.{◌≡◌, ◌++◌, [], ℕ, Bool, true, false, not, List}
-use Rattle.std.specs.List.{flat_map}
-use Rattle.streams.specs.Sinks.{Seen}
-use Rattle.streams.specs.Sources.{SourceSeen}
-use Rattle.script.specs.Readings.{parse_line}
-use Rattle.script.specs.declared.bytes.LineEnd.{LineEnd}
-use Rattle.script.specs.declared.bytes.LineEnd.TheVariants.{Newline, ScriptEnd, ReadFailed}
-use Rattle.script.specs.declared.fault.TextFault.TheVariants.{LineTooLong}
-use Rattle.commands.specs.Shows.{ReadsStream}
-use Rattle.commands.specs.Written.{PuttingEnds, WritingEnds}
-use Rattle.checks.specs.Checks.{AreFindingsOf, ReportsFault, ReportsLine, count_of, report}
+use Rattle.checks.specs.Names.{◌≡◌, ◌++◌, [], ℕ, Bool, true, false, not, List, flat_map, Seen, SourceSeen, parse_line, LineEnd, Newline, ScriptEnd}
+use Rattle.checks.specs.Names.{ReadFailed, LineTooLong, ReadsStream, PuttingEnds, WritingEnds}
+use Rattle.checks.specs.CheckCommand.{AreFindingsOf, ReportsFault, ReportsLine, count_of, report}
 use Rattle.checks.specs.declared.report.Report.{Report}
 
 -- what is reported of a line as it was read

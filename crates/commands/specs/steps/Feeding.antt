@@ -1,10 +1,6 @@
 -- What reading a stream into a terminal does: definitions for the contracts of single steps.
-use Rattle.std.specs.Prelude.{◌≡◌, ◌⊎◌, ℕ, Bool, List, Option, Some, None}
-use Rattle.ecma.specs.Readers.{Follows, Reader}
-use Rattle.ecma.specs.declared.reader.NotInProfile.{NotInProfile}
-use Rattle.streams.specs.Sinks.{Seen}
-use Rattle.streams.specs.Sources.{SourceSeen}
-use Rattle.commands.specs.Shows.{ReadsStream, offset_line}
+use Rattle.commands.specs.Names.{◌≡◌, ◌⊎◌, ℕ, Bool, List, Option, Some, None, Follows, Reader, NotInProfile, Seen, SourceSeen}
+use Rattle.commands.specs.ShowCommand.{ReadsStream, offset_line}
 use Rattle.commands.specs.Written.{IsNotWritten, IsWritten}
 
 -- A stream was read, and the terminal has read it.

@@ -1,15 +1,7 @@
 -- What a call affects of what windows show, and where one of them shows something of it.
-use Rattle.std.specs.Prelude.{ℕ, ◌≤◌, Bool, false, Option, Some, None, ⊤}
-use Rattle.std.specs.Option.{option_map}
-use Rattle.world.specs.Panels.{Panels}
-use Rattle.world.specs.Windows.{Windows, HasPlace, WindowMap}
-use Rattle.world.specs.Effects.{Change, edits, shifts, edit_frame, edit_window}
-use Rattle.world.specs.calls.Affected.{frame_shows_at, move_shows_at, follows_at, shows_at, window_if_topmost}
-use Rattle.world.specs.declared.call.Stacking.{Stacking}
-use Rattle.world.specs.declared.call.Stacking.TheVariants.{NewPanel, DelPanel, ShowPanel, HidePanel, TopPanel, BottomPanel, MovePanel, ReplacePanel}
-use Rattle.world.specs.declared.call.Reply.{Reply}
-use Rattle.world.specs.declared.call.Reply.TheVariants.{Panel}
-use Rattle.world.specs.calls.Stacking.{panel_number}
+use Rattle.compose.specs.Names.{ℕ, ◌≤◌, Bool, false, Option, Some, None, ⊤, option_map, Panels, Windows, HasPlace, WindowMap, Change, edits, shifts}
+use Rattle.compose.specs.Names.{edit_frame, edit_window, frame_shows_at, move_shows_at, follows_at, shows_at, window_if_topmost, Stacking, NewPanel, DelPanel}
+use Rattle.compose.specs.Names.{ShowPanel, HidePanel, TopPanel, BottomPanel, MovePanel, ReplacePanel, Reply, Panel, panel_number}
 use Rattle.compose.specs.declared.damaging.Affected.{Affected}
 use Rattle.compose.specs.declared.damaging.Affected.TheVariants.{Written, Moved}
 

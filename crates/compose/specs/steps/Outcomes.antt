@@ -1,26 +1,8 @@
 -- A call made on windows, with what it affects of what is shown, and one with what it damages; and a call on panels.
-use Rattle.std.specs.Prelude.{◌≡◌, ℕ, Bool, IfOk, OnErr, OnOk, Option, Some, None, List, Result, Ok, Err}
-use Rattle.std.specs.Option.{option_map}
-use Rattle.std.specs.Result.{result_err}
-use Rattle.cell.specs.declared.refusal.Refusal.{Refusal}
-use Rattle.world.specs.Effects.{Change, edit_window, order_reply, order_takes_memory, windows_after}
-use Rattle.world.specs.Panels.{Panels}
-use Rattle.world.specs.calls.Affected.{change_shows_at, order_shows_at}
-use Rattle.world.specs.calls.Refused.{Refused}
-use Rattle.world.specs.calls.Stacking.{after_stacking, stacking_order, stacking_refusal}
-use Rattle.cell.specs.declared.window.Rect.{Rect}
-use Rattle.cell.specs.declared.window.WinId.{WinId}
-use Rattle.world.specs.declared.call.Reply.{Reply}
-use Rattle.world.specs.declared.call.Reply.TheVariants.{Flag, Nothing, Number}
-use Rattle.world.specs.calls.Writing.{writing_edit}
-use Rattle.world.specs.declared.call.Stacking.{Stacking}
-use Rattle.world.specs.declared.call.Writing.{Writing}
-use Rattle.stack.specs.Calls.{no_windows}
-use Rattle.world.specs.declared.settings.Columns.{Columns}
-use Rattle.grids.specs.Calls.{Changed}
-use Rattle.grids.specs.Tables.{WindowTable, windows}
-use Rattle.stack.specs.Tables.{PanelTable, panels}
-use Rattle.picture.specs.Damages.{Damages}
+use Rattle.compose.specs.Names.{◌≡◌, ℕ, Bool, IfOk, OnErr, OnOk, Option, Some, None, List, Result, Ok, Err, option_map, result_err, Refusal, Change}
+use Rattle.compose.specs.Names.{edit_window, order_reply, order_takes_memory, windows_after, Panels, change_shows_at, order_shows_at, Refused, after_stacking}
+use Rattle.compose.specs.Names.{stacking_order, stacking_refusal, Rect, WinId, Reply, Flag, Nothing, Number, writing_edit, Stacking, Writing, no_windows}
+use Rattle.compose.specs.Names.{Columns, Changed, WindowTable, windows, PanelTable, panels, Damages}
 use Rattle.compose.specs.declared.damaging.Affected.TheVariants.{Written, Moved}
 use Rattle.compose.specs.declared.dispatch.Outcome.{Outcome}
 use Rattle.compose.specs.steps.Changes.{affected_by}

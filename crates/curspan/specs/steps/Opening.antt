@@ -1,7 +1,6 @@
 -- Why a file of the system can't be opened.
+use Rattle.curspan.specs.Names.{NotFound, PermissionDenied, IsADirectory, NotADirectory, OutOfMemory, OpenFault}
 use Rattle.std.specs.declared.io.ErrorKind.{ErrorKind}
-use Rattle.std.specs.declared.io.ErrorKind.TheVariants.{NotFound, PermissionDenied, IsADirectory, NotADirectory, OutOfMemory}
-use Rattle.commands.specs.declared.opening.OpenFault.{OpenFault}
 use Rattle.commands.specs.declared.opening.OpenFault.TheVariants as faults
 
 -- by the kind of the system's error

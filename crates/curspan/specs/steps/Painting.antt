@@ -1,13 +1,5 @@
 -- What `paint` does on a screen that is there, and what is asked for with a size of a screen.
-use Rattle.std.specs.Prelude.{ℕ, Bool, ⊤}
-use Rattle.streams.specs.Sinks.{Seen}
-use Rattle.streams.specs.Sources.{SourceSeen}
-use Rattle.script.specs.declared.fault.ScriptEnd.{ScriptEnd}
-use Rattle.compose.specs.Desks.{world}
-use Rattle.desk.specs.States.{ScreenOver}
-use Rattle.commands.specs.CommandLine.{IsSize}
-use Rattle.commands.specs.Written.{Outputs}
-use Rattle.commands.specs.declared.requests.Request.{Request}
+use Rattle.curspan.specs.Names.{ℕ, Bool, ⊤, Seen, SourceSeen, ScriptEnd, world, ScreenOver, IsSize, Outputs, Request}
 use Rattle.commands.specs.declared.requests.Request.TheVariants as requests
 use Rattle.curspan.specs.Serving.{Prints, RunsBy}
 

@@ -1,5 +1,5 @@
 -- The bytes of a standard stream, or of the file that took its place.
-use Rattle.std.specs.Prelude.{ℕ, List, Option}
+use Rattle.curspan.specs.Names.{ℕ, List, Option}
 use Rattle.curspan.specs.declared.files.Place.{Place}
 use Rattle.curspan.specs.declared.files.Place.TheVariants.{Standard, File}
 

@@ -1,14 +1,6 @@
 -- The answer of each call on a screen but doupdate is of the kind that the call has, and no update_panels is refused.
-use Rattle.std.specs.Prelude.{◌≡◌, ℕ, false, Ok, Err, refl}
-use Rattle.streams.specs.Sinks.{Seen}
-use Rattle.world.specs.calls.Dispatch.{is_doupdate}
-use Rattle.world.specs.declared.call.Call.{Call}
-use Rattle.world.specs.declared.call.Call.TheVariants.{Refresh}
-use Rattle.world.specs.declared.call.Refresh.TheVariants.{UpdatePanels}
-use Rattle.world.specs.declared.call.Reply.{Reply}
-use Rattle.compose.specs.Desks.{is_damaged_line, world}
-use Rattle.calls.specs.Kinds.{IsAnswerTo}
-use Rattle.compose.specs.KindLaws.{kind-of-answer, never-refused}
+use Rattle.desk.specs.Names.{◌≡◌, ℕ, false, Ok, Err, refl, Seen, is_doupdate, Call, Refresh, UpdatePanels, Reply, is_damaged_line, world, IsAnswerTo}
+use Rattle.desk.specs.Names.{kind-of-answer, never-refused}
 use Rattle.desk.specs.Methods.{CallMade}
 use Rattle.desk.specs.States.{ScreenOver, state_of}
 use Rattle.desk.specs.steps.Quiet.{quiet-reply}

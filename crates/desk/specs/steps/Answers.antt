@@ -1,8 +1,5 @@
 -- A call's end as the log has it: an answer, or a text that was cut short.
-use Rattle.std.specs.Prelude.{Result, Ok, Err}
-use Rattle.cell.specs.declared.refusal.Refusal.{Refusal}
-use Rattle.streams.specs.declared.sending.WriteFault.{WriteFault}
-use Rattle.world.specs.declared.call.Reply.{Reply}
+use Rattle.desk.specs.Names.{Result, Ok, Err, Refusal, WriteFault, Reply}
 use Rattle.desk.specs.declared.screen.Fault.{Fault}
 use Rattle.desk.specs.declared.screen.Fault.TheVariants.{Refused, Write}
 

@@ -1,8 +1,5 @@
 -- What is counted of a history, when one more call was made.
-use Rattle.std.specs.Prelude.{◌+◌, if◌then◌else◌, Result, cond, is_ok, is_some}
-use Rattle.world.specs.calls.Dispatch.{is_doupdate}
-use Rattle.world.specs.declared.call.Call.{Call}
-use Rattle.world.specs.declared.call.Reply.{Reply}
+use Rattle.desk.specs.Names.{◌+◌, if◌then◌else◌, Result, cond, is_ok, is_some, is_doupdate, Call, Reply}
 use Rattle.desk.specs.Ends.{cut_of}
 use Rattle.desk.specs.Histories.{cells_of_end, refuses}
 use Rattle.desk.specs.declared.history.RunAllEnd.{RunAllEnd}

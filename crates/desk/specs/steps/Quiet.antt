@@ -1,11 +1,6 @@
 -- Doupdate is the only call that sends, and the others may answer what a desk answers.
-use Rattle.std.specs.Prelude.{◌≡◌, ℕ, false, List, [], refl}
-use Rattle.compose.specs.Calling.{MayTell}
-use Rattle.world.specs.calls.Dispatch.{is_doupdate}
-use Rattle.world.specs.declared.call.Call.{Call}
+use Rattle.desk.specs.Names.{◌≡◌, ℕ, false, List, [], refl, MayTell, is_doupdate, Call, Doupdate, Reply}
 use Rattle.world.specs.declared.call.Call.TheVariants as calls
-use Rattle.world.specs.declared.call.Refresh.TheVariants.{Doupdate}
-use Rattle.world.specs.declared.call.Reply.{Reply}
 use Rattle.desk.specs.Runs.{MayReply}
 use Rattle.desk.specs.States.{State}
 

@@ -1,6 +1,6 @@
 //! Another writer for a screen, and a terminal of which nothing is known.
 
-ghost use Rattle.std.specs.Prelude.{◌≡◌, None};
+ghost use Rattle.desk.specs.{◌≡◌, None};
 
 use super::Screen;
 use std::mem::replace;

@@ -1,5 +1,5 @@
 -- Numbers that are spelled once, each with the separator after it.
-use Rattle.std.specs.Prelude.{◌≡◌, ℕ, ◌+◌, List, [], ◌∷◌, ◌++◌, decimal, length, take}
+use Rattle.ecma.specs.Names.{◌≡◌, ℕ, ◌+◌, List, [], ◌∷◌, ◌++◌, decimal, length, take}
 use Rattle.ecma.specs.Items.{separator}
 
 -- a text begins with a number and the separator

@@ -1,7 +1,6 @@
 -- A line of a window, and where it is in a grid.
-use Rattle.std.specs.Prelude.{◌≡◌, ℕ, ◌<◌, List, Option, Some}
-use Rattle.world.specs.Windows.{GridPlace, own}
-use Rattle.grids.specs.Kept.{Kept}
+use Rattle.grids.specs.Names.{◌≡◌, ℕ, ◌<◌, List, Option, Some, GridPlace, own}
+use Rattle.grids.specs.KeptSlots.{Kept}
 use Rattle.grids.specs.Slots.{IsRoot, columns_at, lines_at, window_map}
 
 -- the first place of window win led to this place of a grid and still does, and the window has line y up to column right

@@ -1,7 +1,7 @@
 -- The origins of the slots, set one by one.
-use Rattle.std.specs.Prelude.{◌≡◌, ℕ, List, Option, Some, slice_set}
+use Rattle.grids.specs.Names.{◌≡◌, ℕ, List, Option, Some, slice_set}
 use Rattle.grids.specs.declared.slot.Origin.{Origin}
-use Rattle.grids.specs.Kept.{Kept}
+use Rattle.grids.specs.KeptSlots.{Kept}
 use Rattle.grids.specs.Slots.{slot_at}
 
 -- one slot has another origin, and nothing else changed

@@ -1,10 +1,6 @@
 -- What one window shows of what is touched of another, in lines and columns.
-use Rattle.std.specs.Prelude.{ℕ, ◌+◌, ◌-◌, ◌≤◌, Bool, false, if◌then◌else◌, ◌&&◌, nat_lt, nat_le, Option, Some, None, IsSomeAnd}
-use Rattle.std.specs.Option.{option_map_or}
-use Rattle.cell.specs.Pictures.{Place}
-use Rattle.cell.specs.declared.limits.TheConstants.{LARGEST_PAD}
-use Rattle.world.specs.Windows.{Backing, own_grid, part_of, Window, WindowMap}
-use Rattle.world.specs.calls.Refresh.{among}
+use Rattle.grids.specs.Names.{ℕ, ◌+◌, ◌-◌, ◌≤◌, Bool, false, if◌then◌else◌, ◌&&◌, nat_lt, nat_le, Option, Some, None, IsSomeAnd, option_map_or, Place}
+use Rattle.grids.specs.Names.{LARGEST_PAD, Backing, own_grid, part_of, Window, WindowMap, among}
 use Rattle.grids.specs.declared.slot.Part.{Part}
 
 -- the line is the window's, and the column is touched there

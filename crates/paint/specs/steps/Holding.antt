@@ -1,10 +1,7 @@
 -- The text of a doupdate, gathered in an outbox.
-use Rattle.std.specs.Prelude.{◌≡◌, ℕ, ◌-◌, ◌<◌, ◌^◌, Bool, List, length, Option}
-use Rattle.std.specs.Option.{option_map}
-use Rattle.cell.specs.Pictures.{HasSize, Picture, Place}
-use Rattle.streams.specs.Sinks.{Seen}
+use Rattle.paint.specs.Names.{◌≡◌, ℕ, ◌-◌, ◌<◌, ◌^◌, Bool, List, length, Option, option_map, HasSize, Picture, Place, Seen}
 use Rattle.paint.specs.declared.pen.Pen.{Pen}
-use Rattle.paint.specs.Updates.{PainterState, ShownPicture, IsUpdateText, start_from}
+use Rattle.paint.specs.Doupdates.{PainterState, ShownPicture, IsUpdateText, start_from}
 use Rattle.paint.specs.steps.Gathering.{IsGathered, Outbox}
 use Rattle.paint.specs.steps.Pens.{IsPlainAt}
 

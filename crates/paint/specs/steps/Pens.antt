@@ -1,18 +1,10 @@
 -- What the strokes of a pen send, what a terminal shows after them, and how many bytes they have.
-use Rattle.std.specs.Prelude.{◌≡◌, ℕ, ◌+◌, ◌-◌, ◌*◌, ◌≤◌, if◌then◌else◌, List, [], ◌∷◌, length, map, Option, Some, None, Bool, false, nat_lt, slice_index_or}
-use Rattle.std.specs.List.{list_all}
-use Rattle.cell.specs.Shown.{Rendition, Shown, has_colour, no_rendition, shown_blank}
-use Rattle.cell.specs.Pictures.{Picture, Place, with_shown}
-use Rattle.cell.specs.Differences.{same_rendition, line_difference, difference}
-use Rattle.ecma.specs.Difference.{line_colour_difference, colour_difference}
-use Rattle.ecma.specs.Spelling.{colour_bytes, position_bytes, spelling}
-use Rattle.ecma.specs.Streams.{Leads}
-use Rattle.ecma.specs.Terminals.{Terminal}
-use Rattle.ecma.specs.declared.token.Token.{Token}
-use Rattle.ecma.specs.declared.token.Token.TheVariants.{Cup, Sgr}
-use Rattle.streams.specs.Sinks.{Seen}
+use Rattle.paint.specs.Names.{◌≡◌, ℕ, ◌+◌, ◌-◌, ◌*◌, ◌≤◌, if◌then◌else◌, List, [], ◌∷◌, length, map, Option, Some, None, Bool, false, nat_lt, slice_index_or}
+use Rattle.paint.specs.Names.{list_all, Rendition, Shown, has_colour, no_rendition, shown_blank, Picture, Place, with_shown, same_rendition, line_difference}
+use Rattle.paint.specs.Names.{difference, line_colour_difference, colour_difference, colour_bytes, position_bytes, spelling, Leads, Terminal, Token, Cup, Sgr}
+use Rattle.paint.specs.Names.{Seen}
 use Rattle.paint.specs.declared.pen.Pen.{Pen}
-use Rattle.paint.specs.Updates.{place_bytes, same_place}
+use Rattle.paint.specs.Doupdates.{place_bytes, same_place}
 use Rattle.paint.specs.steps.Gathering.{Gathers, empty_outbox}
 
 -- ---- their bytes

@@ -1,7 +1,6 @@
 -- Runs: cells of a line that are changed, and have one rendition.
-use Rattle.std.specs.Prelude.{◌≡◌, ℕ, ◌+◌, ◌-◌, ◌<◌, ◌≤◌, ◌||◌, not, if◌then◌else◌, Bool, false, List, length, take, drop, slice_index_or}
-use Rattle.cell.specs.Shown.{Rendition, Shown, shown_blank}
-use Rattle.cell.specs.Differences.{same_rendition, same_shown}
+use Rattle.paint.specs.Names.{◌≡◌, ℕ, ◌+◌, ◌-◌, ◌<◌, ◌≤◌, ◌||◌, not, if◌then◌else◌, Bool, false, List, length, take, drop, slice_index_or, Rendition, Shown}
+use Rattle.paint.specs.Names.{shown_blank, same_rendition, same_shown}
 use Rattle.paint.specs.steps.Pens.{line_bytes}
 
 -- a line's cells from a column up to another, which isn't one of them

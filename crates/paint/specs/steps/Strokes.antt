@@ -1,10 +1,8 @@
 -- What strokes draw, in any order. A stroke writes what is wanted where it is: so each place shows what was shown or what
 -- is wanted, and of what was drawn no more matters than which strokes were.
-use Rattle.std.specs.Prelude.{⊤, Some, slice_index_or, All, ◌≡◌, ℕ, ◌+◌, ◌<◌, ◌≤◌, ◌==◌, ◌&&◌, ◌||◌, not, nat_lt, Bool, true, false, List, [], ◌++◌, drop, filter, length, sum_by, count_by, zero, suc}
-use Rattle.cell.specs.Pictures.{Picture, Place, line_of, shown_at}
-use Rattle.cell.specs.Shown.{Rendition, Shown, no_rendition, shown_blank}
-use Rattle.ecma.specs.Spelling.{none_bytes, position_bytes}
-use Rattle.streams.specs.Sinks.{Seen}
+use Rattle.paint.specs.Names.{⊤, Some, slice_index_or, All, ◌≡◌, ℕ, ◌+◌, ◌<◌, ◌≤◌, ◌==◌, ◌&&◌, ◌||◌, not, nat_lt, Bool, true, false, List, [], ◌++◌, drop}
+use Rattle.paint.specs.Names.{filter, length, sum_by, count_by, zero, suc, Picture, Place, line_of, shown_at, Rendition, Shown, no_rendition, shown_blank}
+use Rattle.paint.specs.Names.{none_bytes, position_bytes, Seen}
 use Rattle.paint.specs.declared.drawing.Way.{Way}
 use Rattle.paint.specs.declared.drawing.Way.TheVariants.{Moved, Plain, Printed}
 use Rattle.paint.specs.declared.pen.Pen.{Pen}
@@ -12,7 +10,7 @@ use Rattle.paint.specs.declared.strokes.Ink.{Ink}
 use Rattle.paint.specs.declared.strokes.Ink.TheVariants.{EraseLine, ErasePage, Print}
 use Rattle.paint.specs.declared.strokes.Stroke.{Stroke}
 use Rattle.paint.specs.declared.blanks.PageEnd.{PageEnd}
-use Rattle.paint.specs.Updates.{place_bytes}
+use Rattle.paint.specs.Doupdates.{place_bytes}
 use Rattle.paint.specs.steps.Pens.{DrawsWithin, all_have, line_bytes, picture_bytes, run_bytes}
 use Rattle.paint.specs.steps.Runs.{HaveOneRendition, cells_between}
 

@@ -1,10 +1,7 @@
 -- The spans of a line, by their last columns, and the lines of which they are known to be those that the search from
 -- the top finds.
-use Rattle.std.specs.Prelude.{◌≡◌, ◌≢◌, ℕ, ◌+◌, ◌<◌, ◌≤◌, ◌==◌, if◌then◌else◌, true, false, Option, Some, None, List, slice_index}
-use Rattle.cell.specs.declared.limits.TheConstants.{LARGEST_SCREEN}
-use Rattle.small_set.specs.Sets.{contains}
-use Rattle.world.specs.Panels.{Panels, owner}
-use Rattle.world.specs.Windows.{WindowMap}
+use Rattle.picture.specs.Names.{◌≡◌, ◌≢◌, ℕ, ◌+◌, ◌<◌, ◌≤◌, ◌==◌, if◌then◌else◌, true, false, Option, Some, None, List, slice_index, LARGEST_SCREEN, contains}
+use Rattle.picture.specs.Names.{Panels, owner, WindowMap}
 use Rattle.picture.specs.declared.owners.Owners.{Owners}
 use Rattle.picture.specs.declared.spans.Spans.{Spans}
 

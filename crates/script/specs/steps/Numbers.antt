@@ -1,8 +1,5 @@
 -- What the functions that read a number ensure about its digits.
-use Rattle.std.specs.Prelude.{◌≡◌, ◌^◌, ◌<◌, ℕ, true, List, take}
-use Rattle.std.specs.List.{list_all}
-use Rattle.std.specs.Char.{is_ascii_digit}
-use Rattle.std.specs.Str.Parse.{digits_value}
+use Rattle.script.specs.Names.{◌≡◌, ◌^◌, ◌<◌, ℕ, true, List, take, list_all, is_ascii_digit, digits_value}
 
 -- The first bytes are digits, and this is their number.
 pub record DigitsSoFar (text : List ℕ) (count value : ℕ) : Type 0 where

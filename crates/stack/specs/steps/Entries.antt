@@ -1,7 +1,5 @@
 -- What changes where a number becomes a panel's, and where a panel's window changes.
-use Rattle.std.specs.Prelude.{◌≡◌, ℕ, ◌+◌, ◌<◌, ◌≤◌, Option, Some, None, List, length}
-use Rattle.cell.specs.declared.limits.TheConstants.{MOST_PANELS}
-use Rattle.world.specs.Effects.{with_entry}
+use Rattle.stack.specs.Names.{◌≡◌, ℕ, ◌+◌, ◌<◌, ◌≤◌, Option, Some, None, List, length, MOST_PANELS, with_entry}
 use Rattle.stack.specs.Nodes.{above_at, below_at, window_at, from_bottom, IsOut, IsThreaded}
 use Rattle.stack.specs.Tables.{IsPanelTable}
 use Rattle.stack.specs.declared.nodes.Node.{Node}

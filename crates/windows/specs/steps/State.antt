@@ -1,9 +1,5 @@
 -- What a call reads of its window first.
-use Rattle.std.specs.Prelude.{◌≡◌, ℕ, ◌<◌, ◌≤◌, Some, None, IsSome}
-use Rattle.cell.specs.declared.limits.TheConstants.{LARGEST_PAD}
-use Rattle.world.specs.Windows.{Window, Windows, own}
-use Rattle.world.specs.World.{blank_grid}
-use Rattle.world.specs.Sound.{AreSettingsWithin, AreSoundWindows}
+use Rattle.windows.specs.Names.{◌≡◌, ℕ, ◌<◌, ◌≤◌, Some, None, IsSome, LARGEST_PAD, Window, Windows, own, blank_grid, AreSettingsWithin, AreSoundWindows}
 use Rattle.windows.specs.declared.state.WindowState.{WindowState}
 
 -- window w is there with this size and these settings, and all windows are sound

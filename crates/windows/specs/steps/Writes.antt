@@ -1,11 +1,6 @@
 -- What a step of a call wants of its window, and what it writes there.
-use Rattle.std.specs.Prelude.{◌≡◌, ℕ, ◌<◌, ◌≤◌, Option, List}
-use Rattle.cell.specs.declared.window.Rect.{Rect}
-use Rattle.world.specs.Windows.{Drawing, Windows, put}
-use Rattle.world.specs.Sound.{AreSoundWindows}
-use Rattle.world.specs.Frames.{frame_of}
-use Rattle.world.specs.Typing.{character_printed, character_drawing}
-use Rattle.world.specs.Effects.{after_edit, edit_frame, types}
+use Rattle.windows.specs.Names.{◌≡◌, ℕ, ◌<◌, ◌≤◌, Option, List, Rect, Drawing, Windows, put, AreSoundWindows, frame_of, character_printed, character_drawing}
+use Rattle.windows.specs.Names.{after_edit, edit_frame, types}
 use Rattle.windows.specs.declared.state.WindowState.{WindowState}
 use Rattle.windows.specs.steps.State.{IsStateOf, window_in_state}
 

@@ -1,20 +1,9 @@
 //! The calls that write characters.
 
-ghost use Rattle.std.specs.Prelude.{◌≡◌, ℕ, ◌+◌, ◌<◌, ◌≤◌, ◌==◌, if◌then◌else◌, length, slice_index, take, EachIndex, IsSome, Some, false};
-ghost use Rattle.std.specs.Prelude.{◌&&◌, nat_lt, true};
-ghost use Rattle.std.specs.List.{list_all, list_any};
-ghost use Rattle.cell.specs.Attributes.{bits_of};
-ghost use Rattle.world.specs.Drawings.{written_glyph};
-ghost use Rattle.world.specs.Sound.{AreSoundWindows};
-ghost use Rattle.world.specs.calls.Writing.{is_bad_character};
-ghost use Rattle.world.specs.Frames.{frame_of};
-ghost use Rattle.world.specs.Typing.{to_next_line, next_line_drawing, line_ended, line_ended_drawing, typed_in, typed_drawing};
-ghost use Rattle.world.specs.declared.call.Writing.{Writing};
-ghost use Rattle.cell.specs.Glyphs.{is_printable};
-ghost use Rattle.grids.specs.Tables.{windows};
-ghost use Rattle.windows.specs.Calls.{Wrote, its_frame};
-ghost use Rattle.windows.specs.steps.State.{IsStateOf, window_in_state};
-ghost use Rattle.windows.specs.steps.Writes.{CharacterPrinted, HasStateAndPlace, StepWrote, TextTyped};
+ghost use Rattle.windows.specs.{◌≡◌, ℕ, ◌+◌, ◌<◌, ◌≤◌, ◌==◌, if◌then◌else◌, length, slice_index, take, EachIndex, IsSome, Some, false, ◌&&◌, nat_lt, true};
+ghost use Rattle.windows.specs.{list_all, list_any, bits_of, written_glyph, AreSoundWindows, is_bad_character, frame_of, to_next_line, next_line_drawing};
+ghost use Rattle.windows.specs.{line_ended, line_ended_drawing, typed_in, typed_drawing, Writing, is_printable, windows, Wrote, its_frame, IsStateOf};
+ghost use Rattle.windows.specs.{window_in_state, CharacterPrinted, HasStateAndPlace, StepWrote, TextTyped};
 
 use crate::drawing::{clear_rest, delete_cell, insert_cell, move_up, set_cell};
 use crate::frame::lines_from;

@@ -1,7 +1,6 @@
 //! The calls that clear a window or a part of it, and that insert and delete lines.
 
-ghost use Rattle.world.specs.declared.call.Writing.{Writing};
-ghost use Rattle.windows.specs.Calls.{Wrote, its_frame};
+ghost use Rattle.windows.specs.{Writing, Wrote, its_frame};
 
 use crate::drawing::{clear_all, clear_below, clear_rest, move_down, move_up};
 use crate::frame::lines_from;

@@ -1,7 +1,6 @@
 //! The cursor, the attributes, the colours and the background of a window, and whether it asks for a clear screen.
 
-ghost use Rattle.world.specs.declared.call.Writing.{Writing};
-ghost use Rattle.windows.specs.Calls.{Wrote, no_frame};
+ghost use Rattle.windows.specs.{Writing, Wrote, no_frame};
 
 use crate::state::{move_cursor, set_settings, state_of};
 use crate::table::Windows;

@@ -1,13 +1,6 @@
 //! The scroll region of a window.
 
-ghost use Rattle.world.specs.Frames.{frame_of};
-ghost use Rattle.world.specs.calls.Writing.{scrl_drawing};
-ghost use Rattle.world.specs.Windows.{put};
-ghost use Rattle.world.specs.declared.call.Writing.{Writing};
-ghost use Rattle.grids.specs.Tables.{windows};
-ghost use Rattle.windows.specs.Calls.{Wrote, its_frame, no_frame};
-ghost use Rattle.windows.specs.steps.State.{IsStateOf, window_in_state};
-ghost use Rattle.windows.specs.steps.Writes.{StepWrote};
+ghost use Rattle.windows.specs.{frame_of, scrl_drawing, put, Writing, windows, Wrote, its_frame, no_frame, IsStateOf, window_in_state, StepWrote};
 
 use crate::drawing::{move_down, move_up};
 use crate::frame::lines_from;

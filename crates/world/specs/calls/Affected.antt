@@ -1,17 +1,15 @@
 -- The places and the lines of the screen at which a call can change the picture, or lays cells over the virtual screen,
 -- and how many cells of windows an update_panels may read for them.
 -- X/Open Curses Issue 7 and NetBSD panel(3) say nothing of what a refresh reads: these bounds are Curspan's own.
-use Rattle.std.specs.Prelude.{ℕ, ◌+◌, ◌-◌, ◌*◌, Bool, true, false, not, if◌then◌else◌, ◌==◌, ◌&&◌, ◌||◌, Option, None, is_none, is_some, List, [], ◌∷◌}
-use Rattle.std.specs.List.{count_by, list_any, range_with_len}
-use Rattle.std.specs.Option.{option_map_or}
-use Rattle.world.specs.Windows.{WindowMap, Windows, any_below, derives}
-use Rattle.world.specs.Panels.{Panels, holds, panel_holds, place_of, topmost, windows_from_top, windows_of_picture}
-use Rattle.world.specs.World.{World}
+use Rattle.world.specs.Names.{ℕ, ◌+◌, ◌-◌, ◌*◌, Bool, true, false, not, if◌then◌else◌, ◌==◌, ◌&&◌, ◌||◌, Option, None, is_none, is_some, List, [], ◌∷◌}
+use Rattle.world.specs.Names.{count_by, list_any, range_with_len, option_map_or, Rect}
+use Rattle.world.specs.WindowMaps.{WindowMap, Windows, any_below, derives}
+use Rattle.world.specs.PanelOrder.{Panels, holds, panel_holds, place_of, topmost, windows_from_top, windows_of_picture}
+use Rattle.world.specs.Worlds.{World}
 use Rattle.world.specs.Sharing.{shows_part_of}
 use Rattle.world.specs.Effects.{Edit, edit_frame, edit_window, Change, edits, shifts, Order, changes, adds, orders, carries, Effect, arranges, refreshes}
 use Rattle.world.specs.Effects.{colours, panels_after, windows_after}
 use Rattle.world.specs.calls.Dispatch.{effect_of, is_update_panels, refusal, world_after}
-use Rattle.cell.specs.declared.window.Rect.{Rect}
 use Rattle.world.specs.declared.call.Call.{Call}
 
 -- ---- writes

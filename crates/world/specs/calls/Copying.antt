@@ -5,21 +5,16 @@
 -- to be there.
 -- A copy is one write, whose drawing has the cells of the source as they are before it: also where source and
 -- destination share cells.
-use Rattle.std.specs.Prelude.{ℕ, ◌+◌, ◌-◌, Bool, true, false, not, if◌then◌else◌, ◌==◌, nat_lt, nat_le, ◌&&◌, ◌||◌, Option, Some, None, is_some, List, [], ◌∷◌}
-use Rattle.std.specs.List.{list_any}
-use Rattle.std.specs.Option.{option_map_or}
-use Rattle.cell.specs.Refusals.{first_of}
-use Rattle.world.specs.Windows.{Drawing, Window, WindowMap, Windows, ancestors, any_below, cell_at, derives, is_missing, touched_below}
-use Rattle.world.specs.Panels.{cell_on_screen, holds, place_of}
+use Rattle.world.specs.Names.{ℕ, ◌+◌, ◌-◌, Bool, true, false, not, if◌then◌else◌, ◌==◌, nat_lt, nat_le, ◌&&◌, ◌||◌, Option, Some, None, is_some, List, []}
+use Rattle.world.specs.Names.{◌∷◌, list_any, option_map_or, first_of, Rect, Refusal, NoSuchWindow, OutsideWindow, IsPad, BadRectangle}
+use Rattle.world.specs.WindowMaps.{Drawing, Window, WindowMap, Windows, ancestors, any_below, cell_at, derives, is_missing, touched_below}
+use Rattle.world.specs.PanelOrder.{cell_on_screen, holds, place_of}
 use Rattle.world.specs.Rows.{is_among, overlaid_cell}
 use Rattle.world.specs.Sharing.{shows_part_of}
 use Rattle.world.specs.Effects.{Change, asks, edits, draws, marks, after_change}
 use Rattle.world.specs.calls.Making.{is_pad}
-use Rattle.world.specs.calls.Rule.{Rule, missing_window}
+use Rattle.world.specs.calls.Rules.{Rule, missing_window}
 use Rattle.world.specs.calls.Writing.{lacks_place}
-use Rattle.cell.specs.declared.window.Rect.{Rect}
-use Rattle.cell.specs.declared.refusal.Refusal.{Refusal}
-use Rattle.cell.specs.declared.refusal.Refusal.TheVariants.{NoSuchWindow, OutsideWindow, IsPad, BadRectangle}
 use Rattle.world.specs.declared.written_calls.Copying.{Copying}
 use Rattle.world.specs.declared.written_calls.Copying.TheVariants.{Overlay, Overwrite, Copywin, Touchwin, Untouchwin, Touchline, Touchln, Syncup, Syncdown, IsLinetouched, IsWintouched}
 use Rattle.world.specs.declared.call.Reply.TheVariants.{Flag}

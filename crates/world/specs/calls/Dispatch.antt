@@ -1,9 +1,8 @@
 -- Each call is two rows: its tests, in their order, and its effect. All else about a call follows from the two.
 -- X/Open Curses Issue 7 and NetBSD panel(3); the file of each group names its calls.
-use Rattle.std.specs.Prelude.{Bool, true, false, Option, List}
-use Rattle.cell.specs.Refusals.{first_of}
-use Rattle.world.specs.Panels.{is_in_panel}
-use Rattle.world.specs.World.{World}
+use Rattle.world.specs.Names.{Bool, true, false, Option, List, first_of, Refusal, Rect}
+use Rattle.world.specs.PanelOrder.{is_in_panel}
+use Rattle.world.specs.Worlds.{World}
 use Rattle.world.specs.Effects.{Effect, arranges, changes, asks, edits, after, effect_frame, effect_reply, effect_takes_memory}
 use Rattle.world.specs.calls.Making.{making_change, making_tests}
 use Rattle.world.specs.calls.Writing.{writing_edit, writing_tests}
@@ -11,8 +10,6 @@ use Rattle.world.specs.calls.Copying.{copying_change, copying_tests}
 use Rattle.world.specs.calls.Queries.{query_reply, query_tests}
 use Rattle.world.specs.calls.Stacking.{stacking_order, stacking_tests}
 use Rattle.world.specs.calls.Refresh.{refresh_effect, refresh_tests}
-use Rattle.cell.specs.declared.refusal.Refusal.{Refusal}
-use Rattle.cell.specs.declared.window.Rect.{Rect}
 use Rattle.world.specs.declared.call.Call.{Call}
 use Rattle.world.specs.declared.call.Call.TheVariants as calls
 use Rattle.world.specs.declared.written_calls.Refresh.TheVariants.{UpdatePanels, Doupdate}

@@ -1,19 +1,15 @@
 -- The calls that make, move and delete windows and pads: each with its tests and its effect.
 -- X/Open Curses Issue 7: newwin, derwin, subwin, newpad, subpad, delwin, mvwin, mvderwin. That a size of 0 reaches to
 -- the edge of the parent too, the limits of size and of number, and the order of the tests are Curspan's own choice.
-use Rattle.std.specs.Prelude.{ℕ, zero, suc, ◌+◌, ◌-◌, Bool, true, false, not, if◌then◌else◌, ◌==◌, nat_lt, nat_le, ◌&&◌, ◌||◌, Option, Some, None, is_none, is_some, unwrap_or, List, [], ◌∷◌}
-use Rattle.std.specs.Option.{option_and_then, option_map, option_map_or}
-use Rattle.cell.specs.Pictures.{Place}
-use Rattle.cell.specs.Limits.{is_no_size}
-use Rattle.cell.specs.Refusals.{first_of}
-use Rattle.cell.specs.declared.limits.TheConstants.{LARGEST_PAD, LARGEST_SCREEN}
-use Rattle.world.specs.Windows.{Backing, own_grid, part_of, Window, WindowMap, Windows, any_below, parent_number, window_limit}
-use Rattle.world.specs.Panels.{standard_screen, place_of}
-use Rattle.world.specs.World.{new_window, blank_grid}
+use Rattle.world.specs.Names.{ℕ, zero, suc, ◌+◌, ◌-◌, Bool, true, false, not, if◌then◌else◌, ◌==◌, nat_lt, nat_le, ◌&&◌, ◌||◌, Option, Some, None, is_none}
+use Rattle.world.specs.Names.{is_some, unwrap_or, List, [], ◌∷◌, option_and_then, option_map, option_map_or, Place, is_no_size, first_of, LARGEST_PAD}
+use Rattle.world.specs.Names.{LARGEST_SCREEN, Refusal, OffScreen, OutsideParent, HasDerived, InPanel, IsPad, NotPad, NotDerived, BadSize, StandardScreen}
+use Rattle.world.specs.Names.{TooMany}
+use Rattle.world.specs.WindowMaps.{Backing, own_grid, part_of, Window, WindowMap, Windows, any_below, parent_number, window_limit}
+use Rattle.world.specs.PanelOrder.{standard_screen, place_of}
+use Rattle.world.specs.Worlds.{new_window, blank_grid}
 use Rattle.world.specs.Effects.{Change, makes, deletes, moves, shifts, after_change}
-use Rattle.world.specs.calls.Rule.{missing_window}
-use Rattle.cell.specs.declared.refusal.Refusal.{Refusal}
-use Rattle.cell.specs.declared.refusal.Refusal.TheVariants.{OffScreen, OutsideParent, HasDerived, InPanel, IsPad, NotPad, NotDerived, BadSize, StandardScreen, TooMany}
+use Rattle.world.specs.calls.Rules.{missing_window}
 use Rattle.world.specs.declared.written_calls.Making.{Making}
 use Rattle.world.specs.declared.written_calls.Making.TheVariants.{Newwin, Subwin, Derwin, Newpad, Subpad, Delwin, Mvwin, Mvderwin}
 

@@ -1,15 +1,10 @@
 -- The calls that ask about a window: each with its tests and its answer.
 -- X/Open Curses Issue 7: getyx, getbegyx, getmaxyx, getparyx, inch.
-use Rattle.std.specs.Prelude.{ℕ, Bool, Option, Some, None, option_and_then, List, [], ◌∷◌}
-use Rattle.std.specs.Option.{option_map, option_map_or}
-use Rattle.cell.specs.Glyphs.{Glyph}
-use Rattle.cell.specs.Pictures.{Place}
-use Rattle.cell.specs.Refusals.{first_of}
-use Rattle.world.specs.Windows.{Backing, own_grid, part_of, WindowMap, Windows, cell_at}
+use Rattle.world.specs.Names.{ℕ, Bool, Option, Some, None, option_and_then, List, [], ◌∷◌, option_map, option_map_or, Glyph, Place, first_of, Refusal, IsPad}
+use Rattle.world.specs.Names.{NotDerived}
+use Rattle.world.specs.WindowMaps.{Backing, own_grid, part_of, WindowMap, Windows, cell_at}
 use Rattle.world.specs.calls.Making.{is_pad, has_no_parent}
-use Rattle.world.specs.calls.Rule.{Rule, missing_window}
-use Rattle.cell.specs.declared.refusal.Refusal.{Refusal}
-use Rattle.cell.specs.declared.refusal.Refusal.TheVariants.{IsPad, NotDerived}
+use Rattle.world.specs.calls.Rules.{Rule, missing_window}
 use Rattle.world.specs.declared.written_calls.Query.{Query}
 use Rattle.world.specs.declared.written_calls.Query.TheVariants.{Getyx, Getbegyx, Getmaxyx, Getparyx, Inch}
 use Rattle.world.specs.declared.call.Reply.{Reply}

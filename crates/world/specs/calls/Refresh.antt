@@ -2,20 +2,16 @@
 -- its tests and its effect.
 -- X/Open Curses Issue 7: wnoutrefresh, pnoutrefresh, doupdate, init_pair. NetBSD panel(3): update_panels. The order of
 -- the tests is Curspan's own choice.
-use Rattle.std.specs.Prelude.{ℕ, ◌+◌, ◌-◌, Bool, true, false, if◌then◌else◌, ◌==◌, ◌&&◌, ◌||◌, not, nat_lt, nat_le, Option, Some, None, List, [], ◌∷◌}
-use Rattle.std.specs.Option.{option_map_or}
-use Rattle.cell.specs.Refusals.{first_of}
-use Rattle.cell.specs.declared.limits.TheConstants.{LAST_COLOUR}
-use Rattle.cell.specs.declared.refusal.Refusal.{Refusal}
-use Rattle.cell.specs.declared.refusal.Refusal.TheVariants.{BadPair, BadRectangle, IsPad, NotPad, OffScreen, OutsideWindow}
-use Rattle.world.specs.Windows.{Drawing, WindowMap, Windows}
+use Rattle.world.specs.Names.{ℕ, ◌+◌, ◌-◌, Bool, true, false, if◌then◌else◌, ◌==◌, ◌&&◌, ◌||◌, not, nat_lt, nat_le, Option, Some, None, List, [], ◌∷◌}
+use Rattle.world.specs.Names.{option_map_or, first_of, LAST_COLOUR, Refusal, BadPair, BadRectangle, IsPad, NotPad, OffScreen, OutsideWindow}
+use Rattle.world.specs.WindowMaps.{Drawing, WindowMap, Windows}
 use Rattle.world.specs.Rows.{is_among}
-use Rattle.world.specs.Panels.{cell_on_screen, cursor_on_screen, holds, place_of}
-use Rattle.world.specs.World.{World}
+use Rattle.world.specs.PanelOrder.{cell_on_screen, cursor_on_screen, holds, place_of}
+use Rattle.world.specs.Worlds.{World}
 use Rattle.world.specs.Effects.{Effect, refreshes, composes, shows, colours}
 use Rattle.world.specs.calls.Copying.{copywin_drawing}
 use Rattle.world.specs.calls.Making.{is_pad}
-use Rattle.world.specs.calls.Rule.{Rule, missing_window}
+use Rattle.world.specs.calls.Rules.{Rule, missing_window}
 use Rattle.world.specs.calls.Writing.{is_no_pair, lacks_place}
 use Rattle.world.specs.declared.written_calls.Refresh.{Refresh}
 use Rattle.world.specs.declared.written_calls.Refresh.TheVariants.{Noutrefresh, Pnoutrefresh, UpdatePanels, Doupdate, InitPair}

@@ -3,15 +3,11 @@
 -- panel_above, panel_below, panel_window, panel_hidden.
 -- That show_panel puts a visible panel on top too, which window a panel may have, the limit of numbers and the order of
 -- the tests are Curspan's own choice.
-use Rattle.std.specs.Prelude.{◌≡◌, ◌≢◌, ℕ, ◌-◌, ◌≤◌, Bool, not, if◌then◌else◌, ◌==◌, Option, Some, None, is_none, unwrap_or, IsSome, MatchOption, List, [], ◌∷◌, ◌++◌, reverse, All, AllPairs, find, ⊤}
-use Rattle.std.specs.Option.{option_map}
-use Rattle.std.specs.List.{filter, list_any, range_with_len}
-use Rattle.cell.specs.Refusals.{first_of}
-use Rattle.cell.specs.declared.limits.TheConstants.{MOST_PANELS}
-use Rattle.cell.specs.declared.refusal.Refusal.{Refusal}
-use Rattle.cell.specs.declared.refusal.Refusal.TheVariants.{NoSuchWindow, NoSuchPanel, OffScreen, IsPad, InPanel, Hidden, StandardScreen, TooMany}
-use Rattle.world.specs.Windows.{WindowMap, Windows, is_missing}
-use Rattle.world.specs.Panels.{Panels, panel_limit, is_in_panel, standard_screen, topmost, window_or_standard}
+use Rattle.world.specs.Names.{◌≡◌, ◌≢◌, ℕ, ◌-◌, ◌≤◌, Bool, not, if◌then◌else◌, ◌==◌, Option, Some, None, is_none, unwrap_or, IsSome, MatchOption, List, []}
+use Rattle.world.specs.Names.{◌∷◌, ◌++◌, reverse, All, AllPairs, find, ⊤, option_map, filter, list_any, range_with_len, first_of, MOST_PANELS, Refusal}
+use Rattle.world.specs.Names.{NoSuchWindow, NoSuchPanel, OffScreen, IsPad, InPanel, Hidden, StandardScreen, TooMany}
+use Rattle.world.specs.WindowMaps.{WindowMap, Windows, is_missing}
+use Rattle.world.specs.PanelOrder.{Panels, panel_limit, is_in_panel, standard_screen, topmost, window_or_standard}
 use Rattle.world.specs.Effects.{Order, changes, adds, orders, carries, asks, with_entry, panels_after}
 use Rattle.world.specs.calls.Making.{is_off_screen, is_pad}
 use Rattle.world.specs.declared.call.Reply.TheVariants.{Flag, Number, Panel}

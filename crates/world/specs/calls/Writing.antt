@@ -2,23 +2,16 @@
 -- X/Open Curses Issue 7: move, addch to scrl, setscrreg, scrollok, clearok, attrset, attron, attroff, color_set,
 -- bkgdset. `bkgdpair` is Curspan's own, and so is the order of the tests. Each call that clears does so to the
 -- background.
-use Rattle.std.specs.Prelude.{ℕ, zero, suc, ℤ, pos, negsuc, ◌-◌, Bool, true, false, not, ◌==◌, ◌&&◌, ◌||◌, nat_lt, nat_le, Option, Some, None, List, [], ◌∷◌}
-use Rattle.std.specs.List.{list_any}
-use Rattle.std.specs.Option.{option_map_or}
-use Rattle.std.specs.Int.RustNames.{bit_or}
-use Rattle.cell.specs.Attributes.{bits_of, valid_attributes, without}
-use Rattle.cell.specs.Glyphs.{Glyph, is_printable}
-use Rattle.cell.specs.Pictures.{origin}
-use Rattle.cell.specs.Refusals.{first_of}
-use Rattle.cell.specs.declared.limits.TheConstants.{LAST_PAIR}
-use Rattle.world.specs.Windows.{Drawing, Window, WindowMap, Windows}
+use Rattle.world.specs.Names.{ℕ, zero, suc, ℤ, pos, negsuc, ◌-◌, Bool, true, false, not, ◌==◌, ◌&&◌, ◌||◌, nat_lt, nat_le, Option, Some, None, List, [], ◌∷◌}
+use Rattle.world.specs.Names.{list_any, option_map_or, bit_or, bits_of, valid_attributes, Glyph, is_printable, origin, first_of, LAST_PAIR, Refusal}
+use Rattle.world.specs.Names.{OutsideWindow, BadRegion, BadCharacter, BadPair, ScrollingOff}
+use Rattle.cell.specs.Attributes.{without}
+use Rattle.world.specs.WindowMaps.{Drawing, Window, WindowMap, Windows}
 use Rattle.world.specs.Settings.{with_cursor}
 use Rattle.world.specs.Drawings.{written_glyph, character_inserted, character_deleted, to_end_of_line, to_bottom, everywhere, lines_up, lines_down}
 use Rattle.world.specs.Typing.{backspace, carriage_return, newline}
 use Rattle.world.specs.Effects.{Edit, sets, draws, types, after_edit, edit_window}
-use Rattle.world.specs.calls.Rule.{missing_window}
-use Rattle.cell.specs.declared.refusal.Refusal.{Refusal}
-use Rattle.cell.specs.declared.refusal.Refusal.TheVariants.{OutsideWindow, BadRegion, BadCharacter, BadPair, ScrollingOff}
+use Rattle.world.specs.calls.Rules.{missing_window}
 use Rattle.world.specs.declared.written_calls.Writing.{Writing}
 use Rattle.world.specs.declared.written_calls.Writing.TheVariants.{Move, Addch, Addstr, Insch, Delch, Insertln, Deleteln, Erase, Clear, Clrtoeol, Clrtobot, Scrl, Setscrreg, Scrollok, Clearok, Attrset}
 use Rattle.world.specs.declared.written_calls.Writing.TheVariants.{Attron, Attroff, Bkgdset, ColorSet, Bkgdpair}

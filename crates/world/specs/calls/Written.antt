@@ -3,8 +3,8 @@
 -- through one window at most is Curspan's own finding.
 use Rattle.std.specs.Prelude.{◌≡◌, ℕ, Bool, false, ◌==◌, ◌||◌, Some}
 use Rattle.cell.specs.Glyphs.{Glyph}
-use Rattle.world.specs.Windows.{HasPlace, WindowMap, Windows, derives}
-use Rattle.world.specs.World.{World}
+use Rattle.world.specs.WindowMaps.{HasPlace, WindowMap, Windows, derives}
+use Rattle.world.specs.Worlds.{World}
 use Rattle.world.specs.Effects.{Edit, edit_drawing, edit_window, Change, edits, makes, deletes, shifts, changes, Effect, arranges}
 use Rattle.world.specs.calls.Dispatch.{world_after}
 use Rattle.world.specs.declared.call.Call.{Call}

@@ -1,6 +1,4 @@
-use Rattle.std.proofs.Common.{◌≡◌, take}
-use Rattle.std.specs.List.{list_all}
-use Rattle.cell.specs.Glyphs.{is_printable}
+use Rattle.cell.specs.{◌≡◌, take, list_all, is_printable}
 use Rattle.cell.proofs.cell.are_printable.Given as goal
 
 abbrev pub invariant-loop-ch : goal.invariant-loop-ch

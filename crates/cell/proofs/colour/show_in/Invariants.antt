@@ -1,6 +1,4 @@
-use Rattle.std.proofs.Common.{◌≡◌, length, map, take}
-use Rattle.std.specs.List.{AllByRecursion}
-use Rattle.cell.specs.Shown.{IsShown, shown_in}
+use Rattle.cell.specs.{◌≡◌, length, map, take, AllByRecursion, IsShown, shown_in}
 use Rattle.cell.specs.declared.lanes.TheConstants.{LANES}
 use Rattle.cell.proofs.colour.show_in.Given as goal
 

@@ -1,4 +1,4 @@
-use Rattle.std.proofs.Common.{◌≡◌, ◌+◌, ◌-◌, take, subst, arith}
+use Rattle.cell.specs.{◌≡◌, ◌+◌, ◌-◌, take, subst, arith}
 use Rattle.cell.proofs.Ranges.{differs_further, same_further}
 use Rattle.cell.proofs.difference.first_diff.Goals as goal
 

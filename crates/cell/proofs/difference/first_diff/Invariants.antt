@@ -1,4 +1,4 @@
-use Rattle.std.proofs.Common.{◌≡◌, ◌≤◌, ◌-◌, length, take}
+use Rattle.cell.specs.{◌≡◌, ◌≤◌, ◌-◌, length, take}
 use Rattle.cell.proofs.difference.first_diff.Given as goal
 
 abbrev pub invariant-loop-start : goal.invariant-loop-start

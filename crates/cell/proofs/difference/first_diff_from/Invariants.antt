@@ -1,4 +1,4 @@
-use Rattle.std.proofs.Common.{◌≡◌, take}
+use Rattle.cell.specs.{◌≡◌, take}
 use Rattle.cell.proofs.difference.first_diff_from.Given as goal
 
 abbrev pub invariant-loop-x : goal.invariant-loop-x

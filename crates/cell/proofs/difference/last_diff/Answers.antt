@@ -1,4 +1,4 @@
-use Rattle.std.proofs.Common.{arith}
+use Rattle.cell.specs.{arith}
 use Rattle.cell.proofs.Ranges.{same_drop}
 use Rattle.cell.proofs.difference.last_diff.Goals as goal
 

@@ -1,4 +1,4 @@
-use Rattle.std.proofs.Common.{◌≡◌, ◌≤◌, length, drop}
+use Rattle.cell.specs.{◌≡◌, ◌≤◌, length, drop}
 use Rattle.cell.proofs.difference.last_diff.Given as goal
 
 abbrev pub invariant-loop-end : goal.invariant-loop-end

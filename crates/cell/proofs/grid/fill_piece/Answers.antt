@@ -1,4 +1,4 @@
-use Rattle.std.proofs.Common.{arith}
+use Rattle.cell.specs.{arith}
 use Rattle.cell.proofs.Fills.{filled-next}
 use Rattle.cell.proofs.grid.fill_piece.Goals as goal
 

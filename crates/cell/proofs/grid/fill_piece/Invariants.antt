@@ -1,6 +1,4 @@
-use Rattle.std.proofs.Common.{◌≡◌, ◌-◌, replicate}
-use Rattle.std.specs.List.{splice}
-use Rattle.std.specs.Vec.{vec_capacity}
+use Rattle.cell.specs.{◌≡◌, ◌-◌, replicate, splice, vec_capacity}
 use Rattle.cell.proofs.grid.fill_piece.Given as goal
 
 -- the places before x are filled

@@ -1,8 +1,5 @@
 -- `show_cells`: a piece of a line of a grid that is written at once (`PieceWrites`); the blanks that are missing after a grid's cells (`Blanks`).
-use Rattle.std.proofs.Common.{arith, map}
-use Rattle.std.proofs.lemmas.List.{length-map}
-use Rattle.cell.specs.Glyphs.{blank}
-use Rattle.cell.specs.Shown.{shown, shown_blank}
+use Rattle.cell.specs.{arith, map, length-map, blank, shown, shown_blank}
 use Rattle.cell.proofs.PieceWrites.{PieceFits-from, shown-made, splice-made, HasSize-same, line_width}
 use Rattle.cell.proofs.Blanks.{IsGrid-piece, blanks-piece}
 use Rattle.cell.proofs.grid.show_cells.Goals as goal

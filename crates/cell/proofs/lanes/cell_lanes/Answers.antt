@@ -1,7 +1,4 @@
-use Rattle.std.proofs.Common.{arith}
-use Rattle.std.proofs.lemmas.Grind.{common_steps}
-use Rattle.cell.specs.Glyphs.{IsCell}
-use Rattle.cell.specs.Packing.{glyph_bits}
+use Rattle.cell.specs.{arith, common_steps, IsCell, glyph_bits}
 use Rattle.cell.proofs.LaneLaws.{more_numbers, more_sound}
 use Rattle.cell.proofs.lanes.cell_lanes.Goals as goal
 

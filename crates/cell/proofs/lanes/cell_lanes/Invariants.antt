@@ -1,6 +1,4 @@
-use Rattle.std.proofs.Common.{◌≡◌, ℕ, ◌<◌, get_or, length, map, take}
-use Rattle.cell.specs.Glyphs.{IsCell, blank}
-use Rattle.cell.specs.Packing.{glyph_bits}
+use Rattle.cell.specs.{◌≡◌, ℕ, ◌<◌, get_or, length, map, take, IsCell, blank, glyph_bits}
 use Rattle.cell.specs.declared.lanes.TheConstants.{LANES}
 use Rattle.cell.proofs.lanes.cell_lanes.Given as goal
 

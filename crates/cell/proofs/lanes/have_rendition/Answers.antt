@@ -1,5 +1,4 @@
-use Rattle.std.proofs.Common.{arith}
-use Rattle.cell.specs.Differences.{same_rendition}
+use Rattle.cell.specs.{arith, same_rendition}
 use Rattle.cell.proofs.LaneLaws.{one_more_of, same_above}
 use Rattle.cell.proofs.lanes.have_rendition.Goals as goal
 

@@ -1,7 +1,4 @@
-use Rattle.std.proofs.Common.{◌≡◌, take}
-use Rattle.std.specs.Prelude.{nat_lt}
-use Rattle.std.specs.List.{list_all}
-use Rattle.cell.specs.Differences.{same_rendition}
+use Rattle.cell.specs.{◌≡◌, take, nat_lt, list_all, same_rendition}
 use Rattle.cell.proofs.lanes.have_rendition.Given as goal
 
 abbrev pub invariant-loop-cell : goal.invariant-loop-cell

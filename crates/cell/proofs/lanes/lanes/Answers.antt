@@ -1,6 +1,4 @@
-use Rattle.std.proofs.Common.{arith}
-use Rattle.std.proofs.lemmas.Grind.{common_steps}
-use Rattle.cell.specs.Packing.{shown_bits}
+use Rattle.cell.specs.{arith, common_steps, shown_bits}
 use Rattle.cell.proofs.LaneLaws.{more_held, more_numbers}
 use Rattle.cell.proofs.lanes.lanes.Goals as goal
 

@@ -1,5 +1,4 @@
-use Rattle.std.proofs.Common.{◌≡◌, length, map, take}
-use Rattle.cell.specs.Packing.{shown_bits, shown_of}
+use Rattle.cell.specs.{◌≡◌, length, map, take, shown_bits, shown_of}
 use Rattle.cell.specs.declared.lanes.TheConstants.{LANES}
 use Rattle.cell.proofs.lanes.lanes.Given as goal
 

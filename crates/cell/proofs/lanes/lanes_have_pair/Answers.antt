@@ -1,8 +1,4 @@
-use Rattle.std.proofs.Common.{◌≡◌, ◌*◌, ◌/◌, ◌∙◌, length, ap}
-use Rattle.std.proofs.lemmas.List.{length-map}
-use Rattle.std.specs.Prelude.{◌==◌}
-use Rattle.std.specs.List.{list_all}
-use Rattle.cell.specs.Packing.{glyph_bits}
+use Rattle.cell.specs.{◌≡◌, ◌*◌, ◌/◌, ◌∙◌, length, ap, length-map, ◌==◌, list_all, glyph_bits}
 use Rattle.cell.proofs.LaneLaws.{lanes_alike, pairs_of}
 use Rattle.cell.proofs.lanes.lanes_have_pair.Goals as goal
 

@@ -1,5 +1,5 @@
 -- A bit of the mask says of each lane whether the two differ in it.
-use Rattle.std.proofs.Common.{ap, eq-eqb, take}
+use Rattle.cell.specs.{ap, eq-eqb, take}
 use Rattle.cell.proofs.LaneLaws.{differs_at_mark, mark_within, same-from_mask, same_before_mark}
 use Rattle.cell.specs.declared.lanes.TheConstants.{LANES}
 use Rattle.cell.proofs.lanes.same_before.Goals as goal

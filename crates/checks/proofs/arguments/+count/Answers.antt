@@ -1,6 +1,4 @@
-use Rattle.std.proofs.Common.{ap, length, sym, ◌∙◌}
-use Rattle.script.specs.Readings.{arguments}
-use Rattle.script.specs.Pieces.{pieces_of}
+use Rattle.checks.specs.{ap, length, sym, ◌∙◌, arguments, pieces_of}
 use Rattle.script.proofs.ArgumentLemmas.{arguments_none}
 use Rattle.checks.proofs.arguments.+count.Goals as goal
 

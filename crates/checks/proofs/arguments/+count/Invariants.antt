@@ -1,4 +1,4 @@
-use Rattle.script.specs.Pieces.{room_of}
+use Rattle.checks.specs.{room_of}
 use Rattle.checks.proofs.arguments.+count.Given as goal
 
 abbrev pub decreases-count : goal.decreases-count

@@ -1,8 +1,5 @@
-use Rattle.std.proofs.Common.{ap, sym, ◌∙◌}
-use Rattle.script.specs.Pieces.{pieces_of}
-use Rattle.script.specs.Readings.{arguments}
+use Rattle.checks.specs.{ap, sym, ◌∙◌, pieces_of, arguments, find_stray}
 use Rattle.script.proofs.ArgumentLemmas.{arguments_none}
-use Rattle.checks.specs.Faults.{find_stray}
 use Rattle.checks.proofs.arguments.+find_stray.Goals as goal
 
 pub returns-in_default : goal.returns-in_default

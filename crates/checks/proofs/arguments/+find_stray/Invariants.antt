@@ -1,4 +1,4 @@
-use Rattle.script.specs.Pieces.{room_of}
+use Rattle.checks.specs.{room_of}
 use Rattle.checks.proofs.arguments.+find_stray.Given as goal
 
 abbrev pub decreases-find_stray : goal.decreases-find_stray

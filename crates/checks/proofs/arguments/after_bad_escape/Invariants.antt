@@ -1,5 +1,4 @@
-use Rattle.std.proofs.Common.{◌≡◌, length}
-use Rattle.checks.specs.Faults.{after_bad_escape}
+use Rattle.checks.specs.{◌≡◌, length, after_bad_escape}
 use Rattle.checks.proofs.arguments.after_bad_escape.Given as goal
 
 abbrev pub invariant-loop-first : goal.invariant-loop-first

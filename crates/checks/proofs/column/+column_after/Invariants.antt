@@ -1,4 +1,4 @@
-use Rattle.std.proofs.Common.{length}
+use Rattle.checks.specs.{length}
 use Rattle.checks.proofs.column.+column_after.Given as goal
 
 abbrev pub decreases-column_after : goal.decreases-column_after

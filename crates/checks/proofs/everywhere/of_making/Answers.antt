@@ -1,6 +1,5 @@
 -- `of_making`: parts that are too great (`SoundLemmas`); search finds the rest.
-use Rattle.std.proofs.Common.{arith}
-use Rattle.std.proofs.lemmas.Bool.Decides.{nat_tests}
+use Rattle.checks.specs.{arith, nat_tests}
 use Rattle.checks.proofs.SoundLemmas.{outside, outside_from, outside_pad}
 use Rattle.checks.proofs.everywhere.of_making.Goals as goal
 

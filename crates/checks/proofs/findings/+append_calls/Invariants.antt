@@ -1,4 +1,4 @@
-use Rattle.std.proofs.Common.{length}
+use Rattle.checks.specs.{length}
 use Rattle.checks.proofs.findings.+append_calls.Given as goal
 
 abbrev pub decreases-append_calls : goal.decreases-append_calls

@@ -1,6 +1,5 @@
 -- `check_script`: what was reported, and how it ends.
-use Rattle.std.proofs.Common.{false, inl, inr}
-use Rattle.std.proofs.lemmas.Bool.{not-true}
+use Rattle.checks.specs.{false, inl, inr, not-true}
 use Rattle.checks.proofs.report.check_script.Goals as goal
 
 pub returns-then-not-end_report-clause-checked : goal.returns-then-not-end_report-clause-checked

@@ -1,6 +1,5 @@
 -- `end_report`: the findings of a script, a line at a time (`CheckLemmas`).
-use Rattle.std.proofs.Common.{arith}
-use Rattle.std.proofs.lemmas.Bool.{not-false, not-true}
+use Rattle.checks.specs.{arith, not-false, not-true}
 use Rattle.checks.proofs.CheckLemmas.{counted_ends, reported_fails}
 use Rattle.checks.proofs.report.end_report.Goals as goal
 

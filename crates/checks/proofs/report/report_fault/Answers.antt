@@ -1,5 +1,5 @@
 -- `report_fault`: the one line.
-use Rattle.std.proofs.Common.{◌∷◌, [], sym}
+use Rattle.checks.specs.{◌∷◌, [], sym}
 use Rattle.checks.proofs.report.report_fault.Goals as goal
 
 pub returns : goal.returns

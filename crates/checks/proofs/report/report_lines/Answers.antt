@@ -1,6 +1,5 @@
 -- `report_lines`: the findings of a script, a line at a time (`CheckLemmas`).
-use Rattle.std.proofs.Common.{ap, refl}
-use Rattle.script.specs.Lines.{Held, has_newline, met_end}
+use Rattle.checks.specs.{ap, refl, Held, has_newline, met_end}
 use Rattle.checks.proofs.CheckLemmas.{checked, checking_next, checking_none}
 use Rattle.checks.proofs.report.report_lines.Goals as goal
 

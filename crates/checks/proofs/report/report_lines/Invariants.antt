@@ -1,4 +1,4 @@
-use Rattle.script.specs.Lines.{work_left}
+use Rattle.checks.specs.{work_left}
 use Rattle.checks.proofs.CheckLemmas.{Checking}
 use Rattle.checks.proofs.report.report_lines.Given as goal
 

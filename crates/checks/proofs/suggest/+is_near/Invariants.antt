@@ -1,4 +1,4 @@
-use Rattle.std.proofs.Common.{length}
+use Rattle.checks.specs.{length}
 use Rattle.checks.proofs.suggest.+is_near.Given as goal
 
 abbrev pub decreases-is_near : goal.decreases-is_near

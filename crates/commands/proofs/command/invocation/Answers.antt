@@ -1,6 +1,5 @@
 -- `invocation`: the first text of an argument (`JobLemmas`).
-use Rattle.std.proofs.Common.{codes}
-use Rattle.clap.specs.Words.{found_of}
+use Rattle.commands.specs.{codes, found_of}
 use Rattle.commands.proofs.JobLemmas.{text_read}
 use Rattle.commands.proofs.command.invocation.Goals as goal
 

@@ -1,9 +1,5 @@
 -- `is_quiet`: the first text of an argument (`JobLemmas`).
-use Rattle.std.proofs.Common.{Option, ap, codes, false, sym, ◌∙◌}
-use Rattle.std.specs.Option.{option_map_or}
-use Rattle.std.specs.Str.{bytes_eq}
-use Rattle.clap.specs.Words.{Text, found_of}
-use Rattle.commands.specs.CommandLine.{text_of}
+use Rattle.commands.specs.{Option, ap, codes, false, sym, ◌∙◌, option_map_or, bytes_eq, Text, found_of, text_of}
 use Rattle.commands.proofs.JobLemmas.{text_read}
 use Rattle.commands.proofs.command.is_quiet.Goals as goal
 

@@ -1,9 +1,6 @@
 -- `job`: where clap refuses nothing of the words, they name a subcommand, and each number that they give is a size (`TakenLemmas`).
-use Rattle.std.proofs.Common.{map, ◌∙◌, sym}
-use Rattle.std.proofs.lemmas.Result.{IfErr-weaker, IfOk-weaker}
+use Rattle.commands.specs.{map, ◌∙◌, sym, IfErr-weaker, IfOk-weaker, fault_of, found_of, rows_of, curspan, sizes_of}
 use Rattle.clap.proofs.FaultLemmas.{failed_up}
-use Rattle.clap.specs.Words.{fault_of, found_of, rows_of}
-use Rattle.commands.specs.CommandLine.{curspan, sizes_of}
 use Rattle.commands.proofs.JobLemmas.{named_by, refused_by, unnamed}
 use Rattle.commands.proofs.TakenLemmas.{asked, refused_asked, some_subcommand}
 use Rattle.commands.proofs.command.job.Goals as goal

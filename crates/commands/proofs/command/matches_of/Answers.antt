@@ -1,6 +1,5 @@
 -- `matches_of`: what clap says of this program's command line (`JobLemmas`).
-use Rattle.std.proofs.Common.{map}
-use Rattle.std.proofs.lemmas.Result.{IfOk-weaker}
+use Rattle.commands.specs.{map, IfOk-weaker}
 use Rattle.commands.proofs.JobLemmas.{fails_by_curspan, subcommand_of_curspan}
 use Rattle.commands.proofs.command.matches_of.Goals as goal
 

@@ -1,5 +1,4 @@
-use Rattle.std.proofs.Common.{◌≡◌, ◌≤◌, ◌*◌, length, take}
-use Rattle.commands.specs.Escapes.{escaped_text}
+use Rattle.commands.specs.{◌≡◌, ◌≤◌, ◌*◌, length, take, escaped_text}
 use Rattle.commands.proofs.escapes.escaped_text.Given as goal
 
 abbrev pub invariant-loop-byte : goal.invariant-loop-byte

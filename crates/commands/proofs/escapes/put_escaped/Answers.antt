@@ -1,6 +1,5 @@
 -- A text with its bytes escaped is written piece by piece, as any is (`PutLemmas`).
-use Rattle.std.proofs.lemmas.Grind.{flat_map-append}
-use Rattle.commands.specs.Escapes.{escaped_byte, escaped_text}
+use Rattle.commands.specs.{flat_map-append, escaped_byte, escaped_text}
 use Rattle.commands.proofs.PutLemmas.{cut_put, more_put}
 use Rattle.commands.proofs.escapes.put_escaped.Goals as goal
 

@@ -1,5 +1,4 @@
-use Rattle.std.proofs.Common.{length}
-use Rattle.commands.specs.Escapes.{escaped_text}
+use Rattle.commands.specs.{length, escaped_text}
 use Rattle.commands.proofs.PutLemmas.{IsPartlyPut}
 use Rattle.commands.proofs.escapes.put_escaped.Given as goal
 

@@ -1,5 +1,5 @@
 -- `write_escaped`: a text, and a flush after it (`PutLemmas`).
-use Rattle.commands.specs.Escapes.{escaped_text}
+use Rattle.commands.specs.{escaped_text}
 use Rattle.commands.proofs.PutLemmas.{flushed_after, not_put}
 use Rattle.commands.proofs.escapes.write_escaped.Goals as goal
 

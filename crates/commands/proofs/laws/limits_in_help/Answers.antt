@@ -1,5 +1,4 @@
-use Rattle.std.proofs.Common.{refl}
-use Rattle.std.specs.Fmt.{digits}
+use Rattle.commands.specs.{refl, digits}
 use Rattle.commands.proofs.laws.limits_in_help.Goals as goal
 
 pub returns-clause-lines : goal.returns-clause-lines

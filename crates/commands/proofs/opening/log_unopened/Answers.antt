@@ -1,11 +1,7 @@
 -- `log_unopened`: any fault but one has a line with the file's name.
-use Rattle.std.proofs.Common.{◌≡◌, Bool, List, ℕ, false, inl, inr, refl, true}
-use Rattle.streams.specs.Sinks.{Seen}
-use Rattle.commands.specs.Opening.{SaysUnopened, unopened_line}
-use Rattle.commands.specs.Written.{WritingEnds}
+use Rattle.commands.specs.{◌≡◌, Bool, List, ℕ, false, inl, inr, refl, true, Seen, SaysUnopened, unopened_line, WritingEnds, TriesToLog}
 use Rattle.commands.specs.declared.opening.OpenFault.{OpenFault}
 use Rattle.commands.specs.declared.opening.OpenFault.TheVariants.{Denied, Folder, InFile, IsRead, Missing, NoMemory, Refused}
-use Rattle.commands.specs.Written.{TriesToLog}
 use Rattle.commands.proofs.opening.log_unopened.Goals as goal
 
 tried : (b : Bool) (log after : Seen) (line : List ℕ) → WritingEnds b log after line → TriesToLog log after line

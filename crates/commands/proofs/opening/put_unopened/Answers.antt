@@ -1,8 +1,5 @@
 -- `put_unopened`: one text after another (`PutLemmas`).
-use Rattle.std.proofs.Common.{codes, ◌++◌, ◌∷◌, []}
-use Rattle.script.specs.Characters.{newline}
-use Rattle.commands.specs.Escapes.{escaped_text}
-use Rattle.commands.specs.Opening.{reason}
+use Rattle.commands.specs.{codes, ◌++◌, ◌∷◌, [], newline, escaped_text, reason}
 use Rattle.commands.proofs.PutLemmas.{cut_before, put_after}
 use Rattle.commands.proofs.opening.put_unopened.Goals as goal
 

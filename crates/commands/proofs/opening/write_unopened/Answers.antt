@@ -1,5 +1,5 @@
 -- `write_unopened`: a text, and a flush after it (`PutLemmas`).
-use Rattle.commands.specs.Opening.{unopened_line}
+use Rattle.commands.specs.{unopened_line}
 use Rattle.commands.proofs.PutLemmas.{flushed_after}
 use Rattle.commands.proofs.opening.write_unopened.Goals as goal
 

@@ -1,7 +1,4 @@
-use Rattle.std.proofs.Common.{◌≡◌, ◌≤◌, ◌+◌, ◌*◌, ◌∷◌, ◌++◌, length, take}
-use Rattle.std.specs.List.{flat_map}
-use Rattle.cell.specs.Attributes.{hex_digits}
-use Rattle.cell.specs.Shown.{Shown}
+use Rattle.commands.specs.{◌≡◌, ◌≤◌, ◌+◌, ◌*◌, ◌∷◌, ◌++◌, length, take, flat_map, hex_digits, Shown}
 use Rattle.commands.proofs.printing.append_attributes.Given as goal
 
 abbrev pub invariant-loop-cell : goal.invariant-loop-cell

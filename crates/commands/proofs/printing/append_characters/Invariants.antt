@@ -1,5 +1,4 @@
-use Rattle.std.proofs.Common.{◌≡◌, ◌∷◌, ◌++◌, map, take}
-use Rattle.cell.specs.Shown.{Shown}
+use Rattle.commands.specs.{◌≡◌, ◌∷◌, ◌++◌, map, take, Shown}
 use Rattle.commands.proofs.printing.append_characters.Given as goal
 
 abbrev pub invariant-loop-cell : goal.invariant-loop-cell

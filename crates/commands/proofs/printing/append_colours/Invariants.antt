@@ -1,7 +1,4 @@
-use Rattle.std.proofs.Common.{◌≡◌, ◌≤◌, ◌+◌, ◌*◌, ◌∷◌, ◌++◌, length, take}
-use Rattle.std.specs.List.{flat_map}
-use Rattle.cell.specs.Shown.{Shown}
-use Rattle.commands.specs.Printing.{signs}
+use Rattle.commands.specs.{◌≡◌, ◌≤◌, ◌+◌, ◌*◌, ◌∷◌, ◌++◌, length, take, flat_map, Shown, signs}
 use Rattle.commands.proofs.printing.append_colours.Given as goal
 
 abbrev pub invariant-loop-cell : goal.invariant-loop-cell

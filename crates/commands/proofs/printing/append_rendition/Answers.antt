@@ -1,4 +1,4 @@
-use Rattle.std.proofs.Common.{append_assoc}
+use Rattle.commands.specs.{append_assoc}
 use Rattle.commands.proofs.printing.append_rendition.Goals as goal
 
 pub returns : goal.returns

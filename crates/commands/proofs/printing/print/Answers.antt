@@ -1,7 +1,5 @@
 -- `print`: the lines, what comes after them, and a flush (`PutLemmas`).
-use Rattle.std.proofs.Common.{arith, refl}
-use Rattle.commands.specs.Printing.{printed_picture}
-use Rattle.commands.specs.Written.{PuttingEnds}
+use Rattle.commands.specs.{arith, refl, printed_picture, PuttingEnds}
 use Rattle.commands.proofs.PutLemmas.{cut_before, flushed_after, not_put, put_after}
 use Rattle.commands.proofs.printing.print.Goals as goal
 

@@ -1,7 +1,4 @@
-use Rattle.std.proofs.Common.{take, true}
-use Rattle.std.specs.List.{flat_map}
-use Rattle.commands.specs.Printing.{line_text}
-use Rattle.commands.specs.Written.{PuttingEnds}
+use Rattle.commands.specs.{take, true, flat_map, line_text, PuttingEnds}
 use Rattle.commands.proofs.printing.put_lines.Given as goal
 
 abbrev pub invariant-loop-y : goal.invariant-loop-y

@@ -1,6 +1,5 @@
 -- `usage`: what is said by the kind of the error (`RefusedLemmas`).
-use Rattle.std.proofs.Common.{◌≡◌, false, inl, inr, refl, true}
-use Rattle.commands.specs.Statuses.{LacksMemory}
+use Rattle.commands.specs.{◌≡◌, false, inl, inr, refl, true, LacksMemory}
 use Rattle.commands.specs.declared.status.Need.TheVariants.{Help, Usage}
 use Rattle.commands.proofs.RefusedLemmas.{help_told, mistake_told}
 use Rattle.commands.proofs.refused_words.usage.Goals as goal

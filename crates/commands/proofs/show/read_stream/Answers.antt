@@ -1,5 +1,5 @@
 -- `read_stream`: a stream is read into a terminal piece by piece (`FeedingLemmas`).
-use Rattle.std.proofs.Common.{arith}
+use Rattle.commands.specs.{arith}
 use Rattle.commands.proofs.FeedingLemmas.{more_fed, not_ended, not_past}
 use Rattle.commands.proofs.show.read_stream.Goals as goal
 

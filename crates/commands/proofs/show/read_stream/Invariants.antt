@@ -1,4 +1,4 @@
-use Rattle.std.proofs.Common.{◌≡◌, false}
+use Rattle.commands.specs.{◌≡◌, false}
 use Rattle.commands.proofs.FeedingLemmas.{IsPartlyFed}
 use Rattle.commands.proofs.show.read_stream.Given as goal
 

@@ -1,6 +1,5 @@
 -- `show_on`: lemmas of std alone.
-use Rattle.std.proofs.Common.{false, refl}
-use Rattle.ecma.specs.Readers.{blank_terminal}
+use Rattle.commands.specs.{false, refl, blank_terminal}
 use Rattle.commands.proofs.show.show_on.Goals as goal
 
 pub returns-then-not-read_stream-clause-shown : goal.returns-then-not-read_stream-clause-shown

@@ -1,10 +1,5 @@
 -- `size_of`: the first text of an argument (`JobLemmas`).
-use Rattle.std.proofs.Common.{Option, subst}
-use Rattle.std.specs.Prelude.{MatchResult}
-use Rattle.std.specs.Option.{option_or}
-use Rattle.clap.specs.Words.{Text, found_of}
-use Rattle.commands.specs.CommandLine.{GivesSize, text_of}
-use Rattle.commands.specs.steps.Sizing.{HasNoSize}
+use Rattle.commands.specs.{Option, subst, MatchResult, option_or, Text, found_of, GivesSize, text_of, HasNoSize}
 use Rattle.commands.proofs.JobLemmas.{text_read}
 use Rattle.commands.proofs.sizes.size_of.Goals as goal
 

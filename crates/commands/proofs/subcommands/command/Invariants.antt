@@ -1,4 +1,4 @@
-use Rattle.std.proofs.Common.{◌≡◌, map, take}
+use Rattle.commands.specs.{◌≡◌, map, take}
 use Rattle.commands.proofs.SubcommandLemmas.{defined, made}
 use Rattle.commands.proofs.subcommands.command.Given as goal
 

@@ -1,5 +1,5 @@
 -- `with_argument`: the argument is added, and isn't global (`JobLemmas`).
-use Rattle.std.proofs.lemmas.Result.{IfOk-weaker}
+use Rattle.commands.specs.{IfOk-weaker}
 use Rattle.commands.proofs.JobLemmas.{still_local}
 use Rattle.commands.proofs.subcommands.with_argument.Goals as goal
 

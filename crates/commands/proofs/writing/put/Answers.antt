@@ -1,5 +1,5 @@
 -- `put`: of a text each piece is put, or a prefix of it (`PutLemmas`).
-use Rattle.std.proofs.Common.{refl}
+use Rattle.commands.specs.{refl}
 use Rattle.commands.proofs.PutLemmas.{cut_put, more_put, sent_piece}
 use Rattle.commands.proofs.writing.put.Goals as goal
 

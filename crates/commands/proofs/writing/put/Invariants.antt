@@ -1,4 +1,4 @@
-use Rattle.std.proofs.Common.{length}
+use Rattle.commands.specs.{length}
 use Rattle.commands.proofs.PutLemmas.{IsPartlyPut}
 use Rattle.commands.proofs.writing.put.Given as goal
 

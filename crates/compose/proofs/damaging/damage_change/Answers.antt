@@ -1,9 +1,6 @@
 -- `damage_change`: lemmas of std alone.
-use Rattle.std.proofs.Common.{sym, ◌∙◌}
-use Rattle.grids.specs.Tables.{windows}
-use Rattle.picture.specs.Parts.{part_holds}
+use Rattle.compose.specs.{sym, ◌∙◌, windows, part_holds, affected_shows_at}
 use Rattle.picture.proofs.DamageLaws.{damages-as, part-right}
-use Rattle.compose.specs.steps.Changes.{affected_shows_at}
 use Rattle.compose.proofs.damaging.damage_change.Goals as goal
 
 pub returns : goal.returns

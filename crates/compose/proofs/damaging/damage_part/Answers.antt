@@ -1,6 +1,4 @@
-use Rattle.std.proofs.Common.{◌+◌, ◌<◌, subst, arith}
-use Rattle.std.specs.Prelude.{MatchOption, length, ⊤}
-use Rattle.picture.specs.Parts.{IsFrameWithin}
+use Rattle.compose.specs.{◌+◌, ◌<◌, subst, arith, MatchOption, length, ⊤, IsFrameWithin}
 use Rattle.picture.proofs.DamageLaws.{damages-rectangle}
 use Rattle.compose.proofs.damaging.damage_part.Goals as goal
 

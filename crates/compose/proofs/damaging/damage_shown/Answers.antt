@@ -1,9 +1,5 @@
 -- `damage_shown`: lemmas of std alone.
-use Rattle.std.specs.List.{list_any}
-use Rattle.world.specs.Panels.{windows_from_top}
-use Rattle.world.specs.calls.Affected.{shows_at}
-use Rattle.grids.specs.Tables.{windows}
-use Rattle.stack.specs.Tables.{panels}
+use Rattle.compose.specs.{list_any, windows_from_top, shows_at, windows, panels}
 use Rattle.picture.proofs.DamageLaws.{damages-then}
 use Rattle.compose.proofs.damaging.damage_shown.Goals as goal
 

@@ -1,11 +1,5 @@
 -- `damage_visible`: the damage of one window after another (`Visible`).
-use Rattle.std.proofs.Common.{rules, ◌≡◌, ◌∷◌, Some, refl, subst, sym, ◌∙◌}
-use Rattle.std.specs.Prelude.{reverse}
-use Rattle.std.specs.List.{filter_map}
-use Rattle.world.specs.Panels.{windows_from_top}
-use Rattle.grids.specs.Tables.{windows}
-use Rattle.stack.specs.Tables.{panels}
-use Rattle.compose.specs.steps.Changes.{affected_shows_at}
+use Rattle.compose.specs.{rules, ◌≡◌, ◌∷◌, Some, refl, subst, sym, ◌∙◌, reverse, filter_map, windows_from_top, windows, panels, affected_shows_at}
 use Rattle.compose.proofs.Visible.{DamagedBut, damaged-more, damaged-none}
 use Rattle.compose.proofs.damaging.damage_visible.Goals as goal
 

@@ -1,9 +1,4 @@
-use Rattle.std.proofs.Common.{◌≡◌, length}
-use Rattle.std.specs.List.{filter_map}
-use Rattle.world.specs.Panels.{windows_from_top}
-use Rattle.grids.specs.Tables.{windows}
-use Rattle.stack.specs.Tables.{panels}
-use Rattle.compose.specs.steps.Changes.{affected_shows_at}
+use Rattle.compose.specs.{◌≡◌, length, filter_map, windows_from_top, windows, panels, affected_shows_at}
 use Rattle.compose.proofs.Visible.{DamagedBut}
 use Rattle.compose.proofs.damaging.damage_visible.Given as goal
 

@@ -1,13 +1,5 @@
 -- `damage_written`: where no panel is visible, the frame of a write in the standard screen is what is shown of it (`StandardWrites`).
-use Rattle.std.proofs.Common.{rules, ◌≡◌, ℕ, sym, subst, ◌∙◌}
-use Rattle.world.specs.Panels.{standard_screen}
-use Rattle.world.specs.Windows.{HasPlace}
-use Rattle.world.specs.calls.Affected.{frame_shows_at}
-use Rattle.std.specs.Prelude.{Some, length}
-use Rattle.grids.specs.Tables.{windows}
-use Rattle.stack.specs.Tables.{panels}
-use Rattle.picture.specs.Parts.{frame_holds}
-use Rattle.picture.specs.Damages.{Damages}
+use Rattle.compose.specs.{rules, ◌≡◌, ℕ, sym, subst, ◌∙◌, standard_screen, HasPlace, frame_shows_at, Some, length, windows, panels, frame_holds, Damages}
 use Rattle.picture.proofs.DamageLaws.{damages-as, damages-rectangle}
 use Rattle.compose.proofs.StandardWrites.{standard-inside, standard-alone}
 use Rattle.compose.proofs.damaging.damage_written.Goals as goal

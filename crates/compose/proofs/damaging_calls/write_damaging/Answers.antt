@@ -1,5 +1,5 @@
 -- What the call affects is damaged (`AffectedDamages`).
-use Rattle.std.proofs.Common.{sym, ◌∙◌}
+use Rattle.compose.specs.{sym, ◌∙◌}
 use Rattle.compose.proofs.AffectedDamages.{damaging, lines-affected, possible-affected}
 use Rattle.compose.proofs.damaging_calls.write_damaging.Goals as goal
 

@@ -1,5 +1,5 @@
 -- The calls that ask change nothing (`OutcomeLaws`).
-use Rattle.std.proofs.Common.{arith}
+use Rattle.compose.specs.{arith}
 use Rattle.compose.proofs.OutcomeLaws.{rearranges-asked}
 use Rattle.compose.proofs.dispatch.arrange.Goals as goal
 

@@ -1,11 +1,6 @@
 -- `unmark_composed`: windows are unmarked one after another (`Unmarking`).
-use Rattle.std.proofs.Common.{rules, ◌≡◌, ◌||◌, arith, Bool, ℕ, List, [], ◌∷◌, Some, refl, ap, sym, ◌∙◌}
-use Rattle.std.specs.Prelude.{reverse}
-use Rattle.std.specs.List.{filter_map, list_any}
-use Rattle.world.specs.Panels.{standard_screen, windows_from_top}
-use Rattle.world.specs.Windows.{WindowMap, Windows}
-use Rattle.world.specs.Effects.{asks_for_clear, with_unmarked}
-use Rattle.stack.specs.Tables.{panels}
+use Rattle.compose.specs.{rules, ◌≡◌, ◌||◌, arith, Bool, ℕ, List, [], ◌∷◌, Some, refl, ap, sym, ◌∙◌, reverse, filter_map, list_any, standard_screen}
+use Rattle.compose.specs.{windows_from_top, WindowMap, Windows, asks_for_clear, with_unmarked, panels}
 use Rattle.compose.proofs.Unmarking.{asked-first, one-unmarked, still-left}
 use Rattle.compose.proofs.marks.unmark_composed.Goals as goal
 

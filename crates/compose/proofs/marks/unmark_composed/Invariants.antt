@@ -1,8 +1,4 @@
-use Rattle.std.proofs.Common.{◌≡◌, ◌||◌, ◌∷◌}
-use Rattle.std.specs.List.{filter_map, list_any}
-use Rattle.world.specs.Panels.{standard_screen, windows_from_top}
-use Rattle.world.specs.Effects.{asks_for_clear, with_unmarked}
-use Rattle.stack.specs.Tables.{panels}
+use Rattle.compose.specs.{◌≡◌, ◌||◌, ◌∷◌, filter_map, list_any, standard_screen, windows_from_top, asks_for_clear, with_unmarked, panels}
 use Rattle.compose.proofs.marks.unmark_composed.Given as goal
 
 -- the windows of the panels that are left are still to be unmarked

@@ -1,5 +1,5 @@
 -- `move_panel`: the window of a panel that is there is moved.
-use Rattle.std.proofs.Common.{rules}
+use Rattle.compose.specs.{rules}
 use Rattle.compose.proofs.panels.move_panel.Goals as goal
 
 pub returns : goal.returns

@@ -1,9 +1,5 @@
 -- `new_panel`: the stack's call, after the tests of the window (`Arranging`).
-use Rattle.std.proofs.Common.{rules, refl, sym, ◌≡◌, None}
-use Rattle.cell.specs.Refusals.{first_of}
-use Rattle.world.specs.calls.Stacking.{new_panel_tests, window_tests}
-use Rattle.grids.specs.Tables.{windows}
-use Rattle.stack.specs.Tables.{panels}
+use Rattle.compose.specs.{rules, refl, sym, ◌≡◌, None, first_of, new_panel_tests, window_tests, windows, panels}
 use Rattle.compose.proofs.Arranging.{first-after, ordered}
 use Rattle.compose.proofs.panels.new_panel.Goals as goal
 

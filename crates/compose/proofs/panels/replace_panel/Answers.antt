@@ -1,12 +1,6 @@
 -- `replace_panel`: the stack's call, after the tests of the window (`Arranging`).
-use Rattle.std.proofs.Common.{rules, ap, refl, sym, ◌≡◌, ◌∷◌, None, Some, if◌then◌else◌}
-use Rattle.std.specs.Prelude.{[], is_none}
-use Rattle.cell.specs.Refusals.{first_of}
-use Rattle.cell.specs.declared.refusal.Refusal.TheVariants.{InPanel, NoSuchPanel}
-use Rattle.world.specs.Panels.{is_in_panel}
-use Rattle.world.specs.calls.Stacking.{window_tests}
-use Rattle.grids.specs.Tables.{windows}
-use Rattle.stack.specs.Tables.{panels}
+use Rattle.compose.specs.{rules, ap, refl, sym, ◌≡◌, ◌∷◌, None, Some, if◌then◌else◌, [], is_none, first_of, InPanel, NoSuchPanel, is_in_panel, window_tests}
+use Rattle.compose.specs.{windows, panels}
 use Rattle.compose.proofs.Arranging.{first-after, ordered}
 use Rattle.compose.proofs.panels.replace_panel.Goals as goal
 

@@ -1,11 +1,7 @@
 -- `show_rectangle`: a drawing is laid over a picture line by line (`Laying`); what noutrefresh and pnoutrefresh draw on each line of the screen
 -- (`RefreshedLines`).
-use Rattle.std.proofs.Common.{◌≡◌, ◌+◌, ◌-◌, false, refl, arith, rules, subst}
-use Rattle.std.proofs.lemmas.Grind.{common_steps}
-use Rattle.world.specs.Windows.{Drawing, cell_at}
-use Rattle.world.specs.calls.Copying.{copywin_drawing}
+use Rattle.compose.specs.{◌≡◌, ◌+◌, ◌-◌, false, refl, arith, rules, subst, common_steps, Drawing, cell_at, copywin_drawing, windows}
 use Rattle.extents.proofs.Changing.{changes-none, changes-then}
-use Rattle.grids.specs.Tables.{windows}
 use Rattle.compose.proofs.Laying.{LaidAbove, laid-all, laid-more}
 use Rattle.compose.proofs.RefreshedLines.{of-pad, pad-above, pad-below, pad-piece}
 use Rattle.compose.proofs.Touching.{DamagedAbove, above-all, above-more, above-none}

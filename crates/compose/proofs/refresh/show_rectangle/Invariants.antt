@@ -1,7 +1,4 @@
-use Rattle.std.proofs.Common.{◌+◌, false}
-use Rattle.world.specs.calls.Copying.{copywin_drawing}
-use Rattle.extents.specs.Extents.{AddsChanges}
-use Rattle.grids.specs.Tables.{windows}
+use Rattle.compose.specs.{◌+◌, false, copywin_drawing, AddsChanges, windows}
 use Rattle.compose.proofs.Laying.{LaidAbove}
 use Rattle.compose.proofs.Touching.{DamagedAbove}
 use Rattle.compose.proofs.refresh.show_rectangle.Given as goal

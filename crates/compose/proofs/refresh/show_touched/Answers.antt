@@ -1,12 +1,7 @@
 -- `show_touched`: a drawing is laid over a picture line by line (`Laying`), as noutrefresh draws on each line of the screen (`RefreshedLines`), and is
 -- damaged line by line (`Touching`).
-use Rattle.std.proofs.Common.{◌≡◌, ◌+◌, ◌-◌, arith, refl, rules, subst, sym, ◌∙◌}
-use Rattle.std.proofs.lemmas.Grind.{common_steps}
-use Rattle.cell.specs.declared.window.Rect.{Rect}
-use Rattle.world.specs.Windows.{Drawing, cell_at}
-use Rattle.world.specs.calls.Refresh.{touched_cells}
+use Rattle.compose.specs.{◌≡◌, ◌+◌, ◌-◌, arith, refl, rules, subst, sym, ◌∙◌, common_steps, Rect, Drawing, cell_at, touched_cells, windows}
 use Rattle.extents.proofs.Changing.{changes-none, changes-then}
-use Rattle.grids.specs.Tables.{windows}
 use Rattle.picture.proofs.DamageLaws.{damages-rectangle}
 use Rattle.picture.proofs.Placement.{placed_at}
 use Rattle.compose.proofs.Laying.{LaidAbove, laid-all, laid-bare, laid-more}

@@ -1,7 +1,4 @@
-use Rattle.std.proofs.Common.{◌≡◌, ◌+◌, length}
-use Rattle.world.specs.calls.Refresh.{touched_cells}
-use Rattle.extents.specs.Extents.{AddsChanges}
-use Rattle.grids.specs.Tables.{windows}
+use Rattle.compose.specs.{◌≡◌, ◌+◌, length, touched_cells, AddsChanges, windows}
 use Rattle.compose.proofs.Laying.{LaidAbove}
 use Rattle.compose.proofs.Touching.{DamagedAbove}
 use Rattle.compose.proofs.refresh.show_touched.Given as goal

@@ -1,9 +1,5 @@
 -- `unmark_lines`: windows are unmarked one after another (`Unmarking`).
-use Rattle.std.proofs.Common.{◌≡◌, ◌+◌, ◌<◌, ◌≤◌, Some, None, ap, false, ◌∙◌}
-use Rattle.world.specs.Windows.{Windows}
-use Rattle.world.specs.calls.Writing.{after_writing, writing_refusal}
-use Rattle.world.specs.declared.call.Writing.TheVariants.{Clearok}
-use Rattle.grids.specs.Tables.{windows}
+use Rattle.compose.specs.{◌≡◌, ◌+◌, ◌<◌, ◌≤◌, Some, None, ap, false, ◌∙◌, Windows, after_writing, writing_refusal, Clearok, windows}
 use Rattle.compose.proofs.Unmarking.{lines-unmarked, still-there}
 use Rattle.compose.proofs.refresh.unmark_lines.Goals as goal
 

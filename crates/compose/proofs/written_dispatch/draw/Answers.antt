@@ -1,6 +1,5 @@
 -- `draw`: the number of lines that `wscrl` takes is signed, and it is passed as bits.
-use Rattle.std.proofs.Common.{rules, w16}
-use Rattle.std.proofs.lemmas.Int.{to_z-of_z}
+use Rattle.compose.specs.{rules, w16, to_z-of_z}
 use Rattle.compose.proofs.written_dispatch.draw.Goals as goal
 
 pub returns-in-Scrl : goal.returns-in-Scrl

@@ -1,5 +1,5 @@
 -- `paint`: what it does on the screen that it makes.
-use Rattle.std.proofs.Common.{inr}
+use Rattle.curspan.specs.{inr}
 use Rattle.curspan.proofs.serve.paint.Goals as goal
 
 pub returns-clause-painted : goal.returns-clause-painted

@@ -1,11 +1,6 @@
 -- `paint_screen`: a picture that was written, or could not be, or none (`PrintedPictures`).
-use Rattle.std.proofs.Common.{◌≡◌, false, true, Some, ap, inl, inr, refl, subst, sym, ◌∙◌}
-use Rattle.std.specs.Prelude.{is_some}
+use Rattle.curspan.specs.{◌≡◌, false, true, Some, ap, inl, inr, refl, subst, sym, ◌∙◌, is_some, World, no_rendition, printed_picture, IsNotWritten, IsWritten}
 use Rattle.curspan.proofs.PrintedPictures.{of-some, without}
-use Rattle.world.specs.World.{World}
-use Rattle.cell.specs.Shown.{no_rendition}
-use Rattle.commands.specs.Printing.{printed_picture}
-use Rattle.commands.specs.Written.{IsNotWritten, IsWritten}
 use Rattle.curspan.proofs.serve.paint_screen.Goals as goal
 
 pub returns-else-print_desk-clause-painted : goal.returns-else-print_desk-clause-painted

@@ -1,5 +1,5 @@
 -- `perform_on_script`: where the script was opened, the log is as it was.
-use Rattle.std.proofs.Common.{inr}
+use Rattle.curspan.specs.{inr}
 use Rattle.curspan.proofs.serve.perform_on_script.Goals as goal
 
 pub returns-in-Ok : goal.returns-in-Ok

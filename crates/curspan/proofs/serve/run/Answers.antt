@@ -1,8 +1,5 @@
 -- `run`: lemmas of std alone.
-use Rattle.std.proofs.Common.{None, ap, inr, rules, sym, ◌∙◌}
-use Rattle.paint.specs.Updates.{PainterState}
-use Rattle.compose.specs.Desks.{world}
-use Rattle.desk.specs.States.{ScreenOver}
+use Rattle.curspan.specs.{None, ap, inr, rules, sym, ◌∙◌, PainterState, world, ScreenOver}
 use Rattle.curspan.proofs.serve.run.Goals as goal
 
 pub returns-clause-ran : goal.returns-clause-ran

@@ -1,6 +1,5 @@
 -- `close_log`: what the flush of a log leaves of it (`ScriptLemmas`).
-use Rattle.std.proofs.Common.{ap, refl, sym}
-use Rattle.desk.specs.ScriptEnds.{read_failed, write_fault}
+use Rattle.desk.specs.{ap, refl, sym, read_failed, write_fault}
 use Rattle.desk.proofs.ScriptLemmas.{closes_after_fault, closes_failed, closes_flushed, closes_unflushed, no_fault}
 use Rattle.desk.proofs.run_script.close_log.Goals as goal
 

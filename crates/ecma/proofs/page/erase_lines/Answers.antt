@@ -1,9 +1,7 @@
 -- `erase_lines`: lines of a picture, erased (`Erasing`); no effect changes the size of the picture (`PictureSizes`).
-use Rattle.std.proofs.Common.{arith}
-use Rattle.std.proofs.lemmas.Grind.{common_steps}
+use Rattle.ecma.specs.{arith, common_steps, append-nil, take-append-drop}
 use Rattle.ecma.proofs.Erasing.{lines_blanked, lines_blanked-more}
 use Rattle.ecma.proofs.PictureSizes.{size-erased_at}
-use Rattle.std.proofs.lemmas.List.{append-nil, take-append-drop}
 use Rattle.ecma.proofs.page.erase_lines.Goals as goal
 
 pub loop-line-init : goal.loop-line-init

@@ -1,5 +1,4 @@
-use Rattle.std.proofs.Common.{◌≡◌, length}
-use Rattle.cell.specs.Pictures.{HasSize}
+use Rattle.ecma.specs.{◌≡◌, length, HasSize}
 use Rattle.ecma.proofs.Erasing.{lines_blanked}
 use Rattle.ecma.proofs.page.erase_lines.Given as goal
 

@@ -1,8 +1,5 @@
 -- `append_first`: of a piece that is written whole the first bytes count.
-use Rattle.std.proofs.Common.{◌≡◌, ℕ, ◌+◌, ◌-◌, ◌≤◌, ◌∙◌, List, ◌++◌, length, take, ap, sym, arith}
-use Rattle.std.proofs.Math.Seq.{take-append-add}
-use Rattle.std.proofs.lemmas.List.{length-take-le, take-take}
-use Rattle.std.proofs.lemmas.Slice.{take-put_mid}
+use Rattle.ecma.specs.{◌≡◌, ℕ, ◌+◌, ◌-◌, ◌≤◌, ◌∙◌, List, ◌++◌, length, take, ap, sym, arith, take-append-add, length-take-le, take-take, take-put_mid}
 use borrow.Rule.Slice.PartMut.{put_mid}
 use Rattle.ecma.proofs.positions.append_first.Goals as goal
 

@@ -1,7 +1,5 @@
 -- `select_all`: renditions selected by the parameters of a control sequence (`Selecting`).
-use Rattle.std.proofs.Common.{◌∙◌, ap, sym, arith}
-use Rattle.std.proofs.lemmas.List.{take_all}
-use Rattle.ecma.specs.Terminals.{select}
+use Rattle.ecma.specs.{◌∙◌, ap, sym, arith, take_all, select}
 use Rattle.ecma.proofs.Selecting.{selected_by, selected-next, selected-last, selected-none}
 use Rattle.ecma.proofs.selection.select_all.Goals as goal
 

@@ -1,4 +1,4 @@
-use Rattle.std.proofs.Common.{◌≡◌, Some, take}
+use Rattle.ecma.specs.{◌≡◌, Some, take}
 use Rattle.ecma.proofs.Selecting.{selected_by}
 use Rattle.ecma.proofs.selection.select_all.Given as goal
 

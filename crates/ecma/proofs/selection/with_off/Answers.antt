@@ -1,5 +1,5 @@
 use Rattle.ecma.proofs.Selecting.{with_off-made}
-use Rattle.std.proofs.Common.{arith}
+use Rattle.ecma.specs.{arith}
 use Rattle.ecma.proofs.selection.with_off.Goals as goal
 
 pub returns : goal.returns

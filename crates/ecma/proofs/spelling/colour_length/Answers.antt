@@ -1,5 +1,5 @@
 -- `colour_length`: how many bytes a token has (`Lengths`).
-use Rattle.std.proofs.Common.{arith}
+use Rattle.ecma.specs.{arith}
 use Rattle.ecma.proofs.Lengths.{length-colour}
 use Rattle.ecma.proofs.spelling.colour_length.Goals as goal
 

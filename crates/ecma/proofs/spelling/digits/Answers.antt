@@ -1,5 +1,5 @@
 -- `digits`: the digits of a number (`Lengths`).
-use Rattle.std.proofs.Common.{arith}
+use Rattle.ecma.specs.{arith}
 use Rattle.ecma.proofs.Lengths.{decimal-one, decimal-two, decimal-three}
 use Rattle.ecma.proofs.spelling.digits.Goals as goal
 

@@ -1,5 +1,5 @@
 -- `position_length`: how many bytes a token has (`Lengths`).
-use Rattle.std.proofs.Common.{arith}
+use Rattle.ecma.specs.{arith}
 use Rattle.ecma.proofs.Lengths.{length-cup_exact}
 use Rattle.ecma.proofs.spelling.position_length.Goals as goal
 

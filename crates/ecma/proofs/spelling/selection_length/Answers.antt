@@ -1,5 +1,5 @@
 -- `selection_length`: how many bytes a token has (`Lengths`).
-use Rattle.std.proofs.Common.{arith}
+use Rattle.ecma.specs.{arith}
 use Rattle.ecma.proofs.Lengths.{few-attributes, length-attributes, length-sgr_exact}
 use Rattle.ecma.proofs.spelling.selection_length.Goals as goal
 

@@ -1,6 +1,5 @@
 -- `spell`: the spelling of a token is one item, with the token's effect (`Tokens`).
-use Rattle.std.proofs.Common.{arith}
-use Rattle.ecma.specs.Spelling.{spelling}
+use Rattle.ecma.specs.{arith, spelling}
 use Rattle.ecma.proofs.Tokens.{is_item_of_bytes}
 use Rattle.ecma.proofs.spelling.spell.Goals as goal
 

@@ -1,5 +1,5 @@
 -- `spell_place`: how many bytes a token has (`Lengths`).
-use Rattle.std.proofs.Common.{arith, refl}
+use Rattle.ecma.specs.{arith, refl}
 use Rattle.ecma.proofs.Lengths.{three_digits}
 use Rattle.ecma.proofs.spelling.spell_place.Goals as goal
 

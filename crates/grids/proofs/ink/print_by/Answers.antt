@@ -1,10 +1,6 @@
 -- The characters are printed some at a time, each time after those before, and last those that the text ends with.
-use Rattle.std.proofs.Common.{◌≡◌, ◌+◌, ◌-◌, ◌≤◌, length, map, take, drop, arith, length-take, length-drop, ◌∙◌}
-use Rattle.std.specs.Prelude.{slice_index_or}
-use Rattle.std.proofs.lemmas.Grind.{common_steps}
-use Rattle.cell.specs.Glyphs.{blank}
+use Rattle.grids.specs.{◌≡◌, ◌+◌, ◌-◌, ◌≤◌, length, map, take, drop, arith, length-take, length-drop, ◌∙◌, slice_index_or, common_steps, blank, printed_cell}
 use Rattle.cell.proofs.PictureLemmas.{length-line}
-use Rattle.grids.specs.Inks.{printed_cell}
 use Rattle.grids.proofs.Prints.{filled-on, printed-part}
 use Rattle.grids.proofs.ink.print_by.Goals as goal
 

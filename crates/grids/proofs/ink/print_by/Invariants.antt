@@ -1,8 +1,5 @@
-use Rattle.std.proofs.Common.{◌≡◌, ℕ, ◌+◌, ◌-◌, ◌≤◌, ◌==◌, ◌&&◌, nat_le, nat_lt, if◌then◌else◌, length, map}
-use Rattle.std.specs.Prelude.{slice_index_or}
-use Rattle.cell.specs.Glyphs.{IsCell, blank}
-use Rattle.cell.specs.Pictures.{EachCell, HasSize, cell_or}
-use Rattle.grids.specs.Inks.{printed_cell}
+use Rattle.grids.specs.{◌≡◌, ℕ, ◌+◌, ◌-◌, ◌≤◌, ◌==◌, ◌&&◌, nat_le, nat_lt, if◌then◌else◌, length, map, slice_index_or, IsCell, blank, EachCell, HasSize}
+use Rattle.grids.specs.{cell_or, printed_cell}
 use Rattle.grids.proofs.ink.print_by.Given as goal
 
 -- the first characters are printed

@@ -1,7 +1,4 @@
-use Rattle.std.proofs.Common.{◌≡◌, length, map, take}
-use Rattle.std.specs.List.{AllByRecursion}
-use Rattle.cell.specs.Glyphs.{IsCell}
-use Rattle.grids.specs.Inks.{printed_cell}
+use Rattle.grids.specs.{◌≡◌, length, map, take, AllByRecursion, IsCell, printed_cell}
 use Rattle.grids.specs.declared.ink.TheConstants.{PIECE}
 use Rattle.grids.proofs.ink.print_together.Given as goal
 

@@ -1,9 +1,5 @@
 -- The loop goes along the slots as the search along the numbers does.
-use Rattle.std.proofs.Common.{◌≡◌, true, false, None, arith, sym, ap, ◌∙◌, length}
-use Rattle.std.specs.Option.{is_none}
-use Rattle.std.proofs.lemmas.Grind.{common_steps}
-use Rattle.std.proofs.lemmas.List.{get_or_read}
-use Rattle.grids.specs.Slots.{slot_at}
+use Rattle.grids.specs.{◌≡◌, true, false, None, arith, sym, ap, ◌∙◌, length, is_none, common_steps, get_or_read, slot_at}
 use Rattle.grids.proofs.FreeNumbers.{search_from, search-more, search-here, search-past, search-end}
 use Rattle.grids.proofs.list.free_number.Goals as goal
 

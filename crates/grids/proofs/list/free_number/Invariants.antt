@@ -1,6 +1,4 @@
-use Rattle.std.proofs.Common.{◌≡◌}
-use Rattle.world.specs.calls.Making.{new_number}
-use Rattle.grids.specs.Slots.{window_map}
+use Rattle.grids.specs.{◌≡◌, new_number, window_map}
 use Rattle.grids.proofs.FreeNumbers.{search_from}
 use Rattle.grids.proofs.list.free_number.Given as goal
 

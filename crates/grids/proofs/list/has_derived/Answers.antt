@@ -1,4 +1,4 @@
-use Rattle.std.proofs.Common.{◌∙◌}
+use Rattle.grids.specs.{◌∙◌}
 use Rattle.grids.proofs.Derived.{has_derived-list}
 use Rattle.grids.proofs.list.has_derived.Goals as goal
 

@@ -1,7 +1,5 @@
 -- The origin of a window is where the walk from its first place ends.
-use Rattle.std.proofs.Common.{◌≡◌, Some, arith}
-use Rattle.std.proofs.lemmas.Grind.{common_steps}
-use Rattle.grids.specs.Slots.{slot_at}
+use Rattle.grids.specs.{◌≡◌, Some, arith, common_steps, slot_at}
 use Rattle.grids.proofs.Origins.{origin-is}
 use Rattle.grids.proofs.list.origin_of.Goals as goal
 

@@ -1,6 +1,4 @@
-use Rattle.std.proofs.Common.{◌≡◌, Some, arith}
-use Rattle.std.proofs.lemmas.Grind.{common_steps}
-use Rattle.grids.specs.Slots.{slot_at}
+use Rattle.grids.specs.{◌≡◌, Some, arith, common_steps, slot_at}
 use Rattle.grids.proofs.list.row_in.Goals as goal
 
 pub returns-clause-row : goal.returns-clause-row

@@ -1,5 +1,4 @@
-use Rattle.world.specs.Windows.{HasPlace}
-use Rattle.grids.specs.Slots.{window_map, depth_at}
+use Rattle.grids.specs.{HasPlace, window_map, depth_at}
 use Rattle.grids.proofs.Chain.{ComesTo}
 use Rattle.grids.proofs.parents.first_place.Given as goal
 

@@ -1,5 +1,5 @@
 -- `place_in_parent`: what the kit tries by itself takes seconds at these, which `search` finds at once.
-use Rattle.std.proofs.Common.{rules}
+use Rattle.grids.specs.{rules}
 use Rattle.grids.proofs.parents.place_in_parent.Goals as goal
 
 pub returns-in_default-clause-next : goal.returns-in_default-clause-next

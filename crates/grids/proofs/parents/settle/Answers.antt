@@ -1,7 +1,5 @@
 -- Each round sets the origin of one more slot, and those of its parents were set before.
-use Rattle.std.proofs.Common.{◌≡◌, ◌<◌, None, length, arith, sym, ◌∙◌}
-use Rattle.std.proofs.lemmas.List.{get_or_read}
-use Rattle.grids.specs.Slots.{slot_at}
+use Rattle.grids.specs.{◌≡◌, ◌<◌, None, length, arith, sym, ◌∙◌, get_or_read, slot_at}
 use Rattle.grids.proofs.Settling.{empty-slot, settled-empty, settled-next}
 use Rattle.grids.proofs.parents.settle.Goals as goal
 use Rattle.grids.proofs.parents.settle.Goals.{then-is_some, else-is_some}

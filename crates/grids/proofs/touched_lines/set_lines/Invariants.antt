@@ -1,5 +1,4 @@
-use Rattle.std.proofs.Common.{◌≡◌, ℕ, ◌&&◌, nat_le, nat_lt, if◌then◌else◌, None, length}
-use Rattle.std.specs.Prelude.{slice_index_or}
+use Rattle.grids.specs.{◌≡◌, ℕ, ◌&&◌, nat_le, nat_lt, if◌then◌else◌, None, length, slice_index_or}
 use Rattle.grids.proofs.touched_lines.set_lines.Given as goal
 
 -- the lines before y are set

@@ -1,6 +1,4 @@
-use Rattle.std.proofs.Common.{◌≡◌, ◌≤◌, ℕ}
-use Rattle.cell.specs.Pictures.{shown_at}
-use Rattle.cell.specs.Shown.{shown_blank}
+use Rattle.paint.specs.{◌≡◌, ◌≤◌, ℕ, shown_at, shown_blank}
 use Rattle.paint.proofs.blanks.blank_lines.Given as goal
 
 abbrev pub invariant-loop-start : goal.invariant-loop-start

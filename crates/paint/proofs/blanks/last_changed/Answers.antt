@@ -1,7 +1,5 @@
 -- `last_changed`: lines are looked at from the last one on which may differ.
-use Rattle.std.proofs.Common.{◌≡◌, ◌-◌, ◌<◌, ◌∙◌, inl, inr, refl, ap, subst, arith}
-use Rattle.std.proofs.lemmas.Bool.{cases_lt}
-use Rattle.cell.specs.Pictures.{line_of, shown_at}
+use Rattle.paint.specs.{◌≡◌, ◌-◌, ◌<◌, ◌∙◌, inl, inr, refl, ap, subst, arith, cases_lt, line_of, shown_at}
 use Rattle.cell.proofs.PictureLemmas.{length-line}
 use Rattle.paint.proofs.CellRuns.{part-differs}
 use Rattle.paint.proofs.FoundStrokes.{whole-line}

@@ -1,5 +1,4 @@
-use Rattle.std.proofs.Common.{◌≡◌, ◌≤◌, ℕ, length}
-use Rattle.cell.specs.Pictures.{shown_at}
+use Rattle.paint.specs.{◌≡◌, ◌≤◌, ℕ, length, shown_at}
 use Rattle.paint.proofs.blanks.last_changed.Given as goal
 
 abbrev pub invariant-loop-end : goal.invariant-loop-end

@@ -1,5 +1,4 @@
-use Rattle.std.proofs.Common.{◌≡◌, ◌≤◌, ℕ, get_or, length}
-use Rattle.cell.specs.Shown.{shown_blank}
+use Rattle.paint.specs.{◌≡◌, ◌≤◌, ℕ, get_or, length, shown_blank}
 use Rattle.paint.proofs.blanks.tail_before.Given as goal
 
 abbrev pub invariant-loop-start : goal.invariant-loop-start

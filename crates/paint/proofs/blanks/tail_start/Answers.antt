@@ -1,10 +1,6 @@
 -- `tail_start`: cells that are looked at together are blank after the last that isn't.
-use Rattle.std.proofs.Common.{◌≡◌, ℕ, zero, suc, ◌+◌, ◌-◌, ◌<◌, ◌≤◌, ◌∙◌, List, drop, get_or, inl, inr, refl, sym, ap, arith}
-use Rattle.std.specs.Prelude.{replicate}
-use Rattle.std.proofs.lemmas.Bool.{cases_lt}
-use Rattle.std.proofs.lemmas.List.{get_or-drop}
-use Rattle.cell.specs.Shown.{Shown, shown_blank}
-use Rattle.paint.specs.steps.Runs.{cells_between}
+use Rattle.paint.specs.{◌≡◌, ℕ, zero, suc, ◌+◌, ◌-◌, ◌<◌, ◌≤◌, ◌∙◌, List, drop, get_or, inl, inr, refl, sym, ap, arith, replicate, cases_lt, get_or-drop}
+use Rattle.paint.specs.{Shown, shown_blank, cells_between}
 use Rattle.paint.proofs.CellRuns.{part-of}
 use Rattle.paint.proofs.blanks.tail_start.Goals as goal
 

@@ -1,10 +1,6 @@
-use Rattle.std.proofs.Common.{List, ◌++◌, take}
-use Rattle.std.specs.Prelude.{filter}
-use Rattle.streams.specs.Sinks.{Seen}
+use Rattle.paint.specs.{List, ◌++◌, take, filter, Seen, AreDrawn, is_of, SameTerminals}
 use Rattle.paint.specs.declared.pen.Pen.{Pen}
 use Rattle.paint.specs.declared.strokes.Stroke.{Stroke}
-use Rattle.paint.specs.steps.Strokes.{AreDrawn, is_of}
-use Rattle.paint.specs.steps.Pens.{SameTerminals}
 use Rattle.paint.proofs.drawing.draw_pass.Given as goal
 
 abbrev pub invariant-loop-stroke : goal.invariant-loop-stroke

@@ -1,13 +1,9 @@
 -- `draw_passes`: it draws each stroke in its pass, and the order doesn't matter.
-use Rattle.std.proofs.Common.{◌≡◌, ◌≢◌, ℕ, zero, suc, ◌+◌, ◌<◌, ◌≤◌, List, [], ◌∷◌, ◌++◌, length, get_or, inl, inr, sym, ap, ◌∙◌, subst, arith, add-one, append_assoc}
-use Rattle.std.specs.Prelude.{nat_lt, if◌then◌else◌, filter, sum_by}
-use Rattle.std.proofs.lemmas.Bool.{cases_eq, cases_lt, eq-eqb, ne_eqb, lt-ltb, le-ltb}
-use Rattle.std.proofs.lemmas.List.Sums.{sum_by-append, sum_by-cons}
-use Rattle.streams.specs.Sinks.{Seen}
-use Rattle.cell.specs.Pictures.{Picture}
+use Rattle.paint.specs.{◌≡◌, ◌≢◌, ℕ, zero, suc, ◌+◌, ◌<◌, ◌≤◌, List, [], ◌∷◌, ◌++◌, length, get_or, inl, inr, sym, ap, ◌∙◌, subst, arith, add-one}
+use Rattle.paint.specs.{append_assoc, nat_lt, if◌then◌else◌, filter, sum_by, cases_eq, cases_lt, eq-eqb, ne_eqb, lt-ltb, le-ltb, sum_by-append, sum_by-cons}
+use Rattle.paint.specs.{Seen, Picture, AreDrawn, in_passes, is_of, no_stroke, stroke_bytes, writes}
 use Rattle.paint.specs.declared.pen.Pen.{Pen}
 use Rattle.paint.specs.declared.strokes.Stroke.{Stroke}
-use Rattle.paint.specs.steps.Strokes.{AreDrawn, in_passes, is_of, no_stroke, stroke_bytes, writes}
 use Rattle.paint.proofs.PenSteps.{DrawsWithin-more}
 use Rattle.paint.proofs.drawing.draw_passes.Goals as goal
 

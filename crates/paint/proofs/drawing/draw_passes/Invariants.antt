@@ -1,9 +1,6 @@
-use Rattle.std.proofs.Common.{List, ◌++◌}
-use Rattle.streams.specs.Sinks.{Seen}
+use Rattle.paint.specs.{List, ◌++◌, Seen, AreDrawn, in_passes, SameTerminals}
 use Rattle.paint.specs.declared.pen.Pen.{Pen}
 use Rattle.paint.specs.declared.strokes.Stroke.{Stroke}
-use Rattle.paint.specs.steps.Strokes.{AreDrawn, in_passes}
-use Rattle.paint.specs.steps.Pens.{SameTerminals}
 use Rattle.paint.proofs.drawing.draw_passes.Given as goal
 
 abbrev pub invariant-loop-pass : goal.invariant-loop-pass

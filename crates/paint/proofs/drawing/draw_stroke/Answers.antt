@@ -1,8 +1,6 @@
 -- `draw_stroke`: its line is that of the frame.
-use Rattle.std.proofs.Common.{◌≡◌, ◌∙◌, ap, subst, arith}
-use Rattle.cell.specs.Pictures.{line_of}
+use Rattle.paint.specs.{◌≡◌, ◌∙◌, ap, subst, arith, line_of, HasInk, IsErasure}
 use Rattle.paint.specs.declared.pen.Pen.{Pen}
-use Rattle.paint.specs.steps.Strokes.{HasInk, IsErasure}
 use Rattle.paint.proofs.CellRuns.{gap-shown}
 use Rattle.paint.proofs.DrawnStrokes.{erased-line-drawn, erased-page-drawn, print-drawn}
 use Rattle.paint.proofs.PenSteps.{DrawsWithin-more, plain-approach}

@@ -1,9 +1,6 @@
-use Rattle.std.proofs.Common.{List, ◌++◌, take}
-use Rattle.streams.specs.Sinks.{Seen}
+use Rattle.paint.specs.{List, ◌++◌, take, Seen, AreDrawn, SameTerminals}
 use Rattle.paint.specs.declared.pen.Pen.{Pen}
 use Rattle.paint.specs.declared.strokes.Stroke.{Stroke}
-use Rattle.paint.specs.steps.Strokes.{AreDrawn}
-use Rattle.paint.specs.steps.Pens.{SameTerminals}
 use Rattle.paint.proofs.drawing.draw_strokes.Given as goal
 
 abbrev pub invariant-loop-stroke : goal.invariant-loop-stroke

@@ -1,10 +1,5 @@
 -- `paint`: line after line is planned, and those between them are shown already.
-use Rattle.std.proofs.Common.{◌≡◌, ℕ, ◌<◌, ◌≤◌, None, Option, List, length, refl, arith}
-use Rattle.cell.specs.Pictures.{Picture}
-use Rattle.world.specs.declared.settings.Columns.{Columns}
-use Rattle.extents.specs.Extents.{columns_of}
-use Rattle.paint.specs.Changes.{IsFrame}
-use Rattle.paint.specs.steps.Strokes.{AreSameBetween}
+use Rattle.paint.specs.{◌≡◌, ℕ, ◌<◌, ◌≤◌, None, Option, List, length, refl, arith, Picture, Columns, columns_of, IsFrame, AreSameBetween}
 use Rattle.paint.proofs.FoundStrokes.{planned-same, same-lines, way-none, way-planned, way-whole}
 use Rattle.paint.proofs.drawing.paint.Goals as goal
 

@@ -1,6 +1,4 @@
-use Rattle.std.proofs.Common.{◌≤◌, ◌-◌}
-use Rattle.paint.specs.steps.Strokes.{IsUnderWay}
-use Rattle.paint.specs.steps.Pens.{SameTerminals}
+use Rattle.paint.specs.{◌≤◌, ◌-◌, IsUnderWay, SameTerminals}
 use Rattle.paint.proofs.drawing.paint.Given as goal
 
 abbrev pub invariant-loop-line : goal.invariant-loop-line

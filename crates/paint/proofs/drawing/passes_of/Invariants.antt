@@ -1,5 +1,4 @@
-use Rattle.std.proofs.Common.{◌<◌, ◌≤◌, ◌^◌, ℕ, get_or}
-use Rattle.paint.specs.steps.Strokes.{no_stroke}
+use Rattle.paint.specs.{◌<◌, ◌≤◌, ◌^◌, ℕ, get_or, no_stroke}
 use Rattle.paint.proofs.drawing.passes_of.Given as goal
 
 abbrev pub invariant-loop-stroke : goal.invariant-loop-stroke

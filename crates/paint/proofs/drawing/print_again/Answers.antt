@@ -1,5 +1,5 @@
 -- `print_again`: cells printed again change nothing (`CellRuns`).
-use Rattle.std.proofs.Common.{arith}
+use Rattle.paint.specs.{arith}
 use Rattle.paint.proofs.CellRuns.{gap-within}
 use Rattle.paint.proofs.drawing.print_again.Goals as goal
 

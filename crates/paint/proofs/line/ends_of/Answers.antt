@@ -1,6 +1,5 @@
 -- `ends_of`: what the kit tries by itself takes seconds at these.
-use Rattle.std.proofs.Common.{arith, rules}
-use Rattle.std.proofs.lemmas.Grind.{elements}
+use Rattle.paint.specs.{arith, rules, elements}
 use Rattle.paint.proofs.line.ends_of.Goals as goal
 
 pub returns-clause-long : goal.returns-clause-long

@@ -1,6 +1,4 @@
-use Rattle.std.proofs.Common.{◌≡◌, length}
-use Rattle.cell.specs.declared.lanes.TheConstants.{LANES}
-use Rattle.paint.specs.steps.Runs.{AreEnds}
+use Rattle.paint.specs.{◌≡◌, length, LANES, AreEnds}
 use Rattle.paint.proofs.line.ends_of.Given as goal
 
 abbrev pub invariant-loop-x : goal.invariant-loop-x

@@ -1,6 +1,5 @@
 -- What is looked at together is the same up to the first difference (`Listing`).
-use Rattle.std.proofs.Common.{◌-◌, ◌≤◌, drop, take, ap, arith}
-use Rattle.std.proofs.lemmas.List.{length-take}
+use Rattle.paint.specs.{◌-◌, ◌≤◌, drop, take, ap, arith, length-take}
 use Rattle.paint.proofs.CellRuns.{part-same}
 use Rattle.paint.proofs.line.far_changed.Goals as goal
 

@@ -1,5 +1,4 @@
-use Rattle.std.proofs.Common.{◌≡◌, ◌<◌, ℕ, get_or}
-use Rattle.cell.specs.Shown.{shown_blank}
+use Rattle.paint.specs.{◌≡◌, ◌<◌, ℕ, get_or, shown_blank}
 use Rattle.paint.proofs.line.leading.Given as goal
 
 abbrev pub invariant-loop-k : goal.invariant-loop-k

@@ -1,6 +1,5 @@
 -- Near cells are looked at one after another, then many together.
-use Rattle.std.proofs.Common.{inl, inr, arith}
-use Rattle.std.proofs.lemmas.Bool.{cases_lt}
+use Rattle.paint.specs.{inl, inr, arith, cases_lt}
 use Rattle.paint.proofs.line.next_changed.Goals as goal
 
 pub returns-clause-alike : goal.returns-clause-alike

@@ -1,5 +1,5 @@
 -- `run_end`: a run of one cell, and more of them (`CellRuns`).
-use Rattle.std.proofs.Common.{arith}
+use Rattle.paint.specs.{arith}
 use Rattle.paint.proofs.CellRuns.{run-begun}
 use Rattle.paint.proofs.line.run_end.Goals as goal
 

@@ -1,7 +1,5 @@
 -- `run_end_after`: runs of cells: printed one after another, and drawn in a line (`CellRuns`).
-use Rattle.std.proofs.Common.{◌≡◌, ◌+◌, ◌-◌, ◌∙◌, ap, arith}
-use Rattle.std.proofs.lemmas.List.{get_or_default}
-use Rattle.cell.specs.Shown.{Shown, shown_blank}
+use Rattle.paint.specs.{◌≡◌, ◌+◌, ◌-◌, ◌∙◌, ap, arith, get_or_default, Shown, shown_blank}
 use Rattle.paint.proofs.CellRuns.{run-further}
 use Rattle.paint.proofs.line.run_end_after.Goals as goal
 

@@ -1,5 +1,4 @@
-use Rattle.std.proofs.Common.{◌-◌}
-use Rattle.paint.specs.steps.Runs.{IsRun}
+use Rattle.paint.specs.{◌-◌, IsRun}
 use Rattle.paint.proofs.line.run_end_after.Given as goal
 
 abbrev pub invariant-loop-x : goal.invariant-loop-x

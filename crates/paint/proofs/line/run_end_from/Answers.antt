@@ -1,8 +1,5 @@
 -- `run_end_from`: runs of cells: printed one after another, and drawn in a line (`CellRuns`).
-use Rattle.std.proofs.Common.{◌≡◌, ◌<◌, ◌∙◌, get_or, inl, inr, length, sym, ap, arith}
-use Rattle.std.proofs.lemmas.Bool.{cases_lt}
-use Rattle.std.proofs.lemmas.List.{get_or_default}
-use Rattle.cell.specs.Shown.{Shown, shown_blank}
+use Rattle.paint.specs.{◌≡◌, ◌<◌, ◌∙◌, get_or, inl, inr, length, sym, ap, arith, cases_lt, get_or_default, Shown, shown_blank}
 use Rattle.ecma.proofs.Difference.{same_rendition-equal}
 use Rattle.paint.proofs.CellRuns.{same_shown-at, not-other}
 use Rattle.paint.proofs.line.run_end_from.Goals as goal

@@ -1,4 +1,4 @@
-use Rattle.paint.specs.steps.Runs.{IsRun}
+use Rattle.paint.specs.{IsRun}
 use Rattle.paint.proofs.line.run_end_from.Given as goal
 
 abbrev pub invariant-loop-x : goal.invariant-loop-x

@@ -1,10 +1,6 @@
 -- `stretch`: a run, and each further changed cell after a few of its rendition (`Stretches`).
-use Rattle.std.specs.Prelude.{not}
-use Rattle.std.proofs.Common.{◌≡◌, Bool, true, false, ℕ, ◌<◌, ◌≤◌, ◌∙◌, get_or, length, inl, inr, ap, subst, sym, arith}
-use Rattle.std.proofs.lemmas.Bool.{cases_lt}
-use Rattle.std.proofs.lemmas.List.{get_or_default}
-use Rattle.cell.specs.Shown.{Shown, shown_blank}
-use Rattle.cell.specs.EqualityLaws.{same_shown-equal}
+use Rattle.paint.specs.{not, ◌≡◌, Bool, true, false, ℕ, ◌<◌, ◌≤◌, ◌∙◌, get_or, length, inl, inr, ap, subst, sym, arith, cases_lt, get_or_default, Shown}
+use Rattle.paint.specs.{shown_blank, same_shown-equal}
 use Rattle.paint.proofs.CellRuns.{not-other}
 use Rattle.paint.proofs.Stretches.{run-stretch, stretch-further}
 use Rattle.paint.proofs.line.stretch.Goals as goal

@@ -1,6 +1,4 @@
-use Rattle.std.proofs.Common.{◌≡◌, ◌-◌, ◌<◌, ◌≤◌, ℕ, get_or}
-use Rattle.cell.specs.Shown.{shown_blank}
-use Rattle.paint.specs.steps.Runs.{IsStretch}
+use Rattle.paint.specs.{◌≡◌, ◌-◌, ◌<◌, ◌≤◌, ℕ, get_or, shown_blank, IsStretch}
 use Rattle.paint.proofs.line.stretch.Given as goal
 
 abbrev pub invariant-loop-rendition : goal.invariant-loop-rendition

@@ -1,7 +1,5 @@
 -- `append_characters`: piece by piece (`Narrowing`).
-use Rattle.std.proofs.Common.{◌+◌, ◌++◌, ◌∙◌, ap, arith, length, take, ◌≡◌, ◌-◌, drop, length-drop, length-take-le}
-use Rattle.std.proofs.Math.Seq.{take-length}
-use Rattle.paint.specs.steps.Pens.{characters}
+use Rattle.paint.specs.{◌+◌, ◌++◌, ◌∙◌, ap, arith, length, take, ◌≡◌, ◌-◌, drop, length-drop, length-take-le, take-length, characters}
 use Rattle.paint.proofs.Narrowing.{characters-further, sound-further}
 use Rattle.paint.proofs.outbox.append_characters.Goals as goal
 

@@ -1,6 +1,4 @@
-use Rattle.std.proofs.Common.{◌≡◌, ℕ, ◌-◌, ◌<◌, ◌≤◌, ◌++◌, get_or, length, take}
-use Rattle.cell.specs.Shown.{IsShown, shown_blank}
-use Rattle.paint.specs.steps.Pens.{characters}
+use Rattle.paint.specs.{◌≡◌, ℕ, ◌-◌, ◌<◌, ◌≤◌, ◌++◌, get_or, length, take, IsShown, shown_blank, characters}
 use Rattle.paint.proofs.outbox.append_characters.Given as goal
 
 abbrev pub invariant-loop-start : goal.invariant-loop-start

@@ -1,7 +1,4 @@
-use Rattle.std.proofs.Common.{◌≡◌, ℕ, ◌<◌, get_or, length, take}
-use Rattle.cell.specs.Shown.{IsShown, shown_blank}
-use Rattle.paint.specs.steps.Pens.{characters}
-use Rattle.cell.specs.declared.lanes.TheConstants.{LANES}
+use Rattle.paint.specs.{◌≡◌, ℕ, ◌<◌, get_or, length, take, IsShown, shown_blank, characters, LANES}
 use Rattle.paint.proofs.outbox.characters_of.Given as goal
 
 abbrev pub invariant-loop-x : goal.invariant-loop-x

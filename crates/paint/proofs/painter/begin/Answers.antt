@@ -1,5 +1,5 @@
 -- `begin`: what is known, or the opening (`Shows`).
-use Rattle.cell.specs.Shown.{shown_blank}
+use Rattle.paint.specs.{shown_blank}
 use Rattle.cell.proofs.PictureLemmas.{HasSize-all_of}
 use Rattle.paint.proofs.painter.begin.Goals as goal
 

@@ -1,6 +1,4 @@
-use Rattle.std.proofs.Common.{◌≡◌, ℕ, ◌-◌, ◌<◌, length}
-use Rattle.cell.specs.Pictures.{HasSize, shown_at}
-use Rattle.extents.specs.Extents.{DifferOnly}
+use Rattle.paint.specs.{◌≡◌, ℕ, ◌-◌, ◌<◌, length, HasSize, shown_at, DifferOnly}
 use Rattle.paint.proofs.painter.copy_changes.Given as goal
 
 abbrev pub invariant-loop-y : goal.invariant-loop-y

@@ -1,5 +1,5 @@
 -- `send_frame`: the strokes of a frame make a text of a doupdate (`Holding`).
-use Rattle.paint.specs.Updates.{ShownPicture}
+use Rattle.paint.specs.{ShownPicture}
 use Rattle.paint.proofs.Holding.{holds-start}
 use Rattle.paint.proofs.painter.send_frame.Goals as goal
 

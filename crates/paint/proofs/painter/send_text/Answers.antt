@@ -1,6 +1,5 @@
 -- `send_text`: what a text that was sent means for a painter (`SentTexts`).
-use Rattle.std.proofs.Common.{arith}
-use Rattle.std.proofs.lemmas.Result.{err_from_is_err_and}
+use Rattle.paint.specs.{arith, err_from_is_err_and}
 use Rattle.paint.proofs.SentTexts.{updated, broken_flush, broken_text}
 use Rattle.paint.proofs.painter.send_text.Goals as goal
 

@@ -1,11 +1,5 @@
 -- Each run of columns has one owner, whose cells are put into the line; so the line is that of the picture.
-use Rattle.std.proofs.Common.{rules, ◌≡◌, ℕ, ◌+◌, ◌-◌, refl, ap, subst, ◌∙◌, arith}
-use Rattle.cell.specs.Shown.{Shown, shown}
-use Rattle.world.specs.Windows.{Windows}
-use Rattle.world.specs.Panels.{found_from_top}
-use Rattle.stack.specs.Tables.{panels}
-use Rattle.picture.specs.Counts.{GrewBy}
-use Rattle.picture.specs.steps.Owners.{KnowsOwners}
+use Rattle.picture.specs.{rules, ◌≡◌, ℕ, ◌+◌, ◌-◌, refl, ap, subst, ◌∙◌, arith, Shown, shown, Windows, found_from_top, panels, GrewBy, KnowsOwners}
 use Rattle.picture.proofs.Lines.{LineShown}
 use Rattle.picture.proofs.PictureRuns.{IsRead, held_run, run-between, run-grew, run-line, run-no-pad, run-of, run-place}
 use Rattle.picture.proofs.line.compose_columns.Goals as goal

@@ -1,9 +1,4 @@
-use Rattle.std.proofs.Common.{◌≡◌, ◌-◌, ◌≤◌}
-use Rattle.cell.specs.Shown.{shown}
-use Rattle.world.specs.Panels.{found_from_top}
-use Rattle.stack.specs.Tables.{panels}
-use Rattle.picture.specs.Counts.{GrewBy}
-use Rattle.picture.specs.steps.Owners.{KnowsOwners}
+use Rattle.picture.specs.{◌≡◌, ◌-◌, ◌≤◌, shown, found_from_top, panels, GrewBy, KnowsOwners}
 use Rattle.picture.proofs.Lines.{LineShown}
 use Rattle.picture.proofs.line.compose_columns.Given as goal
 

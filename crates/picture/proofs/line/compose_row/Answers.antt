@@ -1,6 +1,5 @@
 -- Nothing is known of a line before.
-use Rattle.std.proofs.Common.{refl}
-use Rattle.stack.specs.Tables.{panels}
+use Rattle.picture.specs.{refl, panels}
 use Rattle.picture.proofs.line.compose_row.Goals as goal
 
 pub compose_columns-requires : goal.compose_columns-requires

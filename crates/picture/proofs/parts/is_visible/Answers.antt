@@ -1,5 +1,4 @@
-use Rattle.std.proofs.Common.{rules, ◌≡◌, None}
-use Rattle.stack.specs.Tables.{panels}
+use Rattle.picture.specs.{rules, ◌≡◌, None, panels}
 use Rattle.picture.proofs.VisiblePanels.{absent-hidden}
 use Rattle.picture.proofs.parts.is_visible.Goals as goal
 

@@ -1,5 +1,5 @@
 -- The rectangle that two windows share, at the place of one, is a part of the screen.
-use Rattle.std.proofs.Common.{rules}
+use Rattle.picture.specs.{rules}
 use Rattle.picture.proofs.Placement.{placed}
 use Rattle.picture.proofs.PartLaws.{shared-same}
 use Rattle.picture.proofs.parts.shared_part.Goals as goal

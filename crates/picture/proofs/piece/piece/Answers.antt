@@ -1,6 +1,5 @@
 -- The piece is cut out of the row of the window.
-use Rattle.std.proofs.Common.{◌≡◌, ◌<◌, ◌+◌, ◌-◌, length, arith}
-use Rattle.grids.specs.Tables.{windows}
+use Rattle.picture.specs.{◌≡◌, ◌<◌, ◌+◌, ◌-◌, length, arith, windows}
 use Rattle.grids.proofs.Showing.{line-has}
 use Rattle.picture.proofs.RowPieces.{piece-of}
 use Rattle.picture.proofs.piece.piece.Goals as goal

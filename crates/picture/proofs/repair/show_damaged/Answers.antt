@@ -1,23 +1,13 @@
 -- Each round composes the damaged columns of one line more; the others were those of the picture before.
-use Rattle.std.proofs.Common.{rules, ◌≡◌, ℕ, suc, ◌+◌, ◌<◌, ◌≤◌, ◌==◌, ◌&&◌, true, nat_le, nat_lt, if◌then◌else◌, None, Some, refl, subst, ap, sym, ◌∙◌, arith, add_assoc}
-use Rattle.cell.specs.Pictures.{shown_at}
-use Rattle.cell.specs.Shown.{Shown, shown}
+use Rattle.picture.specs.{rules, ◌≡◌, ℕ, suc, ◌+◌, ◌<◌, ◌≤◌, ◌==◌, ◌&&◌, true, nat_le, nat_lt, if◌then◌else◌, None, Some, refl, subst, ap, sym, ◌∙◌, arith}
+use Rattle.picture.specs.{add_assoc, shown_at, Shown, shown, found_from_top, holds, standard_screen, AreColumnsWithin, Windows, panels, AddsChanges}
+use Rattle.picture.specs.{columns_of, cells_above, cells_of_line, HasPanelWindows, KnowsOwners, mod-add-mod, get_or_past}
 use Rattle.cell.proofs.PictureLemmas.{length-line}
-use Rattle.world.specs.Panels.{found_from_top, holds, standard_screen}
-use Rattle.world.specs.Sound.{AreColumnsWithin}
-use Rattle.world.specs.Windows.{Windows}
-use Rattle.stack.specs.Tables.{panels}
-use Rattle.extents.specs.Extents.{AddsChanges, columns_of}
 use Rattle.extents.proofs.Changing.{changes-more, changes-none}
-use Rattle.picture.specs.Damages.{cells_above, cells_of_line}
-use Rattle.picture.specs.Spans.{HasPanelWindows}
-use Rattle.picture.specs.steps.Owners.{KnowsOwners}
 use Rattle.picture.proofs.DamageLaws.{AddedBefore, added-all, added-more, added-none, added-to}
 use Rattle.picture.proofs.Composing.{ComposedAbove, composed-bare, composed-more, composed-none, composed-to, fits-more, no-more-to}
 use Rattle.picture.proofs.Lines.{shown-all}
 use Rattle.picture.proofs.Standard.{sound-windows, standard-holds}
-use Rattle.std.proofs.Math.Nat.{mod-add-mod}
-use Rattle.std.proofs.lemmas.List.{get_or_past}
 use Rattle.picture.proofs.repair.show_damaged.Goals.{in-Some, in_default}
 use Rattle.picture.proofs.repair.show_damaged.Goals as goal
 

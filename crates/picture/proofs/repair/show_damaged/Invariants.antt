@@ -1,11 +1,4 @@
-use Rattle.std.proofs.Common.{◌≡◌, ◌-◌, ◌≤◌}
-use Rattle.cell.specs.Shown.{shown}
-use Rattle.world.specs.Panels.{found_from_top}
-use Rattle.stack.specs.Tables.{panels}
-use Rattle.picture.specs.Counts.{GrewBy}
-use Rattle.extents.specs.Extents.{AddsChanges}
-use Rattle.picture.specs.Damages.{cells_above}
-use Rattle.picture.specs.steps.Owners.{KnowsOwners}
+use Rattle.picture.specs.{◌≡◌, ◌-◌, ◌≤◌, shown, found_from_top, panels, GrewBy, AddsChanges, cells_above, KnowsOwners}
 use Rattle.picture.proofs.Composing.{ComposedAbove}
 use Rattle.picture.proofs.DamageLaws.{AddedBefore}
 use Rattle.picture.proofs.repair.show_damaged.Given as goal

@@ -1,12 +1,6 @@
 -- The owner of a place shows there the cell that the search finds.
-use Rattle.std.proofs.Common.{◌≡◌, ◌<◌, ◌-◌, ℕ, true, refl, sym, subst, arith}
-use Rattle.world.specs.Windows.{Windows}
-use Rattle.world.specs.Panels.{Panels, holds, owner, window_or_standard}
-use Rattle.world.specs.Sound.{AreSoundWindows}
-use Rattle.world.specs.calls.Stacking.{panel_number}
-use Rattle.grids.specs.Tables.{windows as windows_of}
-use Rattle.stack.specs.Tables.{panels}
-use Rattle.picture.specs.Spans.{HasPanelWindows, IsSpan}
+use Rattle.picture.specs.{◌≡◌, ◌<◌, ◌-◌, ℕ, true, refl, sym, subst, arith, Windows, Panels, holds, owner, window_or_standard, AreSoundWindows, panel_number}
+use Rattle.picture.specs.{windows as windows_of, panels, HasPanelWindows, IsSpan}
 use Rattle.picture.specs.declared.span.Span.{Span}
 use Rattle.picture.proofs.Held.{held-before, held-place}
 use Rattle.picture.proofs.Searching.{owner-held}

@@ -1,6 +1,5 @@
 -- Nothing is known of a line before.
-use Rattle.std.proofs.Common.{refl}
-use Rattle.stack.specs.Tables.{panels}
+use Rattle.picture.specs.{refl, panels}
 use Rattle.picture.proofs.span.owner_span.Goals as goal
 
 pub span-requires : goal.span-requires

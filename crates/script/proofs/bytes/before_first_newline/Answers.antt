@@ -1,6 +1,4 @@
-use Rattle.std.proofs.Common.{arith}
-use Rattle.std.proofs.lemmas.Bool.Decides.{nat_tests}
-use Rattle.std.proofs.lemmas.List.Sums.{prefix_len-le-length}
+use Rattle.script.specs.{arith, nat_tests, prefix_len-le-length}
 use Rattle.script.proofs.bytes.before_first_newline.Goals as goal
 
 pub returns-in-None-clause-value : goal.returns-in-None-clause-value

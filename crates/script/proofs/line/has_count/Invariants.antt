@@ -1,4 +1,4 @@
-use Rattle.script.specs.Pieces.{pieces_of}
+use Rattle.script.specs.{pieces_of}
 use Rattle.script.proofs.ArgumentLemmas.{Counted}
 use Rattle.script.proofs.line.has_count.Given as goal
 

@@ -1,4 +1,4 @@
-use Rattle.std.proofs.Common.{arith}
+use Rattle.script.specs.{arith}
 use Rattle.script.proofs.ArgumentLemmas.{text_argument}
 use Rattle.script.proofs.line.next_argument.Goals as goal
 

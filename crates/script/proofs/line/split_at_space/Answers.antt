@@ -1,4 +1,4 @@
-use Rattle.std.proofs.Common.{arith}
+use Rattle.script.specs.{arith}
 use Rattle.script.proofs.LineLemmas.{split_found, split_none}
 use Rattle.script.proofs.line.split_at_space.Goals as goal
 

@@ -1,6 +1,4 @@
-use Rattle.std.proofs.Common.{◌≤◌, length, IfSome}
-use Rattle.script.specs.Pieces.{pieces_of}
-use Rattle.script.specs.Words.{no_arguments}
+use Rattle.script.specs.{◌≤◌, length, IfSome, pieces_of, no_arguments}
 use Rattle.script.proofs.ArgumentLemmas.{Counted, Taken}
 use Rattle.script.specs.declared.limits.TheConstants.{LONGEST_LINE}
 use Rattle.script.proofs.line.take_all.Given as goal

@@ -1,6 +1,5 @@
 -- Where a line goes on after its first argument, the pieces of the rest are those that are left.
-use Rattle.std.proofs.Common.{refl}
-use Rattle.script.specs.Pieces.{pieces_of}
+use Rattle.script.specs.{refl, pieces_of}
 use Rattle.script.proofs.line.take_first.Goals as goal
 
 pub returns-else-take : goal.returns-else-take

@@ -1,6 +1,5 @@
 -- The line after the others is the fault's, with the bytes that were sent.
-use Rattle.std.proofs.Common.{◌≡◌, ℕ, List, ◌++◌, append_assoc, refl, codes, decimal, [], ◌∷◌}
-use Rattle.script.specs.Characters.{newline}
+use Rattle.script.specs.{◌≡◌, ℕ, List, ◌++◌, append_assoc, refl, codes, decimal, [], ◌∷◌, newline}
 use Rattle.script.proofs.log.last_line.Goals as goal
 
 -- a line, put together piece by piece

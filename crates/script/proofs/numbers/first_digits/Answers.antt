@@ -1,4 +1,4 @@
-use Rattle.std.proofs.Common.{arith, sym}
+use Rattle.script.specs.{arith, sym}
 use Rattle.script.proofs.NumberLemmas.{one_digit_more}
 use Rattle.script.proofs.numbers.first_digits.Goals as goal
 

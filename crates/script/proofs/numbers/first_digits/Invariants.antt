@@ -1,5 +1,4 @@
-use Rattle.std.proofs.Common.{◌≤◌}
-use Rattle.script.specs.steps.Numbers.{DigitsSoFar}
+use Rattle.script.specs.{◌≤◌, DigitsSoFar}
 use Rattle.script.specs.declared.limits.TheConstants.{MOST_DIGITS}
 use Rattle.script.proofs.numbers.first_digits.Given as goal
 

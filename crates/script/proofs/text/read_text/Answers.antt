@@ -1,6 +1,5 @@
 -- Each round reads one character more.
-use Rattle.std.proofs.Common.{arith, ◌∙◌, ap, option_map}
-use Rattle.std.proofs.lemmas.Grind.{common_steps}
+use Rattle.script.specs.{arith, ◌∙◌, ap, option_map, common_steps}
 use Rattle.script.proofs.TextLemmas.{nothing_before, one_before, plain_text}
 use Rattle.script.proofs.ByteLemmas.{ok_parts}
 use Rattle.script.proofs.text.read_text.Goals as goal

@@ -1,5 +1,4 @@
-use Rattle.std.proofs.Common.{◌≡◌, ◌≤◌, ◌+◌, ◌++◌, length, option_map}
-use Rattle.script.specs.Texts.{text_of}
+use Rattle.script.specs.{◌≡◌, ◌≤◌, ◌+◌, ◌++◌, length, option_map, text_of}
 use Rattle.script.proofs.text.read_text.Given as goal
 
 abbrev pub invariant-loop-rest : goal.invariant-loop-rest

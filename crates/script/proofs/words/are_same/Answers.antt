@@ -1,7 +1,5 @@
 -- All bytes were compared.
-use Rattle.std.proofs.Common.{◌≡◌, arith, sym}
-use Rattle.std.proofs.lemmas.List.{take_all}
-use Rattle.std.proofs.lemmas.Slice.Eq.{bytes_eq-Decides}
+use Rattle.script.specs.{◌≡◌, arith, sym, take_all, bytes_eq-Decides}
 use Rattle.script.proofs.words.are_same.Goals as goal
 
 pub returns : goal.returns

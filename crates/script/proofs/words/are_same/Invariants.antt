@@ -1,4 +1,4 @@
-use Rattle.std.proofs.Common.{◌≡◌, take}
+use Rattle.script.specs.{◌≡◌, take}
 use Rattle.script.proofs.words.are_same.Given as goal
 
 abbrev pub invariant-loop-at : goal.invariant-loop-at

@@ -1,4 +1,4 @@
-use Rattle.std.proofs.Common.{arith}
+use Rattle.script.specs.{arith}
 use Rattle.script.proofs.WordLemmas.{find-next}
 use Rattle.script.proofs.words.find_named.Goals as goal
 

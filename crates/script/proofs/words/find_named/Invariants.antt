@@ -1,5 +1,4 @@
-use Rattle.std.proofs.Common.{◌≡◌, drop}
-use Rattle.script.specs.steps.Rows.{find_named}
+use Rattle.script.specs.{◌≡◌, drop, find_named}
 use Rattle.script.proofs.words.find_named.Given as goal
 
 abbrev pub invariant-loop-word : goal.invariant-loop-word

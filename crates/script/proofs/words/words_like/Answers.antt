@@ -1,4 +1,4 @@
-use Rattle.std.proofs.Common.{arith}
+use Rattle.script.specs.{arith}
 use Rattle.script.proofs.WordLemmas.{row_of_letter}
 use Rattle.script.proofs.words.words_like.Goals as goal
 

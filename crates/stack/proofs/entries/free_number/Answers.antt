@@ -1,5 +1,5 @@
 -- The least free number can be a panel's, or there are as many panels as there may be.
-use Rattle.std.proofs.Common.{arith}
+use Rattle.stack.specs.{arith}
 use Rattle.stack.proofs.Searches.{least-found, none-found}
 use Rattle.stack.proofs.entries.free_number.Goals as goal
 

@@ -1,7 +1,5 @@
-use Rattle.std.proofs.Common.{arith}
+use Rattle.stack.specs.{arith, cases_eq, eq-eqb, ne_eqb, same_Some}
 use Rattle.stack.proofs.Searches.{holder-some}
-use Rattle.std.proofs.lemmas.Bool.{cases_eq, eq-eqb, ne_eqb}
-use Rattle.std.proofs.lemmas.Option.{same_Some}
 use Rattle.stack.proofs.entries.holder.Goals as goal
 
 pub returns : goal.returns

@@ -1,6 +1,5 @@
 -- There is a node of the number, or one more at the end.
-use Rattle.std.proofs.Common.{arith}
-use Rattle.std.proofs.lemmas.Grind.{common_steps}
+use Rattle.stack.specs.{arith, common_steps}
 use Rattle.stack.proofs.Tables.{made-pushed}
 use Rattle.stack.proofs.entries.make_node.Goals as goal
 

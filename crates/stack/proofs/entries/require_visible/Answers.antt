@@ -1,8 +1,5 @@
 -- A node that names itself is a hidden panel's.
-use Rattle.std.proofs.Common.{not, sym, ap, ◌∙◌}
-use Rattle.std.proofs.lemmas.Bool.{eq-eqb, ne_eqb}
-use Rattle.stack.specs.Nodes.{above_at, from_bottom}
-use Rattle.stack.specs.Tables.{panels, table_of}
+use Rattle.stack.specs.{not, sym, ap, ◌∙◌, eq-eqb, ne_eqb, above_at, from_bottom, panels, table_of}
 use Rattle.stack.specs.declared.nodes.Node.{Node}
 use Rattle.stack.proofs.Neighbours.{hidden-is}
 use Rattle.stack.proofs.Tables.{accepted-visible, panel-from, refused-hidden, taken}

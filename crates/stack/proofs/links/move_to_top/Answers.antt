@@ -1,5 +1,5 @@
 -- A panel that was taken out is put in again on top.
-use Rattle.std.proofs.Common.{arith}
+use Rattle.stack.specs.{arith}
 use Rattle.stack.proofs.Threads.{twice-windows}
 use Rattle.stack.proofs.links.move_to_top.Goals as goal
 

@@ -1,5 +1,5 @@
 -- The panel is between the end and the bottom one now.
-use Rattle.std.proofs.Common.{arith, rules}
+use Rattle.stack.specs.{arith, rules}
 use Rattle.stack.proofs.Threads.{bottom-below, panel-below, put_at_bottom}
 use Rattle.stack.proofs.links.put_at_bottom.Goals as goal
 

@@ -1,5 +1,5 @@
 -- The panel is between the top one and the end now.
-use Rattle.std.proofs.Common.{arith, rules}
+use Rattle.stack.specs.{arith, rules}
 use Rattle.stack.proofs.Threads.{panel-below, put_on_top, top-below}
 use Rattle.stack.proofs.links.put_on_top.Goals as goal
 

@@ -1,6 +1,5 @@
 -- The neighbours of the panel are each other's now, and it names itself.
-use Rattle.std.proofs.Common.{arith, rules}
-use Rattle.stack.specs.Nodes.{from_bottom}
+use Rattle.stack.specs.{arith, rules, from_bottom}
 use Rattle.stack.proofs.DistinctNumbers.{out-without}
 use Rattle.stack.proofs.Threads.{above-below, below-below, panel-below, taken_out}
 use Rattle.stack.proofs.links.take_out.Goals as goal

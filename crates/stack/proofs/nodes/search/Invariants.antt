@@ -1,5 +1,4 @@
-use Rattle.std.proofs.Common.{◌≡◌, ℕ, ◌<◌, Some}
-use Rattle.stack.specs.Nodes.{window_at}
+use Rattle.stack.specs.{◌≡◌, ℕ, ◌<◌, Some, window_at}
 use Rattle.stack.proofs.nodes.search.Given as goal
 
 -- no node so far has the window

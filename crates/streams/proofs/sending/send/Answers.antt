@@ -1,9 +1,6 @@
 -- `send`: texts that are sent one after another (`Sends`).
-use Rattle.std.proofs.Common.{arith}
-use Rattle.std.proofs.lemmas.Grind.{common_steps}
-use Rattle.std.proofs.lemmas.List.{take_rest}
+use Rattle.streams.specs.{arith, common_steps, take_rest, ne_eqb}
 use Rattle.streams.proofs.Sends.{IsPartlySent-more}
-use Rattle.std.proofs.lemmas.Bool.{ne_eqb}
 use Rattle.streams.proofs.sending.send.Goals as goal
 
 pub loop-rest-preserved : goal.loop-rest-preserved

@@ -3,9 +3,9 @@ use Rattle.std.proofs.Common.{◌≡◌, ℕ, ◌<◌, true, Option, Some, None,
 use Rattle.std.specs.Prelude.{IsSomeAnd}
 use Rattle.std.specs.Option.{option_map}
 use Rattle.cell.proofs.PictureLemmas.{length-line}
-use Rattle.world.specs.Panels.{holds, standard_screen}
+use Rattle.world.specs.PanelOrder.{holds, standard_screen}
 use Rattle.world.specs.Sound.{IsStandardScreen}
-use Rattle.world.specs.Windows.{Window, Windows}
+use Rattle.world.specs.WindowMaps.{Window, Windows}
 use Rattle.grids.specs.Tables.{windows as windows_of}
 use Rattle.stack.specs.Tables.{panels}
 use Rattle.picture.specs.Spans.{HasPanelWindows}

@@ -1,9 +1,9 @@
 -- Panels of which one has a window of the table are sound.
 use Rattle.std.proofs.Common.{◌≡◌, ◌≢◌, ℕ, ap, arith, ◌∙◌}
 use Rattle.std.specs.Prelude.{IsSome, IsSomeAnd}
-use Rattle.world.specs.Panels.{Panels, first_panels, standard_screen}
+use Rattle.world.specs.PanelOrder.{Panels, first_panels, standard_screen}
 use Rattle.world.specs.Sound.{AreSoundPanels}
-use Rattle.world.specs.Windows.{WindowMap}
+use Rattle.world.specs.WindowMaps.{WindowMap}
 use Rattle.world.specs.Effects.{with_panel}
 use Rattle.world.specs.calls.Stacking.{IsSoundOrder, next_panel}
 use Rattle.grids.specs.Tables.{windows}

@@ -1,7 +1,5 @@
 -- The rectangle that is copied is where both windows cover the screen.
-use Rattle.std.proofs.Common.{◌∙◌, sym, rules}
-use Rattle.grids.specs.Tables.{windows}
-use Rattle.world.specs.calls.Copying.{common_cells}
+use Rattle.windows.specs.{◌∙◌, sym, rules, windows, common_cells}
 use Rattle.windows.proofs.Calls.{drawn-there, drew}
 use Rattle.windows.proofs.CommonParts.{common-put, common-frame}
 use Rattle.windows.proofs.copying.copy_common.Goals as goal

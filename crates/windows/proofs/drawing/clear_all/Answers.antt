@@ -1,7 +1,5 @@
 -- Each round clears one line more.
-use Rattle.std.proofs.Common.{rules, arith}
-use Rattle.world.specs.Drawings.{everywhere}
-use Rattle.grids.specs.Tables.{windows}
+use Rattle.windows.specs.{rules, arith, everywhere, windows}
 use Rattle.windows.proofs.States.{state-written}
 use Rattle.windows.proofs.NextWrites.{starts_above, line_cleared}
 use Rattle.windows.proofs.Everywhere.{all_cleared}

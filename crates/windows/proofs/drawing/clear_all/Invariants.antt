@@ -1,8 +1,4 @@
-use Rattle.std.proofs.Common.{◌≡◌}
-use Rattle.world.specs.Windows.{put}
-use Rattle.world.specs.Drawings.{everywhere}
-use Rattle.grids.specs.Tables.{windows}
-use Rattle.windows.specs.steps.State.{IsStateOf}
+use Rattle.windows.specs.{◌≡◌, put, everywhere, windows, IsStateOf}
 use Rattle.windows.proofs.LineDrawings.{above}
 use Rattle.windows.proofs.drawing.clear_all.Given as goal
 

@@ -1,7 +1,5 @@
 -- Each round clears one line more of those below.
-use Rattle.std.proofs.Common.{arith, rules}
-use Rattle.std.proofs.lemmas.Bool.Decides.{nat_tests}
-use Rattle.world.specs.Drawings.{to_bottom}
+use Rattle.windows.specs.{arith, rules, nat_tests, to_bottom}
 use Rattle.windows.proofs.States.{state-written}
 use Rattle.windows.proofs.ToBottom.{bottom_started, bottom_cleared}
 use Rattle.windows.proofs.NextWrites.{line_cleared}

@@ -1,5 +1,5 @@
 -- The rest of a line is one write.
-use Rattle.std.proofs.Common.{rules}
+use Rattle.windows.specs.{rules}
 use Rattle.windows.proofs.States.{state-written}
 use Rattle.windows.proofs.ToEndOfLine.{rest_of_line}
 use Rattle.windows.proofs.drawing.clear_rest.Goals as goal

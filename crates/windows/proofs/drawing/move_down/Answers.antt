@@ -1,5 +1,5 @@
 -- Each round takes one line more from above, from the last on.
-use Rattle.std.proofs.Common.{◌≡◌, ◌+◌, ◌-◌, arith}
+use Rattle.windows.specs.{◌≡◌, ◌+◌, ◌-◌, arith}
 use Rattle.windows.proofs.LinesDown.{down_started, down_more, down_ended}
 use Rattle.windows.proofs.drawing.move_down.Goals as goal
 

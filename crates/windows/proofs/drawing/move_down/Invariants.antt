@@ -1,8 +1,4 @@
-use Rattle.std.proofs.Common.{◌≡◌, ◌+◌, ◌-◌}
-use Rattle.world.specs.Windows.{put}
-use Rattle.world.specs.Drawings.{lines_down}
-use Rattle.grids.specs.Tables.{windows}
-use Rattle.windows.specs.steps.State.{IsStateOf}
+use Rattle.windows.specs.{◌≡◌, ◌+◌, ◌-◌, put, lines_down, windows, IsStateOf}
 use Rattle.windows.proofs.LineDrawings.{from}
 use Rattle.windows.proofs.drawing.move_down.Given as goal
 

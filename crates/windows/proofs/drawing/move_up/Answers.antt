@@ -1,5 +1,5 @@
 -- Each round takes one line more from below, from the first on.
-use Rattle.std.proofs.Common.{arith}
+use Rattle.windows.specs.{arith}
 use Rattle.windows.proofs.LinesUp.{up_started, up_more, up_ended}
 use Rattle.windows.proofs.drawing.move_up.Goals as goal
 

@@ -1,5 +1,5 @@
 -- A cell is one write.
-use Rattle.std.proofs.Common.{rules}
+use Rattle.windows.specs.{rules}
 use Rattle.windows.proofs.States.{state-written}
 use Rattle.windows.proofs.AtPlace.{one_cell}
 use Rattle.windows.proofs.drawing.set_cell.Goals as goal

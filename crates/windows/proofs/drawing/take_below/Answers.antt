@@ -1,5 +1,5 @@
 -- A line is that below it, or blank where there is none in the region.
-use Rattle.std.proofs.Common.{rules}
+use Rattle.windows.specs.{rules}
 use Rattle.windows.proofs.States.{state-written}
 use Rattle.windows.proofs.drawing.take_below.Goals as goal
 

@@ -1,4 +1,4 @@
-use Rattle.grids.specs.Tables.{windows}
+use Rattle.windows.specs.{windows}
 use Rattle.windows.proofs.States.{has_place}
 use Rattle.windows.proofs.state.move_cursor.Goals as goal
 

@@ -1,5 +1,4 @@
-use Rattle.std.proofs.Common.{◌∙◌}
-use Rattle.grids.specs.Tables.{windows}
+use Rattle.windows.specs.{◌∙◌, windows}
 use Rattle.windows.proofs.States.{set-all}
 use Rattle.windows.proofs.state.set_settings.Goals as goal
 

@@ -1,4 +1,4 @@
-use Rattle.std.proofs.Common.{arith}
+use Rattle.windows.specs.{arith}
 use Rattle.windows.proofs.States.{state-from}
 use Rattle.windows.proofs.state.state_of.Goals as goal
 

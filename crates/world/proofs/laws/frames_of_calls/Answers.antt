@@ -1,4 +1,4 @@
-use Rattle.world.specs.calls.Dispatch.{effect_of}
+use Rattle.world.specs.{effect_of}
 use Rattle.world.proofs.CellLaws.{effect-written}
 use Rattle.world.proofs.laws.frames_of_calls.Goals as goal
 

@@ -1,4 +1,4 @@
-use Rattle.std.proofs.Common.{arith}
+use Rattle.world.specs.{arith}
 use Rattle.world.proofs.FrameLaws.{frame-joined, frame_of-is}
 use Rattle.world.proofs.laws.joined_frames.Goals as goal
 

@@ -1,4 +1,4 @@
-use Rattle.std.proofs.Common.{arith}
+use Rattle.world.specs.{arith}
 use Rattle.world.proofs.StackingLaws.{found-order, ordered-stacking}
 use Rattle.world.proofs.laws.kept_by_stacking.Goals as goal
 

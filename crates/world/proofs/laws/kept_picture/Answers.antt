@@ -1,5 +1,5 @@
 -- A call keeps the picture where the law of its effect says so, for edits, moves and all calls.
-use Rattle.std.proofs.Common.{arith}
+use Rattle.world.specs.{arith}
 use Rattle.world.proofs.CallLaws.{picture-kept}
 use Rattle.world.proofs.LineLaws.{free-place}
 use Rattle.world.proofs.MoveLaws.{found-moved}

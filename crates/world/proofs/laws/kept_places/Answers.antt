@@ -1,4 +1,4 @@
-use Rattle.std.proofs.Common.{arith}
+use Rattle.world.specs.{arith}
 use Rattle.world.proofs.CallLaws.{picture-kept, virtual-kept}
 use Rattle.world.proofs.laws.kept_places.Goals as goal
 

@@ -1,5 +1,5 @@
 -- An effect keeps the shape of each window, by the law of that effect.
-use Rattle.std.proofs.Common.{arith}
+use Rattle.world.specs.{arith}
 use Rattle.world.proofs.MoveLaws.{move_shows-moved}
 use Rattle.world.proofs.PictureLaws.{frame_shows-same}
 use Rattle.world.proofs.WritingLaws.{there-still, view-edit}

@@ -1,6 +1,4 @@
-use Rattle.std.proofs.Common.{◌≡◌, length, map, take}
-use Rattle.std.specs.List.{AllByRecursion}
-use Rattle.cell.specs.Shown.{IsShown, shown}
+use Rattle.cell.specs.{◌≡◌, length, map, take, AllByRecursion, IsShown, shown}
 use Rattle.cell.proofs.colour.Pairs.show_each.Given as goal
 
 abbrev pub invariant-loop-x : goal.invariant-loop-x

@@ -1,7 +1,5 @@
-use Rattle.std.proofs.Common.{◌-◌, length, arith}
-use Rattle.std.proofs.lemmas.Grind.{common_steps}
+use Rattle.cell.specs.{◌-◌, length, arith, common_steps, IsShown}
 use Rattle.cell.proofs.ShownPieces.{shown_fewer, shown_more, shown_rest, sound_more, sound_rest}
-use Rattle.cell.specs.Shown.{IsShown}
 use Rattle.cell.proofs.colour.Pairs.show_lanes.Goals as goal
 
 pub loop-start-preserved : goal.loop-start-preserved

@@ -1,4 +1,4 @@
-use Rattle.std.proofs.Common.{sym, ◌∙◌}
+use Rattle.cell.specs.{sym, ◌∙◌}
 use Rattle.cell.proofs.ShownPieces.{shown_alike}
 use Rattle.cell.proofs.colour.Pairs.show_many.Goals as goal
 

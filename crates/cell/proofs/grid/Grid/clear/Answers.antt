@@ -1,5 +1,5 @@
 -- `clear`: a grid with one cell everywhere (`Clearing`); the blanks that are missing after a grid's cells (`Blanks`).
-use Rattle.std.proofs.Common.{ap, ◌∙◌, sym, replicate, arith}
+use Rattle.cell.specs.{ap, ◌∙◌, sym, replicate, arith}
 use Rattle.cell.proofs.Clearing.{cleared}
 use Rattle.cell.proofs.Blanks.{IsGrid-blank, blank_cells}
 use Rattle.cell.proofs.grid.Grid.clear.Goals as goal

@@ -1,6 +1,6 @@
 -- `copy_from`: the lines of a grid whose cells are one after another: each line, a change of one cell, and equal sizes (`GridLemmas`); the
 -- blanks that are missing after a grid's cells (`Blanks`).
-use Rattle.std.proofs.Common.{arith}
+use Rattle.cell.specs.{arith}
 use Rattle.cell.proofs.GridLemmas.{same_grid_size, same_width}
 use Rattle.cell.proofs.Blanks.{IsGrid-copied, few_cells, same_product}
 use Rattle.cell.proofs.grid.Grid.copy_from.Goals as goal

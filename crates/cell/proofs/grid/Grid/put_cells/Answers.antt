@@ -1,6 +1,6 @@
 -- `put_cells`: the lines of a grid whose cells are one after another: each line, a change of one cell, and equal sizes (`GridLemmas`); a
 -- piece of a line of a grid that is written at once (`PieceWrites`); the blanks that are missing after a grid's cells (`Blanks`).
-use Rattle.std.proofs.Common.{arith}
+use Rattle.cell.specs.{arith}
 use Rattle.cell.proofs.GridLemmas.{EachCell-rows}
 use Rattle.cell.proofs.PieceWrites.{PieceFits-from, shown-piece, HasSize-same}
 use Rattle.cell.proofs.Blanks.{IsGrid-piece, blanks-piece}

@@ -1,6 +1,6 @@
 -- `row`: the lines of a grid whose cells are one after another: each line, a change of one cell, and equal sizes (`GridLemmas`); the blanks
 -- that are missing after them (`Blanks`).
-use Rattle.std.proofs.Common.{arith}
+use Rattle.cell.specs.{arith}
 use Rattle.cell.proofs.GridLemmas.{HasLine-from_length, EachCell-rows, line_of-rows}
 use Rattle.cell.proofs.Blanks.{lent_line}
 use Rattle.cell.proofs.grid.Grid.row.Goals as goal

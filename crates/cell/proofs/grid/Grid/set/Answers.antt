@@ -1,7 +1,6 @@
 -- `set`: the lines of a grid whose cells are one after another: each line, a change of one cell, and equal sizes (`GridLemmas`); the blanks
 -- that are missing after them (`Blanks`).
-use Rattle.std.proofs.Common.{refl, ap, ◌∙◌, arith}
-use Rattle.cell.specs.Grids.{rows}
+use Rattle.cell.specs.{refl, ap, ◌∙◌, arith, rows}
 use Rattle.cell.proofs.GridLemmas.{HasLine-from_length, column_below, rows-set}
 use Rattle.cell.proofs.Blanks.{IsGrid-set, blanks-set}
 use Rattle.cell.proofs.grid.Grid.set.Goals as goal

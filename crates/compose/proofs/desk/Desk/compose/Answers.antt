@@ -1,20 +1,7 @@
 -- `compose`: what it leaves is a desk, which reads no less than it changes, and no more than all of the damaged lines (`CellsRead`).
-use Rattle.std.proofs.Common.{◌≡◌, ◌||◌, ◌+◌, ◌%◌, ◌^◌, ℕ, Ok, refl, sym, ap, subst, ◌∙◌, arith}
-use Rattle.cell.specs.Pictures.{picture_of}
-use Rattle.cell.specs.Shown.{shown}
-use Rattle.world.specs.Panels.{cursor_of_topmost, found_from_top}
-use Rattle.world.specs.Windows.{Windows}
-use Rattle.world.specs.calls.Dispatch.{world_after}
+use Rattle.compose.specs.{◌≡◌, ◌||◌, ◌+◌, ◌%◌, ◌^◌, ℕ, Ok, refl, sym, ap, subst, ◌∙◌, arith, picture_of, shown, cursor_of_topmost, found_from_top, Windows}
+use Rattle.compose.specs.{world_after, UpdatePanels, Composed, windows as windows_of, panels, cells_above, IsRepairable, Called, IsDesk, DeskTable, world}
 use Rattle.world.specs.declared.call.Call.TheVariants as calls
-use Rattle.world.specs.declared.call.Refresh.TheVariants.{UpdatePanels}
-use Rattle.world.specs.declared.call.Reply.TheVariants.{Composed}
-use Rattle.grids.specs.Tables.{windows as windows_of}
-use Rattle.stack.specs.Tables.{panels}
-use Rattle.picture.specs.Damages.{cells_above}
-use Rattle.picture.specs.Repairs.{IsRepairable}
-use Rattle.compose.specs.Calling.{Called}
-use Rattle.compose.specs.Covers.{IsDesk}
-use Rattle.compose.specs.Desks.{DeskTable, world}
 use Rattle.compose.specs.contracts.desk.Desk.{the_view}
 use Rattle.compose.proofs.CellsRead.{update-made}
 use Rattle.compose.proofs.desk.Desk.compose.Goals as goal

@@ -1,5 +1,5 @@
 -- `make`: a call on windows leaves a desk as its relation says (`WindowCalls`).
-use Rattle.std.proofs.Common.{refl}
+use Rattle.compose.specs.{refl}
 use Rattle.world.specs.declared.call.Call.TheVariants as calls
 use Rattle.compose.specs.contracts.desk.Desk.{the_view}
 use Rattle.compose.proofs.WindowCalls.{change-made}

@@ -1,5 +1,4 @@
-use Rattle.std.proofs.Common.{arith, rules}
-use Rattle.std.proofs.lemmas.Grind.{common_steps}
+use Rattle.compose.specs.{arith, rules, common_steps}
 use Rattle.compose.proofs.DamageCovers.{IsDesk-new}
 use Rattle.compose.proofs.desk.Desk.new.Goals as goal
 

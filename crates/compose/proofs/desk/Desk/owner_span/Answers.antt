@@ -1,9 +1,5 @@
 -- `owner_span`: lemmas of std alone.
-use Rattle.std.proofs.Common.{refl, sym, subst, arith}
-use Rattle.world.specs.Windows.{Windows}
-use Rattle.grids.specs.Tables.{windows as windows_of}
-use Rattle.stack.specs.Tables.{panels}
-use Rattle.picture.specs.Spans.{HasPanelWindows}
+use Rattle.compose.specs.{refl, sym, subst, arith, Windows, windows as windows_of, panels, HasPanelWindows}
 use Rattle.picture.proofs.Standard.{sound-windows}
 use Rattle.compose.proofs.desk.Desk.owner_span.Goals as goal
 

@@ -1,15 +1,6 @@
 -- `refresh_pad`: the rectangle that is damaged is what the copy draws (`Padding`), which covers what the call may change (`DamageCovers`).
-use Rattle.std.proofs.Common.{rules, ◌≡◌, ◌||◌, Ok, None, refl}
-use Rattle.cell.specs.declared.window.Rect.{Rect}
-use Rattle.world.specs.calls.Refresh.{refresh_refusal}
+use Rattle.compose.specs.{rules, ◌≡◌, ◌||◌, Ok, None, refl, Rect, refresh_refusal, Refresh, Pnoutrefresh, Nothing, windows, Called, IsDesk, DeskTable, world}
 use Rattle.world.specs.declared.call.Call.TheVariants as calls
-use Rattle.world.specs.declared.call.Refresh.{Refresh}
-use Rattle.world.specs.declared.call.Refresh.TheVariants.{Pnoutrefresh}
-use Rattle.world.specs.declared.call.Reply.TheVariants.{Nothing}
-use Rattle.grids.specs.Tables.{windows}
-use Rattle.compose.specs.Calling.{Called}
-use Rattle.compose.specs.Covers.{IsDesk}
-use Rattle.compose.specs.Desks.{DeskTable, world}
 use Rattle.compose.specs.contracts.desk.Desk.{the_view}
 use Rattle.compose.proofs.DamageCovers.{call-accepted}
 use Rattle.compose.proofs.Padding.{pad-damages}

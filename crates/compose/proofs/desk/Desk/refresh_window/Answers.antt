@@ -1,12 +1,6 @@
 -- `refresh_window`: damage covers what the call may change (`DamageCovers`).
-use Rattle.std.proofs.Common.{rules, ◌||◌, Ok, refl}
-use Rattle.world.specs.declared.call.Call.{Call}
+use Rattle.compose.specs.{rules, ◌||◌, Ok, refl, Call, Noutrefresh, Nothing, Called, IsDesk, DeskTable, world}
 use Rattle.world.specs.declared.call.Call.TheVariants as calls
-use Rattle.world.specs.declared.call.Refresh.TheVariants.{Noutrefresh}
-use Rattle.world.specs.declared.call.Reply.TheVariants.{Nothing}
-use Rattle.compose.specs.Calling.{Called}
-use Rattle.compose.specs.Covers.{IsDesk}
-use Rattle.compose.specs.Desks.{DeskTable, world}
 use Rattle.compose.specs.contracts.desk.Desk.{the_view}
 use Rattle.compose.proofs.DamageCovers.{call-accepted}
 use Rattle.compose.proofs.desk.Desk.refresh_window.Goals as goal

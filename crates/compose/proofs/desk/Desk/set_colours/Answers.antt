@@ -1,16 +1,8 @@
 -- `set_colours`: the whole screen is damaged, which covers what the call may change (`DamageCovers`).
-use Rattle.std.proofs.Common.{rules, ◌<◌, true, Ok, refl, subst, ◌∙◌}
-use Rattle.world.specs.declared.call.Call.{Call}
+use Rattle.compose.specs.{rules, ◌<◌, true, Ok, refl, subst, ◌∙◌, Call, InitPair, Nothing, windows as windows_of, part_holds, Called, IsDesk, DeskTable}
 use Rattle.world.specs.declared.call.Call.TheVariants as calls
-use Rattle.world.specs.declared.call.Refresh.TheVariants.{InitPair}
-use Rattle.world.specs.declared.call.Reply.TheVariants.{Nothing}
-use Rattle.grids.specs.Tables.{windows as windows_of}
-use Rattle.picture.specs.Parts.{part_holds}
 use Rattle.picture.proofs.DamageLaws.{damages-as, part-right}
 use Rattle.picture.proofs.Standard.{standard-holds}
-use Rattle.compose.specs.Calling.{Called}
-use Rattle.compose.specs.Covers.{IsDesk}
-use Rattle.compose.specs.Desks.{DeskTable}
 use Rattle.compose.specs.contracts.desk.Desk.{the_view}
 use Rattle.extents.proofs.Changing.{changes-none}
 use Rattle.compose.proofs.DamageCovers.{call-accepted}

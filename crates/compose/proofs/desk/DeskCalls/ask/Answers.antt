@@ -1,5 +1,5 @@
 -- `ask`: a call that only asks leaves the desk as it was (`WindowCalls`).
-use Rattle.compose.specs.Desks.{world}
+use Rattle.compose.specs.{world}
 use Rattle.compose.specs.contracts.desk.Desk.{the_view}
 use Rattle.compose.proofs.WindowCalls.{query-made}
 use Rattle.compose.proofs.desk.DeskCalls.ask.Goals as goal

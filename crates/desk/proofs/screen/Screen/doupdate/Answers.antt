@@ -1,9 +1,5 @@
 -- `doupdate`: all that is known of a call follows from how it ended (`ShowingLemmas`).
-use Rattle.std.proofs.Common.{rules, Ok, Err}
-use Rattle.world.specs.declared.call.Call.TheVariants.{Refresh}
-use Rattle.world.specs.declared.call.Refresh.TheVariants.{Doupdate}
-use Rattle.world.specs.declared.call.Reply.TheVariants.{Sent}
-use Rattle.compose.specs.Desks.{world}
+use Rattle.desk.specs.{rules, Ok, Err, Refresh, Doupdate, Sent, world}
 use Rattle.desk.specs.declared.screen.Fault.TheVariants.{Write}
 use Rattle.desk.proofs.ShowingLemmas.{call-made}
 use Rattle.desk.proofs.StateLemmas.{sound-taken}

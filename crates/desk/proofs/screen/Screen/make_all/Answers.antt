@@ -1,5 +1,5 @@
 -- `make_all`: a history goes on by one call (`HistoryLemmas`).
-use Rattle.std.proofs.Common.{◌≤◌, ◌+◌, ◌*◌, ◌^◌, arith, ◌∙◌}
+use Rattle.desk.specs.{◌≤◌, ◌+◌, ◌*◌, ◌^◌, arith, ◌∙◌}
 use Rattle.desk.proofs.HistoryLemmas.{counted-once, one-more}
 use Rattle.desk.proofs.screen.Screen.make_all.Goals as goal
 

@@ -1,5 +1,4 @@
-use Rattle.std.proofs.Common.{◌≡◌, ◌≤◌, ◌+◌, ◌*◌, ◌^◌, take}
-use Rattle.desk.specs.Histories.{RunsAll}
+use Rattle.desk.specs.{◌≡◌, ◌≤◌, ◌+◌, ◌*◌, ◌^◌, take, RunsAll}
 use Rattle.desk.proofs.screen.Screen.make_all.Given as goal
 
 abbrev pub invariant-loop-call : goal.invariant-loop-call

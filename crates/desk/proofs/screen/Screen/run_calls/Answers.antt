@@ -1,5 +1,5 @@
 -- `run_calls`: a run goes on by one call (`RunLemmas`).
-use Rattle.std.proofs.Common.{arith, ◌∙◌}
+use Rattle.desk.specs.{arith, ◌∙◌}
 use Rattle.desk.proofs.RunLemmas.{accepted_next, ends_cut, ends_whole, refused_next}
 use Rattle.desk.proofs.screen.Screen.run_calls.Goals as goal
 use Rattle.desk.proofs.screen.Screen.run_calls.Goals.{in-Ok, in-Err-Refused}

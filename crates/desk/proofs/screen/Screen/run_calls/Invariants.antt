@@ -1,4 +1,4 @@
-use Rattle.std.proofs.Common.{◌≡◌, ◌≤◌, ◌+◌, ◌*◌, ◌^◌, take, None}
+use Rattle.desk.specs.{◌≡◌, ◌≤◌, ◌+◌, ◌*◌, ◌^◌, take, None}
 use Rattle.desk.proofs.RunLemmas.{SoFar}
 use Rattle.desk.proofs.screen.Screen.run_calls.Given as goal
 

@@ -1,7 +1,5 @@
 -- `run_line`: a line that makes no call (`LineEndLemmas`), and one that makes one.
-use Rattle.std.proofs.Common.{None, Some, refl}
-use Rattle.std.proofs.KnownBytes.{Appends-nil}
-use Rattle.script.specs.declared.fault.ScriptFault.TheVariants.{Text}
+use Rattle.desk.specs.{None, Some, refl, Appends-nil, Text}
 use Rattle.desk.proofs.LineEndLemmas.{line_without_call}
 use Rattle.desk.proofs.screen.Screen.run_line.Goals as goal
 

@@ -1,8 +1,5 @@
 -- `run_lines`: a script is run a line at a time (`ScriptLemmas`).
-use Rattle.std.proofs.Common.{refl, ap, is_some, ◌∙◌}
-use Rattle.desk.specs.ScriptEnds.{write_fault}
-use Rattle.script.specs.Lines.{Held}
-use Rattle.streams.specs.Counts.{count_after}
+use Rattle.desk.specs.{refl, ap, is_some, ◌∙◌, write_fault, Held, count_after}
 use Rattle.desk.proofs.ScriptLemmas.{ends_after_last, ends_in_failed_read, ends_too_long, goes_on_after, so_far_next, so_far_none}
 use Rattle.desk.proofs.screen.Screen.run_lines.Goals as goal
 

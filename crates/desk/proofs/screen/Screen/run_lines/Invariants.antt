@@ -1,4 +1,4 @@
-use Rattle.std.proofs.Common.{◌≡◌, ◌+◌, ◌*◌, length}
+use Rattle.desk.specs.{◌≡◌, ◌+◌, ◌*◌, length}
 use Rattle.desk.proofs.ScriptLemmas.{SoFar}
 use Rattle.desk.proofs.screen.Screen.run_lines.Given as goal
 

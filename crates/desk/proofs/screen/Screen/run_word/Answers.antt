@@ -1,14 +1,7 @@
 -- `run_word`: how a line that makes a call ends (`LineEndLemmas`).
-use Rattle.std.proofs.Common.{◌≡◌, ℕ, [], None, Some, Ok, Err, Result, append-nil, is_some, refl, subst, sym}
-use Rattle.std.specs.Io.KnownBytes.{Appends}
-use Rattle.script.specs.Log.{log_line}
-use Rattle.script.specs.declared.fault.ScriptFault.TheVariants.{Log}
-use Rattle.cell.specs.declared.refusal.Refusal.{Refusal}
-use Rattle.streams.specs.Counts.{count_after}
-use Rattle.world.specs.declared.call.Reply.{Reply}
-use Rattle.desk.specs.Ends.{cut_of}
+use Rattle.desk.specs.{◌≡◌, ℕ, [], None, Some, Ok, Err, Result, append-nil, is_some, refl, subst, sym, Appends, log_line, Log, Refusal, count_after, Reply}
+use Rattle.desk.specs.{cut_of, call_end}
 use Rattle.desk.specs.declared.screen.Fault.TheVariants.{Write}
-use Rattle.desk.specs.steps.Answers.{call_end}
 use Rattle.desk.proofs.AnswerLemmas.{placeless_ends}
 use Rattle.desk.proofs.LineEndLemmas.{line_is_cut, line_of_call}
 use Rattle.desk.proofs.screen.Screen.run_word.Goals as goal

@@ -1,7 +1,6 @@
 -- `ask`: a call that only asks leaves the desk as it was (`WriterLemmas`), and all that is known of it follows
 -- (`ShowingLemmas`).
-use Rattle.std.proofs.Common.{Ok, Err, refl}
-use Rattle.std.proofs.lemmas.Result.{err_from_is_err_and}
+use Rattle.desk.specs.{Ok, Err, refl, err_from_is_err_and}
 use Rattle.calls.proofs.AnswerKinds.{query-other}
 use Rattle.desk.specs.declared.screen.Fault.TheVariants.{Refused}
 use Rattle.desk.proofs.ShowingLemmas.{call-made}

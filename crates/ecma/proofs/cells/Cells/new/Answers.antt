@@ -1,6 +1,5 @@
 -- Search takes seconds to fail at the invariant.
-use Rattle.std.proofs.Common.{arith}
-use Rattle.std.proofs.lemmas.Grind.{common_steps}
+use Rattle.ecma.specs.{arith, common_steps}
 use Rattle.ecma.proofs.cells.Cells.new.Goals as goal
 
 pub invariant_of-result : goal.invariant_of-result

@@ -1,5 +1,4 @@
-use Rattle.std.proofs.Common.{◌≡◌, ℕ, ◌+◌, ◌<◌, [], get_or, length}
-use Rattle.ecma.specs.steps.Numbers.{IsNumber}
+use Rattle.ecma.specs.{◌≡◌, ℕ, ◌+◌, ◌<◌, [], get_or, length, IsNumber}
 use Rattle.ecma.proofs.positions.Positions.new.Given as goal
 
 abbrev pub invariant-loop-number : goal.invariant-loop-number

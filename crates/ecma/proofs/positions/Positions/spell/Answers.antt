@@ -1,12 +1,7 @@
 -- `spell`: the pieces of a position, one after another.
-use Rattle.std.proofs.Common.{◌≡◌, ℕ, ◌+◌, ◌<◌, ◌∙◌, List, [], ◌∷◌, ◌++◌, get_or, length, take, ap, subst, sym, arith, append_assoc}
-use Rattle.std.specs.Prelude.{decimal}
-use Rattle.std.proofs.lemmas.List.{get_or_read, take-append-le, take-take}
-use Rattle.std.proofs.Math.Seq.{take-length}
-use Rattle.ecma.specs.Items.{introducer, separator}
-use Rattle.ecma.specs.Spelling.{spelling}
+use Rattle.ecma.specs.{◌≡◌, ℕ, ◌+◌, ◌<◌, ◌∙◌, List, [], ◌∷◌, ◌++◌, get_or, length, take, ap, subst, sym, arith, append_assoc, decimal, get_or_read}
+use Rattle.ecma.specs.{take-append-le, take-take, take-length, introducer, separator, spelling, IsNumber}
 use Rattle.ecma.specs.declared.token.Token.TheVariants.{Cup}
-use Rattle.ecma.specs.steps.Numbers.{IsNumber}
 use Rattle.ecma.proofs.positions.Positions.spell.Goals as goal
 
 -- the digits alone

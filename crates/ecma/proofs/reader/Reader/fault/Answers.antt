@@ -1,4 +1,4 @@
-use Rattle.std.proofs.Common.{arith}
+use Rattle.ecma.specs.{arith}
 use Rattle.ecma.proofs.Readers.{reader-in_profile}
 use Rattle.ecma.proofs.reader.Reader.fault.Goals as goal
 

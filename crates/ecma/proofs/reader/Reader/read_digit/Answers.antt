@@ -1,6 +1,5 @@
 -- `read_digit`: what a reader has after one more byte (`Readers`).
-use Rattle.std.proofs.Common.{arith}
-use Rattle.std.proofs.lemmas.Bool.{ltb-true, ltb-false}
+use Rattle.ecma.specs.{arith, ltb-true, ltb-false}
 use Rattle.ecma.proofs.Readers.{reader_of, digit-follows, full-follows, Follows-from}
 use Rattle.ecma.proofs.reader.Reader.read_digit.Goals as goal
 

@@ -1,5 +1,5 @@
 -- `read_parameter`: what a reader has after one more byte (`Readers`).
-use Rattle.std.proofs.Common.{arith}
+use Rattle.ecma.specs.{arith}
 use Rattle.ecma.proofs.Readers.{reader_of, broken-follows, Follows-from}
 use Rattle.ecma.proofs.reader.Reader.read_parameter.Goals as goal
 

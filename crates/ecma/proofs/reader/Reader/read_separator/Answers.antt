@@ -1,6 +1,5 @@
 -- `read_separator`: what a reader has after one more byte (`Readers`).
-use Rattle.std.proofs.Common.{arith}
-use Rattle.std.proofs.lemmas.List.{take_more_set, length-take}
+use Rattle.ecma.specs.{arith, take_more_set, length-take}
 use Rattle.ecma.proofs.Readers.{reader_of, separator-follows, too_many-follows, Follows-from}
 use Rattle.ecma.proofs.reader.Reader.read_separator.Goals as goal
 

@@ -1,4 +1,4 @@
-use Rattle.std.proofs.Common.{arith}
+use Rattle.ecma.specs.{arith}
 use Rattle.ecma.proofs.Readers.{failed-follows}
 use Rattle.ecma.proofs.reader.Reader.step.Goals as goal
 

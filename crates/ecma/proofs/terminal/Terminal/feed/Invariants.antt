@@ -1,5 +1,4 @@
-use Rattle.std.proofs.Common.{take}
-use Rattle.ecma.specs.Readers.{Follows}
+use Rattle.ecma.specs.{take, Follows}
 use Rattle.ecma.proofs.terminal.Terminal.feed.Given as goal
 
 abbrev pub invariant-loop-byte : goal.invariant-loop-byte

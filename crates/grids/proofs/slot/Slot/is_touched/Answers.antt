@@ -1,5 +1,4 @@
-use Rattle.std.proofs.Common.{is_some, arith, refl, sym, ◌∙◌}
-use Rattle.world.specs.declared.settings.Columns.{Columns}
+use Rattle.grids.specs.{is_some, arith, refl, sym, ◌∙◌, Columns}
 use Rattle.grids.proofs.Derived.{any_below-list}
 use Rattle.grids.proofs.slot.Slot.is_touched.Goals as goal
 

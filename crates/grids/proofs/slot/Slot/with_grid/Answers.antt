@@ -1,8 +1,7 @@
 -- A new slot has a blank grid of its size, and nothing of it is touched.
 use Rattle.grids.proofs.NewSlots.{IsKept-new, IsGridOf-blank, window-blank}
-use Rattle.std.proofs.Common.{refl}
+use Rattle.grids.specs.{refl, blank_sheet}
 use Rattle.grids.specs.declared.slot.Cells.TheVariants.{Own}
-use Rattle.cell.specs.Pictures.{blank_sheet}
 use Rattle.grids.proofs.slot.Slot.with_grid.Goals as goal
 
 pub invariant_of-result : goal.invariant_of-result

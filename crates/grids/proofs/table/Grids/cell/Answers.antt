@@ -1,8 +1,5 @@
 -- The cell is that of the row, which a window shows from its grid.
-use Rattle.std.proofs.Common.{◌∙◌}
-use Rattle.std.proofs.lemmas.List.{get_or_read}
-use Rattle.cell.specs.Glyphs.{blank}
-use Rattle.grids.specs.Tables.{windows}
+use Rattle.grids.specs.{◌∙◌, get_or_read, blank, windows}
 use Rattle.grids.proofs.Showing.{line-has}
 use Rattle.grids.proofs.table.Grids.cell.Goals as goal
 

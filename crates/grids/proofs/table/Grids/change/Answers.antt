@@ -1,6 +1,5 @@
 -- One slot is changed, and its window stays in its place.
-use Rattle.std.proofs.Common.{refl}
-use Rattle.grids.specs.Kept.{window_of}
+use Rattle.grids.specs.{refl, window_of}
 use Rattle.grids.proofs.Changes.{IsWindowTable-stays, changed_by, depth-kept, line-kept, windows-changed}
 use Rattle.grids.proofs.Sounds.{sound}
 use Rattle.grids.proofs.table.Grids.change.Goals as goal

@@ -1,11 +1,7 @@
 -- The row that was read is one write in the other window, which touches the columns written.
-use Rattle.std.proofs.Common.{ap, ◌∙◌, ◌+◌, ◌-◌, arith, refl, rules}
+use Rattle.grids.specs.{ap, ◌∙◌, ◌+◌, ◌-◌, arith, refl, rules, windows, listed_cells, with_drawing, common_steps}
 use Rattle.grids.specs.contracts.table.Grids.{the_view}
-use Rattle.grids.specs.Tables.{windows}
-use Rattle.world.specs.Rows.{listed_cells}
-use Rattle.grids.specs.Changes.{with_drawing}
 use Rattle.grids.proofs.Showing.{piece-read, column_below}
-use Rattle.std.proofs.lemmas.Grind.{common_steps}
 use Rattle.grids.proofs.Writes.{drawn_over, put-copied}
 use Rattle.grids.proofs.CopyFrames.{whole-frame}
 use Rattle.grids.proofs.table.Grids.copy_cells.Goals as goal

@@ -1,7 +1,5 @@
 -- Each round lays a piece more over the line, in the direction in which none is read after it was written.
-use Rattle.std.proofs.Common.{◌+◌, ◌-◌, refl, arith, rules, inl, inr}
-use Rattle.std.proofs.lemmas.Grind.{common_steps}
-use Rattle.grids.specs.Tables.{windows}
+use Rattle.grids.specs.{◌+◌, ◌-◌, refl, arith, rules, inl, inr, common_steps, windows}
 use Rattle.grids.proofs.Showing.{leads_shown}
 use Rattle.grids.proofs.Copies.{copied-none, copied-out, more-after, more-before, some-piece}
 use Rattle.grids.proofs.CopySteps.{Drawn-nothing, piece-there, row-copied}

@@ -1,6 +1,4 @@
-use Rattle.std.proofs.Common.{◌+◌, ◌-◌, ◌≤◌}
-use Rattle.grids.specs.Copies.{RowCopied}
-use Rattle.grids.specs.Tables.{windows}
+use Rattle.grids.specs.{◌+◌, ◌-◌, ◌≤◌, RowCopied, windows}
 use Rattle.grids.proofs.table.Grids.copy_line.Given as goal
 
 -- the first k cells are copied

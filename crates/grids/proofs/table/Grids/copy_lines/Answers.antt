@@ -1,6 +1,5 @@
 -- Each round copies one line more, upwards or downwards, so that no line is read after it was written.
-use Rattle.std.proofs.Common.{◌+◌, ◌-◌, refl, arith, rules, inl, inr}
-use Rattle.grids.specs.Tables.{windows}
+use Rattle.grids.specs.{◌+◌, ◌-◌, refl, arith, rules, inl, inr, windows}
 use Rattle.grids.proofs.Showing.{leads_shown}
 use Rattle.grids.proofs.Copies.{rectangle-none, rectangle-out, line-after, line-before}
 use Rattle.grids.proofs.CopySteps.{Drawn-nothing, rows-there, row-copied}

@@ -1,6 +1,4 @@
-use Rattle.std.proofs.Common.{◌+◌, ◌-◌}
-use Rattle.grids.specs.Copies.{RectangleCopied}
-use Rattle.grids.specs.Tables.{windows}
+use Rattle.grids.specs.{◌+◌, ◌-◌, RectangleCopied, windows}
 use Rattle.grids.proofs.table.Grids.copy_lines.Given as goal
 
 -- the first k lines are copied

@@ -1,6 +1,5 @@
 -- A copy of no line or column is an empty drawing; another is that of its lines.
-use Rattle.std.proofs.Common.{arith, inl, inr}
-use Rattle.grids.specs.Tables.{windows}
+use Rattle.grids.specs.{arith, inl, inr, windows}
 use Rattle.grids.proofs.Copies.{rectangle-none}
 use Rattle.grids.proofs.CopySteps.{Drawn-nothing}
 use Rattle.grids.proofs.table.Grids.copy_rectangle.Goals as goal

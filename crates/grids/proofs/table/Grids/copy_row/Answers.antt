@@ -1,7 +1,6 @@
 -- One row copied is a drawing of one line.
-use Rattle.std.proofs.Common.{arith, ap, ◌∙◌}
+use Rattle.grids.specs.{arith, ap, ◌∙◌, windows}
 use Rattle.grids.specs.declared.table.Grids.{Grids}
-use Rattle.grids.specs.Tables.{windows}
 use Rattle.grids.proofs.Copies.{copied-none}
 use Rattle.grids.proofs.CopySteps.{Drawn-nothing}
 use Rattle.grids.proofs.table.Grids.copy_row.Goals as goal

@@ -1,16 +1,7 @@
 -- The new slot names its parent, is inside it, and leads to its grid; so the table with it is sound.
-use Rattle.std.specs.Prelude.{unwrap_or}
-use Rattle.std.proofs.Common.{◌≡◌, ◌+◌, Some, arith, ◌∙◌, ap, refl, sym, rules}
-use Rattle.std.specs.Option.{option_map}
-use Rattle.world.specs.Windows.{part_of}
-use Rattle.world.specs.calls.Making.{next_window, place_from}
-use Rattle.world.specs.Effects.{under_number}
-use Rattle.world.specs.World.{new_window}
-use Rattle.world.specs.Panels.{standard_screen}
+use Rattle.grids.specs.{unwrap_or, ◌≡◌, ◌+◌, Some, arith, ◌∙◌, ap, refl, sym, rules, option_map, part_of, next_window, place_from, under_number, new_window}
+use Rattle.grids.specs.{standard_screen, window_of, slot_at, window_map, windows}
 use Rattle.grids.specs.contracts.table.Grids.{the_view}
-use Rattle.grids.specs.Kept.{window_of}
-use Rattle.grids.specs.Slots.{slot_at, window_map}
-use Rattle.grids.specs.Tables.{windows}
 use Rattle.grids.proofs.Chain.{depth_below}
 use Rattle.grids.proofs.NewWindows.{IsWindowTable-added, windows-added, derived_in, placed_derived, made_derived}
 use Rattle.grids.proofs.Origins.{origin-derived}

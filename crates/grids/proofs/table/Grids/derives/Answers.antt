@@ -1,7 +1,5 @@
 -- The loop looks at each ancestor of a window once.
-use Rattle.std.proofs.Common.{◌||◌, refl, sym, ap, ◌∙◌}
-use Rattle.world.specs.Windows.{derives}
-use Rattle.grids.specs.Tables.{windows}
+use Rattle.grids.specs.{◌||◌, refl, sym, ap, ◌∙◌, derives, windows}
 use Rattle.grids.proofs.Ancestors.{derives-next, derives-none, first-there}
 use Rattle.grids.proofs.table.Grids.derives.Goals as goal
 

@@ -1,7 +1,4 @@
-use Rattle.std.proofs.Common.{◌≡◌}
-use Rattle.world.specs.Windows.{HasPlace, derives}
-use Rattle.grids.specs.Tables.{windows}
-use Rattle.grids.specs.Slots.{depth_at}
+use Rattle.grids.specs.{◌≡◌, HasPlace, derives, windows, depth_at}
 use Rattle.grids.proofs.table.Grids.derives.Given as goal
 
 -- the windows that were met are others

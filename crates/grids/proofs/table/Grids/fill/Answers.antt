@@ -1,7 +1,5 @@
 -- The filled line is one write, which touches the columns written.
-use Rattle.std.proofs.Common.{ap, ◌∙◌, ◌+◌, rules}
-use Rattle.world.specs.Rows.{filled_cells}
-use Rattle.grids.specs.Changes.{with_drawing}
+use Rattle.grids.specs.{ap, ◌∙◌, ◌+◌, rules, filled_cells, with_drawing}
 use Rattle.grids.proofs.Writes.{drawn_over, put-row}
 use Rattle.grids.proofs.table.Grids.fill.Goals as goal
 

@@ -1,8 +1,6 @@
 -- Each round touches the next ancestor, and none that was touched before.
-use Rattle.std.proofs.Common.{◌≢◌, ◌<◌, arith, ap, ◌∙◌}
+use Rattle.grids.specs.{◌≢◌, ◌<◌, arith, ap, ◌∙◌, windows, depth_at}
 use Rattle.grids.specs.declared.place.Place.{Place}
-use Rattle.grids.specs.Tables.{windows}
-use Rattle.grids.specs.Slots.{depth_at}
 use Rattle.grids.proofs.Syncs.{handed-all, handed-none, handed-on, next-part, no-part, place-reached}
 use Rattle.grids.proofs.table.Grids.hand_up.Goals as goal
 

@@ -1,6 +1,4 @@
-use Rattle.std.proofs.Common.{◌≤◌}
-use Rattle.grids.specs.Tables.{windows}
-use Rattle.grids.specs.Slots.{depth_at}
+use Rattle.grids.specs.{◌≤◌, windows, depth_at}
 use Rattle.grids.proofs.Syncs.{IsHandedTo}
 use Rattle.grids.proofs.table.Grids.hand_up.Given as goal
 

@@ -1,5 +1,4 @@
-use Rattle.std.proofs.Common.{rules}
-use Rattle.world.specs.calls.Copying.{lines_marked}
+use Rattle.grids.specs.{rules, lines_marked}
 use Rattle.grids.proofs.table.Grids.mark.Goals as goal
 
 pub returns-clause-touched : goal.returns-clause-touched

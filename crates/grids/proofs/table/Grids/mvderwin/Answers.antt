@@ -1,6 +1,5 @@
 -- The window shows another part of its parent, and the origins are set again.
-use Rattle.std.proofs.Common.{◌∙◌, arith, rules, refl, sym}
-use Rattle.std.proofs.lemmas.Grind.{common_steps}
+use Rattle.grids.specs.{◌∙◌, arith, rules, refl, sym, common_steps}
 use Rattle.grids.specs.contracts.table.Grids.{the_view}
 use Rattle.grids.proofs.Shifts.{IsWindowTable-shifted, chained-shifted, shifted_by, windows-shifted}
 use Rattle.grids.proofs.Sounds.{sound}

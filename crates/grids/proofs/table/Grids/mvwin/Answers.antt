@@ -1,8 +1,5 @@
 -- One slot has another place, and its window no other cell.
-use Rattle.std.proofs.Common.{arith, rules, refl}
-use Rattle.std.proofs.lemmas.Grind.{common_steps}
-use Rattle.std.proofs.lemmas.Bool.Decides.{nat_tests}
-use Rattle.world.specs.Effects.{with_place}
+use Rattle.grids.specs.{arith, rules, refl, common_steps, nat_tests, with_place}
 use Rattle.grids.proofs.Changes.{IsWindowTable-moved, changed_by, windows-changed}
 use Rattle.grids.proofs.Sounds.{sound}
 use Rattle.grids.proofs.table.Grids.mvwin.Goals as goal

@@ -1,5 +1,5 @@
 -- A table of the standard screen alone is sound.
-use Rattle.std.proofs.Common.{rules, ◌≡◌, Some, [], ◌∷◌}
+use Rattle.grids.specs.{rules, ◌≡◌, Some, [], ◌∷◌}
 use Rattle.grids.proofs.Origins.{origins-first}
 use Rattle.grids.proofs.table.Grids.new.Goals as goal
 

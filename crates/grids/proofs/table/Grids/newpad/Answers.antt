@@ -1,10 +1,5 @@
 -- The new slot has a grid of its own and no place; so the table with it is sound.
-use Rattle.std.specs.Prelude.{unwrap_or}
-use Rattle.world.specs.World.{blank_grid, new_window}
-use Rattle.std.proofs.Common.{None, ◌≡◌, ap, sym, rules}
-use Rattle.world.specs.calls.Making.{next_window}
-use Rattle.world.specs.Panels.{standard_screen}
-use Rattle.grids.specs.Tables.{windows}
+use Rattle.grids.specs.{unwrap_or, blank_grid, new_window, None, ◌≡◌, ap, sym, rules, next_window, standard_screen, windows}
 use Rattle.grids.specs.contracts.table.Grids.{the_view}
 use Rattle.grids.proofs.NewWindows.{IsWindowTable-added, windows-added, alone_in, placed_pad}
 use Rattle.grids.proofs.Origins.{origin-alone}

@@ -1,11 +1,5 @@
 -- The new slot has a grid of its own and lies on the screen; so the table with it is sound.
-use Rattle.std.specs.Prelude.{unwrap_or}
-use Rattle.std.proofs.Common.{◌≡◌, ℕ, Some, ◌∙◌, sym, ap, rules}
-use Rattle.world.specs.Windows.{Window}
-use Rattle.world.specs.World.{blank_grid, new_window}
-use Rattle.world.specs.calls.Making.{extent, next_window}
-use Rattle.world.specs.Panels.{standard_screen}
-use Rattle.grids.specs.Tables.{windows}
+use Rattle.grids.specs.{unwrap_or, ◌≡◌, ℕ, Some, ◌∙◌, sym, ap, rules, Window, blank_grid, new_window, extent, next_window, standard_screen, windows}
 use Rattle.grids.specs.contracts.table.Grids.{the_view}
 use Rattle.grids.proofs.NewWindows.{IsWindowTable-added, windows-added, alone_in, placed_new}
 use Rattle.grids.proofs.Origins.{origin-alone}

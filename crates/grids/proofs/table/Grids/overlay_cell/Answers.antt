@@ -1,6 +1,5 @@
 -- A space writes nothing, and another cell is one write of one cell.
-use Rattle.std.proofs.Common.{Some, ap, sym, ◌∙◌}
-use Rattle.grids.specs.Tables.{windows}
+use Rattle.grids.specs.{Some, ap, sym, ◌∙◌, windows}
 use Rattle.grids.proofs.CopyFrames.{shown-frame}
 use Rattle.grids.proofs.Copies.{one-shown, one-hidden}
 use Rattle.grids.proofs.CopySteps.{Drawn-nothing}

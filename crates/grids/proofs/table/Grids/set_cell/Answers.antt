@@ -1,7 +1,5 @@
 -- One cell is a line of one column, which is touched.
-use Rattle.std.proofs.Common.{ap, ◌∙◌, ◌+◌, arith, rules}
-use Rattle.world.specs.Rows.{filled_cells}
-use Rattle.grids.specs.Changes.{with_drawing}
+use Rattle.grids.specs.{ap, ◌∙◌, ◌+◌, arith, rules, filled_cells, with_drawing}
 use Rattle.grids.proofs.Writes.{drawn_over, put-row}
 use Rattle.grids.proofs.table.Grids.set_cell.Goals as goal
 

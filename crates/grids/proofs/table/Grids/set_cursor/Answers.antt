@@ -1,5 +1,4 @@
-use Rattle.std.proofs.Common.{rules}
-use Rattle.world.specs.Settings.{set_in, with_cursor}
+use Rattle.grids.specs.{rules, set_in, with_cursor}
 use Rattle.grids.proofs.table.Grids.set_cursor.Goals as goal
 
 pub returns-clause-set : goal.returns-clause-set

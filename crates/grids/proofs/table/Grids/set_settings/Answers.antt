@@ -1,5 +1,4 @@
-use Rattle.std.proofs.Common.{rules}
-use Rattle.world.specs.Settings.{with_settings}
+use Rattle.grids.specs.{rules, with_settings}
 use Rattle.grids.proofs.table.Grids.set_settings.Goals as goal
 
 pub returns-clause-set : goal.returns-clause-set

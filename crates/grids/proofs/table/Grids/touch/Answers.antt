@@ -1,6 +1,5 @@
 -- One slot has other touched columns on one line.
-use Rattle.std.proofs.Common.{◌≡◌, rules}
-use Rattle.grids.specs.Changes.{with_touched}
+use Rattle.grids.specs.{◌≡◌, rules, with_touched}
 use Rattle.grids.proofs.table.Grids.touch.Goals as goal
 
 pub returns-clause-touched : goal.returns-clause-touched

@@ -1,12 +1,7 @@
 -- Each round touches what one line more shows, and leaves the lines before as they are.
-use Rattle.std.proofs.Common.{◌≡◌, ℕ, false, Option, arith, ap, refl, sym, ◌∙◌}
-use Rattle.std.specs.Option.{option_map_or}
-use Rattle.world.specs.Windows.{Window}
+use Rattle.grids.specs.{◌≡◌, ℕ, false, Option, arith, ap, refl, sym, ◌∙◌, option_map_or, Window, windows, depth_at, shows_touched, touched_shown}
+use Rattle.grids.specs.{common_steps}
 use Rattle.grids.specs.declared.table.Grids.{Grids}
-use Rattle.grids.specs.Tables.{windows}
-use Rattle.grids.specs.Slots.{depth_at}
-use Rattle.grids.specs.steps.Syncs.{shows_touched, touched_shown}
-use Rattle.std.proofs.lemmas.Grind.{common_steps}
 use Rattle.grids.proofs.Touches.{none-before, all-before, at-line, next-none, next-some}
 use Rattle.grids.proofs.Chain.{some_and}
 use Rattle.grids.proofs.table.Grids.touch_shown.Goals as goal

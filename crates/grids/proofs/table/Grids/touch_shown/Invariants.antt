@@ -1,7 +1,4 @@
-use Rattle.std.proofs.Common.{◌≡◌, ℕ}
-use Rattle.grids.specs.Tables.{windows}
-use Rattle.grids.specs.Slots.{depth_at}
-use Rattle.grids.specs.steps.Syncs.{touched_shown}
+use Rattle.grids.specs.{◌≡◌, ℕ, windows, depth_at, touched_shown}
 use Rattle.grids.proofs.Touches.{touched_before}
 use Rattle.grids.proofs.table.Grids.touch_shown.Given as goal
 

@@ -1,9 +1,5 @@
 -- One slot has other touched columns on one line, and its cursor after them.
-use Rattle.std.proofs.Common.{◌≡◌, ◌-◌, arith}
-use Rattle.std.proofs.lemmas.Grind.{common_steps}
-use Rattle.world.specs.Settings.{set_in, with_cursor}
-use Rattle.world.specs.Windows.{Window}
-use Rattle.grids.specs.Changes.{with_touched}
+use Rattle.grids.specs.{◌≡◌, ◌-◌, arith, common_steps, set_in, with_cursor, Window, with_touched}
 use Rattle.grids.proofs.table.Grids.touch_to.Goals as goal
 
 pub returns-clause-touched : goal.returns-clause-touched

@@ -1,9 +1,5 @@
 -- One cell is a line of one column, which is touched, and the cursor goes on.
-use Rattle.std.proofs.Common.{ap, ◌≡◌, ◌∙◌, ◌+◌, ◌-◌, arith, rules}
-use Rattle.std.proofs.lemmas.Grind.{common_steps}
-use Rattle.world.specs.Rows.{filled_cells}
-use Rattle.world.specs.Settings.{with_cursor}
-use Rattle.grids.specs.Changes.{with_drawing}
+use Rattle.grids.specs.{ap, ◌≡◌, ◌∙◌, ◌+◌, ◌-◌, arith, rules, common_steps, filled_cells, with_cursor, with_drawing}
 use Rattle.grids.proofs.Sounds.{few_columns}
 use Rattle.grids.proofs.Writes.{drawn_over, put-row, put-typed}
 use Rattle.grids.proofs.table.Grids.type_cell.Goals as goal

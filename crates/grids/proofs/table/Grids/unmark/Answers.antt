@@ -1,5 +1,4 @@
-use Rattle.std.proofs.Common.{rules}
-use Rattle.world.specs.Effects.{without_marks}
+use Rattle.grids.specs.{rules, without_marks}
 use Rattle.grids.proofs.table.Grids.unmark.Goals as goal
 
 pub returns-then-has_window-clause-unmarked : goal.returns-then-has_window-clause-unmarked

@@ -1,12 +1,6 @@
 -- `doupdate_changes`: it looks where the picture may differ from what is shown when the text begins.
-use Rattle.std.proofs.Common.{◌≡◌, ℕ, ◌∙◌, Bool, true, false, List, length, Option, None, Some, ap, subst, sym}
-use Rattle.std.specs.Prelude.{⊤, IfNone, MatchOption, if◌then◌else◌}
-use Rattle.std.specs.Option.{option_map_or, unwrap_or}
-use Rattle.cell.specs.Pictures.{HasSize, Picture, Place}
-use Rattle.extents.specs.Extents.{DifferOnly}
-use Rattle.world.specs.declared.settings.Columns.{Columns}
-use Rattle.paint.specs.Updates.{ShownPicture, first_painter, start_from}
-use Rattle.paint.specs.steps.Holding.{last_shown}
+use Rattle.paint.specs.{◌≡◌, ℕ, ◌∙◌, Bool, true, false, List, length, Option, None, Some, ap, subst, sym, ⊤, IfNone, MatchOption, if◌then◌else◌}
+use Rattle.paint.specs.{option_map_or, unwrap_or, HasSize, Picture, Place, DifferOnly, Columns, ShownPicture, first_painter, start_from, last_shown}
 use Rattle.paint.proofs.painter.Painter.doupdate_changes.Goals as goal
 
 -- what is known is what was shown last

@@ -1,8 +1,5 @@
 -- `new`: a picture, changes and a pen of one size.
-use Rattle.std.proofs.Common.{None, length, ap, arith, rules, subst, sym, ◌∙◌}
-use Rattle.std.proofs.lemmas.Simd.{length-replicate}
-use Rattle.cell.specs.Shown.{Shown, shown_blank}
-use Rattle.cell.specs.Pictures.{HasSize}
+use Rattle.paint.specs.{None, length, ap, arith, rules, subst, sym, ◌∙◌, length-replicate, Shown, shown_blank, HasSize}
 use Rattle.cell.proofs.PictureLemmas.{HasSize-all_of}
 use Rattle.paint.specs.declared.pen.Pen.{Pen}
 use Rattle.paint.proofs.painter.Painter.new.Goals as goal

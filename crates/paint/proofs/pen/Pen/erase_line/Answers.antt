@@ -1,8 +1,5 @@
 -- `erase_line`: what the erasure draws, from what an erasure draws (`PenSteps`).
-use Rattle.std.proofs.Common.{refl}
-use Rattle.ecma.specs.Terminals.{erased_at}
-use Rattle.ecma.specs.declared.token.Erase.TheVariants.{ToEnd}
-use Rattle.ecma.specs.declared.token.Token.TheVariants.{El}
+use Rattle.paint.specs.{refl, erased_at, ToEnd, El}
 use Rattle.paint.proofs.PenSteps.{erases}
 use Rattle.paint.proofs.pen.Pen.erase_line.Goals as goal
 

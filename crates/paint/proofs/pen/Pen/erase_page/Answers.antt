@@ -1,8 +1,5 @@
 -- `erase_page`: what the erasure draws, from what an erasure draws (`PenSteps`).
-use Rattle.std.proofs.Common.{refl}
-use Rattle.ecma.specs.Terminals.{erased_page}
-use Rattle.ecma.specs.declared.token.Erase.TheVariants.{ToEnd}
-use Rattle.ecma.specs.declared.token.Token.TheVariants.{Ed}
+use Rattle.paint.specs.{refl, erased_page, ToEnd, Ed}
 use Rattle.paint.proofs.PenSteps.{erases}
 use Rattle.paint.proofs.pen.Pen.erase_page.Goals as goal
 

@@ -1,5 +1,5 @@
 -- `go`: the strokes of a pen, one after another, and what each shows (`PenSteps`).
-use Rattle.std.proofs.Common.{sym, ◌∙◌, arith}
+use Rattle.paint.specs.{sym, ◌∙◌, arith}
 use Rattle.paint.proofs.PenSteps.{goes, goes-nowhere, is_at-known}
 use Rattle.paint.proofs.pen.Pen.go.Goals as goal
 

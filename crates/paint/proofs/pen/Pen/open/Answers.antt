@@ -1,5 +1,4 @@
-use Rattle.std.proofs.Common.{sym, subst}
-use Rattle.paint.specs.steps.Gathering.{Gathers}
+use Rattle.paint.specs.{sym, subst, Gathers}
 use Rattle.paint.proofs.Shows.{opening-spelled}
 use Rattle.paint.proofs.PenSteps.{Gathers-then}
 use Rattle.paint.proofs.pen.Pen.open.Goals as goal

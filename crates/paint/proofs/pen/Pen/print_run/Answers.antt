@@ -1,4 +1,4 @@
-use Rattle.std.proofs.Common.{refl}
+use Rattle.paint.specs.{refl}
 use Rattle.paint.proofs.CellRuns.{prints-run}
 use Rattle.paint.proofs.pen.Pen.print_run.Goals as goal
 

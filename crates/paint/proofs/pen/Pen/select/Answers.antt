@@ -1,4 +1,4 @@
-use Rattle.std.proofs.Common.{sym}
+use Rattle.paint.specs.{sym}
 use Rattle.paint.proofs.PenSteps.{selects, selects-nothing}
 use Rattle.paint.proofs.pen.Pen.select.Goals as goal
 

@@ -1,12 +1,8 @@
 -- `add_last_line`: it erases the page only where a place of its end is changed.
-use Rattle.std.proofs.Common.{◌≡◌, ℕ, ◌+◌, ◌<◌, ◌≤◌, false, [], ◌∷◌, ◌++◌, length, refl, sym, ap, ◌∙◌, subst, arith}
-use Rattle.std.specs.Prelude.{min}
-use Rattle.std.proofs.lemmas.Bool.Decides.{nat_tests}
-use Rattle.cell.specs.Pictures.{line_of}
+use Rattle.paint.specs.{◌≡◌, ℕ, ◌+◌, ◌<◌, ◌≤◌, false, [], ◌∷◌, ◌++◌, length, refl, sym, ap, ◌∙◌, subst, arith, min, nat_tests, line_of, ArePlanned, is_before}
 use Rattle.cell.proofs.PictureLemmas.{length-line}
 use Rattle.paint.specs.declared.strokes.Ink.TheVariants.{ErasePage}
 use Rattle.paint.specs.declared.strokes.Stroke.{Stroke}
-use Rattle.paint.specs.steps.Strokes.{ArePlanned, is_before}
 use Rattle.paint.proofs.FoundStrokes.{before-part, planned-page, planned-same, same-in_line}
 use Rattle.paint.proofs.strokes.Plan.add_last_line.Goals as goal
 

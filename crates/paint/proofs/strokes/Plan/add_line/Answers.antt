@@ -1,12 +1,8 @@
 -- `add_line`: it looks only where the line may be changed, and erases its end only where a cell of that is.
-use Rattle.std.proofs.Common.{◌≡◌, ◌+◌, [], ◌∷◌, ◌++◌, length, inl, inr, refl, sym, ap, ◌∙◌, subst, arith}
-use Rattle.std.specs.Prelude.{min}
-use Rattle.std.proofs.lemmas.Bool.{cases_lt}
-use Rattle.cell.specs.Pictures.{line_of, shown_at}
+use Rattle.paint.specs.{◌≡◌, ◌+◌, [], ◌∷◌, ◌++◌, length, inl, inr, refl, sym, ap, ◌∙◌, subst, arith, min, cases_lt, line_of, shown_at, ArePlanned}
 use Rattle.cell.proofs.PictureLemmas.{length-line}
 use Rattle.paint.specs.declared.strokes.Ink.TheVariants.{EraseLine}
 use Rattle.paint.specs.declared.strokes.Stroke.{Stroke}
-use Rattle.paint.specs.steps.Strokes.{ArePlanned}
 use Rattle.paint.proofs.CellRuns.{part-differs, part-later}
 use Rattle.paint.proofs.FoundStrokes.{after-part, before-part, planned-line, planned-same, same-in_line, same-to_end, whole-line}
 use Rattle.paint.proofs.strokes.Plan.add_line.Goals as goal

@@ -1,10 +1,7 @@
 -- `add_part`: what it passes over is shown already, and each run of changed cells is a stroke.
-use Rattle.std.proofs.Common.{◌≡◌, List, ◌∷◌, ◌++◌, [], length, inl, inr, ap, ◌∙◌, subst, sym, refl, arith, length-append}
-use Rattle.std.proofs.lemmas.Bool.{cases_lt}
-use Rattle.cell.specs.Pictures.{line_of}
+use Rattle.paint.specs.{◌≡◌, List, ◌∷◌, ◌++◌, [], length, inl, inr, ap, ◌∙◌, subst, sym, refl, arith, length-append, cases_lt, line_of, ArePlanned}
 use Rattle.paint.specs.declared.strokes.Ink.TheVariants.{Print}
 use Rattle.paint.specs.declared.strokes.Stroke.{Stroke}
-use Rattle.paint.specs.steps.Strokes.{ArePlanned}
 use Rattle.paint.proofs.FoundStrokes.{planned-run, planned-same, same-in_line}
 use Rattle.paint.proofs.strokes.Plan.add_part.Goals as goal
 

@@ -1,7 +1,5 @@
-use Rattle.std.proofs.Common.{◌-◌, ◌≡◌, ◌+◌, ◌<◌, ◌≤◌, List, get_or, length}
-use Rattle.cell.specs.Shown.{shown_blank}
+use Rattle.paint.specs.{◌-◌, ◌≡◌, ◌+◌, ◌<◌, ◌≤◌, List, get_or, length, shown_blank, AreAlike, ArePlanned}
 use Rattle.paint.specs.declared.strokes.Stroke.{Stroke}
-use Rattle.paint.specs.steps.Strokes.{AreAlike, ArePlanned}
 use Rattle.paint.proofs.strokes.Plan.add_part.Given as goal
 
 abbrev pub invariant-loop-x : goal.invariant-loop-x

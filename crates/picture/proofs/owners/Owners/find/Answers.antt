@@ -1,10 +1,5 @@
 -- Each panel from the bottom up takes over the columns that it holds.
-use Rattle.std.proofs.Common.{◌≡◌, ◌∷◌, ℕ, List, [], true, sym, subst, refl, ◌∙◌, arith}
-use Rattle.std.specs.Prelude.{MatchOption, ⊤}
-use Rattle.std.specs.List.{AllByRecursion}
-use Rattle.std.proofs.lemmas.List.Elements.{recursion_from_All}
-use Rattle.world.specs.calls.Making.{is_no_pad}
-use Rattle.stack.specs.Tables.{panels}
+use Rattle.picture.specs.{◌≡◌, ◌∷◌, ℕ, List, [], true, sym, subst, refl, ◌∙◌, arith, MatchOption, ⊤, AllByRecursion, recursion_from_All, is_no_pad, panels}
 use Rattle.picture.proofs.OwnerLaws.{AreLaid, laid-all, laid-first, laid-next}
 use Rattle.picture.proofs.Searching.{once-from}
 use Rattle.picture.proofs.owners.Owners.find.Goals as goal

@@ -1,9 +1,4 @@
-use Rattle.std.proofs.Common.{◌≡◌, ◌≤◌}
-use Rattle.std.specs.Prelude.{MatchOption, ⊤, true}
-use Rattle.std.specs.List.{AllByRecursion}
-use Rattle.world.specs.calls.Making.{is_no_pad}
-use Rattle.stack.specs.Tables.{panels}
-use Rattle.picture.specs.steps.Owners.{AreInside}
+use Rattle.picture.specs.{◌≡◌, ◌≤◌, MatchOption, ⊤, true, AllByRecursion, is_no_pad, panels, AreInside}
 use Rattle.picture.proofs.OwnerLaws.{AreLaid}
 use Rattle.picture.proofs.owners.Owners.find.Given as goal
 

@@ -1,9 +1,5 @@
 -- On a line that the rectangle has, it holds the columns between its sides.
-use Rattle.std.proofs.Common.{◌≡◌, ◌≤◌, ◌&&◌, ℕ, Some, if◌then◌else◌, nat_le, ap, arith}
-use Rattle.std.proofs.lemmas.Bool.Decides.{nat_tests}
-use Rattle.std.proofs.lemmas.Grind.{common_steps}
-use Rattle.cell.specs.declared.window.Rect.{Rect}
-use Rattle.picture.specs.Parts.{frame_holds}
+use Rattle.picture.specs.{◌≡◌, ◌≤◌, ◌&&◌, ℕ, Some, if◌then◌else◌, nat_le, ap, arith, nat_tests, common_steps, Rect, frame_holds}
 use Rattle.picture.proofs.OwnerLaws.{spans-as}
 use Rattle.picture.proofs.owners.Owners.lay.Goals as goal
 

@@ -1,5 +1,5 @@
 -- The line is known.
-use Rattle.stack.specs.Tables.{panels}
+use Rattle.picture.specs.{panels}
 use Rattle.picture.proofs.owners.Owners.span.Goals as goal
 
 pub returns-clause-span : goal.returns-clause-span

@@ -1,6 +1,5 @@
 -- The first end from the column on is that of its span.
-use Rattle.std.proofs.Common.{arith}
-use Rattle.picture.specs.steps.Owners.{IsEndFrom}
+use Rattle.picture.specs.{arith, IsEndFrom}
 use Rattle.picture.proofs.SpanLaws.{span-at}
 use Rattle.picture.proofs.spans.Spans.at.Goals as goal
 

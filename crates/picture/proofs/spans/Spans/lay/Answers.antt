@@ -1,8 +1,6 @@
 -- A span ends before the panel, none within it, and one with it.
-use Rattle.std.proofs.Common.{arith, ◌≡◌, ◌<◌, ◌≤◌, ◌==◌, ◌&&◌, ◌||◌, ℕ, Bool, true, false, Option, ◌≢◌, Some, List, slice_index, sym, ap, ◌∙◌, if◌then◌else◌, nat_le, nat_lt}
-use Rattle.std.proofs.lemmas.Bool.Decides.{nat_tests}
-use Rattle.small_set.specs.Sets.{contains}
-use Rattle.picture.specs.steps.Owners.{numbered}
+use Rattle.picture.specs.{arith, ◌≡◌, ◌<◌, ◌≤◌, ◌==◌, ◌&&◌, ◌||◌, ℕ, Bool, true, false, Option, ◌≢◌, Some, List, slice_index, sym, ap, ◌∙◌, if◌then◌else◌}
+use Rattle.picture.specs.{nat_le, nat_lt, nat_tests, contains, numbered}
 use Rattle.picture.proofs.SpanLaws.{IsLaid, laid-spans}
 use Rattle.picture.proofs.spans.Spans.lay.Goals as goal
 

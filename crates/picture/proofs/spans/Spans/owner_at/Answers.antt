@@ -1,5 +1,5 @@
 -- The first end from the column on is the first from any of those on.
-use Rattle.std.proofs.Common.{arith}
+use Rattle.picture.specs.{arith}
 use Rattle.picture.proofs.SpanLaws.{joined-none, owner-of-end}
 use Rattle.picture.proofs.spans.Spans.owner_at.Goals as goal
 

@@ -1,6 +1,5 @@
 -- The first end from a column on is removed, and so none is left up to it.
-use Rattle.std.proofs.Common.{arith}
-use Rattle.std.proofs.lemmas.Grind.{common_steps}
+use Rattle.picture.specs.{arith, common_steps}
 use Rattle.picture.proofs.SpanLaws.{removed-next}
 use Rattle.picture.proofs.spans.Spans.remove_ends.Goals as goal
 

@@ -1,6 +1,4 @@
-use Rattle.std.proofs.Common.{◌≡◌, ◌-◌, ◌≤◌, ◌&&◌, ℕ, false, if◌then◌else◌, nat_le, nat_lt}
-use Rattle.small_set.specs.Sets.{contains}
-use Rattle.picture.specs.steps.Owners.{AreInside}
+use Rattle.picture.specs.{◌≡◌, ◌-◌, ◌≤◌, ◌&&◌, ℕ, false, if◌then◌else◌, nat_le, nat_lt, contains, AreInside}
 use Rattle.picture.proofs.spans.Spans.remove_ends.Given as goal
 
 -- the ends before `from` are removed

@@ -1,5 +1,5 @@
 -- A number is put after those before it.
-use Rattle.std.proofs.Common.{length-append, arith}
+use Rattle.script.specs.{length-append, arith}
 use Rattle.script.proofs.arguments.Arguments.take.Goals as goal
 
 pub returns-in-Some : goal.returns-in-Some

@@ -1,6 +1,5 @@
 -- The bytes before the newline are the line, up to the greatest length.
-use Rattle.std.proofs.Common.{arith, rules}
-use Rattle.std.proofs.lemmas.Bool.Decides.{nat_tests}
+use Rattle.script.specs.{arith, rules, nat_tests}
 use Rattle.script.proofs.ByteLemmas.{gathered_failed, gathered_last, gathered_line, gathered_more, gathered_moved, gathered_none, gathered_too_long, more_read, none_read, reads_moved}
 use Rattle.script.proofs.bytes.Bytes.gather_line.Goals as goal
 

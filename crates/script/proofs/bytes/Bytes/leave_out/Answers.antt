@@ -1,5 +1,5 @@
 use Rattle.script.proofs.ByteLemmas.{first_left_out}
-use Rattle.std.proofs.Common.{arith}
+use Rattle.script.specs.{arith}
 use Rattle.script.proofs.bytes.Bytes.leave_out.Goals as goal
 
 pub returns : goal.returns

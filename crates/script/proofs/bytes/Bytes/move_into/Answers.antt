@@ -1,6 +1,5 @@
 -- The bytes that are moved come before the first newline.
-use Rattle.std.proofs.Common.{arith, length-append, length-take}
-use Rattle.std.proofs.lemmas.Grind.{common_steps}
+use Rattle.script.specs.{arith, length-append, length-take, common_steps}
 use Rattle.script.proofs.ByteLemmas.{moves_bytes}
 use Rattle.script.proofs.bytes.Bytes.move_into.Goals as goal
 

@@ -1,5 +1,4 @@
-use Rattle.std.proofs.Common.{[], arith, append-nil}
-use Rattle.std.proofs.KnownBytes.{Consumes-nil}
+use Rattle.script.specs.{[], arith, append-nil, Consumes-nil}
 use Rattle.script.proofs.bytes.Bytes.next.Goals as goal
 
 pub returns-then-self-clause-byte : goal.returns-then-self-clause-byte

@@ -1,5 +1,5 @@
 -- A line among the bytes that were read is read there, and not copied.
-use Rattle.std.proofs.Common.{arith}
+use Rattle.script.specs.{arith}
 use Rattle.script.proofs.ByteLemmas.{unread_line}
 use Rattle.script.proofs.bytes.Lines.next_line.Goals as goal
 

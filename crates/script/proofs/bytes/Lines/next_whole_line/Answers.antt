@@ -1,5 +1,5 @@
 -- What is left out of a line that is too long is a beginning of it, which has no newline.
-use Rattle.std.proofs.Common.{arith}
+use Rattle.script.specs.{arith}
 use Rattle.script.proofs.ByteLemmas.{ends_then, more_read, none_read, passed_end, passed_more, passed_none}
 use Rattle.script.proofs.bytes.Lines.next_whole_line.Goals as goal
 

@@ -1,4 +1,4 @@
-use Rattle.script.specs.Lines.{work_left}
+use Rattle.script.specs.{work_left}
 use Rattle.script.proofs.ByteLemmas.{Passed, ReadsOn}
 use Rattle.script.proofs.bytes.Lines.next_whole_line.Given as goal
 

@@ -1,4 +1,4 @@
-use Rattle.std.proofs.Common.{arith}
+use Rattle.script.specs.{arith}
 use Rattle.script.proofs.WordLaws.{found_by_letter}
 use Rattle.script.proofs.words.Word.with_forms.Goals as goal
 

@@ -1,4 +1,4 @@
-use Rattle.std.proofs.Common.{◌+◌, arith}
+use Rattle.stack.specs.{◌+◌, arith}
 use Rattle.stack.proofs.Indexes.{holder-grown}
 use Rattle.stack.proofs.holders.Holders.grow.Goals as goal
 

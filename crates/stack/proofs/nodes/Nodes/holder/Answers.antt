@@ -1,6 +1,5 @@
 -- The search finds the only node that has the window.
-use Rattle.std.proofs.Common.{◌≡◌, ℕ, List, Some, subst}
-use Rattle.stack.specs.Nodes.{window_at}
+use Rattle.stack.specs.{◌≡◌, ℕ, List, Some, subst, window_at}
 use Rattle.stack.specs.declared.nodes.Node.{Node}
 use Rattle.stack.proofs.Indexes.{searched-one}
 use Rattle.stack.proofs.nodes.Nodes.holder.Goals as goal

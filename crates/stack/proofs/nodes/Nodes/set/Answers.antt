@@ -1,7 +1,5 @@
 -- A node with the same window changes neither index.
-use Rattle.std.proofs.Common.{◌∷◌, ◌<◌, List, sym, ap, subst, ◌∙◌, arith, length}
-use Rattle.stack.specs.Indexes.{IsIndexed}
-use Rattle.stack.specs.Nodes.{window_at}
+use Rattle.stack.specs.{◌∷◌, ◌<◌, List, sym, ap, subst, ◌∙◌, arith, length, IsIndexed, window_at}
 use Rattle.stack.specs.declared.nodes.Node.{Node}
 use Rattle.stack.proofs.Indexes.{indexed-set, set-past}
 use Rattle.stack.proofs.nodes.Nodes.set.Goals as goal

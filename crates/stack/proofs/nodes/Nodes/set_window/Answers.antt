@@ -1,12 +1,7 @@
 -- Both indexes follow the window that the node has now.
-use Rattle.std.proofs.Common.{◌≡◌, ◌∷◌, ◌<◌, ◌==◌, if◌then◌else◌, Bool, List, sym, ap, subst, ◌∙◌, set, length}
-use Rattle.std.specs.Option.{option_map}
-use Rattle.cell.specs.declared.window.WinId.{WinId}
-use Rattle.stack.specs.Indexes.{held_by, holder_at, IsIndexed}
-use Rattle.stack.specs.Nodes.{node_at, window_in}
-use Rattle.stack.specs.steps.Entries.{Windowed}
+use Rattle.stack.specs.{◌≡◌, ◌∷◌, ◌<◌, ◌==◌, if◌then◌else◌, Bool, List, sym, ap, subst, ◌∙◌, set, length, option_map, WinId, held_by, holder_at, IsIndexed}
+use Rattle.stack.specs.{node_at, window_in, Windowed, contains}
 use Rattle.stack.specs.declared.nodes.Node.{Node}
-use Rattle.small_set.specs.Sets.{contains}
 use Rattle.stack.proofs.Indexes.{free-window, indexed-windowed, set-past, some-window, windowed-set}
 use Rattle.stack.proofs.nodes.Nodes.set_window.Goals as goal
 

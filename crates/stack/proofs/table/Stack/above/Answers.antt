@@ -1,5 +1,5 @@
 -- The node above is the next panel of the order.
-use Rattle.std.proofs.Common.{arith}
+use Rattle.stack.specs.{arith}
 use Rattle.stack.proofs.Neighbours.{above-is, panel_or_none}
 use Rattle.stack.proofs.table.Stack.above.Goals as goal
 

@@ -1,5 +1,5 @@
 -- The node below is the next panel of the reversed order.
-use Rattle.std.proofs.Common.{arith}
+use Rattle.stack.specs.{arith}
 use Rattle.stack.proofs.Neighbours.{below-is, last-is, panel_or_none}
 use Rattle.stack.proofs.table.Stack.below.Goals as goal
 

@@ -1,5 +1,5 @@
 -- The order is that of the others with the panel before them.
-use Rattle.std.proofs.Common.{arith}
+use Rattle.stack.specs.{arith}
 use Rattle.stack.proofs.Tables.{reordered-panels, reordered-table, sound}
 use Rattle.stack.proofs.table.Stack.bottom.Goals as goal
 

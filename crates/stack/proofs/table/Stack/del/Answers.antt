@@ -1,5 +1,5 @@
 -- The order is that of the others, and the panel has no window.
-use Rattle.std.proofs.Common.{arith}
+use Rattle.stack.specs.{arith}
 use Rattle.stack.proofs.Tables.{deleted-panels, deleted-table, sound}
 use Rattle.stack.proofs.table.Stack.del.Goals as goal
 

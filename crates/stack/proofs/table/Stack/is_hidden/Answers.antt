@@ -1,5 +1,5 @@
 -- A node that names itself is a hidden panel's.
-use Rattle.std.proofs.Common.{arith}
+use Rattle.stack.specs.{arith}
 use Rattle.stack.proofs.Neighbours.{hidden-is}
 use Rattle.stack.proofs.table.Stack.is_hidden.Goals as goal
 

@@ -1,10 +1,5 @@
 -- The least free number is a panel's, with a window that no panel had, and on top.
-use Rattle.std.proofs.Common.{◌≡◌, ap, arith, rules, sym, ◌∙◌}
-use Rattle.std.specs.Prelude.{unwrap_or}
-use Rattle.world.specs.calls.Stacking.{new_panel_number, next_panel}
-use Rattle.world.specs.Effects.{with_panel}
-use Rattle.stack.specs.Tables.{panels, PanelTable}
-use Rattle.stack.specs.steps.Entries.{IsFree}
+use Rattle.stack.specs.{◌≡◌, ap, arith, rules, sym, ◌∙◌, unwrap_or, new_panel_number, next_panel, with_panel, panels, PanelTable, IsFree}
 use Rattle.stack.proofs.Searches.{none-has}
 use Rattle.stack.proofs.Tables.{made-panels, made-table, sound}
 use Rattle.stack.proofs.table.Stack.new_panel.Goals as goal

@@ -1,7 +1,5 @@
 -- The panel has another window, which no panel had, and the order is as it was.
-use Rattle.std.proofs.Common.{ap, arith, ◌∙◌, rules, refl}
-use Rattle.world.specs.calls.Stacking.{after_replace_panel}
-use Rattle.stack.specs.Tables.{panels, PanelTable}
+use Rattle.stack.specs.{ap, arith, ◌∙◌, rules, refl, after_replace_panel, panels, PanelTable}
 use Rattle.stack.proofs.Searches.{none-has}
 use Rattle.stack.proofs.Tables.{replaced-panels, replaced-table, sound}
 use Rattle.stack.proofs.table.Stack.replace.Goals as goal

@@ -1,5 +1,5 @@
 -- The order is that of the others with the panel after them.
-use Rattle.std.proofs.Common.{rules, refl, arith}
+use Rattle.stack.specs.{rules, refl, arith}
 use Rattle.stack.proofs.Tables.{reordered-panels, reordered-table, sound}
 use Rattle.stack.proofs.table.Stack.show.Goals as goal
 

@@ -1,5 +1,5 @@
 -- The order has no more panels than there are nodes.
-use Rattle.std.proofs.Common.{arith}
+use Rattle.stack.specs.{arith}
 use Rattle.stack.proofs.Threads.{few}
 use Rattle.stack.proofs.table.Stack.visible.Goals as goal
 

@@ -1,6 +1,5 @@
 -- The way down is the way up, reversed.
-use Rattle.std.proofs.Common.{arith}
-use Rattle.std.proofs.lemmas.List.{length-reverse}
+use Rattle.stack.specs.{arith, length-reverse}
 use Rattle.stack.proofs.Threads.{few, from_top-is}
 use Rattle.stack.proofs.table.Stack.visible_from_top.Goals as goal
 

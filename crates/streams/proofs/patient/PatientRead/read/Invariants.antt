@@ -1,6 +1,5 @@
 -- `Patient::read`: an interrupted read consumes nothing.
-use Rattle.std.proofs.Common.{◌≡◌, length}
-use Rattle.std.specs.Io.KnownBytes.{Keeps}
+use Rattle.streams.specs.{◌≡◌, length, Keeps}
 use Rattle.streams.proofs.patient.PatientRead.read.Given as goal
 
 abbrev pub invariant-loop : goal.invariant-loop

@@ -1,5 +1,5 @@
 -- `Patient::write`: an interrupted write appends nothing.
-use Rattle.std.specs.Io.KnownBytes.{Keeps}
+use Rattle.streams.specs.{Keeps}
 use Rattle.streams.proofs.patient.PatientWrite.write.Given as goal
 
 abbrev pub invariant-loop : goal.invariant-loop

@@ -1,6 +1,5 @@
 -- A printed character is typed (`CharacterRuns`), in a window of a known state (`Typing`); any other is a text of one.
-use Rattle.std.proofs.Common.{rules}
-use Rattle.std.proofs.lemmas.Bool.{and_parts}
+use Rattle.windows.specs.{rules, and_parts}
 use Rattle.windows.proofs.Calls.{drew}
 use Rattle.windows.proofs.CharacterRuns.{drawing-printed, typed-printed}
 use Rattle.windows.proofs.TextFrames.{frame-one}

@@ -1,6 +1,5 @@
 -- No character of a printed run is refused.
-use Rattle.std.proofs.Common.{arith}
-use Rattle.std.proofs.lemmas.Bool.{and_parts}
+use Rattle.windows.specs.{arith, and_parts}
 use Rattle.windows.proofs.Texts.{none_bad}
 use Rattle.windows.proofs.table.Windows.waddstr.Goals as goal
 

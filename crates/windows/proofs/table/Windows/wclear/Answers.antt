@@ -1,9 +1,8 @@
 -- The window is erased, and its settings have the flag.
-use Rattle.std.proofs.Common.{rules, ◌∙◌}
+use Rattle.windows.specs.{rules, ◌∙◌, after_clear}
 use Rattle.windows.proofs.Everywhere.{cleared-is, erased_frame}
 use Rattle.windows.proofs.Calls.{drew}
 use Rattle.windows.proofs.States.{set-known}
-use Rattle.world.specs.calls.Writing.{after_clear}
 use Rattle.windows.proofs.table.Windows.wclear.Goals as goal
 
 pub returns : goal.returns

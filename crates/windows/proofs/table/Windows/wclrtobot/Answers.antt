@@ -1,5 +1,5 @@
 -- The lines below are cleared, and with them the rest of the cursor's line.
-use Rattle.std.proofs.Common.{arith, rules}
+use Rattle.windows.specs.{arith, rules}
 use Rattle.windows.proofs.ToBottom.{clrtobot_frame-last, clrtobot_frame-more}
 use Rattle.windows.proofs.Calls.{drew}
 use Rattle.windows.proofs.table.Windows.wclrtobot.Goals as goal

@@ -1,5 +1,5 @@
 -- The rest of the cursor's line is cleared.
-use Rattle.std.proofs.Common.{rules}
+use Rattle.windows.specs.{rules}
 use Rattle.windows.proofs.ToEndOfLine.{clrtoeol_frame-is}
 use Rattle.windows.proofs.Calls.{drew}
 use Rattle.windows.proofs.table.Windows.wclrtoeol.Goals as goal

@@ -1,8 +1,5 @@
 -- `wdelch`: what a call does to a window of a known state, and the rectangle that it answers (`Calls`).
-use Rattle.std.proofs.Common.{refl, sym, ◌∙◌, rules}
-use Rattle.world.specs.Windows.{put}
-use Rattle.world.specs.calls.Writing.{delch_drawing}
-use Rattle.grids.specs.Tables.{windows}
+use Rattle.windows.specs.{refl, sym, ◌∙◌, rules, put, delch_drawing, windows}
 use Rattle.windows.proofs.Calls.{call-is, drew}
 use Rattle.windows.proofs.CharacterDeleted.{character_deleted_frame}
 use Rattle.windows.proofs.table.Windows.wdelch.Goals as goal

@@ -1,5 +1,5 @@
 -- Every line is cleared, and the cursor is at home.
-use Rattle.std.proofs.Common.{rules}
+use Rattle.windows.specs.{rules}
 use Rattle.windows.proofs.Everywhere.{erased, erased_frame}
 use Rattle.windows.proofs.Calls.{drew}
 use Rattle.windows.proofs.table.Windows.werase.Goals as goal

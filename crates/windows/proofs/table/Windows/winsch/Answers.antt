@@ -1,8 +1,5 @@
 -- `winsch`: what a call does to a window of a known state, and the rectangle that it answers (`Calls`).
-use Rattle.std.proofs.Common.{refl, sym, ◌∙◌, rules}
-use Rattle.world.specs.Windows.{put}
-use Rattle.world.specs.calls.Writing.{insch_drawing}
-use Rattle.grids.specs.Tables.{windows}
+use Rattle.windows.specs.{refl, sym, ◌∙◌, rules, put, insch_drawing, windows}
 use Rattle.windows.proofs.Calls.{call-is, drew}
 use Rattle.windows.proofs.CharacterInserted.{character_inserted_frame}
 use Rattle.windows.proofs.table.Windows.winsch.Goals as goal

@@ -1,5 +1,5 @@
 -- `end_line`: a character written at the cursor of a window of a known state (`Typing`).
-use Rattle.std.proofs.Common.{rules}
+use Rattle.windows.specs.{rules}
 use Rattle.windows.proofs.Typing.{ended, ended_frame}
 use Rattle.windows.proofs.writing.characters.end_line.Goals as goal
 

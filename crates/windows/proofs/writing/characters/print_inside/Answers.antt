@@ -1,5 +1,5 @@
 -- `print_inside`: a character written at the cursor of a window of a known state (`Typing`).
-use Rattle.std.proofs.Common.{rules}
+use Rattle.windows.specs.{rules}
 use Rattle.windows.proofs.Typing.{printed_inside, printed_inside_frame}
 use Rattle.windows.proofs.writing.characters.print_inside.Goals as goal
 

@@ -1,5 +1,5 @@
 -- `print_run`: characters that are printed in one line, before its last column, are one write of that line (`CharacterRuns`).
-use Rattle.std.proofs.Common.{refl}
+use Rattle.windows.specs.{refl}
 use Rattle.windows.proofs.CharacterRuns.{run_printed, run_frame}
 use Rattle.windows.proofs.writing.characters.print_run.Goals as goal
 

@@ -1,5 +1,4 @@
-use Rattle.std.proofs.Common.{◌≡◌, ℕ, ◌<◌, get_or, true}
-use Rattle.cell.specs.Glyphs.{is_printable}
+use Rattle.windows.specs.{◌≡◌, ℕ, ◌<◌, get_or, true, is_printable}
 use Rattle.windows.proofs.writing.characters.run_length.Given as goal
 
 -- the characters so far are printed

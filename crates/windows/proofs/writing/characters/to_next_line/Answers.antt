@@ -1,6 +1,5 @@
 -- `to_next_line`: a character written at the cursor of a window of a known state (`Typing`).
-use Rattle.std.proofs.Common.{◌≡◌, ◌==◌, ◌&&◌, false, arith, rules}
-use Rattle.std.proofs.lemmas.Bool.Decides.{nat_tests}
+use Rattle.windows.specs.{◌≡◌, ◌==◌, ◌&&◌, false, arith, rules, nat_tests}
 use Rattle.windows.proofs.Typing.{not_scrolled_frame, scrolled, scrolled_frame}
 use Rattle.windows.proofs.writing.characters.to_next_line.Goals as goal
 

@@ -1,11 +1,6 @@
 -- `type_character`: what moves the cursor alone writes nothing, and so has no rectangle (`FrameLaws` of `world`).
-use Rattle.std.proofs.Common.{◌≡◌, true, ap, arith, sym, ◌∙◌}
-use Rattle.std.proofs.lemmas.Bool.Decides.{nat_tests}
-use Rattle.cell.specs.Glyphs.{is_printable}
-use Rattle.world.specs.Frames.{frame_of}
+use Rattle.windows.specs.{◌≡◌, true, ap, arith, sym, ◌∙◌, nat_tests, is_printable, frame_of, windows, window_in_state}
 use Rattle.world.proofs.FrameLaws.{frame_of-none}
-use Rattle.grids.specs.Tables.{windows}
-use Rattle.windows.specs.steps.State.{window_in_state}
 use Rattle.windows.proofs.CharacterRuns.{drawing-printed, typed-printed}
 use Rattle.windows.proofs.writing.characters.type_character.Goals as goal
 

@@ -1,7 +1,6 @@
 -- `type_first`: characters that are printed in one line, before its last column, are one write of that line (`CharacterRuns`); a character written at the
 -- cursor of a window of a known state (`Typing`).
-use Rattle.std.proofs.Common.{get_or, take}
-use Rattle.grids.specs.Tables.{windows}
+use Rattle.windows.specs.{get_or, take, windows}
 use Rattle.windows.proofs.Typing.{added, added_frame}
 use Rattle.windows.proofs.CharacterRuns.{one_written, one_covered, text_keeps}
 use Rattle.windows.proofs.writing.characters.type_first.Goals as goal

@@ -1,7 +1,5 @@
 -- `type_text`: characters that are printed in one line, before its last column, are one write of that line (`CharacterRuns`).
-use Rattle.std.proofs.Common.{◌≡◌, [], arith}
-use Rattle.std.proofs.lemmas.List.{nil_from_length}
-use Rattle.grids.specs.Tables.{windows}
+use Rattle.windows.specs.{◌≡◌, [], arith, nil_from_length, windows}
 use Rattle.windows.proofs.CharacterRuns.{text_goes_on, frame_goes_on, rest_accepted}
 use Rattle.windows.proofs.TextFrames.{frame-nothing}
 use Rattle.windows.proofs.Texts.{joined-none}

@@ -1,11 +1,5 @@
-use Rattle.std.proofs.Common.{◌≡◌, IsSome, false, length}
-use Rattle.std.specs.List.{list_any}
-use Rattle.world.specs.Sound.{AreSoundWindows}
-use Rattle.world.specs.Frames.{frame_of_two}
-use Rattle.world.specs.Typing.{after_text}
+use Rattle.windows.specs.{◌≡◌, IsSome, false, length, list_any, AreSoundWindows, frame_of_two, after_text, is_bad_character, windows}
 use Rattle.windows.proofs.TextFrames.{text_frame}
-use Rattle.world.specs.calls.Writing.{is_bad_character}
-use Rattle.grids.specs.Tables.{windows}
 use Rattle.windows.proofs.writing.characters.type_text.Given as goal
 
 -- what is left is to be written, and then all is

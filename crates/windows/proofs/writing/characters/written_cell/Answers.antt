@@ -1,6 +1,5 @@
 -- `written_cell`: a character written at the cursor of a window of a known state (`Typing`).
-use Rattle.std.proofs.Common.{arith}
-use Rattle.std.proofs.lemmas.Bool.{eq-eqb, ne_eqb}
+use Rattle.windows.specs.{arith, eq-eqb, ne_eqb}
 use Rattle.windows.proofs.Typing.{written-is}
 use Rattle.windows.proofs.writing.characters.written_cell.Goals as goal
 use Rattle.windows.proofs.writing.characters.written_cell.Goals.{then-ch-eq32, else-ch-eq32}

@@ -1,9 +1,7 @@
 -- The region moves by its lines, one way or the other, or not at all.
-use Rattle.std.proofs.Common.{ap, sym, ◌∙◌, rules}
-use Rattle.std.proofs.lemmas.Int.{to_z-of_z}
+use Rattle.windows.specs.{ap, sym, ◌∙◌, rules, to_z-of_z, windows}
 use mir.Val.{of_z, to_z}
 use mir.Syntax.{w16}
-use Rattle.grids.specs.Tables.{windows}
 use Rattle.windows.proofs.Scrolls.{still, still_frame, scrolled_lines}
 use Rattle.windows.proofs.writing.scrolling.scroll.Goals as goal
 

@@ -1,13 +1,8 @@
 -- The panels, and the picture that they make of the windows.
 -- NetBSD panel(3): panels are windows with an order of depth, above the standard screen; hidden ones are not in it.
-use Rattle.std.specs.Prelude.{unwrap_or, ℕ, ◌+◌, ◌-◌, Bool, false, ◌==◌, ◌&&◌, Option, Some, None, List, [], ◌∷◌, reverse, find}
-use Rattle.std.specs.List.{filter_map, last_or}
-use Rattle.std.specs.Option.{option_map_or}
-use Rattle.cell.specs.Glyphs.{Glyph}
-use Rattle.cell.specs.Pictures.{Place, origin}
-use Rattle.cell.specs.declared.limits.TheConstants.{MOST_PANELS}
-use Rattle.cell.specs.declared.window.TheConstants.WinId.{STANDARD}
-use Rattle.world.specs.Windows.{Window, WindowMap, any_below, cell_at}
+use Rattle.world.specs.Names.{unwrap_or, ℕ, ◌+◌, ◌-◌, Bool, false, ◌==◌, ◌&&◌, Option, Some, None, List, [], ◌∷◌, reverse, find, filter_map, last_or}
+use Rattle.world.specs.Names.{option_map_or, Glyph, Place, origin, MOST_PANELS, STANDARD}
+use Rattle.world.specs.WindowMaps.{Window, WindowMap, any_below, cell_at}
 use Rattle.world.specs.Rows.{is_among}
 
 -- the visible panels from bottom to top, and the window of each panel, which is hidden where the list lacks it

@@ -1,14 +1,11 @@
 -- What the functions that read a line ensure about it.
-use Rattle.std.specs.Prelude.{◌≡◌, ℕ, List, ◌∷◌, Option, Some, None, Result, Ok, Err}
-use Rattle.std.specs.List.{slice_split}
-use Rattle.std.specs.Borrow.{Bor}
+use Rattle.script.specs.Names.{◌≡◌, ℕ, List, ◌∷◌, Option, Some, None, Result, Ok, Err, slice_split, Bor, Call}
 use Rattle.script.specs.Characters.{is_space}
 use Rattle.script.specs.Pieces.{pieces_of}
 use Rattle.script.specs.Readings.{arguments}
 use Rattle.script.specs.Texts.{parse_argument}
 use Rattle.script.specs.Words.{Arguments, entry_of}
 use Rattle.script.specs.declared.words.Form.{Form}
-use Rattle.world.specs.declared.call.Call.{Call}
 use Rattle.script.specs.declared.words.Word.{Word}
 use Rattle.script.specs.declared.fault.TextFault.{TextFault}
 

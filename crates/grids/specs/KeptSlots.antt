@@ -1,11 +1,6 @@
 -- What a slot keeps of a window, and the window that it represents.
-use Rattle.std.specs.Prelude.{◌≡◌, ℕ, ◌<◌, ◌≤◌, Option, None, List, length, slice_index_or, ⊤}
-use Rattle.cell.specs.Pictures.{Place, HasSize, AreCells, glyph_at}
-use Rattle.cell.specs.declared.limits.TheConstants.{LARGEST_PAD}
-use Rattle.world.specs.Windows.{Backing, own_grid, part_of, Window}
-use Rattle.world.specs.Sound.{AreColumnsWithin, AreSettingsWithin}
-use Rattle.world.specs.declared.settings.Columns.{Columns}
-use Rattle.world.specs.declared.settings.Settings.{Settings}
+use Rattle.grids.specs.Names.{◌≡◌, ℕ, ◌<◌, ◌≤◌, Option, None, List, length, slice_index_or, ⊤, Place, HasSize, AreCells, glyph_at, LARGEST_PAD, Backing}
+use Rattle.grids.specs.Names.{own_grid, part_of, Window, AreColumnsWithin, AreSettingsWithin, Columns, Settings}
 use Rattle.grids.specs.declared.slot.Cells.{Cells}
 use Rattle.grids.specs.declared.slot.Cells.TheVariants.{Own, Shared}
 use Rattle.grids.specs.declared.slot.Origin.{Origin}

@@ -1,22 +1,11 @@
 -- What `check` reports of the script that it reads.
-use Rattle.std.specs.Prelude.{◌≡◌, ◌⊎◌, ⊤, ◌==◌, ◌++◌, ◌∷◌, ◌-◌, ◌^◌, [], ℕ, Bool, true, false, not, List, Option, Some, None, Result, Ok, Err, codes, decimal, length, min, nat_lt, if◌then◌else◌}
-use Rattle.std.specs.List.{flat_map, slice_split}
-use Rattle.streams.specs.Sinks.{Seen}
-use Rattle.streams.specs.Sources.{SourceSeen}
-use Rattle.script.specs.Characters.{is_newline, newline}
+use Rattle.checks.specs.Names.{◌≡◌, ◌⊎◌, ⊤, ◌==◌, ◌++◌, ◌∷◌, ◌-◌, ◌^◌, [], ℕ, Bool, true, false, not, List, Option, Some, None, Result, Ok, Err, codes}
+use Rattle.checks.specs.Names.{decimal, length, min, nat_lt, if◌then◌else◌, flat_map, slice_split, Seen, SourceSeen, is_newline, newline, Refusal, last_line}
+use Rattle.checks.specs.Names.{next_number, parse_line, Reading, Log, TextFault, LineTooLong, LONGEST_LINE, Call, ReadsStream, Complains, IsNotWritten}
+use Rattle.checks.specs.Names.{IsWritten, Outputs, TriesToLog}
 use Rattle.checks.specs.Everywhere.{IsRefusedEverywhere}
 use Rattle.checks.specs.Faults.{column_of}
 use Rattle.checks.specs.Findings.{Says}
-use Rattle.cell.specs.declared.refusal.Refusal.{Refusal}
-use Rattle.script.specs.Log.{last_line}
-use Rattle.script.specs.Readings.{next_number, parse_line}
-use Rattle.script.specs.declared.fault.ScriptFault.TheVariants.{Reading, Log}
-use Rattle.script.specs.declared.fault.TextFault.{TextFault}
-use Rattle.script.specs.declared.fault.TextFault.TheVariants.{LineTooLong}
-use Rattle.script.specs.declared.limits.TheConstants.{LONGEST_LINE}
-use Rattle.world.specs.declared.call.Call.{Call}
-use Rattle.commands.specs.Shows.{ReadsStream}
-use Rattle.commands.specs.Written.{Complains, IsNotWritten, IsWritten, Outputs, TriesToLog}
 
 -- ---- the findings
 

@@ -1,15 +1,6 @@
 -- What `show` does with the stream that it reads.
-use Rattle.std.specs.Prelude.{◌≡◌, ◌⊎◌, ◌∷◌, ◌++◌, [], ℕ, Bool, true, false, not, List, codes, decimal, ⊤}
-use Rattle.std.specs.Io.KnownBytes.{Consumes, IsAtEnd}
-use Rattle.streams.specs.Counts.{count_after}
-use Rattle.streams.specs.Sinks.{Seen}
-use Rattle.streams.specs.Sources.{SourceSeen}
-use Rattle.ecma.specs.Readers.{HasFailed, blank_terminal}
-use Rattle.ecma.specs.Streams.{IsInProfile}
-use Rattle.ecma.specs.Terminals.{Terminal}
-use Rattle.script.specs.Characters.{newline}
-use Rattle.script.specs.Log.{last_line}
-use Rattle.script.specs.declared.fault.ScriptFault.TheVariants.{Reading, Log}
+use Rattle.commands.specs.Names.{◌≡◌, ◌⊎◌, ◌∷◌, ◌++◌, [], ℕ, Bool, true, false, not, List, codes, decimal, ⊤, Consumes, IsAtEnd, count_after, Seen}
+use Rattle.commands.specs.Names.{SourceSeen, HasFailed, blank_terminal, IsInProfile, Terminal, newline, last_line, Reading, Log}
 use Rattle.commands.specs.Printing.{printed_picture}
 use Rattle.commands.specs.Written.{Complains, IsNotWritten, IsWritten, Outputs, TriesToLog}
 use Rattle.commands.specs.declared.requests.Job.{Job}

@@ -1,8 +1,6 @@
 -- A call is two rows: its tests, in their order, and what it does where none of them holds.
-use Rattle.std.specs.Prelude.{ℕ, Bool, List}
-use Rattle.cell.specs.declared.refusal.Refusal.{Refusal}
-use Rattle.cell.specs.declared.refusal.Refusal.TheVariants.{NoSuchWindow}
-use Rattle.world.specs.Windows.{Windows, is_missing}
+use Rattle.world.specs.Names.{ℕ, Bool, List, Refusal, NoSuchWindow}
+use Rattle.world.specs.WindowMaps.{Windows, is_missing}
 
 pub record Rule (Effect : Type 0) : Type 0 where
   pub tests : List (Bool × Refusal)

@@ -1,8 +1,5 @@
 -- How a call is refused, at each layer.
-use Rattle.std.specs.Prelude.{◌≡◌, Bool, true, false, Option, Result}
-use Rattle.std.specs.Result.{result_err}
-use Rattle.cell.specs.Refusals.{RefusedBy}
-use Rattle.cell.specs.declared.refusal.Refusal.{Refusal}
+use Rattle.world.specs.Names.{◌≡◌, Bool, true, false, Option, Result, result_err, RefusedBy, Refusal}
 
 -- exactly by its tests; where it takes memory and none of them holds, also for lack of memory
 abbrev pub Refused : {T : Type 0} → Bool → Option Refusal → Result T Refusal → Type 0
