@@ -1,9 +1,22 @@
 //! Does what the command line asks for, over any reader and writers.
 
-ghost use Rattle.curspan.specs.{◌≡◌, ◌<◌, ◌⊎◌, IfOk, MatchResult, None, Some, map, RefusedBy, no_rendition, IsSize, sizes_of, text_of, printed_picture};
-ghost use Rattle.curspan.specs.{HasSize, PaintsScreen, Does, DoesJob, IsCreated, IsOpened, IsUnopened, Paints, Runs, RunsAndLogs, RunsBy, RunsQuietly};
-ghost use Rattle.curspan.specs.{Serves, ServesInvocation, ServesScript, nothing_seen, LacksMemory, Need, WritingEnds, outputs, world, first_painter};
-ghost use Rattle.curspan.specs.{first_world, new_refusal, world_after, Call, Refresh};
+ghost use Rattle.std.specs.Prelude.{◌≡◌, ◌<◌, ◌⊎◌, IfOk, MatchResult, None, Some, map};
+ghost use Rattle.cell.specs.Refusals.{RefusedBy};
+ghost use Rattle.cell.specs.Shown.{no_rendition};
+ghost use Rattle.commands.specs.CommandLine.{IsSize, sizes_of, text_of};
+ghost use Rattle.commands.specs.Printing.{printed_picture};
+ghost use Rattle.curspan.specs.steps.Painting.{HasSize, PaintsScreen};
+ghost use Rattle.curspan.specs.Serving.{Does, IsCreated, IsOpened, IsUnopened, Paints, Runs, RunsAndLogs, RunsBy, RunsQuietly, Serves, ServesInvocation, nothing_seen};
+ghost use Rattle.commands.specs.Statuses.{LacksMemory};
+ghost use Rattle.commands.specs.declared.status.Need.{Need};
+ghost use Rattle.commands.specs.Written.{WritingEnds, outputs};
+ghost use Rattle.compose.specs.Desks.{world};
+ghost use Rattle.paint.specs.Updates.{first_painter};
+ghost use Rattle.world.specs.World.{first_world};
+ghost use Rattle.world.specs.calls.Making.{new_refusal};
+ghost use Rattle.world.specs.calls.Dispatch.{world_after};
+ghost use Rattle.world.specs.declared.call.Call.{Call};
+ghost use Rattle.world.specs.declared.call.Refresh.{Refresh};
 
 use crate::opening::{FileSink, FileSource};
 use cell::Rendition;
@@ -170,27 +183,6 @@ fn paint<R: Source, O: Closable, L: Sink>(
     status
 }
 
-/// Does what is asked for with a screen, and answers the status.
-fn do_job<'a, R: Source, O: Closable, L: Sink>(
-    alloc: Global,
-    is_quiet: bool,
-    job: Job,
-    input: &mut R,
-    out: &'a mut O,
-    log: &mut L,
-) -> u8
-    requires { IsSize job.lines × IsSize job.cols }
-    ensures done { DoesJob ⟦<&'a mut O as Sink>⟧.seen ⟦<&'a mut O as Closable>⟧.closed ⟦<Discard as Sink>⟧.seen ⟦<Discard as Closable>⟧.closed is_quiet job (R.seen input.old) (R.seen input.new)
-        (outputs (O.seen out.old) (O.closed out.old) (L.seen log.old)) (outputs (O.seen out.new) (O.closed out.new) (L.seen log.new)) result }
-    ensures log { result < 2 → (L.seen log.new).failures ≡ (L.seen log.old).failures }
-{
-    match job.kind {
-        Kind::Run => run(alloc, is_quiet, job, input, out, log),
-        Kind::Paint => paint(alloc, is_quiet, job, input, out, log),
-        Kind::Show => show_stream(alloc, job, input, out, log),
-    }
-}
-
 /// Does what is asked for, and answers the status.
 fn perform<'a, R: Source, O: Closable, L: Sink>(
     alloc: Global,
@@ -207,7 +199,11 @@ fn perform<'a, R: Source, O: Closable, L: Sink>(
 {
     match request {
         Request::Check => check_script(input, out, log),
-        Request::Job(job) => do_job(alloc, is_quiet, job, input, out, log),
+        Request::Job(job) => match job.kind {
+            Kind::Run => run(alloc, is_quiet, job, input, out, log),
+            Kind::Paint => paint(alloc, is_quiet, job, input, out, log),
+            Kind::Show => show_stream(alloc, job, input, out, log),
+        },
     }
 }
 
@@ -247,31 +243,6 @@ fn open_log<L: FileSink>(name: Option<&str>, read: Option<&str>, log: &mut L) ->
     }
 }
 
-/// Reads the script that is named, and does with it what is asked for, and answers the status.
-fn perform_on_script<'a, R: FileSource, O: Closable, L: Sink>(
-    alloc: Global,
-    invocation: &Invocation<'_>,
-    input: &mut R,
-    out: &'a mut O,
-    log: &mut L,
-) -> u8
-    requires { HasSize invocation.now.request }
-    ensures { ServesScript ⟦<&'a mut O as Sink>⟧.seen ⟦<&'a mut O as Closable>⟧.closed ⟦<Discard as Sink>⟧.seen ⟦<Discard as Closable>⟧.closed (R.opens input.old) (R.unopened input.old) invocation.now (R.seen input.old) (R.seen input.new)
-        (outputs (O.seen out.old) (O.closed out.old) (L.seen log.old)) (outputs (O.seen out.new) (O.closed out.new) (L.seen log.new)) result }
-{
-    match open_script(invocation.script, input, log) {
-        Ok(()) => perform(
-            alloc,
-            invocation.is_quiet,
-            invocation.request,
-            input,
-            out,
-            log,
-        ),
-        Err(status) => status,
-    }
-}
-
 /// Opens the log that is named, reads the script, does with it what is asked for, and answers the status.
 fn perform_invocation<'a, R: FileSource, O: Closable, L: FileSink>(
     alloc: Global,
@@ -286,7 +257,17 @@ fn perform_invocation<'a, R: FileSource, O: Closable, L: FileSink>(
         (outputs (O.seen out.old) (O.closed out.old) (L.seen log.old)) (outputs (O.seen out.new) (O.closed out.new) (L.seen log.new)) result }
 {
     match open_log(invocation.log, invocation.script, log) {
-        Ok(()) => perform_on_script(alloc, invocation, input, out, log),
+        Ok(()) => match open_script(invocation.script, input, log) {
+            Ok(()) => perform(
+                alloc,
+                invocation.is_quiet,
+                invocation.request,
+                input,
+                out,
+                log,
+            ),
+            Err(status) => status,
+        },
         Err(status) => status,
     }
 }
