@@ -87,7 +87,7 @@ def table(parts, calls):
     variants = {call.word: f'{call.group}({call.variant})' for call in calls}
     rows = [row_of_rattle(row, variants) for _, rows in parts for row in rows]
     groups = [',\n      '.join(rows[at:at + GROUP]) for at in range(0, len(rows), GROUP)]
-    return '\n'.join([f'#[rattlefmt::skip]\npub const CURSES: [&[Row]; {len(groups)}] = [', *(f'    &[{group}],' for group in groups), '];'])
+    return '\n'.join([f'#[rattlefmt::skip]\npub const CURSES: [&[Advice]; {len(groups)}] = [', *(f'    &[{group}],' for group in groups), '];'])
 
 
 def entries(parts):
@@ -198,7 +198,7 @@ def file_of_curses(rows, calls, groups):
     uses = ''.join(f'use script::{it}::*;\n' for it in sorted(['Word', *(f'{group}Word' for group in groups)]))
     return f'''//! Names that are no calls, and what is said of them. Written by tools/calls from curses.table.
 
-use crate::suggest::Row;
+use crate::suggest::Advice;
 {uses}
 {table(rows, calls)}
 '''

@@ -6,7 +6,7 @@ use arrayvec::ArrayVec;
 use script::{WORDS, Word, WritingWord};
 
 /// Some names of curses and of other languages, with a space between any two, the calls to see in their place, and a note.
-pub type Row = (&'static [u8], &'static [Word], &'static [u8]);
+pub type Advice = (&'static [u8], &'static [Word], &'static [u8]);
 
 /// Room for a name: the longest that is known, and more.
 const NAME_ROOM: usize = 32;
@@ -62,12 +62,12 @@ fn is_among(name: &[u8], names: &[u8]) -> bool {
     names.split(|byte| *byte == b' ').any(|it| it == name)
 }
 
-/// The first row of some groups that has a name.
-fn row_of(groups: &[&[Row]], name: &[u8]) -> Option<Row> {
-    for rows in groups {
-        for row in *rows {
-            if is_among(name, row.0) {
-                return Some(*row);
+/// The first advice of some groups on a name.
+fn advice_on(groups: &[&[Advice]], name: &[u8]) -> Option<Advice> {
+    for group in groups {
+        for advice in *group {
+            if is_among(name, advice.0) {
+                return Some(*advice);
             }
         }
     }
@@ -96,7 +96,7 @@ fn is_said(said: &mut Said, moves: bool, name: Option<&[u8]>) -> bool {
         see(said, moves, &[call]);
         return true;
     }
-    let Some((_, words, note)) = row_of(&CURSES, name) else {
+    let Some((_, words, note)) = advice_on(&CURSES, name) else {
         return false;
     };
     if !note.is_empty() {

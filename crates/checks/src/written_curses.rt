@@ -1,6 +1,6 @@
 //! Names that are no calls, and what is said of them. Written by tools/calls from curses.table.
 
-use crate::suggest::Row;
+use crate::suggest::Advice;
 use script::CopyingWord::*;
 use script::MakingWord::*;
 use script::QueryWord::*;
@@ -10,7 +10,7 @@ use script::Word::*;
 use script::WritingWord::*;
 
 #[rattlefmt::skip]
-pub const CURSES: [&[Row]; 10] = [
+pub const CURSES: [&[Advice]; 10] = [
     &[(b"acs_hline acs_vline border border_set box box_set hline hline_set vline vline_set", &[Writing(Addstr)], b"lines are drawn by + - and |"),
       (b"add_wch add_wchnstr add_wchstr addnwstr addwstr echo_wchar pecho_wchar", &[Writing(Addstr), Writing(Addch)], b"characters are those of ASCII"),
       (b"addchnstr addnstr", &[Writing(Addstr)], b"no call takes a count"),
