@@ -291,6 +291,10 @@ int vw_printw(WINDOW *win, const char *format, va_list arguments) {
     va_list again;
     int answer = ERR;
     if (!format) return ERR;
+    if (strcmp(format, "%c") == 0) {
+        const char one[] = {(char)va_arg(arguments, int), 0};
+        return waddstr(win, one);
+    }
     va_copy(again, arguments);
     int length = vsnprintf(few, sizeof few, format, arguments);
     size_t size = (size_t)length + 1;

@@ -8,6 +8,8 @@ CALL(write_characters, "waddch", TIMES, if (i % 1800 == 0) wmove(win, 0, 0); wad
 CALL(write_coloured, "waddch with a pair", 0,
      if (i % 1800 == 0) wmove(win, 0, 0); waddch(win, (chtype)('a' + i % 26) | (chtype)COLOR_PAIR(1)))
 CALL(write_blanks, "waddch of a blank in reverse", 0, if (i % 1800 == 0) wmove(win, 0, 0); waddch(win, ' ' | A_REVERSE))
+CALL(write_one, "waddstr of 1", 0, if (i % 1800 == 0) wmove(win, 0, 0); waddstr(win, "x"))
+CALL(print_one, "wprintw of %c", 0, if (i % 1800 == 0) wmove(win, 0, 0); wprintw(win, "%c", 'x'))
 CALL(place_character, "mvwaddch", 0, mvwaddch(win, i % 24, i % 79, 'x'))
 CALL(place_text, "mvwaddstr of 6", 0, mvwaddstr(win, i % 24, i % 40, "a text"))
 CALL(place_part, "mvwaddnstr of 6", 0, mvwaddnstr(win, i % 24, i % 40, "a text of which a part", 6))

@@ -199,6 +199,30 @@ static void print_table(int times) {
     }
 }
 
+/* A list in a window that is in no panel, refreshed beside a panel over it, which tells what is chosen. */
+static void list(int times) {
+    static bool has_begun;
+    static WINDOW *items;
+    static PANEL *note;
+    static int chosen;
+    begin(&has_begun);
+    if (!items) {
+        items = newwin(24, 80, 0, 0);
+        note = new_panel(newwin(6, 30, 9, 40));
+        for (int y = 0; y < 24; y++) mvwprintw(items, y, 0, "%3d  an item of a list in a window", y);
+    }
+    for (; times > 0; times--) {
+        mvwchgat(items, chosen, 0, 80, A_NORMAL, 0, NULL);
+        chosen = (chosen + 1) % 24;
+        mvwchgat(items, chosen, 0, 80, A_REVERSE, 0, NULL);
+        mvwprintw(panel_window(note), 2, 3, "item %2d of 24", chosen);
+        wnoutrefresh(items);
+        update_panels();
+        doupdate();
+    }
+    hide_panel(note);
+}
+
 /* A log as large as the screen, of which some lines come. */
 static void scroll_log(int times) {
     static bool has_begun;
@@ -228,6 +252,7 @@ const struct measure ticks[] = {
     {"typing", type, 0},
     {"a menu", choose, 0},
     {"a table", print_table, 0},
+    {"a list beside a panel", list, 0},
     {"a log that scrolls", scroll_log, 0},
 };
 

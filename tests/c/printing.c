@@ -20,6 +20,8 @@ int main(void) {
     mvprintw(4, 10, "%s.", many);
     mvaddstr(11, 0, "a\ttab\tand\tmore\n\rthe next line\bE");
     mvaddstr(14, 0, "control \001 \033 \177 characters");
+    mvprintw(16, 4, "%c", 'c');
+    for (int i = 0; i < 5; i++) printw("%c", "\t\003\0\bd"[i]);
     wprintw(win, "%s %d", "in a window", 1);
     mvwprintw(win, 1, 2, "%03d", 7);
     wmove(win, 2, 0);

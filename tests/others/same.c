@@ -44,15 +44,18 @@ double drand48(void) { return rand() / 2147483648.0; }
 enum { MOVES = 20 };
 
 static int left = MOVES;
+static int reads_keys; /* or else a pause takes the key that ended it */
 static struct itimerval interval;
 static void (*move)(int);
 
 /* Stands for a pause. */
 static int pause_once(void) {
     struct pollfd input = {0, POLLIN, 0};
+    char key;
     if (left-- > 0) return 0;
     left = MOVES;
     while (poll(&input, 1, -1) < 0) continue;
+    if (!reads_keys) (void)!syscall(SYS_read, 0, &key, 1);
     return 0;
 }
 
@@ -85,6 +88,7 @@ int sigaction(int number, const struct sigaction *restrict action, struct sigact
 
 ssize_t read(int file, void *bytes, size_t count) {
     ssize_t found = syscall(SYS_read, file, bytes, count);
+    reads_keys |= file == 0;
     if (file == 0 && found > 0 && move) {
         left = MOVES;
         set_timer(&interval);
