@@ -1,5 +1,5 @@
 -- `perform_invocation`: where the script was opened, the log is as it was made.
-use Rattle.std.proofs.Common.{inr}
+use Rattle.curspan.specs.{inr}
 use Rattle.curspan.proofs.serve.perform_invocation.Goals as goal
 
 pub returns-in-Ok-open_script : goal.returns-in-Ok-open_script
