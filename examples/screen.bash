@@ -14,8 +14,8 @@ for curspan_found in "$curspan_here/../../bin/curspan" "$curspan_here/../curspan
     if [ -f "$curspan_found" ] && [ -x "$curspan_found" ]; then curspan_program=$curspan_found; fi
 done
 
-# What would end the script, but for what bash ignores or uses itself.
-curspan_deadly=(HUP INT TERM USR1 USR2 VTALRM PROF XCPU XFSZ ABRT SYS TRAP)
+# What would end the script, by numbers, but for what bash ignores or uses itself.
+mapfile -t curspan_deadly < <(kill -l HUP INT TERM USR1 USR2 VTALRM PROF XCPU XFSZ ABRT SYS TRAP)
 
 # Becomes the program, whose name among its words is in UTF-8 whatever its folder's is.
 curspan_run() { exec -a curspan "$curspan_program" "$@"; }
@@ -51,7 +51,7 @@ curspan_note_end() {
 }
 curspan_end() {
     curspan_hold
-    exit $((128 + $(kill -l "$curspan_ended")))
+    exit $((128 + curspan_ended))
 }
 
 # At exit what the script itself wanted then is done after the terminal is given back.
@@ -115,25 +115,30 @@ curspan_start() {
             followed=
             (printf '%s\n' "$BASHPID"; curspan_run run --lines "$curspan_lines" --cols "$curspan_columns" 2>&1 > /dev/tty)
             [ -n "$followed" ] || { curspan_give_terminal_back; curspan_unlock_terminal; }
+            echo over
         }
     } 2> /dev/null    # nor does bash say that the one before has only just ended
     ends=("${curspan_process[@]}") curspan_guard=${curspan_process_PID:-}
     curspan_calls=${ends[1]:-} curspan_sent=0
-    { exec {curspan_answers}<&"${ends[0]}"; } 2> /dev/null
+    # a Ctrl-C may have ended it before it could ignore that
+    if ! { exec {curspan_answers}<&"${ends[0]:-none}"; } 2> /dev/null; then
+        exec {curspan_answers}<> /dev/null
+        curspan_calls=$curspan_answers
+    fi
     curspan_read_answer
     curspan_drawer=$line
 }
 
-# Ends the program, which has made all calls, and waits for its shell: for two seconds, and then ends it too.
+# Ends the program, which has made all calls, and waits for its shell: for two seconds, and then ends it too. Where that
+# didn't give the terminal back, this does.
 curspan_stop() {
-    local line status=0
+    local line last='' status=0
     eval "exec $curspan_calls>&-"
     kill -KILL "$curspan_drawer"
-    while [ "$status" = 0 ]; do
-        read -r -t 2 -u "$curspan_answers" line || status=$?
-    done
+    while IFS= read -r -t 2 -u "$curspan_answers" line || { status=$?; false; }; do last=$line; done
     exec {curspan_answers}<&-
-    if [ "$status" -gt 128 ]; then kill -KILL "$curspan_guard"; curspan_give_terminal_back; fi
+    [ "$status" -le 128 ] || kill -KILL "$curspan_guard"
+    [ "$last" = over ] || curspan_give_terminal_back
 } 2> /dev/null
 
 curspan_open() {

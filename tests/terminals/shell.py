@@ -37,6 +37,8 @@ SITUATIONS = [
     ('a refused call', 'curspan_open || exit\ncurspan_call move 0 99 99 || said=$?\nREADY', b'x', 1, r'line 3: curspan_call: move 0 99 99 is refused: E5 OutsideWindow'),
     ('a program that is killed', 'curspan_open || exit\nSHOWN\nkill -KILL "$curspan_drawer"\nsleep 0.2\ncurspan_show\ncurspan_show\nREADY', b'', 2,
      r'line [78]: curspan_show: the program has ended'),
+    ('a shell of the program that is killed', 'curspan_open || exit\nkill -KILL "$curspan_guard"\nsleep 0.1\nREADY', b'', 2,
+     r'line [56]: curspan_\w+: the program has ended'),
     ('Ctrl-C while it waits for a key', 'curspan_open || exit\nREADY', b'\x03', 130, ''),
     ('Ctrl-C while it sleeps', 'curspan_open || exit\nSHOWN\nsleep 30\n', b'\x03', 130, ''),
     ('Ctrl-C while a command runs that ignores it',
