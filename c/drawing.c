@@ -19,15 +19,14 @@ static int draw(WINDOW *win, int y, int x, int n, chtype ch, bool down) {
     return curspan_put_cells(win, y, x, row, n);
 }
 
-int whline(WINDOW *win, chtype ch, int n) {
-    int y = getcury(win), x = getcurx(win), count = least(n, getmaxx(win) - x);
-    return y == ERR ? ERR : curspan_changed(win, draw(win, y, x, count, drawn(ch, ACS_HLINE), false));
+/* Draws from the cursor on, as far as the window goes. */
+static int draw_on(WINDOW *win, chtype ch, int n, bool down) {
+    int y = getcury(win), x = getcurx(win), count = least(n, down ? getmaxy(win) - y : getmaxx(win) - x);
+    return y == ERR ? ERR : curspan_changed(win, draw(win, y, x, count, ch, down));
 }
 
-int wvline(WINDOW *win, chtype ch, int n) {
-    int y = getcury(win), x = getcurx(win), count = least(n, getmaxy(win) - y);
-    return y == ERR ? ERR : curspan_changed(win, draw(win, y, x, count, drawn(ch, ACS_VLINE), true));
-}
+int whline(WINDOW *win, chtype ch, int n) { return draw_on(win, drawn(ch, ACS_HLINE), n, false); }
+int wvline(WINDOW *win, chtype ch, int n) { return draw_on(win, drawn(ch, ACS_VLINE), n, true); }
 
 int wborder(WINDOW *win, chtype left, chtype right, chtype top, chtype bottom, chtype top_left, chtype top_right,
             chtype bottom_left, chtype bottom_right) {

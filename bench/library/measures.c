@@ -1,7 +1,7 @@
 /* The same over Curspan or over ncurses, whose output goes nowhere, on a screen of LINES by COLUMNS. Without words it
-   puts out a line for each measure that is timed: its name, and the microseconds of processor time of one call or frame.
-   With `calls`, `frames`, or `tick` and a number it has callgrind dump what each takes of some, after as many that aren't
-   counted, and puts out a line for each: its name, and how many they were. */
+   puts out a line for each measure that is timed: its name, and the microseconds of processor time of one call or
+   frame. With `calls`, `frames`, or `tick` and a number it has callgrind dump what each takes of some, after as many
+   that aren't counted, and puts out a line for each: its name, and how many they were. */
 #include <curses.h>
 #include <panel.h>
 #include <stdio.h>
