@@ -1,7 +1,16 @@
 -- A picture is changed in some columns of a line, which are added to its changes.
-use Rattle.extents.specs.{◌≡◌, ℕ, ◌+◌, ◌<◌, ◌==◌, ◌&&◌, false, nat_le, nat_lt, if◌then◌else◌, List, Option, Some, None, length, refl, arith, slice_set}
-use Rattle.extents.specs.{get_or-set_other, get_or-set_same, cases_eq, cases_lt, eq-eqb, ne_eqb, nat_tests, length-set, Picture, shown_at, Shown}
-use Rattle.extents.specs.{joined_columns, among, Columns, AddsChanges, columns_of}
+use Rattle.std.proofs.Common.{◌≡◌, ℕ, ◌+◌, ◌<◌, ◌==◌, ◌&&◌, false, nat_le, nat_lt, if◌then◌else◌, List, Option, Some, None, length, refl, arith}
+use Rattle.std.specs.Prelude.{slice_set}
+use Rattle.std.proofs.Common.{get_or-set_other, get_or-set_same}
+use Rattle.std.proofs.lemmas.Bool.{cases_eq, cases_lt, eq-eqb, ne_eqb}
+use Rattle.std.proofs.lemmas.Bool.Decides.{nat_tests}
+use Rattle.std.proofs.lemmas.List.{length-set}
+use Rattle.cell.specs.Pictures.{Picture, shown_at}
+use Rattle.cell.specs.ShownCells.{Shown}
+use Rattle.world.specs.WindowMaps.{joined_columns}
+use Rattle.world.specs.calls.Refresh.{among}
+use Rattle.world.specs.declared.settings.Columns.{Columns}
+use Rattle.extents.specs.Extents.{AddsChanges, columns_of}
 
 -- a column that isn't among columns to which others were added
 not-joined : (o : Option Columns) (first last x : ℕ) → among (joined_columns o first last) x ≡ false → (among o x ≡ false) × (among (Some (record { first = first; last = last })) x ≡ false)

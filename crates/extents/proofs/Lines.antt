@@ -1,8 +1,17 @@
 -- The lines that have columns, one after another; and a rectangle that is added line by line.
-use Rattle.extents.specs.{◌≡◌, ℕ, ◌+◌, ◌-◌, ◌<◌, ◌≤◌, ◌&&◌, true, false, nat_le, nat_lt, if◌then◌else◌, List, Option, Some, None, length, set, refl, subst}
-use Rattle.extents.specs.{sym, ◌∙◌, arith, rules, MatchOption, replicate, slice_set, option_map_or, get_or-set_other, get_or-set_same, and_from, cases_eq}
-use Rattle.extents.specs.{cases_lt, le-leb, lt-ltb, nat_tests, ext_get_or, length-set, get_or-replicate, length-replicate, Rect, IsNext, contains}
-use Rattle.extents.specs.{joined_columns, Columns, columns_of}
+use Rattle.std.proofs.Common.{◌≡◌, ℕ, ◌+◌, ◌-◌, ◌<◌, ◌≤◌, ◌&&◌, true, false, nat_le, nat_lt, if◌then◌else◌, List, Option, Some, None, length, set, refl, subst, sym, ◌∙◌, arith, rules}
+use Rattle.std.specs.Prelude.{MatchOption, replicate, slice_set}
+use Rattle.std.specs.Option.{option_map_or}
+use Rattle.std.proofs.Common.{get_or-set_other, get_or-set_same}
+use Rattle.std.proofs.lemmas.Bool.{and_from, cases_eq, cases_lt, le-leb, lt-ltb}
+use Rattle.std.proofs.lemmas.Bool.Decides.{nat_tests}
+use Rattle.std.proofs.lemmas.List.{ext_get_or, length-set}
+use Rattle.std.proofs.lemmas.Simd.{get_or-replicate, length-replicate}
+use Rattle.cell.specs.declared.window.Rect.{Rect}
+use Rattle.small_set.specs.Sets.{IsNext, contains}
+use Rattle.world.specs.WindowMaps.{joined_columns}
+use Rattle.world.specs.declared.settings.Columns.{Columns}
+use Rattle.extents.specs.Extents.{columns_of}
 
 -- Lines that aren't in the set have no columns, nor have those before the next one of it that is looked at.
 pub record ClearedBefore (lines : List ℕ) (next : Option ℕ) (extents : List (Option Columns)) : Type 0 where

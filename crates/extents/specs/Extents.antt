@@ -1,6 +1,10 @@
 -- Of each line of a screen the columns from a first to a last, or none; and pictures that differ only there.
-use Rattle.extents.specs.Names.{◌≡◌, ℕ, ◌<◌, ◌≤◌, Bool, false, Option, None, List, length, is_some, slice_index_or, Picture, shown_at, LARGEST_SCREEN}
-use Rattle.extents.specs.Names.{contains, among, Columns}
+use Rattle.std.specs.Prelude.{◌≡◌, ℕ, ◌<◌, ◌≤◌, Bool, false, Option, None, List, length, is_some, slice_index_or}
+use Rattle.cell.specs.Pictures.{Picture, shown_at}
+use Rattle.cell.specs.declared.limits.TheConstants.{LARGEST_SCREEN}
+use Rattle.small_set.specs.Sets.{contains}
+use Rattle.world.specs.calls.Refresh.{among}
+use Rattle.world.specs.declared.settings.Columns.{Columns}
 
 -- the columns of a line
 abbrev pub columns_of : List (Option Columns) → ℕ → Option Columns

@@ -1,7 +1,10 @@
 //! Of each line of a screen some columns.
 
-ghost use Rattle.extents.specs.{◌≡◌, ◌<◌, ◌≤◌, ◌&&◌, ◌-◌, ℕ, None, Some, IfOk, if◌then◌else◌, length, nat_le, nat_lt, replicate, slice_set, true};
-ghost use Rattle.extents.specs.{LARGEST_SCREEN, contains, joined_columns, IsWithin, columns_of, has_columns};
+ghost use Rattle.std.specs.Prelude.{◌≡◌, ◌<◌, ◌≤◌, ◌&&◌, ◌-◌, ℕ, None, Some, IfOk, if◌then◌else◌, length, nat_le, nat_lt, replicate, slice_set, true};
+ghost use Rattle.cell.specs.declared.limits.TheConstants.{LARGEST_SCREEN};
+ghost use Rattle.small_set.specs.Sets.{contains};
+ghost use Rattle.world.specs.WindowMaps.{joined_columns};
+ghost use Rattle.extents.specs.Extents.{IsWithin, columns_of, has_columns};
 
 use cell::Rect;
 use small_set::SmallSet;

@@ -1,8 +1,12 @@
 -- The numbers of a set by its words, and which words have any: where one is added or removed, and where the least one from another on is.
-use Rattle.small_set.specs.{◌≡◌, ◌≢◌, ℕ, ◌+◌, ◌*◌, ◌/◌, ◌%◌, ◌^◌, ◌<◌, ◌≤◌, ◌==◌, ◌||◌, ◌∙◌, refl, eqb, length-set, List, length, inl, inr, get_or, set}
-use Rattle.small_set.specs.{bit_and, bit_or, w64, if◌then◌else◌, false, arith, get_or-set_same, get_or-set_other, bit_at, bit_not, and_zero_l, cases_eq}
-use Rattle.small_set.specs.{cases_lt, eq-eqb, ne_eqb, bit_at-zero, bit_at_set_same, bit_at_set_other, bit_at_clear_same, bit_at_clear_other, bit_at_and}
-use Rattle.small_set.specs.{get_or_past, HaveNumbers, IsFound, contains}
+use Rattle.std.proofs.Common.{◌≡◌, ◌≢◌, ℕ, ◌+◌, ◌*◌, ◌/◌, ◌%◌, ◌^◌, ◌<◌, ◌≤◌, ◌==◌, ◌||◌, ◌∙◌, refl, eqb, length-set, List, length, inl, inr}
+use Rattle.std.proofs.Common.{get_or, set, bit_and, bit_or, w64, if◌then◌else◌, false, arith, get_or-set_same, get_or-set_other}
+use Rattle.std.specs.Int.{bit_at, bit_not}
+use Rattle.std.specs.Int.Bits.{and_zero_l}
+use Rattle.std.proofs.lemmas.Bool.{cases_eq, cases_lt, eq-eqb, ne_eqb}
+use Rattle.std.proofs.lemmas.Nat.Bits.{bit_at-zero, bit_at_set_same, bit_at_set_other, bit_at_clear_same, bit_at_clear_other, bit_at_and}
+use Rattle.std.proofs.lemmas.List.{get_or_past}
+use Rattle.small_set.specs.Sets.{HaveNumbers, IsFound, contains}
 
 module _ (words : List ℕ) (number : ℕ) (within : number / 64 < length words) where
   abbrev word : ℕ

@@ -1,5 +1,6 @@
 -- Sets of numbers, as words of 64 bits.
-use Rattle.small_set.specs.Names.{◌≡◌, ℕ, ◌/◌, ◌%◌, ◌<◌, ◌≤◌, ◌==◌, Bool, true, false, MatchOption, Option, List, if◌then◌else◌, slice_index, bit_at}
+use Rattle.std.specs.Prelude.{◌≡◌, ℕ, ◌/◌, ◌%◌, ◌<◌, ◌≤◌, ◌==◌, Bool, true, false, MatchOption, Option, List, if◌then◌else◌, slice_index}
+use Rattle.std.specs.Int.{bit_at}
 
 -- the number is in the set: its bit is set
 abbrev pub contains : List ℕ → ℕ → Bool

@@ -1,6 +1,7 @@
 //! The bits of a word.
 
-ghost use Rattle.small_set.specs.{◌≡◌, ◌<◌, ◌≤◌, ℕ, bit_at};
+ghost use Rattle.std.specs.Prelude.{◌≡◌, ◌<◌, ◌≤◌, ℕ};
+ghost use Rattle.std.specs.Int.{bit_at};
 
 /// How many bits a word has.
 pub(crate) const WIDTH: u16 = 64;

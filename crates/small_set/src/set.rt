@@ -1,6 +1,7 @@
 //! A set of numbers below 1,024.
 
-ghost use Rattle.small_set.specs.{◌≡◌, ◌<◌, ◌==◌, ◌||◌, ℕ, true, false, if◌then◌else◌, IsLast, IsNext, contains};
+ghost use Rattle.std.specs.Prelude.{◌≡◌, ◌<◌, ◌==◌, ◌||◌, ℕ, true, false, if◌then◌else◌};
+ghost use Rattle.small_set.specs.Sets.{IsLast, IsNext, contains};
 
 use crate::bits::{WIDTH, bits_from, highest_bit, lowest_bit};
 use std::marker::Model;

@@ -1,6 +1,7 @@
 -- A bit below the place is masked away; one from there on is kept, also past the 64th, where none is set.
-use Rattle.small_set.specs.{◌-◌, ◌^◌, inl, inr, arith, bit_at_and, bit_at-lt, bit_at_above, bit_at_mask_above, bit_at_mask_below, bit_at_mask_inside}
-use Rattle.small_set.specs.{ones_shl, cases_lt}
+use Rattle.std.proofs.Common.{◌-◌, ◌^◌, inl, inr, arith}
+use Rattle.std.proofs.lemmas.Nat.Bits.{bit_at_and, bit_at-lt, bit_at_above, bit_at_mask_above, bit_at_mask_below, bit_at_mask_inside, ones_shl}
+use Rattle.std.proofs.lemmas.Bool.{cases_lt}
 use Rattle.small_set.proofs.bits.bits_from.Goals as goal
 
 pub returns-clause-below : goal.returns-clause-below

@@ -1,6 +1,9 @@
 -- A word whose highest set bit has place j is 2 ^ j and less than that more.
-use Rattle.small_set.specs.{◌≡◌, ℕ, suc, ◌+◌, ◌-◌, ◌*◌, ◌^◌, ◌<◌, ◌≤◌, ap, ◌∙◌, arith, bit_at, count_leading_zeros, leading_top, bit_at_above}
-use Rattle.small_set.specs.{bit_at_cat_high}
+use Rattle.std.proofs.Common.{◌≡◌, ℕ, suc, ◌+◌, ◌-◌, ◌*◌, ◌^◌, ◌<◌, ◌≤◌, ap, ◌∙◌, arith}
+use Rattle.std.specs.Int.{bit_at}
+use Rattle.std.specs.Int.Count.{count_leading_zeros}
+use Rattle.std.proofs.lemmas.Nat.{leading_top}
+use Rattle.std.proofs.lemmas.Nat.Bits.{bit_at_above, bit_at_cat_high}
 use Rattle.small_set.proofs.bits.highest_bit.Goals as goal
 
 top-set : (a j : ℕ) → 2 ^ j ≤ a → a < 2 ^ suc j → bit_at a j ≡ 1

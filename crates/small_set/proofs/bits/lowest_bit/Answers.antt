@@ -1,4 +1,5 @@
-use Rattle.small_set.specs.{arith, w64, bit_at-trailing_zeros}
+use Rattle.std.proofs.Common.{arith, w64}
+use Rattle.std.proofs.lemmas.Nat.Bits.{bit_at-trailing_zeros}
 use Rattle.small_set.proofs.bits.lowest_bit.Goals as goal
 
 pub returns-clause-set : goal.returns-clause-set

@@ -1,7 +1,10 @@
 -- `clear`: line by line of the set.
-use Rattle.extents.specs.{◌≡◌, ◌+◌, ◌<◌, ℕ, true, false, Option, None, is_some, List, length, length-set, ap, sym, subst, inl, inr, ◌∙◌, arith, cases_lt}
-use Rattle.extents.specs.{get_or_past, IsNext, Columns}
+use Rattle.std.proofs.Common.{◌≡◌, ◌+◌, ◌<◌, ℕ, true, false, Option, None, is_some, List, length, length-set, ap, sym, subst, inl, inr, ◌∙◌, arith}
+use Rattle.std.proofs.lemmas.Bool.{cases_lt}
+use Rattle.std.proofs.lemmas.List.{get_or_past}
+use Rattle.small_set.specs.Sets.{IsNext}
 use Rattle.extents.proofs.Lines.{cleared-more, looked-at, none-left, none-next}
+use Rattle.world.specs.declared.settings.Columns.{Columns}
 use Rattle.extents.proofs.extents.Extents.clear.Goals as goal
 
 pub loop-next-preserved : goal.loop-next-preserved

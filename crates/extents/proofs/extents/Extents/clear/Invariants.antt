@@ -1,4 +1,4 @@
-use Rattle.extents.specs.{◌≡◌, length}
+use Rattle.std.proofs.Common.{◌≡◌, length}
 use Rattle.extents.proofs.Lines.{ClearedBefore, lines-left}
 use Rattle.extents.proofs.extents.Extents.clear.Given as goal
 

@@ -1,5 +1,6 @@
 -- One line is widened, or all lines of the rectangle.
-use Rattle.extents.specs.{arith, common_steps}
+use Rattle.std.proofs.Common.{arith}
+use Rattle.std.proofs.lemmas.Grind.{common_steps}
 use Rattle.extents.proofs.Lines.{widened-all, widened-more, widened-none}
 use Rattle.extents.proofs.extents.Extents.rectangle.Goals as goal
 

@@ -1,5 +1,5 @@
 -- Each round adds one line more of the rectangle.
-use Rattle.extents.specs.{rules}
+use Rattle.std.proofs.Common.{rules}
 use Rattle.extents.proofs.Lines.{widened-all, widened-more}
 use Rattle.extents.proofs.extents.Extents.widen_lines.Goals as goal
 

@@ -1,4 +1,4 @@
-use Rattle.small_set.specs.{arith, length-set, ◌∙◌}
+use Rattle.std.proofs.Common.{arith, length-set, ◌∙◌}
 use Rattle.small_set.proofs.Words.{contains-inserted, numbers-inserted}
 use Rattle.small_set.proofs.set.SmallSet.insert.Goals as goal
 

@@ -1,5 +1,7 @@
 -- The words before are full, and the first clear bit of the next is the least.
-use Rattle.small_set.specs.{◌%◌, w64, arith, cases_lt, bit_at_ones, bit_at-trailing_ones}
+use Rattle.std.proofs.Common.{◌%◌, w64, arith}
+use Rattle.std.proofs.lemmas.Bool.{cases_lt}
+use Rattle.std.proofs.lemmas.Nat.Bits.{bit_at_ones, bit_at-trailing_ones}
 use Rattle.small_set.proofs.set.SmallSet.least_absent.Goals as goal
 
 pub returns-then-word-clause-absent : goal.returns-then-word-clause-absent

@@ -1,4 +1,5 @@
-use Rattle.small_set.specs.{◌≡◌, ◌*◌, ◌<◌, ℕ, true, contains}
+use Rattle.std.proofs.Common.{◌≡◌, ◌*◌, ◌<◌, ℕ, true}
+use Rattle.small_set.specs.Sets.{contains}
 use Rattle.small_set.proofs.set.SmallSet.least_absent.Given as goal
 
 -- the words before are full

@@ -1,5 +1,5 @@
 -- `next`: of its word there is none left, and the least one is in the next word that has any (`Words`).
-use Rattle.small_set.specs.{arith}
+use Rattle.std.proofs.Common.{arith}
 use Rattle.small_set.proofs.Words.{next-found}
 use Rattle.small_set.proofs.set.SmallSet.next.Goals as goal
 

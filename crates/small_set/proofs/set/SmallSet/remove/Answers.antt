@@ -1,5 +1,5 @@
 -- `remove`: one bit of a word is cleared, and that of the word where it has no number left (`Words`).
-use Rattle.small_set.specs.{◌∙◌, ◌/◌, ◌<◌, arith, length-set}
+use Rattle.std.proofs.Common.{◌∙◌, ◌/◌, ◌<◌, arith, length-set}
 use Rattle.small_set.proofs.Words.{contains-removed, numbers-emptied, numbers-left}
 use Rattle.small_set.proofs.set.SmallSet.remove.Goals.{then-word-eq0, else-word-eq0}
 use Rattle.small_set.proofs.set.SmallSet.remove.Goals as goal
