@@ -4,7 +4,7 @@
 # follows the size of the terminal, and ends no process: it says which one it would.
 set -uo pipefail
 . "$(dirname "$(readlink -f "${BASH_SOURCE[0]}")")/screen.bash"
-declare -A orders=([p]=-k1,1n [n]=-k2,2 [m]=-k3,3nr)
+declare -A orders=([p]='-k1,1n' [n]='-k2,2' [m]='-k3,3nr')
 order=m chosen=0 first=0 ended=0 rows=() asked=''
 
 # Reads number, name and memory in KiB of each process, sorted.
