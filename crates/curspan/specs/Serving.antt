@@ -6,7 +6,7 @@ use Rattle.clap.specs.declared.error.kind.ErrorKind.TheVariants.{OutOfMemory}
 use Rattle.cell.specs.Shown.{no_rendition}
 use Rattle.cell.specs.Pictures.{picture_of}
 use Rattle.world.specs.World.{World, first_world, picture, topmost_cursor}
-use Rattle.streams.specs.Sinks.{Seen}
+use Rattle.streams.specs.Sinks.{Seen, nothing_seen}
 use Rattle.streams.specs.Sources.{SourceSeen}
 use Rattle.streams.specs.Counts.{count_after}
 use Rattle.script.specs.Log.{last_line}
@@ -41,10 +41,6 @@ abbrev pub Refuses : Sizes → List Text → Outputs → Outputs → ℕ → Typ
 Refuses sizes words old new status = (kind : ErrorKind) × ((kind ≡ OutOfMemory) ⊎ IsRefused sizes words kind) × Explains kind old new status
 
 -- ---- a script
-
--- of a sink that keeps nothing
-abbrev pub nothing_seen : Seen
-nothing_seen = record { taken = None; failures = 0; flushes = 0; flushed = false }
 
 -- The script that was read ran on a screen, and ended so. A failure was counted exactly where its end has such a fault.
 -- After the lines of the calls the log gets a line about the fault, if there is one, and nothing else; none of a failed
