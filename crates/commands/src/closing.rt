@@ -1,12 +1,15 @@
 //! Outputs of which it is known whether somebody reads them.
 
-ghost use Rattle.commands.specs.{◌≡◌, ◌↔◌, Bool, IsErrAnd, IsTrue, false, is_err, WritesAtMost, Keeps, WriteAppends, ClosedAfter, count_after, next_count};
-ghost use Rattle.commands.specs.{write_fails, flushed_after_write, flushed_after_flush};
-ghost use Rattle.std.specs.IoError.{error_kind};
+ghost use Rattle.std.specs.Prelude.{◌≡◌, Bool, false, is_err};
+ghost use Rattle.std.specs.Io.{WritesAtMost};
+ghost use Rattle.std.specs.Io.KnownBytes.{Keeps, WriteAppends};
+ghost use Rattle.commands.specs.Closing.{ClosedAfter};
+ghost use Rattle.streams.specs.Counts.{count_after, next_count};
+ghost use Rattle.streams.specs.Sinks.{write_fails, flushed_after_write, flushed_after_flush};
 
 use std::io;
 use std::io::ErrorKind;
-use streams::{Discard, Sink};
+use streams::{Discard, Sink, fails_by};
 
 /// A sink of which it is known whether somebody reads it.
 pub trait Closable: Sink {
@@ -31,16 +34,6 @@ impl Closable for Discard {
 
     fn is_closed(&self) -> bool {
         false
-    }
-}
-
-/// Whether a call failed since nobody reads.
-fn finds_closed<T>(outcome: &io::Result<T>) -> bool
-    ensures { IsTrue result ↔ IsErrAnd outcome.now (λ e. error_kind e ≡ ErrorKind.BrokenPipe) }
-{
-    match outcome {
-        Ok(_) => false,
-        Err(error) => error.kind() == ErrorKind::BrokenPipe,
     }
 }
 
@@ -80,7 +73,7 @@ impl<W: Sink> Sink for Output<W> {
         ensures closed { ClosedAfter self.old.is_closed result self.new.is_closed }
     {
         let taken = self.sink.write(piece);
-        if finds_closed(&taken) {
+        if fails_by(&taken, ErrorKind::BrokenPipe) {
             self.is_closed = true;
         }
         taken
@@ -95,7 +88,7 @@ impl<W: Sink> Sink for Output<W> {
         ensures closed { ClosedAfter self.old.is_closed result self.new.is_closed }
     {
         let passed = self.sink.flush();
-        if finds_closed(&passed) {
+        if fails_by(&passed, ErrorKind::BrokenPipe) {
             self.is_closed = true;
         }
         passed

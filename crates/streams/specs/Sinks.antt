@@ -1,7 +1,7 @@
 -- Sinks. A sink takes a stream of bytes, piece by piece, and counts its failures. This says what has been seen of it so
 -- far.
 -- No standard says it; the answers are those of Rust's std::io::Write.
-use Rattle.streams.specs.Names.{if◌then◌else◌, ◌==◌, ℕ, List, Option, Result, Ok, Err, Bool, true, false}
+use Rattle.std.specs.Prelude.{if◌then◌else◌, ◌==◌, ℕ, List, Option, None, Result, Ok, Err, Bool, true, false}
 use Rattle.streams.specs.Counts.{moved_nothing}
 
 -- The bytes that it took so far, where they are known, how many failures it counted, how many flushes were tried, and
@@ -11,6 +11,10 @@ pub record Seen : Type 0 where
   pub failures : ℕ
   pub flushes : ℕ
   pub flushed : Bool
+
+-- of a sink that keeps nothing, before its first call
+abbrev pub nothing_seen : Seen
+nothing_seen = record { taken = None; failures = 0; flushes = 0; flushed = false }
 
 -- An error is a failure of a write, and so is an answer of 0 for a piece that isn't empty.
 abbrev pub write_fails : {E : Type 0} → List ℕ → Result ℕ E → Bool

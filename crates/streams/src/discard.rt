@@ -1,6 +1,7 @@
 //! A sink that keeps nothing.
 
-ghost use Rattle.streams.specs.{◌≡◌, None, false};
+ghost use Rattle.std.specs.Prelude.{◌≡◌, None};
+ghost use Rattle.streams.specs.Sinks.{nothing_seen};
 
 use crate::sink::Sink;
 use std::io;
@@ -15,7 +16,7 @@ pub struct Discard {
 impl Discard {
     /// A sink to which nothing was written.
     pub fn new() -> Discard
-        ensures { ⟦<Discard as Sink>⟧.seen result ≡ record { taken = None; failures = 0; flushes = 0; flushed = false } }
+        ensures { ⟦<Discard as Sink>⟧.seen result ≡ nothing_seen }
     {
         Discard {
             flushes: 0,

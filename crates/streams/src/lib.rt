@@ -1,7 +1,6 @@
-//! Streams of bytes: what takes them and what gives them, with a count of their failures; streams that a signal
-//! interrupts, and output that nobody reads to its end.
+//! Streams of bytes: what takes them and what gives them, with a count of their failures, and streams that a signal
+//! interrupts.
 //!
-//! - `closing`: an output that notes that nobody reads it, and the log beside it, which is silent then
 //! - `discard`: a sink that keeps nothing
 //! - `gather`: a text in a buffer of fixed size
 //! - `outcome`: by which kind of error a call failed
@@ -11,7 +10,6 @@
 //! - `source`: where bytes come from
 #![tactic(auto)]
 
-mod closing;
 mod discard;
 mod gather;
 mod outcome;
@@ -20,9 +18,9 @@ mod sending;
 mod sink;
 mod source;
 
-pub use closing::{Output, OutputLog};
 pub use discard::Discard;
 pub use gather::{MOST_DECIMAL_DIGITS, append, append_decimal};
+pub use outcome::fails_by;
 pub use patient::Patient;
 pub use sending::{Sent, WriteFault, send};
 pub use sink::{Counted, Sink};

@@ -6,7 +6,7 @@ use std::io;
 use std::io::ErrorKind;
 
 /// Whether a call failed by an error of this kind.
-pub(crate) fn fails_by<T>(outcome: &io::Result<T>, kind: ErrorKind) -> bool
+pub fn fails_by<T>(outcome: &io::Result<T>, kind: ErrorKind) -> bool
     ensures { IsTrue result ↔ IsErrAnd outcome.now (λ e. error_kind e ≡ kind) }
 {
     match outcome {

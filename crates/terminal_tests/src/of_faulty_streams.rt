@@ -1,11 +1,9 @@
-//! Streams that a signal interrupts, and outputs that nobody reads.
+//! Streams that a signal interrupts.
 
-use std::alloc::Global;
-use std::cell::Cell;
 use std::io;
 use std::io::{ErrorKind, Read, Write};
-use streams::{Output, OutputLog, Patient};
-use test_streams::{Halting, Interrupted, Pieces, Unread};
+use streams::Patient;
+use test_streams::{Halting, Interrupted, Pieces};
 
 /// Whether three reads of two bytes answer that, and leave these in their room.
 fn gives<R: Read>(mut reader: R, answers: [Result<usize, ErrorKind>; 3], left: &[u8]) -> bool
@@ -75,45 +73,4 @@ fn interrupted_writes_are_made_again(rt: HostRuntime) {
     assert!(rt; takes(Halting::in_pieces(rt.alloc(), 2, false), b"abxy", Ok(2)));
     let failed = Err(ErrorKind::Other);
     assert!(rt; takes(Halting::until(rt.alloc(), 3, true), b"abc", failed));
-}
-
-/// Logs a line, writes an answer and flushes it, and logs another line. Whether the log is these bytes then, and the
-/// second line answers that.
-fn logs<W: Write>(alloc: Global, writer: W, bytes: &[u8], second: Result<usize, ErrorKind>) -> bool
-where
-    W: Drop,
-{
-    let is_closed = Cell::new(false);
-    let mut out = Output {
-        writer,
-        is_closed: &is_closed,
-    };
-    let mut log = OutputLog {
-        writer: Vec::new(alloc),
-        is_closed: &is_closed,
-    };
-    let _ = log.write(b"first ");
-    let _ = out.write(b"answer").and_then(|_| out.flush());
-    let answer = log.write(b"second").map_err(|error| error.kind());
-    log.writer.as_slice() == bytes && answer == second
-}
-
-#[test]
-fn a_log_is_silent_once_nobody_reads_the_output(rt: HostRuntime) {
-    let closed = Err(ErrorKind::BrokenPipe);
-    for is_buffered in [false, true] {
-        assert!(rt; logs(rt.alloc(), Unread { is_buffered }, b"first ", closed));
-    }
-}
-
-/// Whether both lines are logged where answers go to a writer.
-fn logs_all(alloc: Global, writer: Halting) -> bool {
-    logs(alloc, writer, b"first second", Ok(6))
-}
-
-#[test]
-fn a_log_goes_on_where_the_output_fails(rt: HostRuntime) {
-    assert!(rt; logs_all(rt.alloc(), Halting::in_pieces(rt.alloc(), 100, false)));
-    assert!(rt; logs_all(rt.alloc(), Halting::until(rt.alloc(), 0, true)));
-    assert!(rt; logs_all(rt.alloc(), Halting::in_pieces(rt.alloc(), 100, true)));
 }

@@ -1,4 +1,4 @@
-//! Faulty readers and writers for tests: they give or take pieces, fail, are interrupted or closed, and count.
+//! Faulty readers and writers for tests: they give or take pieces, fail, are interrupted, and count.
 #![tactic(auto)]
 
 ghost use Rattle.std.specs.Prelude.{◌≡◌, ◌-◌, ◌^◌, None, Some, [], false, true};
@@ -157,26 +157,5 @@ impl<W: Write> Write for Interrupted<W> {
 
     fn flush(&mut self) -> io::Result<()> {
         self.stream.flush()
-    }
-}
-
-/// A writer that nobody reads.
-#[derive(Drop)]
-pub struct Unread {
-    /// Whether it takes what is written, so that only its flush fails.
-    pub is_buffered: bool,
-}
-
-impl Write for Unread {
-    fn write(&mut self, buf: &[u8]) -> io::Result<usize> {
-        if self.is_buffered {
-            Ok(buf.len())
-        } else {
-            Err(io::Error::from(ErrorKind::BrokenPipe))
-        }
-    }
-
-    fn flush(&mut self) -> io::Result<()> {
-        Err(io::Error::from(ErrorKind::BrokenPipe))
     }
 }
