@@ -33,7 +33,7 @@ pub use Rattle.std.specs.IoError.{error_kind}
 pub use Rattle.std.specs.Prelude.{⊤}
 pub use Rattle.std.specs.declared.io.ErrorKind.TheVariants.{IsADirectory, NotADirectory, NotFound, OutOfMemory, PermissionDenied}
 pub use Rattle.streams.specs.Counts.{count_after}
-pub use Rattle.streams.specs.Sinks.{Seen}
+pub use Rattle.streams.specs.Sinks.{Seen, nothing_seen}
 pub use Rattle.streams.specs.Sources.{SourceSeen}
 pub use Rattle.world.specs.Worlds.{World, first_world, picture, topmost_cursor}
 pub use Rattle.world.specs.calls.Dispatch.{world_after}

@@ -3,30 +3,8 @@ use Rattle.curspan.specs.Names.{◌≡◌, ◌⊎◌, ◌<◌, ℕ, Bool, List, 
 use Rattle.curspan.specs.Names.{picture_of, World, first_world, picture, topmost_cursor, Seen, SourceSeen, count_after, last_line, ScriptEnd, Log}
 use Rattle.curspan.specs.Names.{first_painter, world, ScriptEnds, read_failed, write_fault, ScreenOver, Checks, Asks, IsRefused, Sizes, text_of, SaysUnopened}
 use Rattle.curspan.specs.Names.{printed_picture, Shows, LacksMemory, SaysFault, status_of, Explains, Complains, IsNotWritten, IsWritten, Outputs, outputs}
-use Rattle.curspan.specs.Names.{OpenFault, Invocation, Screen, Job, Kind, Run, Paint, Show, Request}
+use Rattle.curspan.specs.Names.{OpenFault, Invocation, Screen, Job, Kind, Run, Paint, Show, Request, nothing_seen}
 use Rattle.clap.specs.declared.error.kind.ErrorKind.TheVariants.{OutOfMemory}
-use Rattle.cell.specs.Shown.{no_rendition}
-use Rattle.cell.specs.Pictures.{picture_of}
-use Rattle.world.specs.World.{World, first_world, picture, topmost_cursor}
-use Rattle.streams.specs.Sinks.{Seen, nothing_seen}
-use Rattle.streams.specs.Sources.{SourceSeen}
-use Rattle.streams.specs.Counts.{count_after}
-use Rattle.script.specs.Log.{last_line}
-use Rattle.script.specs.declared.fault.ScriptEnd.{ScriptEnd}
-use Rattle.script.specs.declared.fault.ScriptFault.TheVariants.{Log}
-use Rattle.paint.specs.Updates.{first_painter}
-use Rattle.compose.specs.Desks.{world}
-use Rattle.desk.specs.ScriptEnds.{ScriptEnds, read_failed, write_fault}
-use Rattle.desk.specs.States.{ScreenOver}
-use Rattle.checks.specs.Checks.{Checks}
-use Rattle.commands.specs.CommandLine.{Asks, IsRefused, Sizes, text_of}
-use Rattle.commands.specs.Opening.{SaysUnopened}
-use Rattle.commands.specs.Printing.{printed_picture}
-use Rattle.commands.specs.Shows.{Shows}
-use Rattle.commands.specs.Statuses.{LacksMemory, SaysFault, status_of}
-use Rattle.commands.specs.RefusedWords.{Explains}
-use Rattle.commands.specs.Written.{Complains, IsNotWritten, IsWritten, Outputs, outputs}
-use Rattle.commands.specs.declared.opening.OpenFault.{OpenFault}
 use Rattle.curspan.specs.Files.{IsUnread, IsUnwritten}
 use Rattle.commands.specs.declared.requests.Request.TheVariants as requests
 

@@ -1,23 +1,9 @@
 //! Does what the command line asks for, over any reader and writers.
 
-ghost use Rattle.std.specs.Prelude.{◌≡◌, ◌<◌, ◌⊎◌, IfOk, MatchResult, None, Some, map};
-ghost use Rattle.cell.specs.Refusals.{RefusedBy};
-ghost use Rattle.cell.specs.Shown.{no_rendition};
-ghost use Rattle.commands.specs.CommandLine.{IsSize, sizes_of, text_of};
-ghost use Rattle.commands.specs.Printing.{printed_picture};
-ghost use Rattle.curspan.specs.steps.Painting.{HasSize, PaintsScreen};
-ghost use Rattle.curspan.specs.Serving.{Does, IsCreated, IsOpened, IsUnopened, Paints, Runs, RunsAndLogs, RunsBy, RunsQuietly, Serves, ServesInvocation};
-ghost use Rattle.commands.specs.Statuses.{LacksMemory};
-ghost use Rattle.commands.specs.declared.status.Need.{Need};
-ghost use Rattle.commands.specs.Written.{WritingEnds, outputs};
-ghost use Rattle.compose.specs.Desks.{world};
-ghost use Rattle.paint.specs.Updates.{first_painter};
-ghost use Rattle.streams.specs.Sinks.{nothing_seen};
-ghost use Rattle.world.specs.World.{first_world};
-ghost use Rattle.world.specs.calls.Making.{new_refusal};
-ghost use Rattle.world.specs.calls.Dispatch.{world_after};
-ghost use Rattle.world.specs.declared.call.Call.{Call};
-ghost use Rattle.world.specs.declared.call.Refresh.{Refresh};
+ghost use Rattle.curspan.specs.{◌≡◌, ◌<◌, ◌⊎◌, IfOk, MatchResult, None, Some, map, RefusedBy, no_rendition, IsSize, sizes_of, text_of, printed_picture};
+ghost use Rattle.curspan.specs.{HasSize, PaintsScreen, Does, IsCreated, IsOpened, IsUnopened, Paints, Runs, RunsAndLogs, RunsBy, RunsQuietly, Serves};
+ghost use Rattle.curspan.specs.{ServesInvocation, LacksMemory, Need, WritingEnds, outputs, world, first_painter, nothing_seen, first_world, new_refusal};
+ghost use Rattle.curspan.specs.{world_after, Call, Refresh};
 
 use crate::opening::{FileSink, FileSource};
 use cell::Rendition;

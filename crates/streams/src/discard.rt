@@ -1,7 +1,6 @@
 //! A sink that keeps nothing.
 
-ghost use Rattle.std.specs.Prelude.{◌≡◌, None};
-ghost use Rattle.streams.specs.Sinks.{nothing_seen};
+ghost use Rattle.streams.specs.{◌≡◌, None, nothing_seen};
 
 use crate::sink::Sink;
 use std::io;
