@@ -44,7 +44,7 @@ Refuses sizes words old new status = (kind : ErrorKind) × ((kind ≡ OutOfMemor
 
 -- of a sink that keeps nothing
 abbrev pub nothing_seen : Seen
-nothing_seen = record { taken = None; failures = 0; flushes = 0; flushed = false }
+nothing_seen = record { taken = None; failures = 0; whole_writes = 0; flushes = 0; flushed = false }
 
 -- The script that was read ran on a screen, and ended so. A failure was counted exactly where its end has such a fault.
 -- After the lines of the calls the log gets a line about the fault, if there is one, and nothing else; none of a failed

@@ -10,7 +10,7 @@ ghost use Rattle.ecma.specs.declared.token.Erase.TheVariants.{ToEnd};
 ghost use Rattle.ecma.specs.declared.token.Token.TheVariants.{Ed, El};
 ghost use Rattle.streams.specs.Sending.{Sends};
 ghost use Rattle.streams.specs.Sinks.{Seen};
-ghost use Rattle.paint.specs.Updates.{opening};
+ghost use Rattle.paint.specs.Updates.{WritesFew, opening};
 ghost use Rattle.paint.specs.steps.Gathering.{Gathers, IsGathered, empty_outbox};
 ghost use Rattle.paint.specs.steps.Pens.{change, characters, first_pen, is_at, move_from, with_cells, within, Draws, Erases, IsPlainAt, SameTerminals};
 
@@ -224,6 +224,8 @@ impl Pen {
     pub fn finish<W: Sink>(&mut self, sink: &mut W) -> Result<u32, WriteFault>
         ensures sends { (start : Seen) (text : List ℕ) → IsGathered start (W.seen sink.old) self.old.outbox text → length text < 2 ^ 32
             → Sends start (W.seen sink.new) 0 text result }
+        ensures few { (start : Seen) (text : List ℕ) → IsGathered start (W.seen sink.old) self.old.outbox text
+            → WritesFew start (W.seen sink.new) (length text) }
         ensures same { SameTerminals (W.name sink.old) (W.name sink.new) self.old self.new }
     {
         self.outbox.finish(sink)
