@@ -1,7 +1,12 @@
 //! Outputs of which it is known whether somebody reads them.
 
-ghost use Rattle.commands.specs.{◌≡◌, Bool, false, is_err, WritesAtMost, Keeps, WriteAppends, ClosedAfter, count_after, next_count, write_fails};
-ghost use Rattle.commands.specs.{flushed_after_write, flushed_after_flush};
+ghost use Rattle.std.specs.Prelude.{◌≡◌, ◌↔◌, Bool, IsErrAnd, IsTrue, false, is_err};
+ghost use Rattle.std.specs.Io.{WritesAtMost};
+ghost use Rattle.std.specs.Io.KnownBytes.{Keeps, WriteAppends};
+ghost use Rattle.std.specs.IoError.{error_kind};
+ghost use Rattle.commands.specs.Closing.{ClosedAfter};
+ghost use Rattle.streams.specs.Counts.{count_after, next_count};
+ghost use Rattle.streams.specs.Sinks.{write_fails, write_is_whole, flushed_after_write, flushed_after_flush};
 
 use std::io;
 use std::io::ErrorKind;
@@ -63,6 +68,7 @@ impl<W: Sink> Sink for Output<W> {
         ensures bound { WritesAtMost result piece.now }
         ensures bytes { WriteAppends (W.seen self.old.sink).taken (W.seen self.new.sink).taken result piece.now }
         ensures failures { (W.seen self.new.sink).failures ≡ count_after (write_fails piece.now result) (W.seen self.old.sink).failures }
+        ensures writes { (W.seen self.new.sink).whole_writes ≡ count_after (write_is_whole piece.now result) (W.seen self.old.sink).whole_writes }
         ensures flushes { (W.seen self.new.sink).flushes ≡ (W.seen self.old.sink).flushes }
         ensures flushed { (W.seen self.new.sink).flushed ≡ flushed_after_write (W.seen self.old.sink).flushed result }
         ensures same { W.name self.new.sink ≡ W.name self.old.sink }
@@ -78,6 +84,7 @@ impl<W: Sink> Sink for Output<W> {
     fn flush(&mut self) -> io::Result<()>
         ensures bytes { Keeps (W.seen self.old.sink).taken (W.seen self.new.sink).taken }
         ensures failures { (W.seen self.new.sink).failures ≡ count_after (is_err result) (W.seen self.old.sink).failures }
+        ensures writes { (W.seen self.new.sink).whole_writes ≡ (W.seen self.old.sink).whole_writes }
         ensures flushes { (W.seen self.new.sink).flushes ≡ next_count (W.seen self.old.sink).flushes }
         ensures flushed { (W.seen self.new.sink).flushed ≡ flushed_after_flush (W.seen self.old.sink).flushed result }
         ensures same { W.name self.new.sink ≡ W.name self.old.sink }

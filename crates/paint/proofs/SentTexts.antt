@@ -1,16 +1,43 @@
 -- What a text that was sent means for a painter.
-use Rattle.paint.specs.{◌≡◌, Bool, ℕ, true, List, Ok, Err, arith, Keeps, take_all, WriteFault, next_count, Seen, Sends, PainterState, ShownPicture}
-use Rattle.paint.specs.{IsUpdateText, Updates, BreaksOff}
+use Rattle.std.proofs.Common.{◌≡◌, Bool, ℕ, ◌%◌, ◌^◌, true, List, length, Ok, Err, ap, ◌∙◌, arith}
+use Rattle.std.specs.Io.KnownBytes.{Keeps}
+use Rattle.std.proofs.lemmas.List.{take_all}
+use Rattle.streams.specs.declared.sending.WriteFault.{WriteFault}
+use Rattle.streams.specs.Counts.{next_count}
+use Rattle.streams.specs.Sinks.{Seen}
+use Rattle.streams.specs.Sending.{Sends}
+use Rattle.paint.specs.Updates.{PainterState, ShownPicture, IsUpdateText, Updates, BreaksOff, WritesFew}
 use Rattle.streams.proofs.Sends.{Appends-keeps, cut-unflushed, whole-flushed}
 
+-- a flush is no write
+flushed-few : {old mid new : Seen} {bytes : ℕ} → WritesFew old mid bytes → new.whole_writes ≡ mid.whole_writes → WritesFew old new bytes
+flushed-few h writes = record { writes = h.writes; few = h.few; count = ap (λ n. n % 2 ^ 64) writes ∙ h.count }
+
 module _ {painter : PainterState} {clear : Bool} {wanted : ShownPicture} {text : List ℕ} (is_text : IsUpdateText painter clear wanted text) where
-  pub updated : {old mid new : Seen} {total : ℕ} → Sends old mid 0 text (Ok total) → Keeps mid.taken new.taken → new.failures ≡ mid.failures
+  pub updated : {old mid new : Seen} {total : ℕ} → Sends old mid 0 text (Ok total) → WritesFew old mid (length text) → Keeps mid.taken new.taken → new.failures ≡ mid.failures → new.whole_writes ≡ mid.whole_writes
       → new.flushes ≡ next_count mid.flushes → new.flushed ≡ true → Updates painter clear old new wanted total
-  updated h keeps failures flushes flushed = grind (arith, Appends-keeps)
+  updated h few keeps failures writes flushes flushed = record {
+    text = text;
+    is_text = is_text;
+    count = grind arith;
+    taken = grind (arith, Appends-keeps);
+    no_failure = grind arith;
+    writes = flushed-few few writes;
+    flushes = grind arith;
+    flushed = flushed;
+  }
 
-  pub broken_flush : {old mid new : Seen} {total : ℕ} → Sends old mid 0 text (Ok total) → Keeps mid.taken new.taken → new.failures ≡ next_count mid.failures
+  pub broken_flush : {old mid new : Seen} {total : ℕ} → Sends old mid 0 text (Ok total) → WritesFew old mid (length text) → Keeps mid.taken new.taken → new.failures ≡ next_count mid.failures → new.whole_writes ≡ mid.whole_writes
       → new.flushes ≡ next_count mid.flushes → BreaksOff painter clear old new wanted total
-  broken_flush h keeps failures flushes = grind (arith, take_all, Appends-keeps, whole-flushed)
+  broken_flush h few keeps failures writes flushes = record {
+    text = text;
+    is_text = is_text;
+    within = grind arith;
+    taken = grind (arith, take_all, Appends-keeps);
+    failure = grind arith;
+    writes = flushed-few few writes;
+    flushes = grind (arith, whole-flushed);
+  }
 
-  pub broken_text : {old new : Seen} {fault : WriteFault} → Sends old new 0 text (Err fault) → BreaksOff painter clear old new wanted fault.sent
-  broken_text h = grind (arith, cut-unflushed)
+  pub broken_text : {old new : Seen} {fault : WriteFault} → Sends old new 0 text (Err fault) → WritesFew old new (length text) → BreaksOff painter clear old new wanted fault.sent
+  broken_text h few = grind (arith, cut-unflushed)

@@ -1,9 +1,23 @@
 -- What a doupdate sends, what it leaves of the painter, and which streams agree with a painter.
 -- X/Open Curses Issue 7: doupdate, clearok.
-use Rattle.paint.specs.Names.{◌≡◌, ℕ, ◌+◌, ◌*◌, ◌<◌, ◌≤◌, ◌==◌, ◌&&◌, List, [], ◌∷◌, ◌++◌, Bool, true, length, take, codes, Option, Some, None, ⊤}
-use Rattle.paint.specs.Names.{MatchOption, Result, MatchResult, if◌then◌else◌, is_ok, Appends, Picture, Place, HasSize, blank_picture, origin, Cup}
-use Rattle.paint.specs.Names.{difference, VirtualScreen, colour_difference, escape, colour_bytes, none_bytes, position_bytes, selection_bytes, spelling}
-use Rattle.paint.specs.Names.{Terminal, IsInProfile, LeadsWithBreaks, Shows, showing, count_after, next_count, Seen, Sent, WriteFault}
+use Rattle.std.specs.Prelude.{◌≡◌, ℕ, ◌+◌, ◌-◌, ◌*◌, ◌%◌, ◌^◌, ◌<◌, ◌≤◌, ◌==◌, ◌&&◌, List, [], ◌∷◌, ◌++◌, Bool, true, length, take, codes}
+use Rattle.std.specs.Prelude.{Option, Some, None, ⊤, MatchOption, Result, MatchResult, if◌then◌else◌, is_ok}
+use Rattle.std.specs.Io.KnownBytes.{Appends}
+use Rattle.cell.specs.Pictures.{Picture, Place, HasSize, blank_picture, origin}
+use Rattle.ecma.specs.declared.token.Token.TheVariants.{Cup}
+use Rattle.cell.specs.Differences.{difference}
+use Rattle.cell.specs.VirtualScreens.{VirtualScreen}
+use Rattle.cell.specs.declared.limits.TheConstants.{LARGEST_SCREEN}
+use Rattle.ecma.specs.Difference.{colour_difference}
+use Rattle.ecma.specs.Items.{escape}
+use Rattle.ecma.specs.Spelling.{colour_bytes, none_bytes, position_bytes, selection_bytes, spelling}
+use Rattle.ecma.specs.Terminals.{Terminal}
+use Rattle.ecma.specs.Streams.{IsInProfile, LeadsWithBreaks, Shows, showing}
+use Rattle.streams.specs.Counts.{count_after, next_count}
+use Rattle.streams.specs.Sinks.{Seen}
+use Rattle.paint.specs.declared.outbox.TheConstants.{ROOM}
+use Rattle.streams.specs.declared.sending.Sent.{Sent}
+use Rattle.streams.specs.declared.sending.WriteFault.{WriteFault}
 
 -- a picture with a cursor
 pub record ShownPicture : Type 0 where
@@ -90,6 +104,17 @@ pub record IsUpdateText (painter : PainterState) (clear : Bool) (wanted : ShownP
 
 -- ---- what a doupdate did
 
+-- how many bytes a full outbox has at least: it hasn't room for the characters of a line
+abbrev pub full_outbox : ℕ
+full_outbox = ROOM - LARGEST_SCREEN
+
+-- For so many bytes, at most one write for each full outbox, and one more, took all of its piece: so many writes there
+-- are where none is short.
+pub record WritesFew (old new : Seen) (bytes : ℕ) : Type 0 where
+  pub writes : ℕ
+  pub few : writes * full_outbox ≤ bytes + full_outbox
+  pub count : new.whole_writes % 2 ^ 64 ≡ (old.whole_writes + writes) % 2 ^ 64
+
 -- The sink took all of one text, and the one flush that was tried, after it, succeeded. No failure was counted.
 pub record Updates (painter : PainterState) (clear : Bool) (old new : Seen) (wanted : ShownPicture) (bytes : ℕ) : Type 0 where
   pub text : List ℕ
@@ -97,6 +122,7 @@ pub record Updates (painter : PainterState) (clear : Bool) (old new : Seen) (wan
   pub count : bytes ≡ length text
   pub taken : Appends old.taken new.taken text
   pub no_failure : new.failures ≡ old.failures
+  pub writes : WritesFew old new (length text)
   pub flushes : new.flushes ≡ next_count old.flushes
   pub flushed : new.flushed ≡ true
 
@@ -107,6 +133,7 @@ pub record BreaksOff (painter : PainterState) (clear : Bool) (old new : Seen) (w
   pub within : sent ≤ length text
   pub taken : Appends old.taken new.taken (take sent text)
   pub failure : new.failures ≡ next_count old.failures
+  pub writes : WritesFew old new (length text)
   pub flushes : new.flushes ≡ count_after (sent == length text) old.flushes
 
 -- a doupdate did the one or the other

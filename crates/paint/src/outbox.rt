@@ -1,7 +1,13 @@
 //! Gathers a text in a buffer of fixed size, from which it goes out in pieces.
 
-ghost use Rattle.paint.specs.{◌≡◌, ◌≤◌, ◌<◌, ◌+◌, ◌++◌, ◌^◌, ℕ, IfOk, List, [], length, slice_index_or, array_vec_len, IsShown, shown_blank, LANES, Sends};
-ghost use Rattle.paint.specs.{Seen, Gathers, GoesOut, IsGathered, empty_outbox, characters};
+ghost use Rattle.std.specs.Prelude.{◌≡◌, ◌≤◌, ◌<◌, ◌+◌, ◌++◌, ◌^◌, ℕ, IfOk, List, [], length, slice_index_or};
+ghost use Rattle.arrayvec.specs.ArrayVec.{array_vec_len};
+ghost use Rattle.cell.specs.Shown.{IsShown, shown_blank};
+ghost use Rattle.cell.specs.declared.lanes.TheConstants.{LANES};
+ghost use Rattle.cell.specs.declared.limits.TheConstants.{LARGEST_SCREEN};
+ghost use Rattle.streams.specs.Sending.{Sends, WritesOnce};
+ghost use Rattle.streams.specs.Sinks.{Seen};
+ghost use Rattle.paint.specs.Updates.{WritesFew};
 ghost use Rattle.paint.specs.declared.outbox.TheConstants.{ROOM};
 
 use arrayvec::ArrayVec;
@@ -53,7 +59,7 @@ impl Outbox {
 
     /// Puts a piece after what was gathered. Nothing is sent where there is room for it.
     pub fn put<W: Sink>(&mut self, sink: &mut W, piece: &[u8])
-        requires { length piece.now ≤ ROOM }
+        requires { length piece.now ≤ LARGEST_SCREEN }
         ensures gathers { Gathers (W.seen sink.old) (W.seen sink.new) self.old self.new piece.now }
         ensures quiet { length self.old.room + length piece.now ≤ ROOM → W.seen sink.new ≡ W.seen sink.old }
         ensures same { W.name sink.new ≡ W.name sink.old }
@@ -64,7 +70,7 @@ impl Outbox {
 
     /// Puts the characters of cells after what was gathered. Nothing is sent where there is room for them.
     pub fn put_characters<W: Sink>(&mut self, sink: &mut W, cells: &[Shown])
-        requires { length cells.now ≤ ROOM }
+        requires { length cells.now ≤ LARGEST_SCREEN }
         ensures gathers { Gathers (W.seen sink.old) (W.seen sink.new) self.old self.new (characters cells.now) }
         ensures quiet { length self.old.room + length cells.now ≤ ROOM → W.seen sink.new ≡ W.seen sink.old }
         ensures sound { (k : ℕ) → k < length cells.now → IsShown (slice_index_or cells.now k shown_blank) }
@@ -76,7 +82,7 @@ impl Outbox {
 
     /// Sends what was gathered, unless so many more bytes fit.
     fn make_room<W: Sink>(&mut self, sink: &mut W, more: usize)
-        requires { more ≤ ROOM }
+        requires { more ≤ LARGEST_SCREEN }
         ensures gathers { Gathers (W.seen sink.old) (W.seen sink.new) self.old self.new [] }
         ensures room { length self.new.room + more ≤ ROOM }
         ensures quiet { length self.old.room + more ≤ ROOM → W.seen sink.new ≡ W.seen sink.old }
@@ -89,7 +95,9 @@ impl Outbox {
 
     /// Sends what was gathered.
     fn hand_on<W: Sink>(&mut self, sink: &mut W)
-        ensures gathers { Gathers (W.seen sink.old) (W.seen sink.new) self.old self.new [] }
+        ensures goes_out { (start : Seen) (text : List ℕ) → GoesOut self.old.failed start (W.seen sink.old) self.old.room self.old.sent text
+            → GoesOut self.new.failed start (W.seen sink.new) [] self.new.sent (text ++ []) }
+        ensures once { WritesOnce (W.seen sink.old) (W.seen sink.new) }
         ensures empty { self.new.room ≡ [] }
         ensures same { W.name sink.new ≡ W.name sink.old }
     {
@@ -101,6 +109,8 @@ impl Outbox {
     pub fn finish<W: Sink>(&mut self, sink: &mut W) -> Result<u32, WriteFault>
         ensures sends { (start : Seen) (text : List ℕ) → IsGathered start (W.seen sink.old) self.old text → length text < 2 ^ 32
             → Sends start (W.seen sink.new) 0 text result }
+        ensures few { (start : Seen) (text : List ℕ) → IsGathered start (W.seen sink.old) self.old text
+            → WritesFew start (W.seen sink.new) (length text) }
         ensures same { W.name sink.new ≡ W.name sink.old }
     {
         self.hand_on(sink);
@@ -118,6 +128,7 @@ fn send_on<W: Sink>(sink: &mut W, piece: &[u8], sent: u32, failed: bool) -> (u32
     requires { length piece.now ≤ ROOM }
     ensures goes_out { (start : Seen) (text : List ℕ) → GoesOut failed start (W.seen sink.old) piece.now sent text
         → GoesOut result.1 start (W.seen sink.new) [] result.0 (text ++ []) }
+    ensures once { WritesOnce (W.seen sink.old) (W.seen sink.new) }
     ensures same { W.name sink.new ≡ W.name sink.old }
 {
     if failed {

@@ -1,8 +1,18 @@
 //! A pen: it knows where a terminal's cursor is and how the terminal prints, and draws there by strokes.
 
-ghost use Rattle.paint.specs.{◌≡◌, ◌+◌, ◌<◌, ◌≤◌, ◌++◌, [], ℕ, IfOk, List, length, slice_index_or, Some, ◌^◌, LARGEST_SCREEN, no_rendition, shown_blank};
-ghost use Rattle.paint.specs.{Picture, line_of, origin, spelling, IsToken, erased_at, erased_page, ToEnd, Ed, El, Sends, Seen, opening, Gathers, IsGathered};
-ghost use Rattle.paint.specs.{empty_outbox, change, characters, first_pen, is_at, move_from, with_cells, within, Draws, Erases, IsPlainAt, SameTerminals};
+ghost use Rattle.std.specs.Prelude.{◌≡◌, ◌+◌, ◌<◌, ◌≤◌, ◌++◌, [], ℕ, IfOk, List, length, slice_index_or, Some, ◌^◌};
+ghost use Rattle.cell.specs.declared.limits.TheConstants.{LARGEST_SCREEN};
+ghost use Rattle.cell.specs.Shown.{no_rendition, shown_blank};
+ghost use Rattle.cell.specs.Pictures.{Picture, line_of, origin};
+ghost use Rattle.ecma.specs.Spelling.{spelling, IsToken};
+ghost use Rattle.ecma.specs.Terminals.{erased_at, erased_page};
+ghost use Rattle.ecma.specs.declared.token.Erase.TheVariants.{ToEnd};
+ghost use Rattle.ecma.specs.declared.token.Token.TheVariants.{Ed, El};
+ghost use Rattle.streams.specs.Sending.{Sends};
+ghost use Rattle.streams.specs.Sinks.{Seen};
+ghost use Rattle.paint.specs.Updates.{WritesFew, opening};
+ghost use Rattle.paint.specs.steps.Gathering.{Gathers, IsGathered, empty_outbox};
+ghost use Rattle.paint.specs.steps.Pens.{change, characters, first_pen, is_at, move_from, with_cells, within, Draws, Erases, IsPlainAt, SameTerminals};
 
 use crate::outbox::Outbox;
 use bitflags::Flags;
@@ -214,6 +224,8 @@ impl Pen {
     pub fn finish<W: Sink>(&mut self, sink: &mut W) -> Result<u32, WriteFault>
         ensures sends { (start : Seen) (text : List ℕ) → IsGathered start (W.seen sink.old) self.old.outbox text → length text < 2 ^ 32
             → Sends start (W.seen sink.new) 0 text result }
+        ensures few { (start : Seen) (text : List ℕ) → IsGathered start (W.seen sink.old) self.old.outbox text
+            → WritesFew start (W.seen sink.new) (length text) }
         ensures same { SameTerminals (W.name sink.old) (W.name sink.new) self.old self.new }
     {
         self.outbox.finish(sink)

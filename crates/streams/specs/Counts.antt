@@ -1,4 +1,4 @@
--- How the failures of a sink or a source, and the flushes of a sink, are counted. No standard says it; the answers are
+-- How the failures of a sink or a source, and the writes and flushes of a sink, are counted. No standard says it; the answers are
 -- those of std::io.
 use Rattle.streams.specs.Names.{ℕ, ◌+◌, ◌%◌, ◌^◌, ◌==◌, ◌&&◌, nat_lt, if◌then◌else◌, Bool, List, length}
 
@@ -6,9 +6,9 @@ use Rattle.streams.specs.Names.{ℕ, ◌+◌, ◌%◌, ◌^◌, ◌==◌, ◌&&�
 abbrev pub next_count : ℕ → ℕ
 next_count n = (n + 1) % 2 ^ 64
 
--- a count of failures after a call that failed or didn't
+-- a count after a call that is counted or isn't, as one that failed
 abbrev pub count_after : Bool → ℕ → ℕ
-count_after failed failures = if failed then next_count failures else failures
+count_after counted count = if counted then next_count count else count
 
 -- no byte was taken of a piece that isn't empty, or none given to a buffer that has room
 abbrev pub moved_nothing : ℕ → List ℕ → Bool

@@ -8,6 +8,7 @@ use std::io;
 /// A sink that takes every byte, and keeps none. It never fails.
 #[derive(Drop)]
 pub struct Discard {
+    whole_writes: u64,
     flushes: u64,
     flushed: bool,
 }
@@ -18,6 +19,7 @@ impl Discard {
         ensures { ⟦<Discard as Sink>⟧.seen result ≡ nothing_seen }
     {
         Discard {
+            whole_writes: 0,
             flushes: 0,
             flushed: false,
         }
@@ -25,12 +27,13 @@ impl Discard {
 }
 
 impl Sink for Discard {
-    ghost seen = { λ s. record { taken = None; failures = 0; flushes = s.flushes; flushed = s.flushed } };
+    ghost seen = { λ s. record { taken = None; failures = 0; whole_writes = s.whole_writes; flushes = s.flushes; flushed = s.flushed } };
 
     fn write(&mut self, piece: &[u8]) -> io::Result<usize> {
         if !piece.is_empty() {
             self.flushed = false;
         }
+        self.whole_writes = self.whole_writes.wrapping_add(1);
         Ok(piece.len())
     }
 

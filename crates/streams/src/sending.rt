@@ -1,6 +1,7 @@
 //! Sending a text to a sink.
 
-ghost use Rattle.streams.specs.{◌≡◌, ◌+◌, ◌^◌, ◌<◌, length, Sends};
+ghost use Rattle.std.specs.Prelude.{◌≡◌, ◌+◌, ◌^◌, ◌<◌, length};
+ghost use Rattle.streams.specs.Sending.{Sends, WritesOnce};
 
 use crate::sink::Sink;
 
@@ -17,10 +18,11 @@ pub struct WriteFault {
 }
 
 /// Sends the next piece of a text, of which `sent` bytes went out, through as many writes as it takes. It answers how
-/// many bytes of the text went out then. An error, or an answer of 0, ends it.
+/// many bytes of the text went out then. An error, or an answer of 0, ends it. Where no write is short, it takes one.
 pub fn send<W: Sink>(sink: &mut W, sent: u32, piece: &[u8]) -> Result<u32, WriteFault>
     requires { sent + length piece.now < 2 ^ 32 }
     ensures sends { Sends (W.seen sink.old) (W.seen sink.new) sent piece.now result }
+    ensures once { WritesOnce (W.seen sink.old) (W.seen sink.new) }
     ensures same { W.name sink.new ≡ W.name sink.old }
 {
     let mut total = sent;

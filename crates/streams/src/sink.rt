@@ -1,7 +1,10 @@
 //! Sinks: what takes the bytes of a text.
 
-ghost use Rattle.streams.specs.{◌≡◌, ℕ, false, is_err, WritesAtMost, WriteAppends, Keeps, count_after, next_count, Seen, write_fails, flushed_after_write};
-ghost use Rattle.streams.specs.{flushed_after_flush};
+ghost use Rattle.std.specs.Prelude.{◌≡◌, ℕ, false, is_err};
+ghost use Rattle.std.specs.Io.{WritesAtMost};
+ghost use Rattle.std.specs.Io.KnownBytes.{WriteAppends, Keeps};
+ghost use Rattle.streams.specs.Counts.{count_after, next_count};
+ghost use Rattle.streams.specs.Sinks.{Seen, write_fails, write_is_whole, flushed_after_write, flushed_after_flush};
 
 use std::io;
 use std::io::Write;
@@ -9,7 +12,8 @@ use std::io::Write;
 /// What takes bytes, and counts its failures: an error, an answer of 0 for a piece that isn't empty, or a flush that
 /// fails.
 pub trait Sink {
-    // What it took, how often it failed, how often a flush was tried, and whether it was flushed.
+    // What it took, how often it failed, how many writes took all of their piece, how often a flush was tried, and
+    // whether it was flushed.
     ghost seen: { Self → Seen };
 
     // Which sink it is: two borrowed ones with one name are the same borrow. The name of one that isn't borrowed is 0.
@@ -20,6 +24,7 @@ pub trait Sink {
         ensures bound { WritesAtMost result piece.now }
         ensures bytes { WriteAppends (seen self.old).taken (seen self.new).taken result piece.now }
         ensures failures { (seen self.new).failures ≡ count_after (write_fails piece.now result) (seen self.old).failures }
+        ensures writes { (seen self.new).whole_writes ≡ count_after (write_is_whole piece.now result) (seen self.old).whole_writes }
         ensures flushes { (seen self.new).flushes ≡ (seen self.old).flushes }
         ensures flushed { (seen self.new).flushed ≡ flushed_after_write (seen self.old).flushed result }
         ensures same { name self.new ≡ name self.old };
@@ -28,6 +33,7 @@ pub trait Sink {
     fn flush(&mut self) -> io::Result<()>
         ensures bytes { Keeps (seen self.old).taken (seen self.new).taken }
         ensures failures { (seen self.new).failures ≡ count_after (is_err result) (seen self.old).failures }
+        ensures writes { (seen self.new).whole_writes ≡ (seen self.old).whole_writes }
         ensures flushes { (seen self.new).flushes ≡ next_count (seen self.old).flushes }
         ensures flushed { (seen self.new).flushed ≡ flushed_after_flush (seen self.old).flushed result }
         ensures same { name self.new ≡ name self.old };
@@ -52,6 +58,7 @@ impl<S: Sink> Sink for &mut S {
 pub struct Counted<W> {
     writer: W,
     failures: u64,
+    whole_writes: u64,
     flushes: u64,
     flushed: bool,
 }
@@ -59,11 +66,12 @@ pub struct Counted<W> {
 impl<W: Write> Counted<W> {
     /// A sink that took what the writer has taken, with no failure yet.
     pub fn new(writer: W) -> Counted<W>
-        ensures { ⟦<Counted<W> as Sink>⟧.seen result ≡ record { taken = W.contents writer; failures = 0; flushes = 0; flushed = false } }
+        ensures { ⟦<Counted<W> as Sink>⟧.seen result ≡ record { taken = W.contents writer; failures = 0; whole_writes = 0; flushes = 0; flushed = false } }
     {
         Counted {
             writer,
             failures: 0,
+            whole_writes: 0,
             flushes: 0,
             flushed: false,
         }
@@ -83,6 +91,7 @@ impl<W: Write> Counted<W> {
         let Counted {
             writer,
             failures: _,
+            whole_writes: _,
             flushes: _,
             flushed: _,
         } = self;
@@ -94,6 +103,7 @@ impl<W: Write> Sink for Counted<W> {
     ghost seen = { λ s. record {
       taken = W.contents s.writer;
       failures = s.failures;
+      whole_writes = s.whole_writes;
       flushes = s.flushes;
       flushed = s.flushed;
     } };
@@ -104,6 +114,12 @@ impl<W: Write> Sink for Counted<W> {
             Ok(0) if piece.is_empty() => {}
             Ok(0) | Err(_) => self.failures = self.failures.wrapping_add(1),
             Ok(_) => self.flushed = false,
+        }
+        match outcome {
+            Ok(taken) if taken == piece.len() => {
+                self.whole_writes = self.whole_writes.wrapping_add(1);
+            }
+            _ => {}
         }
         outcome
     }

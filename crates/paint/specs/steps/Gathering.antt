@@ -1,5 +1,8 @@
 -- A text that is gathered in an outbox and goes out in pieces, until a write fails.
-use Rattle.paint.specs.Names.{◌≡◌, ℕ, ◌-◌, ◌^◌, min, Bool, true, false, List, [], ◌++◌, length, Ok, Err, Seen, Sends}
+use Rattle.std.specs.Prelude.{◌≡◌, ℕ, ◌+◌, ◌-◌, ◌*◌, ◌%◌, ◌^◌, ◌≤◌, min, Bool, true, false, List, [], ◌++◌, length, Ok, Err}
+use Rattle.streams.specs.Sinks.{Seen}
+use Rattle.streams.specs.Sending.{Sends}
+use Rattle.paint.specs.Updates.{full_outbox}
 
 -- What is kept of a text: the bytes in the buffer, how many went out before them, and whether a write failed.
 pub record Outbox : Type 0 where
@@ -17,9 +20,13 @@ GoesOut false start now room sent text =
     (prefix : List ℕ) × (text ≡ prefix ++ room) × (sent ≡ saturating_u32 (length prefix)) × Sends start now 0 prefix (Ok (length prefix))
 GoesOut true start now room sent text = (taken : ℕ) × (sent ≡ saturating_u32 taken) × Sends start now 0 text (Err (record { sent = taken }))
 
--- The text was gathered: the sink was seen as `start` when it began, and is seen as `now`.
+-- The text was gathered: the sink was seen as `start` when it began, and is seen as `now`. Each write that took all of
+-- its piece took a full outbox.
 pub record IsGathered (start now : Seen) (outbox : Outbox) (text : List ℕ) : Type 0 where
   pub goes_out : GoesOut outbox.failed start now outbox.room outbox.sent text
+  pub writes : ℕ
+  pub full : writes * full_outbox + length outbox.room ≤ length text
+  pub count : now.whole_writes % 2 ^ 64 ≡ (start.whole_writes + writes) % 2 ^ 64
 
 -- nothing was gathered, and nothing went out
 abbrev pub empty_outbox : Outbox
