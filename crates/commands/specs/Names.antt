@@ -57,6 +57,6 @@ pub use Rattle.std.specs.Str.Parse.{IsNumeral, digits_value, without_leading_plu
 pub use Rattle.std.specs.declared.io.ErrorKind.TheVariants.{BrokenPipe}
 pub use Rattle.streams.specs.Counts.{count_after, moved_nothing, next_count}
 pub use Rattle.streams.specs.Sending.{Sends}
-pub use Rattle.streams.specs.Sinks.{Seen, flushed_after_flush, flushed_after_write, write_fails}
+pub use Rattle.streams.specs.Sinks.{Seen, flushed_after_flush, flushed_after_write, write_fails, write_is_whole}
 pub use Rattle.streams.specs.Sources.{SourceSeen}
 pub use Rattle.streams.specs.declared.sending.WriteFault.{WriteFault}

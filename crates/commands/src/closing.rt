@@ -1,12 +1,8 @@
 //! Outputs of which it is known whether somebody reads them.
 
-ghost use Rattle.std.specs.Prelude.{◌≡◌, ◌↔◌, Bool, IsErrAnd, IsTrue, false, is_err};
-ghost use Rattle.std.specs.Io.{WritesAtMost};
-ghost use Rattle.std.specs.Io.KnownBytes.{Keeps, WriteAppends};
+ghost use Rattle.commands.specs.{◌≡◌, ◌↔◌, Bool, IsErrAnd, IsTrue, false, is_err, WritesAtMost, Keeps, WriteAppends, ClosedAfter, count_after, next_count};
+ghost use Rattle.commands.specs.{write_fails, write_is_whole, flushed_after_write, flushed_after_flush};
 ghost use Rattle.std.specs.IoError.{error_kind};
-ghost use Rattle.commands.specs.Closing.{ClosedAfter};
-ghost use Rattle.streams.specs.Counts.{count_after, next_count};
-ghost use Rattle.streams.specs.Sinks.{write_fails, write_is_whole, flushed_after_write, flushed_after_flush};
 
 use std::io;
 use std::io::ErrorKind;

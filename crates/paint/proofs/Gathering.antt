@@ -1,13 +1,7 @@
 -- A text that is gathered, appended to, and passed on.
-use Rattle.std.proofs.Common.{◌≡◌, ℕ, ◌+◌, ◌-◌, ◌%◌, ◌^◌, ◌≤◌, true, false, List, [], ◌++◌, length, Err, arith, add_assoc, append-nil}
-use Rattle.std.proofs.Math.Nat.{mod-add-mod}
-use Rattle.std.specs.Prelude.{min}
-use Rattle.streams.specs.Sinks.{Seen}
-use Rattle.streams.specs.Sending.{Sends, WritesOnce}
-use Rattle.streams.specs.declared.sending.WriteFault.{WriteFault}
+use Rattle.paint.specs.{◌≡◌, ℕ, ◌+◌, ◌-◌, ◌%◌, ◌^◌, ◌≤◌, true, false, List, [], ◌++◌, length, Err, arith, add_assoc, append-nil, mod-add-mod, min, Seen}
+use Rattle.paint.specs.{Sends, WritesOnce, WriteFault, WritesFew, full_outbox, Gathers, GoesOut, IsGathered, Outbox}
 use Rattle.streams.proofs.Sends.{Sends-then}
-use Rattle.paint.specs.Updates.{WritesFew, full_outbox}
-use Rattle.paint.specs.steps.Gathering.{Gathers, GoesOut, IsGathered, Outbox}
 
 -- once a write failed the room is of no account
 pub goes_out-failed : (start now : Seen) (sent : ℕ) (text : List ℕ) → GoesOut true start now [] sent text → GoesOut true start now [] sent (text ++ [])

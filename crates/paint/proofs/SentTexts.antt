@@ -1,12 +1,6 @@
 -- What a text that was sent means for a painter.
-use Rattle.std.proofs.Common.{◌≡◌, Bool, ℕ, ◌%◌, ◌^◌, true, List, length, Ok, Err, ap, ◌∙◌, arith}
-use Rattle.std.specs.Io.KnownBytes.{Keeps}
-use Rattle.std.proofs.lemmas.List.{take_all}
-use Rattle.streams.specs.declared.sending.WriteFault.{WriteFault}
-use Rattle.streams.specs.Counts.{next_count}
-use Rattle.streams.specs.Sinks.{Seen}
-use Rattle.streams.specs.Sending.{Sends}
-use Rattle.paint.specs.Updates.{PainterState, ShownPicture, IsUpdateText, Updates, BreaksOff, WritesFew}
+use Rattle.paint.specs.{◌≡◌, Bool, ℕ, ◌%◌, ◌^◌, true, List, length, Ok, Err, ap, ◌∙◌, arith, Keeps, take_all, WriteFault, next_count, Seen, Sends}
+use Rattle.paint.specs.{PainterState, ShownPicture, IsUpdateText, Updates, BreaksOff, WritesFew}
 use Rattle.streams.proofs.Sends.{Appends-keeps, cut-unflushed, whole-flushed}
 
 -- a flush is no write

@@ -1,23 +1,10 @@
 -- What a doupdate sends, what it leaves of the painter, and which streams agree with a painter.
 -- X/Open Curses Issue 7: doupdate, clearok.
-use Rattle.std.specs.Prelude.{◌≡◌, ℕ, ◌+◌, ◌-◌, ◌*◌, ◌%◌, ◌^◌, ◌<◌, ◌≤◌, ◌==◌, ◌&&◌, List, [], ◌∷◌, ◌++◌, Bool, true, length, take, codes}
-use Rattle.std.specs.Prelude.{Option, Some, None, ⊤, MatchOption, Result, MatchResult, if◌then◌else◌, is_ok}
-use Rattle.std.specs.Io.KnownBytes.{Appends}
-use Rattle.cell.specs.Pictures.{Picture, Place, HasSize, blank_picture, origin}
-use Rattle.ecma.specs.declared.token.Token.TheVariants.{Cup}
-use Rattle.cell.specs.Differences.{difference}
-use Rattle.cell.specs.VirtualScreens.{VirtualScreen}
-use Rattle.cell.specs.declared.limits.TheConstants.{LARGEST_SCREEN}
-use Rattle.ecma.specs.Difference.{colour_difference}
-use Rattle.ecma.specs.Items.{escape}
-use Rattle.ecma.specs.Spelling.{colour_bytes, none_bytes, position_bytes, selection_bytes, spelling}
-use Rattle.ecma.specs.Terminals.{Terminal}
-use Rattle.ecma.specs.Streams.{IsInProfile, LeadsWithBreaks, Shows, showing}
-use Rattle.streams.specs.Counts.{count_after, next_count}
-use Rattle.streams.specs.Sinks.{Seen}
+use Rattle.paint.specs.Names.{◌≡◌, ℕ, ◌+◌, ◌-◌, ◌*◌, ◌%◌, ◌^◌, ◌<◌, ◌≤◌, ◌==◌, ◌&&◌, List, [], ◌∷◌, ◌++◌, Bool, true, length, take, codes, Option, Some, None}
+use Rattle.paint.specs.Names.{⊤, MatchOption, Result, MatchResult, if◌then◌else◌, is_ok, Appends, Picture, Place, HasSize, blank_picture, origin, Cup}
+use Rattle.paint.specs.Names.{difference, VirtualScreen, LARGEST_SCREEN, colour_difference, escape, colour_bytes, none_bytes, position_bytes, selection_bytes}
+use Rattle.paint.specs.Names.{spelling, Terminal, IsInProfile, LeadsWithBreaks, Shows, showing, count_after, next_count, Seen, Sent, WriteFault}
 use Rattle.paint.specs.declared.outbox.TheConstants.{ROOM}
-use Rattle.streams.specs.declared.sending.Sent.{Sent}
-use Rattle.streams.specs.declared.sending.WriteFault.{WriteFault}
 
 -- a picture with a cursor
 pub record ShownPicture : Type 0 where

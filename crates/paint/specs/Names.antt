@@ -19,11 +19,12 @@ pub use Rattle.ecma.specs.declared.token.Token.{Token}
 pub use Rattle.ecma.specs.declared.token.Token.TheVariants.{Cup, Ed, El, Print, Sgr}
 pub use Rattle.extents.specs.Extents.{DifferOnly, IsWithin, columns_of}
 pub use Rattle.std.proofs.Common.{Bool, Err, IfErr, IfNone, IfOk, IsErrOf, IsTrue, List, MatchOption, MatchResult, None, Ok, Option, Result, Some, []}
-pub use Rattle.std.proofs.Common.{add-one, ap, append-nil, append_assoc, arith, codes, cond, count_by, drop, eq-eqb, eqb, false, filter, get_or}
+pub use Rattle.std.proofs.Common.{add-one, add_assoc, ap, append-nil, append_assoc, arith, codes, cond, count_by, drop, eq-eqb, eqb, false, filter, get_or}
 pub use Rattle.std.proofs.Common.{if◌then◌else◌, inl, inr, is_ok, length, length-append, length-drop, length-set, length-take-le, map, min, nat_le, nat_lt}
 pub use Rattle.std.proofs.Common.{ne_eqb, not, refl, replicate, rules, set, slice_index_or, subst, suc, sum_by, sym, take, true, w32, zero, ℕ, ◌%◌, ◌&&◌, ◌*◌}
 pub use Rattle.std.proofs.Common.{◌++◌, ◌+◌, ◌-◌, ◌<◌, ◌==◌, ◌^◌, ◌||◌, ◌↔◌, ◌∙◌, ◌∷◌, ◌≡◌, ◌≢◌, ◌≤◌, ◌⊎◌}
 pub use Rattle.std.proofs.Math.ListN.{get_or-append, get_or-map}
+pub use Rattle.std.proofs.Math.Nat.{mod-add-mod}
 pub use Rattle.std.proofs.Math.Seq.{take-add, take-length}
 pub use Rattle.std.proofs.Props.{props}
 pub use Rattle.std.proofs.lemmas.Bool.{and_parts, cases_Bool, cases_eq, cases_lt, eqb-true, le-leb, le-ltb, lt-leb, lt-ltb}
@@ -44,7 +45,7 @@ pub use Rattle.std.specs.Option.{option_map, option_map_or, unwrap_or}
 pub use Rattle.std.specs.Prelude.{All, ⊤}
 pub use Rattle.std.specs.Simd.Lanes.{mask_l, top, zip2}
 pub use Rattle.streams.specs.Counts.{count_after, next_count}
-pub use Rattle.streams.specs.Sending.{Sends}
+pub use Rattle.streams.specs.Sending.{Sends, WritesOnce}
 pub use Rattle.streams.specs.Sinks.{Seen}
 pub use Rattle.streams.specs.declared.sending.Sent.{Sent}
 pub use Rattle.streams.specs.declared.sending.WriteFault.{WriteFault}

@@ -1,13 +1,7 @@
 //! Gathers a text in a buffer of fixed size, from which it goes out in pieces.
 
-ghost use Rattle.std.specs.Prelude.{◌≡◌, ◌≤◌, ◌<◌, ◌+◌, ◌++◌, ◌^◌, ℕ, IfOk, List, [], length, slice_index_or};
-ghost use Rattle.arrayvec.specs.ArrayVec.{array_vec_len};
-ghost use Rattle.cell.specs.Shown.{IsShown, shown_blank};
-ghost use Rattle.cell.specs.declared.lanes.TheConstants.{LANES};
-ghost use Rattle.cell.specs.declared.limits.TheConstants.{LARGEST_SCREEN};
-ghost use Rattle.streams.specs.Sending.{Sends, WritesOnce};
-ghost use Rattle.streams.specs.Sinks.{Seen};
-ghost use Rattle.paint.specs.Updates.{WritesFew};
+ghost use Rattle.paint.specs.{◌≡◌, ◌≤◌, ◌<◌, ◌+◌, ◌++◌, ◌^◌, ℕ, IfOk, List, [], length, slice_index_or, array_vec_len, IsShown, shown_blank, LANES};
+ghost use Rattle.paint.specs.{LARGEST_SCREEN, Sends, WritesOnce, Seen, WritesFew};
 ghost use Rattle.paint.specs.declared.outbox.TheConstants.{ROOM};
 
 use arrayvec::ArrayVec;

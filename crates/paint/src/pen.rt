@@ -1,18 +1,9 @@
 //! A pen: it knows where a terminal's cursor is and how the terminal prints, and draws there by strokes.
 
-ghost use Rattle.std.specs.Prelude.{◌≡◌, ◌+◌, ◌<◌, ◌≤◌, ◌++◌, [], ℕ, IfOk, List, length, slice_index_or, Some, ◌^◌};
-ghost use Rattle.cell.specs.declared.limits.TheConstants.{LARGEST_SCREEN};
-ghost use Rattle.cell.specs.Shown.{no_rendition, shown_blank};
-ghost use Rattle.cell.specs.Pictures.{Picture, line_of, origin};
-ghost use Rattle.ecma.specs.Spelling.{spelling, IsToken};
-ghost use Rattle.ecma.specs.Terminals.{erased_at, erased_page};
-ghost use Rattle.ecma.specs.declared.token.Erase.TheVariants.{ToEnd};
-ghost use Rattle.ecma.specs.declared.token.Token.TheVariants.{Ed, El};
-ghost use Rattle.streams.specs.Sending.{Sends};
-ghost use Rattle.streams.specs.Sinks.{Seen};
-ghost use Rattle.paint.specs.Updates.{WritesFew, opening};
-ghost use Rattle.paint.specs.steps.Gathering.{Gathers, IsGathered, empty_outbox};
-ghost use Rattle.paint.specs.steps.Pens.{change, characters, first_pen, is_at, move_from, with_cells, within, Draws, Erases, IsPlainAt, SameTerminals};
+ghost use Rattle.paint.specs.{◌≡◌, ◌+◌, ◌<◌, ◌≤◌, ◌++◌, [], ℕ, IfOk, List, length, slice_index_or, Some, ◌^◌, LARGEST_SCREEN, no_rendition, shown_blank};
+ghost use Rattle.paint.specs.{Picture, line_of, origin, spelling, IsToken, erased_at, erased_page, ToEnd, Ed, El, Sends, Seen, WritesFew, opening, Gathers};
+ghost use Rattle.paint.specs.{IsGathered, empty_outbox, change, characters, first_pen, is_at, move_from, with_cells, within, Draws, Erases, IsPlainAt};
+ghost use Rattle.paint.specs.{SameTerminals};
 
 use crate::outbox::Outbox;
 use bitflags::Flags;

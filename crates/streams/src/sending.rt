@@ -1,7 +1,6 @@
 //! Sending a text to a sink.
 
-ghost use Rattle.std.specs.Prelude.{◌≡◌, ◌+◌, ◌^◌, ◌<◌, length};
-ghost use Rattle.streams.specs.Sending.{Sends, WritesOnce};
+ghost use Rattle.streams.specs.{◌≡◌, ◌+◌, ◌^◌, ◌<◌, length, Sends, WritesOnce};
 
 use crate::sink::Sink;
 

@@ -1,10 +1,7 @@
 //! Sinks: what takes the bytes of a text.
 
-ghost use Rattle.std.specs.Prelude.{◌≡◌, ℕ, false, is_err};
-ghost use Rattle.std.specs.Io.{WritesAtMost};
-ghost use Rattle.std.specs.Io.KnownBytes.{WriteAppends, Keeps};
-ghost use Rattle.streams.specs.Counts.{count_after, next_count};
-ghost use Rattle.streams.specs.Sinks.{Seen, write_fails, write_is_whole, flushed_after_write, flushed_after_flush};
+ghost use Rattle.streams.specs.{◌≡◌, ℕ, false, is_err, WritesAtMost, WriteAppends, Keeps, count_after, next_count, Seen, write_fails, write_is_whole};
+ghost use Rattle.streams.specs.{flushed_after_write, flushed_after_flush};
 
 use std::io;
 use std::io::Write;

@@ -1,8 +1,6 @@
 -- A text that is gathered in an outbox and goes out in pieces, until a write fails.
-use Rattle.std.specs.Prelude.{◌≡◌, ℕ, ◌+◌, ◌-◌, ◌*◌, ◌%◌, ◌^◌, ◌≤◌, min, Bool, true, false, List, [], ◌++◌, length, Ok, Err}
-use Rattle.streams.specs.Sinks.{Seen}
-use Rattle.streams.specs.Sending.{Sends}
-use Rattle.paint.specs.Updates.{full_outbox}
+use Rattle.paint.specs.Names.{◌≡◌, ℕ, ◌+◌, ◌-◌, ◌*◌, ◌%◌, ◌^◌, ◌≤◌, min, Bool, true, false, List, [], ◌++◌, length, Ok, Err, Seen, Sends}
+use Rattle.paint.specs.Doupdates.{full_outbox}
 
 -- What is kept of a text: the bytes in the buffer, how many went out before them, and whether a write failed.
 pub record Outbox : Type 0 where

@@ -1,5 +1,4 @@
-use Rattle.std.proofs.Common.{◌≡◌, ◌<◌, length}
-use Rattle.streams.specs.Sending.{WritesOnce}
+use Rattle.streams.specs.{◌≡◌, ◌<◌, length, WritesOnce}
 use Rattle.streams.proofs.Sends.{IsPartlySent}
 use Rattle.streams.proofs.sending.send.Given as goal
 

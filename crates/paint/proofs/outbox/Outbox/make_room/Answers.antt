@@ -1,6 +1,5 @@
 -- `make_room`: what is handed on is a full outbox (`Gathering`).
-use Rattle.std.proofs.Common.{◌≤◌, length, arith}
-use Rattle.paint.specs.Updates.{full_outbox}
+use Rattle.paint.specs.{◌≤◌, length, arith, full_outbox}
 use Rattle.paint.proofs.Gathering.{gathered-on}
 use Rattle.paint.proofs.outbox.Outbox.make_room.Goals as goal
 
