@@ -21,7 +21,7 @@ pub use Rattle.commands.specs.declared.requests.Request.{Request}
 pub use Rattle.commands.specs.declared.status.Need.{Need}
 pub use Rattle.commands.specs.declared.status.Need.TheVariants.{Screen}
 pub use Rattle.compose.specs.Desks.{world}
-pub use Rattle.desk.specs.ScriptEnds.{ScriptEnds, read_failed, write_fault}
+pub use Rattle.desk.specs.EndsOfScripts.{ScriptEnds, read_failed, write_fault}
 pub use Rattle.desk.specs.States.{ScreenOver}
 pub use Rattle.paint.specs.Doupdates.{PainterState, first_painter}
 pub use Rattle.script.specs.Log.{last_line}

@@ -6,7 +6,7 @@ pub mod Ends
 pub mod Showing
 pub mod Methods
 pub mod Histories
-pub mod ScriptEnds
+pub mod EndsOfScripts
 pub mod steps
 unfoldable pub use Names.*
 unfoldable pub use States.*
@@ -16,5 +16,5 @@ unfoldable pub use Ends.*
 unfoldable pub use Showing.*
 unfoldable pub use Methods.*
 unfoldable pub use Histories.*
-unfoldable pub use ScriptEnds.*
+unfoldable pub use EndsOfScripts.*
 unfoldable pub use steps.*
