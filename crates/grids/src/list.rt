@@ -1,21 +1,16 @@
 //! The slots of the windows, by number, and changes of one of them.
 
-ghost use Rattle.std.specs.Prelude.{◌≡◌, ◌<◌, ◌≤◌, ◌+◌, ◌-◌, Some, None, IsSome, IsSomeAnd, MatchOption, ⊤, length, slice_index};
-ghost use Rattle.std.specs.Prelude.{EachIndex, OnOk, OnErr, map, true};
+ghost use Rattle.std.specs.Prelude.{◌≡◌, ◌<◌, ◌≤◌, ◌+◌, ◌-◌, Some, None, IsSome, IsSomeAnd, MatchOption, ⊤, length};
+ghost use Rattle.std.specs.Prelude.{OnOk, OnErr, map};
 ghost use Rattle.std.specs.List.{AllByRecursion, list_any, range_with_len};
-ghost use Rattle.cell.specs.Glyphs.{IsCell, is_printable};
+ghost use Rattle.cell.specs.Glyphs.{IsCell};
 ghost use Rattle.std.specs.Option.{is_none};
 ghost use Rattle.world.specs.Windows.{own, cell_of};
-ghost use Rattle.world.specs.calls.Copying.{lines_marked};
-ghost use Rattle.world.specs.Effects.{without_marks, with_place};
-ghost use Rattle.world.specs.Rows.{filled_cells, listed_cells};
-ghost use Rattle.world.specs.Settings.{set_in, with_cursor, with_settings};
 ghost use Rattle.world.specs.calls.Making.{has_derived, new_number};
 ghost use Rattle.grids.specs.Kept.{window_of};
-ghost use Rattle.grids.specs.Inks.{printed_cell};
 ghost use Rattle.grids.specs.Slots.{slot_at, window_map, grid_place, AreOrigins, IsChained, IsRoot, part_in, lines_at, columns_at, names_parent};
 ghost use Rattle.std.specs.Fn.{FnOnceReturnsAtMut, FnOnceTakesAtMut};
-ghost use Rattle.grids.specs.Changes.{Changed, ChangedBy, Shifted, SetAt, IsFree, with_touched, with_drawing};
+ghost use Rattle.grids.specs.Changes.{ChangedBy, SetAt, IsFree};
 
 use crate::slot::{Origin, Slot};
 use cell::{Cell, LARGEST_PAD, MOST_WINDOWS};

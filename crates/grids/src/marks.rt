@@ -1,6 +1,6 @@
 //! What is touched of a window, and whether it asks for a clear screen.
 
-ghost use Rattle.std.specs.Prelude.{◌≡◌, ◌≤◌, ◌+◌, IsSome, IsSomeAnd};
+ghost use Rattle.std.specs.Prelude.{◌≡◌, ◌≤◌, ◌+◌, IsSomeAnd};
 ghost use Rattle.world.specs.Sound.{AreSoundWindows};
 ghost use Rattle.world.specs.Windows.{HasPlace, with_change};
 ghost use Rattle.world.specs.calls.Copying.{lines_marked};

@@ -1,5 +1,5 @@
 -- `print`: a row written through a window is one put (`Writes`).
-use Rattle.std.proofs.Common.{ap, ◌≡◌, ◌∙◌, ◌+◌, ◌-◌, arith, length, map, rules}
+use Rattle.std.proofs.Common.{ap, ◌∙◌, ◌+◌, ◌-◌, arith, length, map, rules}
 use Rattle.std.proofs.lemmas.Grind.{common_steps}
 use Rattle.std.proofs.lemmas.List.{length-map}
 use Rattle.world.specs.Rows.{listed_cells}
