@@ -1,8 +1,16 @@
 -- What a change of one slot does to the table and to the windows.
-use Rattle.grids.specs.{◌≡◌, ℕ, inl, inr, ◌<◌, ◌≢◌, Option, Some, None, IsSomeAnd, List, ap, arith, sym, ◌∙◌, subst, eq-eqb, ne_eqb, option_map}
-use Rattle.grids.specs.{option_map_or, cases_eq, HasPlace, Window, WindowMap, with_change, with_window, IsOnScreen, IsStandardScreen, under_number, Kept}
-use Rattle.grids.specs.{IsKept, window_of, WindowTable, IsWindowTable, windows, slot_at, window_map, depth_at, grid_place, AreOrigins, HasParentIn, IsChained}
-use Rattle.grids.specs.{HasLine, SlotChanged, ChangedBy, SetAt, StaysInPlace}
+use Rattle.std.proofs.Common.{◌≡◌, ℕ, inl, inr, ◌<◌, ◌≢◌, Option, Some, None, IsSomeAnd, List, ap, arith, sym, ◌∙◌, subst, eq-eqb, ne_eqb}
+use Rattle.std.specs.Prelude.{slice_set}
+use Rattle.std.specs.Option.{option_map, option_map_or}
+use Rattle.std.proofs.lemmas.Bool.{cases_eq}
+use Rattle.world.specs.Windows.{HasPlace, Window, WindowMap, with_change, with_window}
+use Rattle.world.specs.Sound.{IsOnScreen, IsStandardScreen}
+use Rattle.world.specs.Effects.{under_number}
+use Rattle.grids.specs.Kept.{Kept, IsKept, window_of}
+use Rattle.grids.specs.Tables.{WindowTable, IsWindowTable, windows}
+use Rattle.grids.specs.Slots.{slot_at, window_map, depth_at, grid_place, AreOrigins, HasParentIn, IsChained}
+use Rattle.grids.specs.steps.Lines.{HasLine}
+use Rattle.grids.specs.Changes.{ChangedBy, SetAt, StaysInPlace}
 use Rattle.grids.proofs.Chain.{each_at, some_and, own_source, own_alone}
 use Rattle.grids.proofs.OneSlot.{SetAt-set, slot_below, each_set, KeepsShape, chained_set, parent_too}
 use Rattle.grids.proofs.Origins.{HasOrigin, origin-is, origins-changed, origins-filled}
@@ -34,6 +42,15 @@ IsWindowTable-filled t new at k s set free kept chained placed from_one origin =
 
 -- ---- one slot's window was changed
 
+-- its window was changed, and nothing else
+pub record Changed (old new : List (Option Kept)) (at : ℕ) (change : Window → Window) : Type 0 where
+  pub before : Kept
+  pub after : Kept
+  pub was : slot_at old at ≡ Some before
+  pub set : new ≡ slice_set old at (Some after)
+  pub window : window_of after ≡ change (window_of before)
+  pub stays : StaysInPlace before after
+
 -- by what is done with it where it is
 abbrev pub changed_by : {R : Type 0} {relation : Kept → R → Kept → Type 0} {old new : List (Option Kept)} {at : ℕ} {answer : R} {change : Window → Window} → (h : ChangedBy relation old new at answer)
     → window_of h.after ≡ change (window_of h.before) → StaysInPlace h.before h.after → SlotChanged old new at change
@@ -49,9 +66,6 @@ module _ {t : WindowTable} {new : List (Option Kept)} {at : ℕ} {change : Windo
       (parent_too t.slots h.before h.after h.stays.shape h.before.cells h.after.cells h.stays.part.part (each_at t.slots s.chained at h.before h.was).1) placed standard
       (λ chained. origins-changed t.slots new at h.before h.after set_at h.was h.stays.part s.origins)
 
-  same_place : ((a : Window) → (change a).place ≡ a.place) → h.after.place ≡ h.before.place
-  same_place keeps = grind arith
-
   standard_too : h.after.place ≡ h.before.place → at ≡ 0 → IsStandardOf t h.after
   standard_too there same = grind (arith, some_and, own_source, own_alone)
 
@@ -61,9 +75,6 @@ module _ {t : WindowTable} {new : List (Option Kept)} {at : ℕ} {change : Windo
   -- it stays where it is
   pub IsWindowTable-stays : h.after.place ≡ h.before.place → IsWindowTable (record t { slots = new })
   IsWindowTable-stays there = IsWindowTable-change (placed_too there) (standard_too there)
-
-  pub IsWindowTable-changed : ((a : Window) → (change a).place ≡ a.place) → IsWindowTable (record t { slots = new })
-  IsWindowTable-changed keeps = IsWindowTable-stays (same_place keeps)
 
   -- where its lines are in a grid
   pub line-kept : h.after.place ≡ h.before.place → (y right : ℕ) → HasPlace (window_map t.slots) at y right → HasLine t.slots new at y right (grid_place h.before.origin)

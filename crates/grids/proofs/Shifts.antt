@@ -1,11 +1,30 @@
 -- A derived window that shows another part of its parent.
-use Rattle.grids.specs.{◌≡◌, ℕ, ◌+◌, ◌≤◌, Option, Some, List, ap, arith, sym, option_map, WindowMap, with_change, IsOnScreen, with_part, IsKept, Kept}
-use Rattle.grids.specs.{window_of, WindowTable, IsWindowTable, windows, slot_at, window_map, IsChained, part_in, ChangedBy, SameShape, Settled, Shifted}
-use Rattle.grids.specs.{SetAt, with_new_offset}
+use Rattle.std.proofs.Common.{◌≡◌, ℕ, ◌+◌, ◌≤◌, Option, Some, List, ap, arith, sym}
+use Rattle.std.specs.Prelude.{slice_set}
+use Rattle.std.specs.Option.{option_map}
+use Rattle.world.specs.Windows.{WindowMap, with_change}
+use Rattle.world.specs.Sound.{IsOnScreen}
+use Rattle.world.specs.Effects.{with_part}
 use Rattle.grids.specs.declared.slot.Part.{Part}
+use Rattle.grids.specs.Kept.{IsKept, Kept, window_of}
+use Rattle.grids.specs.Tables.{WindowTable, IsWindowTable, windows}
+use Rattle.grids.specs.Slots.{slot_at, window_map, IsChained, part_in}
+use Rattle.grids.specs.Changes.{ChangedBy, SameShape, Settled, SetAt, with_new_offset}
 use Rattle.grids.proofs.Chain.{parent_at, some_and, shared_of, own_alone}
 use Rattle.grids.proofs.OneSlot.{SetAt-set, slot_below, each_set, chained_set}
 use Rattle.grids.proofs.Changes.{windows-set, replaced-changed}
+
+-- one derived window's offset was changed, and nothing else
+pub record Shifted (old new : List (Option Kept)) (at y x : ℕ) : Type 0 where
+  pub before : Kept
+  pub after : Kept
+  pub was : slot_at old at ≡ Some before
+  pub set : new ≡ slice_set old at (Some after)
+  pub window : window_of after ≡ with_part y x (window_of before)
+  pub shape : SameShape before after
+  pub cells : after.cells ≡ with_new_offset y x before.cells
+  pub origin : after.origin ≡ before.origin
+  pub kept : IsKept after
 
 -- by what is done with it where it is
 pub shifted_by : {R : Type 0} {relation : Kept → R → Kept → Type 0} {old new : List (Option Kept)} {at y x : ℕ} {answer : R} → (h : ChangedBy relation old new at answer)

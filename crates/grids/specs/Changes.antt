@@ -1,9 +1,10 @@
 -- What changes where one slot changes.
-use Rattle.grids.specs.Names.{◌≡◌, ◌≢◌, ℕ, ◌+◌, ◌<◌, ◌≤◌, List, length, Option, Some, None, is_some, max, slice_set, if◌then◌else◌, ◌==◌, MOST_WINDOWS}
-use Rattle.grids.specs.Names.{joined_columns, Window, Drawing, laid_over, with_part}
+use Rattle.std.specs.Prelude.{◌≡◌, ◌≢◌, ℕ, ◌+◌, ◌<◌, ◌≤◌, List, length, Option, Some, None, is_some, max, slice_set, if◌then◌else◌, ◌==◌}
+use Rattle.cell.specs.declared.limits.TheConstants.{MOST_WINDOWS}
+use Rattle.world.specs.Windows.{joined_columns, Window, Drawing, laid_over}
 use Rattle.grids.specs.declared.slot.Cells.{Cells}
 use Rattle.grids.specs.declared.slot.Cells.TheVariants.{Own, Shared}
-use Rattle.grids.specs.KeptSlots.{Kept, IsKept, window_of}
+use Rattle.grids.specs.Kept.{Kept, IsKept}
 use Rattle.grids.specs.Slots.{slot_at, window_map, AreOrigins, IsChained, part_in}
 
 -- what a derived window sees of its parent is the same
@@ -24,15 +25,6 @@ pub record StaysInPlace (old new : Kept) : Type 0 where
   pub part : SamePart old new
   pub kept : IsKept new
 
--- one slot's window was changed, and nothing else
-pub record SlotChanged (old new : List (Option Kept)) (at : ℕ) (change : Window → Window) : Type 0 where
-  pub before : Kept
-  pub after : Kept
-  pub was : slot_at old at ≡ Some before
-  pub set : new ≡ slice_set old at (Some after)
-  pub window : window_of after ≡ change (window_of before)
-  pub stays : StaysInPlace before after
-
 -- one slot was changed, from what it was to what it is by a relation, in which an answer takes part
 pub record ChangedBy {R : Type 0} (relation : Kept → R → Kept → Type 0) (old new : List (Option Kept)) (at : ℕ) (answer : R) : Type 0 where
   pub before : Kept
@@ -45,18 +37,6 @@ pub record ChangedBy {R : Type 0} (relation : Kept → R → Kept → Type 0) (o
 abbrev pub with_new_offset : ℕ → ℕ → Cells → Cells
 with_new_offset y x (Own sheet) = Own sheet
 with_new_offset y x (Shared part) = Shared (record part { line = y; column = x })
-
--- one derived window's offset was changed, and nothing else
-pub record Shifted (old new : List (Option Kept)) (at y x : ℕ) : Type 0 where
-  pub before : Kept
-  pub after : Kept
-  pub was : slot_at old at ≡ Some before
-  pub set : new ≡ slice_set old at (Some after)
-  pub window : window_of after ≡ with_part y x (window_of before)
-  pub shape : SameShape before after
-  pub cells : after.cells ≡ with_new_offset y x before.cells
-  pub origin : after.origin ≡ before.origin
-  pub kept : IsKept after
 
 -- each slot has its origin, and its window is as it was
 pub record Settled (old new : List (Option Kept)) : Type 0 where

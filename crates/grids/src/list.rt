@@ -1,10 +1,16 @@
 //! The slots of the windows, by number, and changes of one of them.
 
-ghost use Rattle.grids.specs.{◌≡◌, ◌<◌, ◌≤◌, ◌+◌, ◌-◌, Some, None, IsSome, IsSomeAnd, MatchOption, ⊤, length, slice_index, EachIndex, OnOk, OnErr, map, true};
-ghost use Rattle.grids.specs.{AllByRecursion, list_any, range_with_len, IsCell, is_printable, is_none, own, cell_of, lines_marked, without_marks, with_place};
-ghost use Rattle.grids.specs.{filled_cells, listed_cells, set_in, with_cursor, with_settings, has_derived, new_number, window_of, printed_cell, slot_at};
-ghost use Rattle.grids.specs.{window_map, grid_place, AreOrigins, IsChained, IsRoot, part_in, lines_at, columns_at, names_parent, FnOnceReturnsAtMut};
-ghost use Rattle.grids.specs.{FnOnceTakesAtMut, SlotChanged, ChangedBy, Shifted, SetAt, IsFree, with_touched, with_drawing};
+ghost use Rattle.std.specs.Prelude.{◌≡◌, ◌<◌, ◌≤◌, ◌+◌, ◌-◌, Some, None, IsSome, IsSomeAnd, MatchOption, ⊤, length};
+ghost use Rattle.std.specs.Prelude.{OnOk, OnErr, map};
+ghost use Rattle.std.specs.List.{AllByRecursion, list_any, range_with_len};
+ghost use Rattle.cell.specs.Glyphs.{IsCell};
+ghost use Rattle.std.specs.Option.{is_none};
+ghost use Rattle.world.specs.Windows.{own, cell_of};
+ghost use Rattle.world.specs.calls.Making.{has_derived, new_number};
+ghost use Rattle.grids.specs.Kept.{window_of};
+ghost use Rattle.grids.specs.Slots.{slot_at, window_map, grid_place, AreOrigins, IsChained, IsRoot, part_in, lines_at, columns_at, names_parent};
+ghost use Rattle.std.specs.Fn.{FnOnceReturnsAtMut, FnOnceTakesAtMut};
+ghost use Rattle.grids.specs.Changes.{ChangedBy, SetAt, IsFree};
 
 use crate::slot::{Origin, Slot};
 use cell::{Cell, LARGEST_PAD, MOST_WINDOWS};

@@ -58,22 +58,6 @@ impl Grids {
         self.change(WinId(origin.grid), |slot| slot.fill(line, start, end, cell));
     }
 
-    /// Sets the cell of a window at line `y` and column `x`. The place must exist.
-    #[inline(always)]
-    pub fn set_cell(&mut self, win: WinId, y: u16, x: u16, cell: Cell)
-        requires { HasPlace (windows self.old).window win.0 y x }
-        ensures written { windows self.new ≡ put (windows self.old) win.0 (filled_cells y x x cell) }
-        ensures sound { AreSoundWindows (windows self.new) }
-    {
-        let origin = self.touch(win, y, x, x);
-        let line = origin.line + y;
-        let column = origin.column + x;
-        self.change(
-            WinId(origin.grid),
-            |slot| slot.fill(line, column, column, cell),
-        );
-    }
-
     /// Sets the cell of a window at line `y` and column `x`, and moves the cursor to the next column. Both places must
     /// exist.
     #[inline(always)]

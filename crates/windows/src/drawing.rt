@@ -12,7 +12,7 @@ pub fn set_cell(table: &mut Grids, win: WinId, state: &WindowState, y: u16, x: u
     requires { HasStateAndPlace (windows table.old) win.0 state.now y x }
     ensures { DrewInState (windows table.old) win.0 state.now (at_place (y, x) cell) (windows table.new) }
 {
-    table.set_cell(win, y, x, cell);
+    table.fill(win, y, x, x, cell);
 }
 
 /// Inserts a cell: those from its column on go one column right, and the last is lost.
