@@ -1,16 +1,9 @@
 -- What a change of one slot does to the table and to the windows.
-use Rattle.std.proofs.Common.{◌≡◌, ℕ, inl, inr, ◌<◌, ◌≢◌, Option, Some, None, IsSomeAnd, List, ap, arith, sym, ◌∙◌, subst, eq-eqb, ne_eqb}
-use Rattle.std.specs.Prelude.{slice_set}
-use Rattle.std.specs.Option.{option_map, option_map_or}
-use Rattle.std.proofs.lemmas.Bool.{cases_eq}
-use Rattle.world.specs.Windows.{HasPlace, Window, WindowMap, with_change, with_window}
-use Rattle.world.specs.Sound.{IsOnScreen, IsStandardScreen}
-use Rattle.world.specs.Effects.{under_number}
-use Rattle.grids.specs.Kept.{Kept, IsKept, window_of}
-use Rattle.grids.specs.Tables.{WindowTable, IsWindowTable, windows}
-use Rattle.grids.specs.Slots.{slot_at, window_map, depth_at, grid_place, AreOrigins, HasParentIn, IsChained}
-use Rattle.grids.specs.steps.Lines.{HasLine}
-use Rattle.grids.specs.Changes.{ChangedBy, SetAt, StaysInPlace}
+use Rattle.grids.specs.{◌≡◌, ℕ, inl, inr, ◌<◌, ◌≢◌, Option, Some, None, IsSomeAnd, List, ap, arith, sym, ◌∙◌, subst, eq-eqb, ne_eqb, slice_set, option_map_or}
+use Rattle.grids.specs.{cases_eq, HasPlace, Window, WindowMap, with_change, with_window, IsOnScreen, IsStandardScreen, under_number, Kept, IsKept, window_of}
+use Rattle.grids.specs.{WindowTable, IsWindowTable, windows, slot_at, window_map, depth_at, grid_place, AreOrigins, HasParentIn, IsChained, HasLine}
+use Rattle.grids.specs.{ChangedBy, SetAt, StaysInPlace}
+use Rattle.std.specs.Option.{option_map}
 use Rattle.grids.proofs.Chain.{each_at, some_and, own_source, own_alone}
 use Rattle.grids.proofs.OneSlot.{SetAt-set, slot_below, each_set, KeepsShape, chained_set, parent_too}
 use Rattle.grids.proofs.Origins.{HasOrigin, origin-is, origins-changed, origins-filled}
@@ -43,7 +36,7 @@ IsWindowTable-filled t new at k s set free kept chained placed from_one origin =
 -- ---- one slot's window was changed
 
 -- its window was changed, and nothing else
-pub record Changed (old new : List (Option Kept)) (at : ℕ) (change : Window → Window) : Type 0 where
+pub record SlotChanged (old new : List (Option Kept)) (at : ℕ) (change : Window → Window) : Type 0 where
   pub before : Kept
   pub after : Kept
   pub was : slot_at old at ≡ Some before

@@ -1,15 +1,9 @@
 -- A derived window that shows another part of its parent.
-use Rattle.std.proofs.Common.{◌≡◌, ℕ, ◌+◌, ◌≤◌, Option, Some, List, ap, arith, sym}
-use Rattle.std.specs.Prelude.{slice_set}
+use Rattle.grids.specs.{◌≡◌, ℕ, ◌+◌, ◌≤◌, Option, Some, List, ap, arith, sym, slice_set, WindowMap, with_change, IsOnScreen, with_part, IsKept, Kept}
+use Rattle.grids.specs.{window_of, WindowTable, IsWindowTable, windows, slot_at, window_map, IsChained, part_in, ChangedBy, SameShape, Settled, SetAt}
+use Rattle.grids.specs.{with_new_offset}
 use Rattle.std.specs.Option.{option_map}
-use Rattle.world.specs.Windows.{WindowMap, with_change}
-use Rattle.world.specs.Sound.{IsOnScreen}
-use Rattle.world.specs.Effects.{with_part}
 use Rattle.grids.specs.declared.slot.Part.{Part}
-use Rattle.grids.specs.Kept.{IsKept, Kept, window_of}
-use Rattle.grids.specs.Tables.{WindowTable, IsWindowTable, windows}
-use Rattle.grids.specs.Slots.{slot_at, window_map, IsChained, part_in}
-use Rattle.grids.specs.Changes.{ChangedBy, SameShape, Settled, SetAt, with_new_offset}
 use Rattle.grids.proofs.Chain.{parent_at, some_and, shared_of, own_alone}
 use Rattle.grids.proofs.OneSlot.{SetAt-set, slot_below, each_set, chained_set}
 use Rattle.grids.proofs.Changes.{windows-set, replaced-changed}

@@ -1,10 +1,9 @@
 -- What changes where one slot changes.
-use Rattle.std.specs.Prelude.{◌≡◌, ◌≢◌, ℕ, ◌+◌, ◌<◌, ◌≤◌, List, length, Option, Some, None, is_some, max, slice_set, if◌then◌else◌, ◌==◌}
-use Rattle.cell.specs.declared.limits.TheConstants.{MOST_WINDOWS}
-use Rattle.world.specs.Windows.{joined_columns, Window, Drawing, laid_over}
+use Rattle.grids.specs.Names.{◌≡◌, ◌≢◌, ℕ, ◌+◌, ◌<◌, ◌≤◌, List, length, Option, Some, None, is_some, max, slice_set, if◌then◌else◌, ◌==◌, MOST_WINDOWS}
+use Rattle.grids.specs.Names.{joined_columns, Window, Drawing, laid_over}
 use Rattle.grids.specs.declared.slot.Cells.{Cells}
 use Rattle.grids.specs.declared.slot.Cells.TheVariants.{Own, Shared}
-use Rattle.grids.specs.Kept.{Kept, IsKept}
+use Rattle.grids.specs.KeptSlots.{Kept, IsKept}
 use Rattle.grids.specs.Slots.{slot_at, window_map, AreOrigins, IsChained, part_in}
 
 -- what a derived window sees of its parent is the same

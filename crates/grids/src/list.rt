@@ -1,16 +1,9 @@
 //! The slots of the windows, by number, and changes of one of them.
 
-ghost use Rattle.std.specs.Prelude.{◌≡◌, ◌<◌, ◌≤◌, ◌+◌, ◌-◌, Some, None, IsSome, IsSomeAnd, MatchOption, ⊤, length};
-ghost use Rattle.std.specs.Prelude.{OnOk, OnErr, map};
-ghost use Rattle.std.specs.List.{AllByRecursion, list_any, range_with_len};
-ghost use Rattle.cell.specs.Glyphs.{IsCell};
+ghost use Rattle.grids.specs.{◌≡◌, ◌<◌, ◌≤◌, ◌+◌, ◌-◌, Some, None, IsSome, IsSomeAnd, MatchOption, ⊤, length, OnOk, OnErr, map, AllByRecursion, list_any};
+ghost use Rattle.grids.specs.{range_with_len, IsCell, own, cell_of, has_derived, new_number, window_of, slot_at, window_map, grid_place, AreOrigins};
+ghost use Rattle.grids.specs.{IsChained, IsRoot, part_in, lines_at, columns_at, names_parent, FnOnceReturnsAtMut, FnOnceTakesAtMut, ChangedBy, SetAt, IsFree};
 ghost use Rattle.std.specs.Option.{is_none};
-ghost use Rattle.world.specs.Windows.{own, cell_of};
-ghost use Rattle.world.specs.calls.Making.{has_derived, new_number};
-ghost use Rattle.grids.specs.Kept.{window_of};
-ghost use Rattle.grids.specs.Slots.{slot_at, window_map, grid_place, AreOrigins, IsChained, IsRoot, part_in, lines_at, columns_at, names_parent};
-ghost use Rattle.std.specs.Fn.{FnOnceReturnsAtMut, FnOnceTakesAtMut};
-ghost use Rattle.grids.specs.Changes.{ChangedBy, SetAt, IsFree};
 
 use crate::slot::{Origin, Slot};
 use cell::{Cell, LARGEST_PAD, MOST_WINDOWS};

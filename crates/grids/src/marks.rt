@@ -1,15 +1,7 @@
 //! What is touched of a window, and whether it asks for a clear screen.
 
-ghost use Rattle.std.specs.Prelude.{◌≡◌, ◌≤◌, ◌+◌, IsSomeAnd};
-ghost use Rattle.world.specs.Sound.{AreSoundWindows};
-ghost use Rattle.world.specs.Windows.{HasPlace, with_change};
-ghost use Rattle.world.specs.calls.Copying.{lines_marked};
-ghost use Rattle.world.specs.calls.Queries.{touched_columns};
-ghost use Rattle.world.specs.Effects.{asks_for_clear, without_marks};
-ghost use Rattle.world.specs.Replies.{its_flag, no_answer};
-ghost use Rattle.world.specs.declared.call.Copying.{Copying};
-ghost use Rattle.grids.specs.Calls.{Marked};
-ghost use Rattle.grids.specs.Tables.{windows};
+ghost use Rattle.grids.specs.{◌≡◌, ◌≤◌, ◌+◌, IsSomeAnd, AreSoundWindows, HasPlace, with_change, lines_marked, touched_columns, asks_for_clear, without_marks};
+ghost use Rattle.grids.specs.{its_flag, no_answer, Copying, Marked, windows};
 
 use crate::table::Grids;
 use cell::{Refusal, WinId};

@@ -1,11 +1,5 @@
 -- `print`: a row written through a window is one put (`Writes`).
-use Rattle.std.proofs.Common.{ap, ◌∙◌, ◌+◌, ◌-◌, arith, length, map, rules}
-use Rattle.std.proofs.lemmas.Grind.{common_steps}
-use Rattle.std.proofs.lemmas.List.{length-map}
-use Rattle.world.specs.Rows.{listed_cells}
-use Rattle.world.specs.Settings.{with_cursor}
-use Rattle.grids.specs.Changes.{with_drawing}
-use Rattle.grids.specs.Inks.{printed_cell}
+use Rattle.grids.specs.{ap, ◌∙◌, ◌+◌, ◌-◌, arith, length, map, rules, common_steps, length-map, listed_cells, with_cursor, with_drawing, printed_cell}
 use Rattle.grids.proofs.Sounds.{few_columns}
 use Rattle.grids.proofs.Writes.{drawn_over, put-listed, put-typed}
 use Rattle.grids.proofs.table.Grids.print.Goals as goal
