@@ -30,12 +30,12 @@ in_words() {
 }
 
 # left_of SECONDS DONE WHOLE [SUPPOSED]: puts out after a comma about how long the rest of a whole takes, of which so much
-# was done in so many seconds, or nothing where that was nothing. Where the whole is supposed to take some, they count as
+# was done in so many seconds, or nothing where that was nothing or all. Where the whole is supposed to take some, they count as
 # if they had been seen for a quarter of it.
 left_of() {
     local supposed=${4:-0} seen
     seen=$(($2 + (supposed > 0 ? $3 / 4 : 0)))
-    [ "$seen" = 0 ] || echo ", $(in_words "$((($1 + supposed / 4) * ($3 - $2) / seen))") left"
+    [ "$seen" = 0 ] || [ "$2" -ge "$3" ] || echo ", $(in_words "$((($1 + supposed / 4) * ($3 - $2) / seen))") left"
 }
 
 # Tells, of what `rt` says, which crate is being proved, its place among some crates, how many of its functions have been
