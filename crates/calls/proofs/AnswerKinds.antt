@@ -1,6 +1,6 @@
 -- The answers of a call are of its kind.
-use Rattle.calls.specs.{◌≡◌, true, false, Result, Ok, Err, refl, subst, IfOk, World, is_doupdate, Call, Doupdate, Reply, IsAnswerTo, IsOfKind, Kind, kind_of}
-use Rattle.calls.specs.{is_query}
+use Rattle.std.specs.Prelude.{◌≡◌}
+use Rattle.calls.specs.{true, false, Result, Ok, Err, refl, subst, IfOk, World, is_doupdate, Call, Doupdate, Reply, IsAnswerTo, IsOfKind, Kind, kind_of, is_query}
 use Rattle.world.specs.declared.call.Call.TheVariants as calls
 
 pub query-other : (call : Call) → is_query call ≡ true → is_doupdate call ≡ false

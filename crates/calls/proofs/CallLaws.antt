@@ -1,6 +1,6 @@
 -- What each call is, call by call.
-use Rattle.calls.specs.{◌≡◌, refl, None, World, effect_of, Call, Newwin, Move, Overlay, Getyx, NewPanel, PanelAbove, PanelBelow, UpdatePanels, is_query}
-use Rattle.calls.specs.{only_asks, tested, refusals_of}
+use Rattle.std.specs.Prelude.{◌≡◌}
+use Rattle.calls.specs.{refl, None, World, effect_of, Call, Newwin, Move, Overlay, Getyx, NewPanel, PanelAbove, PanelBelow, UpdatePanels, is_query, only_asks, tested, refusals_of}
 use Rattle.world.specs.declared.call.Call.TheVariants as calls
 
 pub query-asks : (world : World) (call : Call) → is_query call ≡ only_asks (effect_of world call)

@@ -1,6 +1,7 @@
 -- The kind of the answers of a call, by its effect.
-use Rattle.calls.specs.Names.{◌≡◌, ℕ, Bool, Option, Some, Glyph, WinId, Sent as SentBytes, World, Change, asks, makes, Order, changes, adds, Effect, arranges}
-use Rattle.calls.specs.Names.{composes, shows, effect_of, PanelId, Call, Query, Inch, Composed as Read, Reply, Nothing, Number, TwoNumbers, Cell, Flag, Panel}
+use Rattle.std.specs.Prelude.{◌≡◌}
+use Rattle.calls.specs.Names.{ℕ, Bool, Option, Some, Glyph, WinId, Sent as SentBytes, World, Change, asks, makes, Order, changes, adds, Effect, arranges, composes, shows, effect_of, PanelId, Call}
+use Rattle.calls.specs.Names.{Query, Inch, Composed as Read, Reply, Nothing, Number, TwoNumbers, Cell, Flag, Panel}
 use Rattle.world.specs.declared.call.Call.TheVariants as calls
 use Rattle.world.specs.declared.call.Reply.TheVariants.{Composed, Sent}
 

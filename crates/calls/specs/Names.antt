@@ -4,8 +4,7 @@ pub use Rattle.cell.specs.Refusals.{refusal_text}
 pub use Rattle.cell.specs.declared.refusal.Refusal.{Refusal}
 pub use Rattle.cell.specs.declared.refusal.Refusal.TheVariants.{NoMemory}
 pub use Rattle.cell.specs.declared.window.WinId.{WinId}
-pub use Rattle.std.proofs.Common.{Bool, Err, IfOk, IsSomeAnd, List, None, Ok, Option, Result, Some, [], false, if◌then◌else◌, refl, subst, true, ℕ, ◌++◌, ◌∷◌}
-pub use Rattle.std.proofs.Common.{◌≡◌}
+pub use Rattle.std.proofs.Common.{Bool, Err, IfOk, IsSomeAnd, List, None, Ok, Option, Result, Some, [], false, refl, subst, true, ℕ}
 pub use Rattle.std.specs.Str.{bytes_eq}
 pub use Rattle.streams.specs.declared.sending.Sent.{Sent}
 pub use Rattle.world.specs.Effects.{Change, Effect, Order, adds, arranges, asks, changes, composes, makes, shows}

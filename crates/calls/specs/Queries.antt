@@ -1,8 +1,7 @@
 -- Which calls only ask: about a window, about what is touched of it, or about panels.
 -- X/Open Curses Issue 7: getyx, getbegyx, getmaxyx, getparyx, inch, is_linetouched, is_wintouched.
 -- NetBSD panel(3): panel_above, panel_below, panel_window, panel_hidden.
-use Rattle.calls.specs.Names.{Bool, true, false, asks, arranges, changes, Effect, Call, IsLinetouched, IsWintouched, PanelAbove, PanelBelow, PanelHidden}
-use Rattle.calls.specs.Names.{PanelWindow}
+use Rattle.calls.specs.Names.{Bool, true, false, asks, arranges, changes, Effect, Call, IsLinetouched, IsWintouched, PanelAbove, PanelBelow, PanelHidden, PanelWindow}
 use Rattle.world.specs.declared.call.Call.TheVariants as calls
 
 abbrev pub is_query : Call → Bool

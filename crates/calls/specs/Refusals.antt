@@ -1,5 +1,6 @@
 -- By what a call is refused, in the order of its tests: `WrittenRefusals` has the rows of calls.table.
-use Rattle.calls.specs.Names.{if◌then◌else◌, ◌++◌, Bool, List, [], ◌∷◌, bytes_eq, refusal_text, Refusal, NoMemory, World, takes_memory, tests_of, Call}
+use Rattle.std.specs.Prelude.{if◌then◌else◌, ◌++◌, ◌∷◌}
+use Rattle.calls.specs.Names.{Bool, List, [], bytes_eq, refusal_text, Refusal, NoMemory, World, takes_memory, tests_of, Call}
 
 -- a refusal before others, of which the first may be the same
 abbrev pub then_others : Refusal → List Refusal → List Refusal

@@ -1,7 +1,7 @@
 //! What a call answers, as the type that all its answers have.
 
-ghost use Rattle.calls.specs.{◌≡◌, IsSomeAnd, its_panel, no_answer, two_numbers, Reply, IsOfKind, Kind, cell, composed, flag, neighbour, new_panel, nothing};
-ghost use Rattle.calls.specs.{number, numbers};
+ghost use Rattle.std.specs.Prelude.{◌≡◌};
+ghost use Rattle.calls.specs.{IsSomeAnd, its_panel, no_answer, two_numbers, Reply, IsOfKind, Kind, cell, composed, flag, neighbour, new_panel, nothing, number, numbers};
 
 use cell::{Cell, WinId};
 use world::{Composed, PanelId, Reply};

@@ -1,6 +1,7 @@
 //! What holds of the definitions alone. Each function does nothing, and its contract is the law.
 
-ghost use Rattle.calls.specs.{◌≡◌, is_query, only_asks, tested, refusals_of, World, effect_of, Call};
+ghost use Rattle.std.specs.Prelude.{◌≡◌};
+ghost use Rattle.calls.specs.{is_query, only_asks, tested, refusals_of, World, effect_of, Call};
 
 /// The calls that only ask are those whose effect is an answer alone: none is left out, and no other is among them.
 pub fn queries_only_ask()

@@ -1,7 +1,7 @@
 //! What makes calls, by their names and arguments as data.
 
-ghost use Rattle.calls.specs.{◌≡◌, Err, IfOk, Ok, Result, false, true, World, is_doupdate, Call, Reply, Refresh, IsAnswerTo, IsOfKind, kind_of, is_query};
-ghost use Rattle.calls.specs.{as_reply};
+ghost use Rattle.std.specs.Prelude.{◌≡◌};
+ghost use Rattle.calls.specs.{Err, IfOk, Ok, Result, false, true, World, is_doupdate, Call, Reply, Refresh, IsAnswerTo, IsOfKind, kind_of, is_query, as_reply};
 
 use crate::answer::Answer;
 use world::{Call, Composed, Refresh, Reply};

@@ -1,6 +1,7 @@
 //! Which calls only ask.
 
-ghost use Rattle.calls.specs.{◌≡◌, is_query};
+ghost use Rattle.std.specs.Prelude.{◌≡◌};
+ghost use Rattle.calls.specs.{is_query};
 
 use world::{Call, Copying, Stacking};
 

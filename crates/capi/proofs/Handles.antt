@@ -1,5 +1,6 @@
 -- The machine values of a handle, and what it owns. Assumes `Logic`.
-use Rattle.capi.specs.{◌≡◌, ℕ, List, [], ◌∷◌, ◌++◌, refl, subst, dealloc_token-Testable, Option, box_owns, owned, token}
+use Rattle.std.specs.Prelude.{◌≡◌, ◌∷◌, ◌++◌}
+use Rattle.capi.specs.{ℕ, List, [], refl, subst, dealloc_token-Testable, Option, box_owns, owned, token}
 use seplogic.Ra.Ura.{Ura}
 use mir.Raw.{raw as bare}
 use mir.Val.{Val, vstruct, vcons, vnil, of_list}

@@ -1,5 +1,6 @@
 -- A buffer into which numbers are put one by one.
-use Rattle.capi.specs.{◌≡◌, ℕ, ◌+◌, ◌<◌, List, ◌++◌, drop, length, map, take, arith, sym, ◌∙◌, get_or-map, length-map, paste_more, with_first}
+use Rattle.std.specs.Prelude.{◌≡◌, ◌+◌, ◌<◌, ◌++◌}
+use Rattle.capi.specs.{ℕ, List, drop, length, map, take, arith, sym, ◌∙◌, get_or-map, length-map, paste_more, with_first}
 use lib.ListN.{get_or, set}
 
 -- one more number is put

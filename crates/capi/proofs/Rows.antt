@@ -1,6 +1,7 @@
 -- A line of a window or of the screen has the columns that it says, and so no more than fit in 16 bits.
-use Rattle.capi.specs.{◌≡◌, ◌<◌, ℕ, Option, List, length, refl, arith, ap, subst, sym, ◌∙◌, option_map, length-map-range_with_len, Glyph, HasSize, Picture}
-use Rattle.capi.specs.{line_of, Shown, line_shown, Window, WindowMap, window_size}
+use Rattle.std.specs.Prelude.{◌≡◌, ◌<◌}
+use Rattle.capi.specs.{ℕ, Option, List, length, refl, arith, ap, subst, sym, ◌∙◌, option_map, length-map-range_with_len, Glyph, HasSize, Picture, line_of, Shown, line_shown, Window, WindowMap}
+use Rattle.capi.specs.{window_size}
 use Rattle.std.proofs.Common.{Some, None}
 use Rattle.cell.proofs.PictureLemmas.{length-line}
 

@@ -1,5 +1,6 @@
 -- What C gets for an answer to a call.
-use Rattle.capi.specs.Names.{if◌then◌else◌, ◌==◌, ◌+◌, ◌*◌, ℕ, ℤ, pos, negsuc, true, false, Some, None, Result, Ok, Err, Refusal, Attr, Reply, Fault}
+use Rattle.std.specs.Prelude.{if◌then◌else◌, ◌==◌, ◌+◌, ◌*◌}
+use Rattle.capi.specs.Names.{ℕ, ℤ, pos, negsuc, true, false, Some, None, Result, Ok, Err, Refusal, Attr, Reply, Fault}
 use Rattle.cell.specs.declared.refusal.Refusal.TheVariants as refusals
 use Rattle.world.specs.declared.call.Reply.TheVariants as replies
 use Rattle.desk.specs.declared.screen.Fault.TheVariants as faults

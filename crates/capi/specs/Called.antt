@@ -1,5 +1,6 @@
 -- What a call from C does to a handle. This file has the one relation of a call, for all calls.
-use Rattle.capi.specs.Names.{◌≡◌, ℤ, Option, Some, None, Result, Call, Reply, Fault, CallMade, Ghosts}
+use Rattle.std.specs.Prelude.{◌≡◌}
+use Rattle.capi.specs.Names.{ℤ, Option, Some, None, Result, Call, Reply, Fault, CallMade, Ghosts}
 use Rattle.capi.specs.Outlets.{Outlet}
 use Rattle.capi.specs.declared.answer.Answer.{Answer}
 use Rattle.capi.specs.declared.surface.Surface.{Surface}

@@ -1,5 +1,6 @@
 -- The screen of an open handle.
-use Rattle.capi.specs.Names.{◌≡◌, ℕ, List, [], false, is_damaged_line, world, first_world, first_painter}
+use Rattle.std.specs.Prelude.{◌≡◌}
+use Rattle.capi.specs.Names.{ℕ, List, [], false, is_damaged_line, world, first_world, first_painter}
 use Rattle.capi.specs.declared.surface.Surface.{Surface}
 
 -- the bytes that the screen sent and C has not taken yet

@@ -1,8 +1,8 @@
 -- The cells of a line, as C gets them.
 -- ECMA-48, 5th edition, 8.3.117 SGR: the colours 0 to 7, and 9 for the default.
-use Rattle.capi.specs.Names.{◌≡◌, ◌++◌, ◌+◌, ◌*◌, ℕ, List, drop, if◌then◌else◌, length, map, min, nat_lt, take, Option, Some, None, Result, Ok, Err}
-use Rattle.capi.specs.Names.{option_map_or, Glyph, glyph_bits, line_of, Shown, NoSuchWindow, OutsideWindow, line_shown, WindowMap, Refusal, World, world}
-use Rattle.capi.specs.Names.{Refused}
+use Rattle.std.specs.Prelude.{◌≡◌, ◌++◌, ◌+◌, ◌*◌, if◌then◌else◌}
+use Rattle.capi.specs.Names.{ℕ, List, drop, length, map, min, nat_lt, take, Option, Some, None, Result, Ok, Err, option_map_or, Glyph, glyph_bits, line_of, Shown, NoSuchWindow, OutsideWindow}
+use Rattle.capi.specs.Names.{line_shown, WindowMap, Refusal, World, world, Refused}
 use Rattle.capi.specs.declared.answer.Answer.{Answer}
 use Rattle.capi.specs.declared.surface.Surface.{Surface}
 use Rattle.capi.specs.Answers.{closed, of_end, ok}

@@ -1,5 +1,6 @@
 -- Opening a screen, taking its bytes, and forgetting what its terminal shows.
-use Rattle.capi.specs.Names.{◌≡◌, ◌≤◌, ◌<◌, ◌++◌, ◌⊎◌, ℕ, List, [], drop, length, Option, Some, None, Err, Refusal, NoMemory, new_refusal, Refused}
+use Rattle.std.specs.Prelude.{◌≡◌, ◌≤◌, ◌<◌, ◌++◌, ◌⊎◌}
+use Rattle.capi.specs.Names.{ℕ, List, [], drop, length, Option, Some, None, Err, Refusal, NoMemory, new_refusal, Refused}
 use Rattle.capi.specs.declared.answer.Answer.{Answer}
 use Rattle.capi.specs.declared.surface.Surface.{Surface}
 use Rattle.capi.specs.Answers.{of_end, ok}

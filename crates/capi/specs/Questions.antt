@@ -1,8 +1,9 @@
 -- What C asks of a screen beside the calls, and what it gets.
 -- X/Open Curses Issue 7: wattr_get, getbkgd. ncurses, curs_opaque(3X): is_cleared, is_pad, is_scrollok, wgetscrreg.
-use Rattle.capi.specs.Names.{◌≡◌, ◌<◌, ℕ, ◌∷◌, [], true, false, is_none, is_some, Bool, IfOk, MatchOption, Option, Some, None, Result, Ok, Err, ok_or}
-use Rattle.capi.specs.Names.{unwrap_or, option_map, result_err, bits_of, first_of, Refusal, NoSuchWindow, STANDARD, WinId, Panels, is_in_panel, WindowMap}
-use Rattle.capi.specs.Names.{World, missing_window, Reply, Number, TwoNumbers, Cell, Flag, Panel, PanelId, Settings, as_reply, parent_answer, world, Refused}
+use Rattle.std.specs.Prelude.{◌≡◌, ◌<◌, ◌∷◌}
+use Rattle.capi.specs.Names.{ℕ, [], true, false, is_none, is_some, Bool, IfOk, MatchOption, Option, Some, None, Result, Ok, Err, ok_or, unwrap_or, option_map, result_err, bits_of, first_of, Refusal}
+use Rattle.capi.specs.Names.{NoSuchWindow, STANDARD, WinId, Panels, is_in_panel, WindowMap, World, missing_window, Reply, Number, TwoNumbers, Cell, Flag, Panel, PanelId, Settings, as_reply}
+use Rattle.capi.specs.Names.{parent_answer, world, Refused}
 use Rattle.capi.specs.declared.answer.Answer.{Answer}
 use Rattle.capi.specs.declared.question.Question.{Question}
 use Rattle.capi.specs.declared.question.Question.TheVariants as questions

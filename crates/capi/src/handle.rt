@@ -1,7 +1,8 @@
 //! A handle for C: the pointer of a box with a surface, or null.
 
-ghost use Rattle.capi.specs.{◌≡◌, IfOk, None, Option, Some, true, MatchOption, RefusedBy, new_refusal, is_query, Asked, Called, Ended, IsBlank, LineTold};
-ghost use Rattle.capi.specs.{screen_line, window_line, Forgotten, Opened, Taken, Told};
+ghost use Rattle.std.specs.Prelude.{◌≡◌};
+ghost use Rattle.capi.specs.{IfOk, None, Option, Some, true, MatchOption, RefusedBy, new_refusal, is_query, Asked, Called, Ended, IsBlank, LineTold, screen_line, window_line, Forgotten, Opened};
+ghost use Rattle.capi.specs.{Taken, Told};
 ghost use Rattle.capi.specs.declared.surface.Surface.{Surface as TheSurface};
 
 use crate::answer::{Answer, refusal_answer};

@@ -1,7 +1,8 @@
 //! Numbers of 32 bits, as C passes them, for calls that take fewer bits: what is greater than any of these becomes the
 //! greatest, which each call refuses.
 
-ghost use Rattle.capi.specs.{◌≡◌, panel_of, panel_or_none_of, saturated, saturated_character, saturated_signed, window_of};
+ghost use Rattle.std.specs.Prelude.{◌≡◌};
+ghost use Rattle.capi.specs.{panel_of, panel_or_none_of, saturated, saturated_character, saturated_signed, window_of};
 
 use desk::{PanelId, WinId};
 

@@ -1,7 +1,7 @@
 //! What C asks of a screen beside the calls, and gets in one or two numbers.
 
-ghost use Rattle.capi.specs.{◌≡◌, ◌∷◌, [], IfOk, option_map, result_err, as_reply, first_of, missing_window, world, IsAnswered, IsNext, IsPanelOf, is_panel};
-ghost use Rattle.capi.specs.{is_window, pad_answer, setting_reply, settings_of};
+ghost use Rattle.std.specs.Prelude.{◌≡◌, ◌∷◌};
+ghost use Rattle.capi.specs.{[], IfOk, option_map, result_err, as_reply, first_of, missing_window, world, IsAnswered, IsNext, IsPanelOf, is_panel, is_window, pad_answer, setting_reply, settings_of};
 
 use bitflags::Flags;
 use cell::{MOST_PANELS, MOST_WINDOWS};

@@ -1,7 +1,7 @@
 //! A screen whose bytes are kept until C takes them.
 
-ghost use Rattle.capi.specs.{◌≡◌, ◌≤◌, ◌<◌, ◌++◌, [], drop, length, IfOk, None, Some, true, RefusedBy, new_refusal, CallMade, is_query, Makes, IsBlank};
-ghost use Rattle.capi.specs.{pending, LineTold, screen_line, window_line, Told};
+ghost use Rattle.std.specs.Prelude.{◌≡◌, ◌≤◌, ◌<◌, ◌++◌};
+ghost use Rattle.capi.specs.{[], drop, length, IfOk, None, Some, true, RefusedBy, new_refusal, CallMade, is_query, Makes, IsBlank, pending, LineTold, screen_line, window_line, Told};
 
 use crate::answer::{Answer, refusal_answer};
 use crate::line::{line_of_screen, line_of_window, tell_line};

@@ -1,9 +1,9 @@
 -- The cells that a grid has, with the blanks that are missing after them: a line that is lent, blanks that are added, and
 -- what is written before those that are missing.
-use Rattle.cell.specs.{◌≡◌, ℕ, ◌+◌, ◌-◌, ◌*◌, ◌<◌, ◌≤◌, inl, inr, List, [], length, take, drop, set, min, replicate, get_or, sym, ap, ◌∙◌, arith}
-use Rattle.cell.specs.{length-append, AllByRecursion, splice, cases_lt, cases_eq, append_assoc, length-replicate, length-set, length-take-le, length-drop}
-use Rattle.cell.specs.{replicate-append-replicate, get_or-replicate, get_or_append_left, get_or_past, get_or-take, get_or-drop, get_or-set_other}
-use Rattle.cell.specs.{set-append_left, take-append-le, drop-append-le, ext_get_or, IsGrid, IsReached, with_blanks}
+use Rattle.std.specs.Prelude.{◌≡◌, ◌+◌, ◌-◌, ◌*◌, ◌<◌, ◌≤◌}
+use Rattle.cell.specs.{ℕ, inl, inr, List, [], length, take, drop, set, min, replicate, get_or, sym, ap, ◌∙◌, arith, length-append, AllByRecursion, splice, cases_lt, cases_eq, append_assoc}
+use Rattle.cell.specs.{length-replicate, length-set, length-take-le, length-drop, replicate-append-replicate, get_or-replicate, get_or_append_left, get_or_past, get_or-take, get_or-drop}
+use Rattle.cell.specs.{get_or-set_other, set-append_left, take-append-le, drop-append-le, ext_get_or, IsGrid, IsReached, with_blanks}
 use Rattle.std.proofs.lemmas.List.{get_or-append_right}
 use Rattle.cell.specs.declared.limits.TheConstants.{LARGEST_PAD}
 use Rattle.cell.proofs.GridLemmas.{line_end}

@@ -1,5 +1,6 @@
 -- A grid with one cell everywhere.
-use Rattle.cell.specs.{◌≡◌, ℕ, ◌<◌, List, length, replicate, sym, ◌∙◌, arith, cases_eq, HasSize, all_of, rows, IsWhole}
+use Rattle.std.specs.Prelude.{◌≡◌, ◌<◌}
+use Rattle.cell.specs.{ℕ, List, length, replicate, sym, ◌∙◌, arith, cases_eq, HasSize, all_of, rows, IsWhole}
 use Rattle.cell.proofs.GridLemmas.{length-rows, length-line_of-rows, rows-all_of}
 use Rattle.cell.proofs.PictureLemmas.{length-line}
 

@@ -1,6 +1,7 @@
 -- Places that are filled with one cell, one after another, and a line of which some are.
-use Rattle.cell.specs.{◌≡◌, ℕ, ◌+◌, ◌-◌, ◌<◌, ◌≤◌, ◌==◌, ◌&&◌, nat_le, nat_lt, if◌then◌else◌, List, length, set, replicate, get_or, ap, sym, arith, eq-eqb}
-use Rattle.cell.specs.{ne_eqb, splice, cases_eq, nat_tests, length-replicate, get_or-replicate, rows, IsWhole, line_of, fill_from_more, paste_all}
+use Rattle.std.specs.Prelude.{◌≡◌, ◌+◌, ◌-◌, ◌<◌, ◌≤◌, ◌==◌, ◌&&◌, if◌then◌else◌}
+use Rattle.cell.specs.{ℕ, nat_le, nat_lt, List, length, set, replicate, get_or, ap, sym, arith, eq-eqb, ne_eqb, splice, cases_eq, nat_tests, length-replicate, get_or-replicate, rows, IsWhole}
+use Rattle.cell.specs.{line_of, fill_from_more, paste_all}
 use Rattle.cell.proofs.PieceWrites.{PieceFits, PieceFits-from}
 
 -- what is put into a line that is filled fits into it

@@ -1,9 +1,8 @@
 -- The lines of a grid whose cells are one after another: each line, a change of one cell, and equal sizes.
-use Rattle.cell.specs.{◌≡◌, ℕ, ◌<◌, ◌≤◌, ◌+◌, ◌*◌, List, [], length, take, drop, replicate, set, ◌-◌, arith, zero-add, take-set-lt, cases_eq, cases_lt}
-use Rattle.cell.specs.{length-set, length-take-le, length-drop, length-replicate, drop-set-add, drop-set-lt, take-set-le, take-replicate, drop-replicate}
-use Rattle.cell.specs.{get_or-replicate, get_or-set_same, get_or-set_other, ext_get_or, nil_from_length, All-from_recursion, recursion_from_All, All-take}
-use Rattle.cell.specs.{All-drop, length-map-range_with_len, get_or-map-range_with_len, mul-le, row_fits, line_of, with_cell, EachCell, size_of, all_of, rows}
-use Rattle.cell.specs.{IsWhole}
+use Rattle.std.specs.Prelude.{◌≡◌, ◌<◌, ◌≤◌, ◌+◌, ◌*◌, ◌-◌}
+use Rattle.cell.specs.{ℕ, List, [], length, take, drop, replicate, set, arith, zero-add, take-set-lt, cases_eq, cases_lt, length-set, length-take-le, length-drop, length-replicate, drop-set-add}
+use Rattle.cell.specs.{drop-set-lt, take-set-le, take-replicate, drop-replicate, get_or-replicate, get_or-set_same, get_or-set_other, ext_get_or, nil_from_length, All-from_recursion}
+use Rattle.cell.specs.{recursion_from_All, All-take, All-drop, length-map-range_with_len, get_or-map-range_with_len, mul-le, row_fits, line_of, with_cell, EachCell, size_of, all_of, rows, IsWhole}
 use Rattle.cell.proofs.PictureLemmas.{each-map}
 
 abbrev line_at : {A : Type 0} → ℕ → List A → ℕ → List A

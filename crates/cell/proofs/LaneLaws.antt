@@ -1,12 +1,11 @@
 -- Cells as numbers, one in each lane, and a mask of the lanes in which two differ.
-use Rattle.cell.specs.{◌≡◌, ℕ, suc, ◌+◌, ◌-◌, ◌*◌, ◌^◌, ◌/◌, ◌%◌, ◌<◌, true, List, [], ◌∷◌, length, get_or, set, take, map, refl, sym, ap, subst, ◌∙◌, arith}
-use Rattle.cell.specs.{eq-eqb, ne_eqb, eqb, cond, inl, inr, w32, not, replicate, ◌==◌, ◌&&◌, ◌≤◌, Bool, slice_index_or, nat_lt, common_prefix_len, list_all}
-use Rattle.cell.specs.{prefix_len, fold_l, mask_l, top, zip2, and_parts, and_from, cases_Bool, cases_eq, cases_lt, eqb-true, lt-ltb, ltb-true, ltb_from_iff}
-use Rattle.cell.specs.{bit_at, bit_or, bit_xor, le_or_l, le_or_r, or_lt, xor_shr, bit_at-lt, bit_at-zero, bit_at_xor, same_from_bits, get_or-map}
-use Rattle.cell.specs.{get_or_default, length-map, take-map, take_more, take_more_set, map-append, list_all-append, common_prefix_len-le, length-zip2}
-use Rattle.cell.specs.{mask_l-mod, tops_compared, trailing_mask_l, DiffersAt, same_rendition, same_rendition-equal, same_rendition-equivalence, Glyph, IsCell}
-use Rattle.cell.specs.{blank, colour_of, glyph_bits, rendition_bits, rendition_of, shown_bits, shown_of, same_bits, IsShown, Rendition, Shown, rendition_with}
-use Rattle.cell.specs.{shown_blank}
+use Rattle.std.specs.Prelude.{◌≡◌, ◌+◌, ◌-◌, ◌*◌, ◌^◌, ◌/◌, ◌%◌, ◌<◌, ◌∷◌, ◌==◌, ◌&&◌, ◌≤◌}
+use Rattle.cell.specs.{ℕ, suc, true, List, [], length, get_or, set, take, map, refl, sym, ap, subst, ◌∙◌, arith, eq-eqb, ne_eqb, eqb, cond, inl, inr, w32, not, replicate, Bool, slice_index_or}
+use Rattle.cell.specs.{nat_lt, common_prefix_len, list_all, prefix_len, fold_l, mask_l, top, zip2, and_parts, and_from, cases_Bool, cases_eq, cases_lt, eqb-true, lt-ltb, ltb-true, ltb_from_iff}
+use Rattle.cell.specs.{bit_at, bit_or, bit_xor, le_or_l, le_or_r, or_lt, xor_shr, bit_at-lt, bit_at-zero, bit_at_xor, same_from_bits, get_or-map, get_or_default, length-map, take-map, take_more}
+use Rattle.cell.specs.{take_more_set, map-append, list_all-append, common_prefix_len-le, length-zip2, mask_l-mod, tops_compared, trailing_mask_l, DiffersAt, same_rendition, same_rendition-equal}
+use Rattle.cell.specs.{same_rendition-equivalence, Glyph, IsCell, blank, colour_of, glyph_bits, rendition_bits, rendition_of, shown_bits, shown_of, same_bits, IsShown, Rendition, Shown}
+use Rattle.cell.specs.{rendition_with, shown_blank}
 use lib.Count.{count_trailing_zeros}
 
 -- ---- one more cell

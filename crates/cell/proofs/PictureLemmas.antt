@@ -1,8 +1,8 @@
 -- Pictures of a known size: what each line has, and when two are equal.
-use Rattle.cell.specs.{refl, ◌≡◌, ℕ, ◌+◌, ◌<◌, ◌∙◌, List, [], ◌∷◌, length, map, replicate, get_or, set, sym, arith, zero-add, lit≤, lit<, size_of, line_of}
-use Rattle.cell.specs.{cell_or, HasSize, EachCell, all_of, lines_from, AllByRecursion, length-replicate, ext_get_or, All-from_recursion, recursion_from_All}
-use Rattle.cell.specs.{All-get_or, All-map, All-replicate, All-set, length-map-range_with_len, get_or-map-range_with_len, blank, IsCell, no_rendition}
-use Rattle.cell.specs.{IsRendition, shown_blank, IsShown, ArePairs, IsPair, default_pair, first_pairs}
+use Rattle.std.specs.Prelude.{◌≡◌, ◌+◌, ◌<◌, ◌∷◌}
+use Rattle.cell.specs.{refl, ℕ, ◌∙◌, List, [], length, map, replicate, get_or, set, sym, arith, zero-add, lit≤, lit<, size_of, line_of, cell_or, HasSize, EachCell, all_of, lines_from}
+use Rattle.cell.specs.{AllByRecursion, length-replicate, ext_get_or, All-from_recursion, recursion_from_All, All-get_or, All-map, All-replicate, All-set, length-map-range_with_len}
+use Rattle.cell.specs.{get_or-map-range_with_len, blank, IsCell, no_rendition, IsRendition, shown_blank, IsShown, ArePairs, IsPair, default_pair, first_pairs}
 use Rattle.cell.specs.declared.limits.TheConstants.{LAST_PAIR}
 
 -- `AllByRecursion` of lists that are made by a rule

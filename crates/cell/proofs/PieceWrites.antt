@@ -1,9 +1,8 @@
 -- A piece of a line of a grid that is written at once.
-use Rattle.cell.specs.{◌≡◌, ℕ, suc, ◌∷◌, ◌+◌, ◌-◌, ◌*◌, ◌<◌, ◌≤◌, ◌==◌, ◌&&◌, nat_le, nat_lt, if◌then◌else◌, true, false, List, [], length, map, take, get_or}
-use Rattle.cell.specs.{ap, sym, ◌∙◌, arith, ◌⊎◌, length-append, eq-eqb, ne_eqb, AllByRecursion, splice, get_or-append, get_or-append_right, cases_lt}
-use Rattle.cell.specs.{cases_order, cond-true, cond-false, nat_tests, get_or-map, get_or-take, get_or-drop, get_or_past, nil_from_length, length-map}
-use Rattle.cell.specs.{length-take-le, length-drop, All-from_recursion, recursion_from_All, All-take, All-drop, All-append, line_of, cell_or, HasSize, rows}
-use Rattle.cell.specs.{IsWhole}
+use Rattle.std.specs.Prelude.{◌≡◌, ◌∷◌, ◌+◌, ◌-◌, ◌*◌, ◌<◌, ◌≤◌, ◌==◌, ◌&&◌, if◌then◌else◌, ◌⊎◌}
+use Rattle.cell.specs.{ℕ, suc, nat_le, nat_lt, true, false, List, [], length, map, take, get_or, ap, sym, ◌∙◌, arith, length-append, eq-eqb, ne_eqb, AllByRecursion, splice, get_or-append}
+use Rattle.cell.specs.{get_or-append_right, cases_lt, cases_order, cond-true, cond-false, nat_tests, get_or-map, get_or-take, get_or-drop, get_or_past, nil_from_length, length-map, length-take-le}
+use Rattle.cell.specs.{length-drop, All-from_recursion, recursion_from_All, All-take, All-drop, All-append, line_of, cell_or, HasSize, rows, IsWhole}
 use Rattle.cell.proofs.GridLemmas.{HasLine-from_length, length-rows, length-line_of-rows, line_of-rows, line_end}
 
 module _ {A : Type 0} (none : A) (old piece : List A) (start : ℕ) (fits : start + length piece ≤ length old) where

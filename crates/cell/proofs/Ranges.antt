@@ -1,6 +1,7 @@
 -- Two lines that are the same up to a column, or from one on, and in the range beside it.
-use Rattle.cell.specs.{◌≡◌, ℕ, ◌+◌, ◌-◌, ◌≤◌, ◌<◌, zero, suc, List, [], ◌∷◌, take, drop, length, arith, ◌∙◌, refl, sym, ap, slice_index_or, slice_range}
-use Rattle.cell.specs.{take-add, get_or-drop, get_or-take, DiffersAt, Shown, shown_blank, drop_split}
+use Rattle.std.specs.Prelude.{◌≡◌, ◌+◌, ◌-◌, ◌≤◌, ◌<◌, ◌∷◌}
+use Rattle.cell.specs.{ℕ, zero, suc, List, [], take, drop, length, arith, ◌∙◌, refl, sym, ap, slice_index_or, slice_range, take-add, get_or-drop, get_or-take, DiffersAt, Shown, shown_blank}
+use Rattle.cell.specs.{drop_split}
 
 pub same_take : {A : Type 0} (xs ys : List A) (start end : ℕ) → start ≤ end → take start xs ≡ take start ys → slice_range xs start end ≡ slice_range ys start end → take end xs ≡ take end ys
 same_take xs ys start end ordered before range = grind (arith, take-add start (end - start) xs, take-add start (end - start) ys)

@@ -1,7 +1,7 @@
 -- Cells that are shown many together.
-use Rattle.cell.specs.{◌≡◌, ℕ, ◌+◌, ◌-◌, ◌≤◌, ◌==◌, true, subst, List, [], ◌∷◌, ◌++◌, length, map, take, drop, take-take, refl, sym, ap, arith, ◌∙◌}
-use Rattle.cell.specs.{AllByRecursion, list_all, take-add, take-length, cases_eq, nat_tests, length-drop, length-take-le, map-append, take-map, All-take}
-use Rattle.cell.specs.{All-from_recursion, recursion_from_All, All-append, take-put_mid, Glyph, Pairs, pair_at, shown, shown_in}
+use Rattle.std.specs.Prelude.{◌≡◌, ◌+◌, ◌-◌, ◌≤◌, ◌==◌, ◌∷◌, ◌++◌}
+use Rattle.cell.specs.{ℕ, true, subst, List, [], length, map, take, drop, take-take, refl, sym, ap, arith, ◌∙◌, AllByRecursion, list_all, take-add, take-length, cases_eq, nat_tests, length-drop}
+use Rattle.cell.specs.{length-take-le, map-append, take-map, All-take, All-from_recursion, recursion_from_All, All-append, take-put_mid, Glyph, Pairs, pair_at, shown, shown_in}
 use borrow.Rule.Slice.PartMut.{put_mid, same_len_mid}
 use Rattle.cell.specs.declared.colour.ColourPair.{ColourPair}
 

@@ -1,6 +1,7 @@
 -- Sets of attributes, as numbers of six bits: bold 1, dim 2, underline 4, blink 8, reverse 16, invisible 32.
 -- X/Open Curses Issue 7, "Characters", "Attributes".
-use Rattle.cell.specs.Names.{ℕ, ◌-◌, ◌/◌, ◌%◌, List, [], ◌∷◌, codes, slice_index, bit_and}
+use Rattle.std.specs.Prelude.{◌-◌, ◌/◌, ◌%◌, ◌∷◌}
+use Rattle.cell.specs.Names.{ℕ, List, [], codes, slice_index, bit_and}
 use Rattle.cell.specs.declared.attr.Attr.{Attr}
 
 -- the bits of a set, as they are kept

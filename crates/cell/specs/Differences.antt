@@ -1,7 +1,7 @@
 -- Where two lines of shown cells differ, by comparing them column by column, and in how many places two pictures of one
 -- size do; measures of our own.
-use Rattle.cell.specs.Names.{◌≡◌, ℕ, ◌+◌, ◌<◌, ◌==◌, ◌&&◌, if◌then◌else◌, Bool, List, [], ◌∷◌, length, take, drop, Option, Some, None, slice_index_or}
-use Rattle.cell.specs.Names.{option_eq}
+use Rattle.std.specs.Prelude.{◌≡◌, ◌+◌, ◌<◌, ◌==◌, ◌&&◌, if◌then◌else◌, ◌∷◌}
+use Rattle.cell.specs.Names.{ℕ, Bool, List, [], length, take, drop, Option, Some, None, slice_index_or, option_eq}
 use Rattle.cell.specs.Pictures.{Picture}
 use Rattle.cell.specs.ShownCells.{Rendition, Shown, shown_blank}
 

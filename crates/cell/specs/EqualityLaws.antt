@@ -1,6 +1,6 @@
 -- Two glyphs, renditions and shown cells are the same where all that they hold is.
-use Rattle.cell.specs.Names.{◌≡◌, ℕ, true, refl, ap, ◌==◌, ◌&&◌, Option, Some, None, IsEquivalence, and_parts, eqb-true, nat_eq_equiv, on_equiv, and_equiv}
-use Rattle.cell.specs.Names.{options_equiv}
+use Rattle.std.specs.Prelude.{◌≡◌, ◌==◌, ◌&&◌}
+use Rattle.cell.specs.Names.{ℕ, true, refl, ap, Option, Some, None, IsEquivalence, and_parts, eqb-true, nat_eq_equiv, on_equiv, and_equiv, options_equiv}
 use Rattle.cell.specs.Glyphs.{Glyph, same_glyph}
 use Rattle.cell.specs.ShownCells.{Rendition, Shown}
 use Rattle.cell.specs.Differences.{same_colour, same_rendition, same_shown}

@@ -1,6 +1,7 @@
 -- What a cell holds: a character that is printed, attributes, and the number of a colour pair.
 -- X/Open Curses Issue 7, "Characters": a `chtype`, of the characters those of ASCII.
-use Rattle.cell.specs.Names.{ℕ, Bool, ◌==◌, ◌&&◌, ◌≤◌, ◌<◌, nat_le}
+use Rattle.std.specs.Prelude.{◌==◌, ◌&&◌, ◌≤◌, ◌<◌}
+use Rattle.cell.specs.Names.{ℕ, Bool, nat_le}
 use Rattle.cell.specs.declared.limits.TheConstants.{FIRST_CHARACTER, LAST_CHARACTER, LAST_PAIR}
 
 pub record Glyph : Type 0 where

@@ -1,5 +1,6 @@
 -- The lines of a grid whose cells are one after another. How it keeps them is its own choice; it shows lines of cells.
-use Rattle.cell.specs.Names.{◌≡◌, ℕ, ◌+◌, ◌-◌, ◌*◌, ◌<◌, ◌≤◌, ◌++◌, List, length, map, take, drop, replicate, slice_index_or, AllByRecursion, range_with_len}
+use Rattle.std.specs.Prelude.{◌≡◌, ◌+◌, ◌-◌, ◌*◌, ◌<◌, ◌≤◌, ◌++◌}
+use Rattle.cell.specs.Names.{ℕ, List, length, map, take, drop, replicate, slice_index_or, AllByRecursion, range_with_len}
 use Rattle.cell.specs.declared.limits.TheConstants.{LARGEST_PAD}
 
 -- cut into that many lines of that many columns

@@ -1,23 +1,18 @@
 -- The names from below: definitions take them from here, proofs and code from `specs`.
-pub use Rattle.std.proofs.Common.{Bool, IfOk, List, MatchOption, MatchResult, None, Option, Result, Some, [], ap, arith, codes, cond, drop, eq-eqb, eqb}
-pub use Rattle.std.proofs.Common.{false, get_or, if◌then◌else◌, inl, inr, is_none, length, length-append, lit<, lit≤, map, min, nat_le, nat_lt, ne_eqb, not}
-pub use Rattle.std.proofs.Common.{refl, replicate, set, slice_index, slice_index_or, slice_set, subst, suc, sym, take, take-take, true, w32, zero, zero-add}
-pub use Rattle.std.proofs.Common.{ℕ, ◌%◌, ◌&&◌, ◌*◌, ◌++◌, ◌+◌, ◌-◌, ◌/◌, ◌<◌, ◌==◌, ◌^◌, ◌||◌, ◌↔◌, ◌∙◌, ◌∷◌, ◌≡◌, ◌≤◌, ◌⊎◌}
+pub use Rattle.std.proofs.Common.{Bool, IfOk, List, MatchOption, MatchResult, None, Option, Result, Some, [], ap, arith, codes, cond, drop, eq-eqb, eqb, false, get_or, inl, inr, is_none, length}
+pub use Rattle.std.proofs.Common.{length-append, lit<, lit≤, map, min, nat_le, nat_lt, ne_eqb, not, refl, replicate, set, slice_index, slice_index_or, slice_set, subst, suc, sym, take, take-take}
+pub use Rattle.std.proofs.Common.{true, w32, zero, zero-add, ℕ, ◌∙◌}
 pub use Rattle.std.proofs.Math.ListN.{get_or-append}
 pub use Rattle.std.proofs.Math.Seq.{get_or-append_right, take-add, take-length, take-set-lt}
-pub use Rattle.std.proofs.lemmas.Bool.{and_from, and_parts, cases_Bool, cases_eq, cases_lt, cases_order, cond-false, cond-true, eqb-true, false_from_ne_true}
-pub use Rattle.std.proofs.lemmas.Bool.{lt-ltb, ltb-true, ltb_from_iff}
+pub use Rattle.std.proofs.lemmas.Bool.{and_from, and_parts, cases_Bool, cases_eq, cases_lt, cases_order, cond-false, cond-true, eqb-true, false_from_ne_true, lt-ltb, ltb-true, ltb_from_iff}
 pub use Rattle.std.proofs.lemmas.Bool.Decides.{nat_tests}
 pub use Rattle.std.proofs.lemmas.Cmp.{and_equiv, nat_eq_equiv, on_equiv}
 pub use Rattle.std.proofs.lemmas.Grind.{common_steps}
-pub use Rattle.std.proofs.lemmas.List.{append_assoc, drop-append-le, drop-replicate, drop-set-add, drop-set-lt, ext_get_or, get_or-drop, get_or-map}
-pub use Rattle.std.proofs.lemmas.List.{get_or-replicate, get_or-set_other, get_or-set_same, get_or-take, get_or_append_left, get_or_default, get_or_past}
-pub use Rattle.std.proofs.lemmas.List.{length-drop, length-map, length-replicate, length-set, length-take-le, map-append, nil_from_length}
-pub use Rattle.std.proofs.lemmas.List.{replicate-append-replicate, set-append_left, take-append-le, take-map, take-replicate, take-set-le, take_more}
-pub use Rattle.std.proofs.lemmas.List.{take_more_set}
+pub use Rattle.std.proofs.lemmas.List.{append_assoc, drop-append-le, drop-replicate, drop-set-add, drop-set-lt, ext_get_or, get_or-drop, get_or-map, get_or-replicate, get_or-set_other}
+pub use Rattle.std.proofs.lemmas.List.{get_or-set_same, get_or-take, get_or_append_left, get_or_default, get_or_past, length-drop, length-map, length-replicate, length-set, length-take-le}
+pub use Rattle.std.proofs.lemmas.List.{map-append, nil_from_length, replicate-append-replicate, set-append_left, take-append-le, take-map, take-replicate, take-set-le, take_more, take_more_set}
 pub use Rattle.std.proofs.lemmas.List.Edits.{fill_from_more, paste_all}
-pub use Rattle.std.proofs.lemmas.List.Elements.{All-append, All-drop, All-from_recursion, All-get_or, All-map, All-replicate, All-set, All-take}
-pub use Rattle.std.proofs.lemmas.List.Elements.{recursion_from_All}
+pub use Rattle.std.proofs.lemmas.List.Elements.{All-append, All-drop, All-from_recursion, All-get_or, All-map, All-replicate, All-set, All-take, recursion_from_All}
 pub use Rattle.std.proofs.lemmas.List.Folds.{drop_split, list_all-append}
 pub use Rattle.std.proofs.lemmas.List.FromFn.{get_or-map-range_with_len, length-map-range_with_len}
 pub use Rattle.std.proofs.lemmas.List.Sums.{common_prefix_len-le}

@@ -1,7 +1,8 @@
 -- Cells as numbers: the character in bits 0 to 7, the attributes in bits 8 to 15, and from bit 16 on the pair of a
 -- cell; of a shown cell the foreground in bits 16 to 19, and from bit 20 on the background. How a cell is kept is
 -- Curspan's own choice.
-use Rattle.cell.specs.Names.{ℕ, ◌+◌, ◌-◌, ◌*◌, ◌/◌, ◌%◌, ◌==◌, if◌then◌else◌, Option, Some, None}
+use Rattle.std.specs.Prelude.{◌+◌, ◌-◌, ◌*◌, ◌/◌, ◌%◌, ◌==◌, if◌then◌else◌}
+use Rattle.cell.specs.Names.{ℕ, Option, Some, None}
 use Rattle.cell.specs.Glyphs.{Glyph}
 use Rattle.cell.specs.ShownCells.{Rendition, Shown, rendition_with, shown_with}
 use Rattle.cell.specs.declared.colour.ColourPair.{ColourPair}

@@ -1,6 +1,6 @@
 -- Unpacking a number and packing it again gives that number, so numbers that hold the same are equal.
-use Rattle.cell.specs.Names.{◌≡◌, ℕ, zero, suc, ◌%◌, ◌/◌, ◌==◌, Bool, true, IsEquivalence, arith, eq-eqb, ne_eqb, refl, sym, ap, subst, ◌∙◌, inl, inr}
-use Rattle.cell.specs.Names.{cases_eq, false_from_ne_true}
+use Rattle.std.specs.Prelude.{◌≡◌, ◌%◌, ◌/◌, ◌==◌}
+use Rattle.cell.specs.Names.{ℕ, zero, suc, Bool, true, IsEquivalence, arith, eq-eqb, ne_eqb, refl, sym, ap, subst, ◌∙◌, inl, inr, cases_eq, false_from_ne_true}
 use Rattle.cell.specs.Packing.{glyph_of, colour_of, colours_of, rendition_of, shown_of, glyph_bits, colour_code, colour_bits, rendition_bits, shown_bits}
 
 -- ---- none is lost

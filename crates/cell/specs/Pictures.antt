@@ -1,6 +1,7 @@
 -- Lines of cells: a sheet of what a window's grid holds, and a picture of what a screen or a terminal shows. Lines and
 -- columns count from 0, as in X/Open Curses Issue 7 ("Screens, Windows and Terminals").
-use Rattle.cell.specs.Names.{◌≡◌, ℕ, nat_lt, Bool, List, [], length, map, replicate, slice_index_or, slice_set, AllByRecursion, range_with_len}
+use Rattle.std.specs.Prelude.{◌≡◌}
+use Rattle.cell.specs.Names.{ℕ, nat_lt, Bool, List, [], length, map, replicate, slice_index_or, slice_set, AllByRecursion, range_with_len}
 use Rattle.cell.specs.Glyphs.{Glyph, blank, IsCell}
 use Rattle.cell.specs.ShownCells.{Shown, shown_blank, IsShown}
 

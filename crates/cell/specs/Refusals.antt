@@ -1,5 +1,6 @@
 -- Why a call is refused, as the log names it. X/Open Curses answers ERR alone; numbers and names are Curspan's own.
-use Rattle.cell.specs.Names.{◌≡◌, ℕ, List, [], ◌∷◌, Bool, codes, Option, Some, None, if◌then◌else◌, Result, MatchResult, ◌⊎◌}
+use Rattle.std.specs.Prelude.{◌≡◌, ◌∷◌, if◌then◌else◌, ◌⊎◌}
+use Rattle.cell.specs.Names.{ℕ, List, [], Bool, codes, Option, Some, None, Result, MatchResult}
 use Rattle.cell.specs.declared.written_refusals.Refusal.{Refusal}
 use Rattle.cell.specs.declared.written_refusals.Refusal.TheVariants.{NoSuchWindow, NoSuchPanel, OffScreen, OutsideParent, OutsideWindow, HasDerived, InPanel, IsPad, NotPad, NotDerived, BadSize, BadRegion}
 use Rattle.cell.specs.declared.written_refusals.Refusal.TheVariants.{BadCharacter, StandardScreen, Hidden, ScrollingOff, TooMany, NoMemory, BadRectangle, BadPair}

@@ -1,8 +1,8 @@
 -- What is seen of a cell: its character, printed with a rendition.
 -- ECMA-48, 5th edition, 8.3.117 SGR ("graphic rendition": attributes, and the colours of display and background);
 -- X/Open Curses Issue 7, init_pair (a colour pair is a foreground and a background).
-use Rattle.cell.specs.Names.{ℕ, ◌+◌, Bool, not, ◌&&◌, ◌==◌, ◌≤◌, ◌<◌, ⊤, MatchOption, Option, None, is_none, List, length, replicate, slice_index_or, ◌≡◌}
-use Rattle.cell.specs.Names.{AllByRecursion}
+use Rattle.std.specs.Prelude.{◌+◌, ◌&&◌, ◌==◌, ◌≤◌, ◌<◌, ◌≡◌}
+use Rattle.cell.specs.Names.{ℕ, Bool, not, ⊤, MatchOption, Option, None, is_none, List, length, replicate, slice_index_or, AllByRecursion}
 use Rattle.cell.specs.Glyphs.{Glyph}
 use Rattle.cell.specs.declared.limits.TheConstants.{FIRST_CHARACTER, LAST_CHARACTER, LAST_COLOUR, LAST_PAIR}
 use Rattle.cell.specs.declared.colour.ColourPair.{ColourPair}

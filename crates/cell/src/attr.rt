@@ -1,6 +1,7 @@
 //! Sets of attributes.
 
-ghost use Rattle.cell.specs.{⊤, ◌≡◌, ◌<◌, [], ◌∷◌, codes, bits_of, hex_digit, hex_digits, valid_attributes};
+ghost use Rattle.std.specs.Prelude.{◌≡◌, ◌<◌, ◌∷◌};
+ghost use Rattle.cell.specs.{⊤, [], codes, bits_of, hex_digit, hex_digits, valid_attributes};
 
 use bitflags::{Flag, Flags, bitflag_items};
 

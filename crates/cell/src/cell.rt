@@ -1,7 +1,7 @@
 //! A cell: a character with attributes and a colour pair.
 
-ghost use Rattle.cell.specs.{◌≡◌, ◌+◌, ◌*◌, ◌&&◌, ◌<◌, nat_le, if◌then◌else◌, true, bits_of, valid_attributes, IsCell, is_printable, same_glyph};
-ghost use Rattle.cell.specs.{partial_equiv_from_equiv, list_all};
+ghost use Rattle.std.specs.Prelude.{◌≡◌, ◌+◌, ◌*◌, ◌&&◌, ◌<◌, if◌then◌else◌};
+ghost use Rattle.cell.specs.{nat_le, true, bits_of, valid_attributes, IsCell, is_printable, same_glyph, partial_equiv_from_equiv, list_all};
 ghost use Rattle.cell.specs.declared.limits.TheConstants.{LAST_PAIR};
 
 use crate::attr::Attr;

@@ -1,7 +1,7 @@
 //! Colours, and pairs of them.
 
-ghost use Rattle.cell.specs.{◌≡◌, ◌==◌, ◌&&◌, is_none, ◌≤◌, nat_le, if◌then◌else◌, length, map, slice_set, true, AllByRecursion, list_all, ArePairs};
-ghost use Rattle.cell.specs.{default_pair, IsColour, IsShown, first_pairs, pair_at, shown, shown_in};
+ghost use Rattle.std.specs.Prelude.{◌≡◌, ◌==◌, ◌&&◌, ◌≤◌, if◌then◌else◌};
+ghost use Rattle.cell.specs.{is_none, nat_le, length, map, slice_set, true, AllByRecursion, list_all, ArePairs, default_pair, IsColour, IsShown, first_pairs, pair_at, shown, shown_in};
 ghost use Rattle.cell.specs.declared.lanes.TheConstants.{LANES};
 
 use crate::cell::Cell;

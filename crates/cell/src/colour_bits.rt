@@ -1,6 +1,7 @@
 //! The colours of a pair at their place in the number of a shown cell.
 
-ghost use Rattle.cell.specs.{◌≡◌, ◌≤◌, ◌+◌, ◌%◌, ◌&&◌, is_none, colour_code, colour_of, colours_of, IsColour, IsPair};
+ghost use Rattle.std.specs.Prelude.{◌≡◌, ◌≤◌, ◌+◌, ◌%◌, ◌&&◌};
+ghost use Rattle.cell.specs.{is_none, colour_code, colour_of, colours_of, IsColour, IsPair};
 ghost use Rattle.cell.specs.declared.limits.TheConstants.{LAST_COLOUR};
 
 use crate::colour::{Colour, ColourPair, is_colour};

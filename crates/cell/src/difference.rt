@@ -1,6 +1,7 @@
 //! Where two lines of shown cells differ.
 
-ghost use Rattle.cell.specs.{◌≡◌, ◌≤◌, length, take, drop, IsFirstDifference, IsLastDifference};
+ghost use Rattle.std.specs.Prelude.{◌≡◌, ◌≤◌};
+ghost use Rattle.cell.specs.{length, take, drop, IsFirstDifference, IsLastDifference};
 
 use crate::lanes::{LANES, same_before, same_lanes};
 use crate::shown::Shown;

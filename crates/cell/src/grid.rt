@@ -1,8 +1,8 @@
 //! A grid of cells: what a window holds, or what a screen or a terminal shows.
 
-ghost use Rattle.cell.specs.{◌≡◌, ◌≤◌, ◌<◌, ◌==◌, ◌&&◌, ℕ, ◌+◌, ◌-◌, ◌*◌, nat_le, nat_lt, if◌then◌else◌, length, map, replicate, slice_index_or, IfOk, true};
-ghost use Rattle.cell.specs.{AllByRecursion, splice, blank, IsCell, with_blanks, IsGrid, IsReached, shown, shown_blank, IsShown, vec_capacity, EachCell};
-ghost use Rattle.cell.specs.{HasSize, all_of, cell_or, line_of, shown_at, size_of, with_cell};
+ghost use Rattle.std.specs.Prelude.{◌≡◌, ◌≤◌, ◌<◌, ◌==◌, ◌&&◌, ◌+◌, ◌-◌, ◌*◌, if◌then◌else◌};
+ghost use Rattle.cell.specs.{ℕ, nat_le, nat_lt, length, map, replicate, slice_index_or, IfOk, true, AllByRecursion, splice, blank, IsCell, with_blanks, IsGrid, IsReached, shown, shown_blank};
+ghost use Rattle.cell.specs.{IsShown, vec_capacity, EachCell, HasSize, all_of, cell_or, line_of, shown_at, size_of, with_cell};
 
 use crate::cell::Cell;
 use crate::colour::Pairs;

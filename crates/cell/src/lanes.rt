@@ -1,7 +1,7 @@
 //! Cells that are looked at together: as numbers in the lanes of a vector, or by loops that the compiler vectorizes.
 
-ghost use Rattle.cell.specs.{◌≡◌, ◌≤◌, ◌<◌, ◌==◌, ◌↔◌, ℕ, length, map, slice_index_or, take, true, list_all, DiffersAt, same_rendition, IsCell, blank};
-ghost use Rattle.cell.specs.{glyph_bits, shown_bits, shown_of};
+ghost use Rattle.std.specs.Prelude.{◌≡◌, ◌≤◌, ◌<◌, ◌==◌, ◌↔◌};
+ghost use Rattle.cell.specs.{ℕ, length, map, slice_index_or, take, true, list_all, DiffersAt, same_rendition, IsCell, blank, glyph_bits, shown_bits, shown_of};
 ghost use Rattle.cell.specs.declared.lanes.TheConstants.{LANES};
 
 use crate::cell::Cell;

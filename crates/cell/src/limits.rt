@@ -1,6 +1,7 @@
 //! The limits of sizes and numbers.
 
-ghost use Rattle.cell.specs.{◌≡◌, is_no_size};
+ghost use Rattle.std.specs.Prelude.{◌≡◌};
+ghost use Rattle.cell.specs.{is_no_size};
 ghost use Rattle.cell.specs.declared.window.TheConstants.WinId.{STANDARD};
 
 /// The most lines, and the most columns, of a screen.

@@ -1,6 +1,6 @@
 //! Why a call is refused.
 
-ghost use Rattle.cell.specs.{◌≡◌};
+ghost use Rattle.std.specs.Prelude.{◌≡◌};
 
 pub use crate::written_refusals::Refusal;
 use std::alloc::AllocError;

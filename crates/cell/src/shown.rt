@@ -1,7 +1,8 @@
 //! A shown cell: a character with a rendition.
 
-ghost use Rattle.cell.specs.{◌≡◌, ◌<◌, if◌then◌else◌, true, bits_of, valid_attributes, is_printable, IsRendition, IsShown, default_pair, rendition_with};
-ghost use Rattle.cell.specs.{shown_in, same_rendition, same_shown, rendition_bits, rendition_of, shown_bits, shown_of, partial_equiv_from_equiv};
+ghost use Rattle.std.specs.Prelude.{◌≡◌, ◌<◌, if◌then◌else◌};
+ghost use Rattle.cell.specs.{true, bits_of, valid_attributes, is_printable, IsRendition, IsShown, default_pair, rendition_with, shown_in, same_rendition, same_shown, rendition_bits, rendition_of};
+ghost use Rattle.cell.specs.{shown_bits, shown_of, partial_equiv_from_equiv};
 
 use crate::attr::Attr;
 use crate::cell::{Cell, is_printable};

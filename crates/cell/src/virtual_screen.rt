@@ -1,6 +1,7 @@
 //! Virtual screens.
 
-ghost use Rattle.cell.specs.{◌≡◌, VirtualScreen as Virtual};
+ghost use Rattle.std.specs.Prelude.{◌≡◌};
+ghost use Rattle.cell.specs.{VirtualScreen as Virtual};
 
 use crate::grid::Grid;
 use crate::shown::Shown;

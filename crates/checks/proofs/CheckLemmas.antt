@@ -1,11 +1,11 @@
 -- The findings of a script, a line at a time.
-use Rattle.checks.specs.{◌≡◌, ℕ, ◌+◌, ◌<◌, List, [], ◌∷◌, ◌++◌, length, Bool, true, false, not, Err, refl, sym, ap, subst, ◌∙◌, append-nil, append_assoc}
-use Rattle.checks.specs.{length-append, arith, both_ways, false_from_ne_true, nat_tests, flat_map-append, list_any_at, length-slice_split, slice_split_at}
-use Rattle.checks.specs.{slice_split_none, take-append-add, Appends-trans, Consumes-nil, Consumes-trans, All, flat_map, slice_split, Consumes, IsAtEnd}
-use Rattle.checks.specs.{Refusal, Seen, SourceSeen, is_newline, next_number, parse_line, LineEnd, Newline, ReadFailed, ScriptEnd, LineTooLong, LONGEST_LINE}
-use Rattle.checks.specs.{placeless, Call, HoldsUpTo, IsRefusedEverywhere, World, tests_of, EndsLine, HasNoNewline, IsKept, ReadingEnds, ReadsToEnd}
-use Rattle.checks.specs.{end_failed, has_newline, met_end, IsWholeAt, IsNotWritten, PuttingEnds, WritingEnds, AreFindings, AreFindingsOf, ReportsLine}
-use Rattle.checks.specs.{ReportsRest, count_line, count_of, report, IsReported, ReportsMore, ReportsRead, ReportsScript, ReportsSome}
+use Rattle.std.specs.Prelude.{◌≡◌, ◌+◌, ◌<◌, ◌∷◌, ◌++◌}
+use Rattle.checks.specs.{ℕ, List, [], length, Bool, true, false, not, Err, refl, sym, ap, subst, ◌∙◌, append-nil, append_assoc, length-append, arith, both_ways, false_from_ne_true, nat_tests}
+use Rattle.checks.specs.{flat_map-append, list_any_at, length-slice_split, slice_split_at, slice_split_none, take-append-add, Appends-trans, Consumes-nil, Consumes-trans, All, flat_map, slice_split}
+use Rattle.checks.specs.{Consumes, IsAtEnd, Refusal, Seen, SourceSeen, is_newline, next_number, parse_line, LineEnd, Newline, ReadFailed, ScriptEnd, LineTooLong, LONGEST_LINE, placeless, Call}
+use Rattle.checks.specs.{HoldsUpTo, IsRefusedEverywhere, World, tests_of, EndsLine, HasNoNewline, IsKept, ReadingEnds, ReadsToEnd, end_failed, has_newline, met_end, IsWholeAt, IsNotWritten}
+use Rattle.checks.specs.{PuttingEnds, WritingEnds, AreFindings, AreFindingsOf, ReportsLine, ReportsRest, count_line, count_of, report, IsReported, ReportsMore, ReportsRead, ReportsScript}
+use Rattle.checks.specs.{ReportsSome}
 use Rattle.commands.proofs.PutLemmas.{cut_before, not_put, nothing_put, put_after}
 use Rattle.checks.specs.declared.report.Report.{Report}
 

@@ -1,6 +1,7 @@
 -- A part that is too great for every screen or pad is outside of each parent.
-use Rattle.checks.specs.{◌≡◌, ◌≤◌, ◌+◌, ◌-◌, ◌&&◌, ℕ, true, false, not, Some, arith, nat_tests, LARGEST_PAD, LARGEST_SCREEN, IsSound, IsSoundWindow, Window}
-use Rattle.checks.specs.{World, columns_from, is_before, is_inside, is_outside, is_pad, lines_from, is_too_great}
+use Rattle.std.specs.Prelude.{◌≡◌, ◌≤◌, ◌+◌, ◌-◌, ◌&&◌}
+use Rattle.checks.specs.{ℕ, true, false, not, Some, arith, nat_tests, LARGEST_PAD, LARGEST_SCREEN, IsSound, IsSoundWindow, Window, World, columns_from, is_before, is_inside, is_outside, is_pad}
+use Rattle.checks.specs.{lines_from, is_too_great}
 
 -- what is among so many from a place on is so among more, also where both begin later
 inside_grows : (n all most at from : ℕ) → from ≤ at → from + all ≤ most → is_inside n all (at - from) ≡ true → is_inside n most at ≡ true

@@ -1,8 +1,8 @@
 -- What `check` reports of the script that it reads.
-use Rattle.checks.specs.Names.{◌≡◌, ◌⊎◌, ⊤, ◌==◌, ◌++◌, ◌∷◌, ◌-◌, ◌^◌, [], ℕ, Bool, true, false, not, List, Option, Some, None, Result, Ok, Err, codes}
-use Rattle.checks.specs.Names.{decimal, length, min, nat_lt, if◌then◌else◌, flat_map, slice_split, Seen, SourceSeen, is_newline, newline, Refusal, last_line}
-use Rattle.checks.specs.Names.{next_number, parse_line, Reading, Log, TextFault, LineTooLong, LONGEST_LINE, Call, ReadsStream, Complains, IsNotWritten}
-use Rattle.checks.specs.Names.{IsWritten, Outputs, TriesToLog}
+use Rattle.std.specs.Prelude.{◌≡◌, ◌⊎◌, ◌==◌, ◌++◌, ◌∷◌, ◌-◌, ◌^◌, if◌then◌else◌}
+use Rattle.checks.specs.Names.{⊤, [], ℕ, Bool, true, false, not, List, Option, Some, None, Result, Ok, Err, codes, decimal, length, min, nat_lt, flat_map, slice_split, Seen, SourceSeen, is_newline}
+use Rattle.checks.specs.Names.{newline, Refusal, last_line, next_number, parse_line, Reading, Log, TextFault, LineTooLong, LONGEST_LINE, Call, ReadsStream, Complains, IsNotWritten, IsWritten}
+use Rattle.checks.specs.Names.{Outputs, TriesToLog}
 use Rattle.checks.specs.Everywhere.{IsRefusedEverywhere}
 use Rattle.checks.specs.Faults.{column_of}
 use Rattle.checks.specs.Findings.{Says}

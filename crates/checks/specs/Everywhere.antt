@@ -1,6 +1,7 @@
 -- The calls that every screen refuses, whatever its size, and whatever was called on it before.
-use Rattle.checks.specs.Names.{◌≡◌, ℕ, ◌+◌, ◌⊎◌, ◌==◌, ◌&&◌, ◌||◌, not, nat_le, nat_lt, Bool, true, List, [], ◌∷◌, if◌then◌else◌, LARGEST_PAD, LARGEST_SCREEN}
-use Rattle.checks.specs.Names.{MOST_PANELS, MOST_WINDOWS, Refusal, standard_screen, IsSound, World, tests_of, is_inside, Call}
+use Rattle.std.specs.Prelude.{◌≡◌, ◌+◌, ◌⊎◌, ◌==◌, ◌&&◌, ◌||◌, ◌∷◌, if◌then◌else◌}
+use Rattle.checks.specs.Names.{ℕ, not, nat_le, nat_lt, Bool, true, List, [], LARGEST_PAD, LARGEST_SCREEN, MOST_PANELS, MOST_WINDOWS, Refusal, standard_screen, IsSound, World, tests_of, is_inside}
+use Rattle.checks.specs.Names.{Call}
 
 -- one of the tests has this refusal
 abbrev pub IsAmong : Refusal → List (Bool × Refusal) → Type 0

@@ -1,7 +1,7 @@
 -- Where a line's fault is: the word of the line, its arguments, the first that lacks its form, and the column of the fault.
-use Rattle.checks.specs.Names.{◌+◌, ◌-◌, ◌==◌, ◌&&◌, ◌||◌, ℕ, Bool, false, true, not, List, [], ◌∷◌, codes, is_some, length, nat_le, Option, Some, None}
-use Rattle.checks.specs.Names.{position, take, if◌then◌else◌, is_ascii_digit, bytes_eq, list_any, slice_split, option_map_or, unwrap_or, backslash}
-use Rattle.checks.specs.Names.{is_bad_byte, is_space, arguments, parse_argument, entry_of, no_arguments, word_of, LONGEST_LINE, Form, Character, Flag, Text}
+use Rattle.std.specs.Prelude.{◌+◌, ◌-◌, ◌==◌, ◌&&◌, ◌||◌, ◌∷◌, if◌then◌else◌}
+use Rattle.checks.specs.Names.{ℕ, Bool, false, true, not, List, [], codes, is_some, length, nat_le, Option, Some, None, position, take, is_ascii_digit, bytes_eq, list_any, slice_split}
+use Rattle.checks.specs.Names.{option_map_or, unwrap_or, backslash, is_bad_byte, is_space, arguments, parse_argument, entry_of, no_arguments, word_of, LONGEST_LINE, Form, Character, Flag, Text}
 use Rattle.checks.specs.Names.{TextFault, LineTooLong, BadByte, UnknownCall, WrongNumberOfArguments, BadArgument}
 
 -- ---- the word of a line, and the arguments after it

@@ -1,6 +1,6 @@
 -- The form of what is reported: where it is, and a text that can be printed.
-use Rattle.checks.specs.Names.{◌≡◌, ◌≤◌, ◌==◌, ◌++◌, ◌∷◌, [], ℕ, List, true, codes, decimal, length, if◌then◌else◌, list_all, slice_split, is_printable}
-use Rattle.checks.specs.Names.{is_space, newline, space, entry_of, Word}
+use Rattle.std.specs.Prelude.{◌≡◌, ◌≤◌, ◌==◌, ◌++◌, ◌∷◌, if◌then◌else◌}
+use Rattle.checks.specs.Names.{[], ℕ, List, true, codes, decimal, length, list_all, slice_split, is_printable, is_space, newline, space, entry_of, Word}
 use Rattle.checks.specs.declared.said.TheConstants.{ROOM}
 
 -- calls, spelled by their own rows; a comma is after each but the last

@@ -20,9 +20,8 @@ pub use Rattle.script.specs.declared.limits.TheConstants.{LONGEST_LINE}
 pub use Rattle.script.specs.declared.words.Form.{Form}
 pub use Rattle.script.specs.declared.words.Form.TheVariants.{Character, Flag, Text}
 pub use Rattle.script.specs.declared.words.Word.{Word}
-pub use Rattle.std.proofs.Common.{Bool, Err, IfSome, List, None, Ok, Option, Result, Some, [], ap, append-nil, append_assoc, arith, codes, decimal, false}
-pub use Rattle.std.proofs.Common.{if◌then◌else◌, inl, inr, is_some, length, length-append, min, nat_le, nat_lt, not, option_map, position, refl, slice_index}
-pub use Rattle.std.proofs.Common.{subst, sym, take, true, ℕ, ◌&&◌, ◌*◌, ◌++◌, ◌+◌, ◌-◌, ◌<◌, ◌==◌, ◌^◌, ◌||◌, ◌∙◌, ◌∷◌, ◌≡◌, ◌≤◌, ◌⊎◌}
+pub use Rattle.std.proofs.Common.{Bool, Err, IfSome, List, None, Ok, Option, Result, Some, [], ap, append-nil, append_assoc, arith, codes, decimal, false, inl, inr, is_some, length, length-append}
+pub use Rattle.std.proofs.Common.{min, nat_le, nat_lt, not, option_map, position, refl, slice_index, subst, sym, take, true, ℕ, ◌∙◌}
 pub use Rattle.std.proofs.KnownBytes.{Appends-trans, Consumes-nil, Consumes-trans}
 pub use Rattle.std.proofs.Math.Seq.{take-append-add}
 pub use Rattle.std.proofs.lemmas.Bool.{both_ways, false_from_ne_true, not-false, not-true}

@@ -1,8 +1,8 @@
 //! The arguments of a faulty line: how many there are, the first that lacks its form, and the first that is none.
 
-ghost use Rattle.checks.specs.{◌≡◌, ◌≤◌, ◌+◌, IfSome, length, option_map, is_ascii_digit, list_any, pieces_of, room_of, arguments, IllFormed as Ill};
-ghost use Rattle.checks.specs.{after_bad_escape, begins_escape, begins_with, bytes_before, find_ill_formed, find_stray, forms_of, has_form, is_stray};
-ghost use Rattle.checks.specs.{is_word};
+ghost use Rattle.std.specs.Prelude.{◌≡◌, ◌≤◌, ◌+◌};
+ghost use Rattle.checks.specs.{IfSome, length, option_map, is_ascii_digit, list_any, pieces_of, room_of, arguments, IllFormed as Ill, after_bad_escape, begins_escape, begins_with, bytes_before};
+ghost use Rattle.checks.specs.{find_ill_formed, find_stray, forms_of, has_form, is_stray, is_word};
 
 use script::{Arguments, Form, LONGEST_LINE, MOST_ARGUMENTS, Word, next_argument, split_at_space};
 

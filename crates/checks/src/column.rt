@@ -1,7 +1,8 @@
 //! Where a fault is.
 
-ghost use Rattle.checks.specs.{◌≡◌, ◌≤◌, ◌+◌, ◌<◌, ◌∷◌, IfSome, length, option_map, position, slice_index, is_bad_byte, pieces_of, room_of, arguments};
-ghost use Rattle.checks.specs.{bad_place, column_after, column_of, column_of_number, find_ill_formed_in, misplaced};
+ghost use Rattle.std.specs.Prelude.{◌≡◌, ◌≤◌, ◌+◌, ◌<◌, ◌∷◌};
+ghost use Rattle.checks.specs.{IfSome, length, option_map, position, slice_index, is_bad_byte, pieces_of, room_of, arguments, bad_place, column_after, column_of, column_of_number};
+ghost use Rattle.checks.specs.{find_ill_formed_in, misplaced};
 
 use crate::arguments::{
     IllFormed, bytes_before, count, find_ill_formed, find_stray, forms_of, is_word,

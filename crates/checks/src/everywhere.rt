@@ -1,7 +1,7 @@
 //! The calls that every screen refuses, whatever its size, and whatever was called on it before.
 
-ghost use Rattle.checks.specs.{◌≡◌, ◌+◌, ◌-◌, IfSome, list_any, IsRefusedEverywhere, are_past, is_no_panel, is_no_window, is_past, is_too_great, most_of};
-ghost use Rattle.checks.specs.{is_inside, is_bad_character};
+ghost use Rattle.std.specs.Prelude.{◌≡◌, ◌+◌, ◌-◌};
+ghost use Rattle.checks.specs.{IfSome, list_any, IsRefusedEverywhere, are_past, is_no_panel, is_no_window, is_past, is_too_great, most_of, is_inside, is_bad_character};
 ghost use Rattle.world.specs.declared.call.Call.TheVariants as calls;
 
 use crate::written_missing::refusal_by_number;

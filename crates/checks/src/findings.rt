@@ -1,6 +1,7 @@
 //! The line about a fault: where it is, what is there, and what is wanted; and the one about a call that every screen refuses.
 
-ghost use Rattle.checks.specs.{◌≡◌, ◌≤◌, ◌+◌, ◌*◌, ◌++◌, length, room_of, entry_of, column_of, Says, listed};
+ghost use Rattle.std.specs.Prelude.{◌≡◌, ◌≤◌, ◌+◌, ◌*◌, ◌++◌};
+ghost use Rattle.checks.specs.{length, room_of, entry_of, column_of, Says, listed};
 
 use crate::arguments::{IllFormed, count, find_ill_formed, find_stray, forms_of};
 use crate::column::{bad_byte, column_of, misplaced};

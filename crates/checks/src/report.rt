@@ -1,7 +1,8 @@
 //! Says of each faulty line of a script what is wrong with it, and which calls every screen refuses. No call is made.
 
-ghost use Rattle.checks.specs.{◌≡◌, ◌≤◌, ◌<◌, ◌∷◌, [], length, parse_line, entry_of, outputs, Checks, ReportsCall, ReportsFault, ReportsLine, count_line};
-ghost use Rattle.checks.specs.{EndsReport, ReportsMore, ReportsRead, ReportsScript, ReportsSome};
+ghost use Rattle.std.specs.Prelude.{◌≡◌, ◌≤◌, ◌<◌, ◌∷◌};
+ghost use Rattle.checks.specs.{[], length, parse_line, entry_of, outputs, Checks, ReportsCall, ReportsFault, ReportsLine, count_line, EndsReport, ReportsMore, ReportsRead, ReportsScript};
+ghost use Rattle.checks.specs.{ReportsSome};
 
 use crate::everywhere::refusal_everywhere;
 use crate::findings::{finding, refused};

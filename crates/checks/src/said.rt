@@ -1,6 +1,7 @@
 //! The text of a finding, as it is gathered.
 
-ghost use Rattle.checks.specs.{◌≡◌, ◌≤◌, length, true, list_all, is_printable};
+ghost use Rattle.std.specs.Prelude.{◌≡◌, ◌≤◌};
+ghost use Rattle.checks.specs.{length, true, list_all, is_printable};
 ghost use Rattle.checks.specs.declared.said.TheConstants.{MOST_CALLS, ROOM};
 
 use arrayvec::ArrayVec;

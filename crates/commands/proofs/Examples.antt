@@ -1,6 +1,6 @@
 -- What the definition of the command line says of some words, for its reader.
-use Rattle.commands.specs.{◌≡◌, ◌∷◌, [], Bool, true, false, List, Option, None, Some, option_map, refl, codes, Row, Text, fault_of, one_of, subcommand_of}
-use Rattle.commands.specs.{curspan, is_quiet_by, log_by, script_by}
+use Rattle.std.specs.Prelude.{◌≡◌, ◌∷◌}
+use Rattle.commands.specs.{[], Bool, true, false, List, Option, None, Some, option_map, refl, codes, Row, Text, fault_of, one_of, subcommand_of, curspan, is_quiet_by, log_by, script_by}
 use Rattle.clap.specs.Words.{Kinds}
 use Rattle.clap.specs.declared.error.kind.ErrorKind.TheVariants as kind
 use Rattle.clap.proofs.OnLiterals.{clap_on_literals}

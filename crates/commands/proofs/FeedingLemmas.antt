@@ -1,6 +1,6 @@
 -- A stream is read into a terminal piece by piece.
-use Rattle.commands.specs.{◌≡◌, ℕ, Bool, false, true, List, ◌++◌, subst, append_assoc, arith, ne_eqb, ◌||◌, if◌then◌else◌, Consumes-trans, Consumes}
-use Rattle.commands.specs.{SourceSeen, moved_nothing, Follows, Reader, HasRead}
+use Rattle.std.specs.Prelude.{◌≡◌, ◌++◌, ◌||◌, if◌then◌else◌}
+use Rattle.commands.specs.{ℕ, Bool, false, true, List, subst, append_assoc, arith, ne_eqb, Consumes-trans, Consumes, SourceSeen, moved_nothing, Follows, Reader, HasRead}
 
 -- a prefix of the stream was read
 pub record IsPartlyFed (old new : SourceSeen) (before after : Reader) : Type 0 where

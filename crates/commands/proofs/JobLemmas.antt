@@ -1,8 +1,8 @@
 -- What clap says of this program's command line.
-use Rattle.commands.specs.{◌≡◌, ◌⊎◌, ◌||◌, Bool, List, Option, None, Some, Ok, Err, Result, true, false, refl, ap, subst, inl, inr, option_map, ◌∙◌, arith}
-use Rattle.commands.specs.{Bor, IfErr, App, FailsBy, HasMatchesOf, Row, Text, fault_of, first_of, first_value, has_subcommand, is_simple, is_simple_and_free}
-use Rattle.commands.specs.{kind_of, rows_of, subcommand_of, subcommand_rows_of, subcommand_name_of, Error, OutOfMemory, ArgMatches, Found, IsRefused, Sizes}
-use Rattle.commands.specs.{curspan, text_of}
+use Rattle.std.specs.Prelude.{◌≡◌, ◌⊎◌, ◌||◌}
+use Rattle.commands.specs.{Bool, List, Option, None, Some, Ok, Err, Result, true, false, refl, ap, subst, inl, inr, option_map, ◌∙◌, arith, Bor, IfErr, App, FailsBy, HasMatchesOf, Row, Text}
+use Rattle.commands.specs.{fault_of, first_of, first_value, has_subcommand, is_simple, is_simple_and_free, kind_of, rows_of, subcommand_of, subcommand_rows_of, subcommand_name_of, Error}
+use Rattle.commands.specs.{OutOfMemory, ArgMatches, Found, IsRefused, Sizes, curspan, text_of}
 use Rattle.clap.proofs.OnLiterals.{clap_on_literals}
 use Rattle.clap.proofs.WalkLemmas.{first_value-rows}
 

@@ -1,9 +1,9 @@
 -- Where clap refuses nothing of the words, the subcommand at which its walk stops is one of the program's.
-use Rattle.commands.specs.{◌≡◌, ◌⊎◌, ◌∷◌, ℕ, Bool, true, false, cond, List, [], Option, Some, None, refl, codes, inl, inr, arith, IfSome, fold, option_map}
-use Rattle.commands.specs.{check_fault, level_fault, other_fault, turn_fault, walk_fault, word_fault, Kinds, or_else, Shape, Held, Names, Outcome, Rule, Step}
-use Rattle.commands.specs.{Waiting, Walk, after_flag, after_step, answers_to, finished, idle, long_or_other, next, nothing_held, option, plain_word}
-use Rattle.commands.specs.{positional, subcommand, subcommand_met, subcommand_or_other, trailing, value, walk, walk_from, walked, word_met, check_text}
-use Rattle.commands.specs.{kind_text}
+use Rattle.std.specs.Prelude.{◌≡◌, ◌⊎◌, ◌∷◌}
+use Rattle.commands.specs.{ℕ, Bool, true, false, cond, List, [], Option, Some, None, refl, codes, inl, inr, arith, IfSome, fold, option_map, check_fault, level_fault, other_fault, turn_fault}
+use Rattle.commands.specs.{walk_fault, word_fault, Kinds, or_else, Shape, Held, Outcome, Rule, Step, Waiting, Walk, after_flag, after_step, answers_to, finished, idle, long_or_other, next}
+use Rattle.clap.specs.Walk.{Names}
+use Rattle.commands.specs.{nothing_held, option, plain_word, positional, subcommand, subcommand_met, subcommand_or_other, trailing, value, walk, walk_from, walked, word_met, check_text, kind_text}
 use Rattle.clap.specs.Walk.{Text}
 use Rattle.clap.specs.declared.error.kind.ErrorKind.TheVariants as kind
 use Rattle.commands.specs.declared.requests.Kind.{Kind}

@@ -1,6 +1,6 @@
 -- The text of a picture around one of its lines.
-use Rattle.commands.specs.{◌≡◌, ℕ, ◌+◌, ◌<◌, [], ◌++◌, length, take, drop, append-nil, take-append-drop, refl, flat_map, flat_map-append, take_more, Picture}
-use Rattle.commands.specs.{line_of, line_text}
+use Rattle.std.specs.Prelude.{◌≡◌, ◌+◌, ◌<◌, ◌++◌}
+use Rattle.commands.specs.{ℕ, [], length, take, drop, append-nil, take-append-drop, refl, flat_map, flat_map-append, take_more, Picture, line_of, line_text}
 
 -- the lines above it and its own
 pub lines_through : (picture : Picture) (y : ℕ) → y < length picture → flat_map line_text (take (y + 1) picture) ≡ flat_map line_text (take y picture) ++ line_text (line_of picture y)

@@ -1,8 +1,8 @@
 -- A text is written piece by piece.
-use Rattle.commands.specs.{◌≡◌, ◌+◌, ℕ, Bool, true, false, List, [], ◌++◌, length, take, drop, Result, Ok, Err, refl, sym, ap, subst, ◌∙◌, arith}
-use Rattle.commands.specs.{append_assoc, take-append-drop, length-append, take-append-le, take-append-add, take-length, Appends-nil, Appends-trans, is_err}
-use Rattle.commands.specs.{is_ok, Appends, Keeps, count_after, next_count, Seen, flushed_after_flush, Sends, WriteFault, IsNotWritten, PuttingEnds}
-use Rattle.commands.specs.{TakesPrefix, WritingEnds}
+use Rattle.std.specs.Prelude.{◌≡◌, ◌+◌, ◌++◌}
+use Rattle.commands.specs.{ℕ, Bool, true, false, List, [], length, take, drop, Result, Ok, Err, refl, sym, ap, subst, ◌∙◌, arith, append_assoc, take-append-drop, length-append, take-append-le}
+use Rattle.commands.specs.{take-append-add, take-length, Appends-nil, Appends-trans, is_err, is_ok, Appends, Keeps, count_after, next_count, Seen, flushed_after_flush, Sends, WriteFault}
+use Rattle.commands.specs.{IsNotWritten, PuttingEnds, TakesPrefix, WritingEnds}
 use Rattle.streams.proofs.Sends.{Appends-keeps, cut-unflushed, whole-flushed}
 
 -- ---- one of several texts

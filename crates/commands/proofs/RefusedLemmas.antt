@@ -1,6 +1,6 @@
 -- What is said of an error, by its kind.
-use Rattle.commands.specs.{◌≡◌, ◌≢◌, ◌⊎◌, ℕ, false, arith, the_type, ErrorKind, DisplayHelp, DisplayVersion, OutOfMemory, Explains, LogsUsage, ShowsHelp}
-use Rattle.commands.specs.{LacksMemory, Outputs}
+use Rattle.std.specs.Prelude.{◌≡◌, ◌≢◌, ◌⊎◌}
+use Rattle.commands.specs.{ℕ, false, arith, the_type, ErrorKind, DisplayHelp, DisplayVersion, OutOfMemory, Explains, LogsUsage, ShowsHelp, LacksMemory, Outputs}
 use denote.Enum.Bare.{sameb}
 use Rattle.commands.specs.declared.status.Need.TheVariants.{Help, Usage}
 

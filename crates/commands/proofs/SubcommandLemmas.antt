@@ -1,6 +1,7 @@
 -- A program to which subcommands are added in turn.
-use Rattle.commands.specs.{◌≡◌, ◌<◌, ◌+◌, ◌∙◌, ◌∷◌, ◌++◌, [], ℕ, Bool, List, ap, false, get_or, length, map, sym, take, map-append, take_more, fold}
-use Rattle.commands.specs.{AddsInTurn, AddsSubcommand, App, app_of, with_subcommand, Command, out-Command, mode}
+use Rattle.std.specs.Prelude.{◌≡◌, ◌<◌, ◌+◌, ◌∷◌, ◌++◌}
+use Rattle.commands.specs.{◌∙◌, [], ℕ, Bool, List, ap, false, get_or, length, map, sym, take, map-append, take_more, fold, AddsInTurn, AddsSubcommand, App, app_of, with_subcommand, Command}
+use Rattle.commands.specs.{out-Command, mode}
 use Rattle.commands.specs.declared.requests.Kind.{Kind}
 
 -- what a command defines, and whether an argument of it is global

@@ -1,8 +1,8 @@
 -- Where clap refuses nothing of the words, they name a subcommand.
-use Rattle.commands.specs.{◌≡◌, ◌⊎◌, ℕ, true, false, List, [], Option, Some, None, refl, sym, ap, drop, is_some, ◌∙◌, inl, inr, option_map_or, check_fault}
-use Rattle.commands.specs.{entered_fault, Shape, built, built_leaf, entered, inherited, marked_built, with_leaf_noted, finished, nothing_held, rows_after}
-use Rattle.commands.specs.{walk, walk_from, kind_of, subcommand_of, Error, ErrorKind, OutOfMemory, Asks, AsksFor, GivesSize, HasNoScreen, IsRefused, IsSize}
-use Rattle.commands.specs.{IsTaken, Sizes, check_mode, check_text, curspan, kind_text, mode, AsksBy, IsRefusedBy, RequestBy}
+use Rattle.std.specs.Prelude.{◌≡◌, ◌⊎◌}
+use Rattle.commands.specs.{ℕ, true, false, List, [], Option, Some, None, refl, sym, ap, drop, is_some, ◌∙◌, inl, inr, option_map_or, check_fault, entered_fault, Shape, built, built_leaf, entered}
+use Rattle.commands.specs.{inherited, marked_built, with_leaf_noted, finished, nothing_held, rows_after, walk, walk_from, kind_of, subcommand_of, Error, ErrorKind, OutOfMemory, Asks, AsksFor}
+use Rattle.commands.specs.{GivesSize, HasNoScreen, IsRefused, IsSize, IsTaken, Sizes, check_mode, check_text, curspan, kind_text, mode, AsksBy, IsRefusedBy, RequestBy}
 use Rattle.clap.specs.Simple.{App}
 use Rattle.clap.specs.Walk.{Row, Text}
 use Rattle.commands.specs.declared.requests.Invocation.{Invocation}

@@ -1,6 +1,7 @@
 -- Whether nobody reads a stream, after a call of it.
 -- No standard says it; the answers are those of std::io.
-use Rattle.commands.specs.Names.{◌≡◌, ◌⊎◌, ◌↔◌, Bool, IsTrue, IsErrAnd, Result, BrokenPipe}
+use Rattle.std.specs.Prelude.{◌≡◌, ◌⊎◌, ◌↔◌}
+use Rattle.commands.specs.Names.{Bool, IsTrue, IsErrAnd, Result, BrokenPipe}
 use Rattle.std.specs.IoError.{error_kind}
 use Rattle.std.specs.declared.io.Error.{Error}
 

@@ -1,7 +1,7 @@
 -- The command line, in the words of clap's definition of a simple command.
-use Rattle.commands.specs.Names.{◌≡◌, ◌⊎◌, ◌∷◌, ◌<◌, ◌^◌, ℕ, Bool, List, [], true, false, fold, pos, codes, Option, Some, None, IsSomeAnd, option_and_then}
-use Rattle.commands.specs.Names.{option_map, if◌then◌else◌, Bor, option_map_or, option_or, bytes_eq, IsNumeral, digits_value, without_leading_plus, App}
-use Rattle.commands.specs.Names.{IsAmong, Row, Text, fault_of, first_of, new_app, new_rule, subcommand_of, with_rule, with_subcommand, Set, SetTrue}
+use Rattle.std.specs.Prelude.{◌≡◌, ◌⊎◌, ◌∷◌, ◌<◌, ◌^◌, if◌then◌else◌}
+use Rattle.commands.specs.Names.{ℕ, Bool, List, [], true, false, fold, pos, codes, Option, Some, None, IsSomeAnd, option_and_then, option_map, Bor, option_map_or, option_or, bytes_eq, IsNumeral}
+use Rattle.commands.specs.Names.{digits_value, without_leading_plus, App, IsAmong, Row, Text, fault_of, first_of, new_app, new_rule, subcommand_of, with_rule, with_subcommand, Set, SetTrue}
 use Rattle.commands.specs.Names.{ErrorKind, is_no_size, LARGEST_SCREEN}
 use Rattle.clap.specs.Words.{Rule}
 use Rattle.clap.specs.declared.builder.value_parser.ValueParser.TheVariants as parsers

@@ -10,13 +10,11 @@ unfoldable pub use Rattle.clap.specs.Faults.{walk_fault}
 pub use Rattle.clap.specs.Kinds.{Kinds, or_else}
 pub use Rattle.clap.specs.Matches.{subcommand_name_of}
 pub use Rattle.clap.specs.Simple.{Shape, built, built_leaf, entered, inherited, marked_built, with_leaf_noted}
-pub use Rattle.clap.specs.Walk.{Held, Names, Outcome, Rule, Step, Waiting, Walk, after_flag, after_step, answers_to, finished, idle, long_or_other, next}
-pub use Rattle.clap.specs.Walk.{nothing_held, option, plain_word, positional, rows_after, subcommand, subcommand_met, subcommand_or_other, trailing, value}
-pub use Rattle.clap.specs.Walk.{walk, walk_from, word_met}
+pub use Rattle.clap.specs.Walk.{Held, Outcome, Rule, Step, Waiting, Walk, after_flag, after_step, answers_to, finished, idle, long_or_other, next, nothing_held, option, plain_word}
+pub use Rattle.clap.specs.Walk.{positional, rows_after, subcommand, subcommand_met, subcommand_or_other, trailing, value, walk, walk_from, word_met}
 unfoldable pub use Rattle.clap.specs.Walk.{walked}
-pub use Rattle.clap.specs.Words.{AddsInTurn, AddsSubcommand, App, FailsBy, HasMatchesOf, IsAmong, Row, Text, app_of, fault_of, first_of, first_value}
-pub use Rattle.clap.specs.Words.{found_of, has_subcommand, is_simple, is_simple_and_free, kind_of, new_app, new_rule, one_of, rows_of, rule_of, subcommand_of}
-pub use Rattle.clap.specs.Words.{subcommand_rows_of, with_rule, with_subcommand}
+pub use Rattle.clap.specs.Words.{AddsInTurn, AddsSubcommand, App, FailsBy, HasMatchesOf, IsAmong, Row, Text, app_of, fault_of, first_of, first_value, found_of, has_subcommand, is_simple}
+pub use Rattle.clap.specs.Words.{is_simple_and_free, kind_of, new_app, new_rule, one_of, rows_of, rule_of, subcommand_of, subcommand_rows_of, with_rule, with_subcommand}
 pub use Rattle.clap.specs.contracts.error.kind.ErrorKind.{the_type}
 pub use Rattle.clap.specs.declared.builder.action.ArgAction.TheVariants.{Set, SetTrue}
 pub use Rattle.clap.specs.declared.builder.command.Command.{Command}
@@ -35,10 +33,9 @@ pub use Rattle.script.specs.Log.{last_line}
 pub use Rattle.script.specs.declared.fault.ScriptEnd.{ScriptEnd}
 pub use Rattle.script.specs.declared.fault.ScriptFault.{ScriptFault}
 pub use Rattle.script.specs.declared.fault.ScriptFault.TheVariants.{Log, Reading, Write}
-pub use Rattle.std.proofs.Common.{All, Bool, Err, IfErr, IfOk, IfSome, IsErrAnd, IsSomeAnd, IsTrue, List, MatchOption, MatchResult, None, Ok, Option, Result}
-pub use Rattle.std.proofs.Common.{Some, [], ap, append-nil, append_assoc, arith, codes, cond, decimal, drop, false, fold, get_or, if◌then◌else◌, inl, inr}
-pub use Rattle.std.proofs.Common.{is_err, is_ok, is_some, length, length-append, map, not, option_and_then, option_map, pos, refl, subst, sym, take}
-pub use Rattle.std.proofs.Common.{take-append-drop, true, ℕ, ◌*◌, ◌++◌, ◌+◌, ◌<◌, ◌==◌, ◌^◌, ◌||◌, ◌↔◌, ◌∙◌, ◌∷◌, ◌≡◌, ◌≢◌, ◌≤◌, ◌⊎◌}
+pub use Rattle.std.proofs.Common.{All, Bool, Err, IfErr, IfOk, IfSome, IsErrAnd, IsSomeAnd, IsTrue, List, MatchOption, MatchResult, None, Ok, Option, Result, Some, [], ap, append-nil, append_assoc}
+pub use Rattle.std.proofs.Common.{arith, codes, cond, decimal, drop, false, fold, get_or, inl, inr, is_err, is_ok, is_some, length, length-append, map, not, option_and_then, option_map, pos, refl}
+pub use Rattle.std.proofs.Common.{subst, sym, take, take-append-drop, true, ℕ, ◌∙◌}
 pub use Rattle.std.proofs.KnownBytes.{Appends-nil, Appends-trans, Consumes-trans}
 pub use Rattle.std.proofs.Math.Seq.{take-append-add, take-length}
 pub use Rattle.std.proofs.lemmas.Bool.{ne_eqb}

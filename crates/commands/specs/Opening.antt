@@ -1,5 +1,6 @@
 -- What is said of a file that can't be opened.
-use Rattle.commands.specs.Names.{◌≡◌, ◌∷◌, ◌++◌, [], ℕ, List, codes, newline, Seen}
+use Rattle.std.specs.Prelude.{◌≡◌, ◌∷◌, ◌++◌}
+use Rattle.commands.specs.Names.{[], ℕ, List, codes, newline, Seen}
 use Rattle.commands.specs.Escapes.{escaped_text}
 use Rattle.commands.specs.Statuses.{no_memory_line}
 use Rattle.commands.specs.Written.{TriesToLog}

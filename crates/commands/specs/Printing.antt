@@ -1,6 +1,6 @@
 -- How the program prints a picture. The form is Curspan's own.
-use Rattle.commands.specs.Names.{ℕ, ◌+◌, Bool, not, ◌==◌, if◌then◌else◌, List, [], ◌∷◌, ◌++◌, Option, Some, None, codes, decimal, map, flat_map, list_any}
-use Rattle.commands.specs.Names.{hex_digits, option_map_or, Rendition, Shown, has_colour, Picture, Place}
+use Rattle.std.specs.Prelude.{◌+◌, ◌==◌, if◌then◌else◌, ◌∷◌, ◌++◌}
+use Rattle.commands.specs.Names.{ℕ, Bool, not, List, [], Option, Some, None, codes, decimal, map, flat_map, list_any, hex_digits, option_map_or, Rendition, Shown, has_colour, Picture, Place}
 
 abbrev pub has_attributes : Shown → Bool
 has_attributes cell = not (cell.rendition.attributes == 0)

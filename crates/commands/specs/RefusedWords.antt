@@ -1,5 +1,6 @@
 -- What is shown of words that are refused, by the kind of the error. The kinds and the texts are clap's.
-use Rattle.commands.specs.Names.{◌≡◌, ◌⊎◌, ℕ, List, ErrorKind, DisplayHelp, DisplayVersion, OutOfMemory, last_line, Log}
+use Rattle.std.specs.Prelude.{◌≡◌, ◌⊎◌}
+use Rattle.commands.specs.Names.{ℕ, List, ErrorKind, DisplayHelp, DisplayVersion, OutOfMemory, last_line, Log}
 use Rattle.commands.specs.Escapes.{escaped_text}
 use Rattle.commands.specs.Statuses.{LacksMemory}
 use Rattle.commands.specs.declared.status.Need.TheVariants.{CommandLine, Help, Usage}

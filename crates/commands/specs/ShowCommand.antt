@@ -1,6 +1,7 @@
 -- What `show` does with the stream that it reads.
-use Rattle.commands.specs.Names.{◌≡◌, ◌⊎◌, ◌∷◌, ◌++◌, [], ℕ, Bool, true, false, not, List, codes, decimal, ⊤, Consumes, IsAtEnd, count_after, Seen}
-use Rattle.commands.specs.Names.{SourceSeen, HasFailed, blank_terminal, IsInProfile, Terminal, newline, last_line, Reading, Log}
+use Rattle.std.specs.Prelude.{◌≡◌, ◌⊎◌, ◌∷◌, ◌++◌}
+use Rattle.commands.specs.Names.{[], ℕ, Bool, true, false, not, List, codes, decimal, ⊤, Consumes, IsAtEnd, count_after, Seen, SourceSeen, HasFailed, blank_terminal, IsInProfile, Terminal, newline}
+use Rattle.commands.specs.Names.{last_line, Reading, Log}
 use Rattle.commands.specs.Printing.{printed_picture}
 use Rattle.commands.specs.Written.{Complains, IsNotWritten, IsWritten, Outputs, TriesToLog}
 use Rattle.commands.specs.declared.requests.Job.{Job}

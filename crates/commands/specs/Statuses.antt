@@ -1,6 +1,6 @@
 -- The exit statuses of the program, and that there is no memory.
-use Rattle.commands.specs.Names.{◌≡◌, ◌∷◌, ◌++◌, [], ℕ, Bool, List, codes, if◌then◌else◌, option_map_or, Seen, newline, last_line, ScriptEnd, ScriptFault}
-use Rattle.commands.specs.Names.{Reading, Write, Log}
+use Rattle.std.specs.Prelude.{◌≡◌, ◌∷◌, ◌++◌, if◌then◌else◌}
+use Rattle.commands.specs.Names.{[], ℕ, Bool, List, codes, option_map_or, Seen, newline, last_line, ScriptEnd, ScriptFault, Reading, Write, Log}
 use Rattle.script.specs.declared.fault.ScriptFault.TheVariants.{Text}
 use Rattle.commands.specs.Written.{Complains, Outputs, TriesToLog}
 use Rattle.commands.specs.declared.status.Need.{Need}

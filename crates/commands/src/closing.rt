@@ -1,7 +1,8 @@
 //! Outputs of which it is known whether somebody reads them.
 
-ghost use Rattle.commands.specs.{◌≡◌, ◌↔◌, Bool, IsErrAnd, IsTrue, false, is_err, WritesAtMost, Keeps, WriteAppends, ClosedAfter, count_after, next_count};
-ghost use Rattle.commands.specs.{write_fails, write_is_whole, flushed_after_write, flushed_after_flush};
+ghost use Rattle.std.specs.Prelude.{◌≡◌, ◌↔◌};
+ghost use Rattle.commands.specs.{Bool, IsErrAnd, IsTrue, false, is_err, WritesAtMost, Keeps, WriteAppends, ClosedAfter, count_after, next_count, write_fails, write_is_whole, flushed_after_write};
+ghost use Rattle.commands.specs.{flushed_after_flush};
 ghost use Rattle.std.specs.IoError.{error_kind};
 
 use std::io;

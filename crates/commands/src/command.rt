@@ -1,8 +1,8 @@
 //! Reads the command line.
 
-ghost use Rattle.commands.specs.{◌≡◌, ◌⊎◌, ◌++◌, IfErr, IfOk, MatchOption, codes, map, FailsBy, fault_of, found_of, kind_of, rows_of, subcommand_of};
-ghost use Rattle.commands.specs.{subcommand_rows_of, OutOfMemory, Asks, IsRefused, LacksSizes, SizesOf, curspan, is_quiet_by, kind_text, script_by, sizes_of};
-ghost use Rattle.commands.specs.{text_of, AsksBy, IsRefusedBy, RequestBy};
+ghost use Rattle.std.specs.Prelude.{◌≡◌, ◌⊎◌, ◌++◌};
+ghost use Rattle.commands.specs.{IfErr, IfOk, MatchOption, codes, map, FailsBy, fault_of, found_of, kind_of, rows_of, subcommand_of, subcommand_rows_of, OutOfMemory, Asks, IsRefused, LacksSizes};
+ghost use Rattle.commands.specs.{SizesOf, curspan, is_quiet_by, kind_text, script_by, sizes_of, text_of, AsksBy, IsRefusedBy, RequestBy};
 ghost use Rattle.commands.specs.declared.requests.Kind.{Kind};
 ghost use Rattle.commands.specs.declared.sizes.NoSize.TheVariants.{Bad, Missing};
 ghost use Rattle.commands.specs.steps.Sizing.{error_kind};

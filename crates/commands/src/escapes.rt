@@ -1,6 +1,7 @@
 //! Escapes a text that may hold any byte, as the words of a command line do, since a terminal may show it.
 
-ghost use Rattle.commands.specs.{◌≡◌, ◌≤◌, ◌+◌, ◌++◌, length, escaped_text, escaped_byte, PuttingEnds, TriesToLog, WritingEnds};
+ghost use Rattle.std.specs.Prelude.{◌≡◌, ◌≤◌, ◌+◌, ◌++◌};
+ghost use Rattle.commands.specs.{length, escaped_text, escaped_byte, PuttingEnds, TriesToLog, WritingEnds};
 
 use crate::writing::put;
 use arrayvec::ArrayVec;

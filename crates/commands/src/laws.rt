@@ -1,6 +1,7 @@
 //! What holds of constants alone. The function does nothing, and its contract is the law.
 
-ghost use Rattle.commands.specs.{◌≡◌, ◌++◌, codes, decimal, LARGEST_SCREEN};
+ghost use Rattle.std.specs.Prelude.{◌≡◌, ◌++◌};
+ghost use Rattle.commands.specs.{codes, decimal, LARGEST_SCREEN};
 ghost use Rattle.commands.specs.declared.subcommands.TheConstants.{COLS_HELP, LINES_HELP};
 
 /// The numerals in the help of the options are the limits of a screen.

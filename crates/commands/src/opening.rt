@@ -1,6 +1,7 @@
 //! Files that can't be opened, and what the log says of them.
 
-ghost use Rattle.commands.specs.{SaysUnopened, reason, unopened_line, PuttingEnds, WritingEnds, ◌≡◌};
+ghost use Rattle.std.specs.Prelude.{◌≡◌};
+ghost use Rattle.commands.specs.{SaysUnopened, reason, unopened_line, PuttingEnds, WritingEnds};
 
 use crate::escapes::put_escaped;
 use crate::status::{FAILED, Need, no_memory};

@@ -1,8 +1,8 @@
 //! Prints pictures.
 
-ghost use Rattle.commands.specs.{◌≡◌, ◌≤◌, ◌+◌, ◌*◌, ◌++◌, ◌∷◌, [], if◌then◌else◌, All, length, flat_map, list_any, has_colour, attributes_text};
-ghost use Rattle.commands.specs.{characters_text, colours_text, cursor_text, has_attributes, line_text, printed_picture, rendition_text, sign, signs};
-ghost use Rattle.commands.specs.{PuttingEnds, WritingEnds};
+ghost use Rattle.std.specs.Prelude.{◌≡◌, ◌≤◌, ◌+◌, ◌*◌, ◌++◌, ◌∷◌, if◌then◌else◌};
+ghost use Rattle.commands.specs.{[], All, length, flat_map, list_any, has_colour, attributes_text, characters_text, colours_text, cursor_text, has_attributes, line_text, printed_picture};
+ghost use Rattle.commands.specs.{rendition_text, sign, signs, PuttingEnds, WritingEnds};
 
 use crate::writing::put;
 use arrayvec::ArrayVec;

@@ -1,6 +1,7 @@
 //! What is shown of words that `clap` refuses: help on the output, or a usage fault on the log.
 
-ghost use Rattle.commands.specs.{◌≡◌, ◌<◌, kind_of, Explains, ShowsText, outputs};
+ghost use Rattle.std.specs.Prelude.{◌≡◌, ◌<◌};
+ghost use Rattle.commands.specs.{kind_of, Explains, ShowsText, outputs};
 
 use crate::closing::Closable;
 use crate::escapes::log_escaped;

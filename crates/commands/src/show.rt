@@ -1,7 +1,7 @@
 //! Shows what a stream of terminal bytes leaves on a terminal.
 
-ghost use Rattle.commands.specs.{◌≡◌, ◌<◌, ◌⊎◌, [], HasRead, blank_terminal, IsSize, Shows, offset_line, terminal_text, LacksMemory, Feeds, LogsFault};
-ghost use Rattle.commands.specs.{WritingEnds, outputs};
+ghost use Rattle.std.specs.Prelude.{◌≡◌, ◌<◌, ◌⊎◌};
+ghost use Rattle.commands.specs.{[], HasRead, blank_terminal, IsSize, Shows, offset_line, terminal_text, LacksMemory, Feeds, LogsFault, WritingEnds, outputs};
 ghost use Rattle.commands.specs.declared.requests.Job.{Job};
 ghost use Rattle.commands.specs.declared.status.Need.{Need};
 

@@ -1,6 +1,7 @@
 //! The exit statuses, and what is written to the log with them.
 
-ghost use Rattle.commands.specs.{◌≡◌, ◌<◌, MatchOption, None, SaysFault, no_memory_line, status_of, Complains, TriesToLog, last_line};
+ghost use Rattle.std.specs.Prelude.{◌≡◌, ◌<◌};
+ghost use Rattle.commands.specs.{MatchOption, None, SaysFault, no_memory_line, status_of, Complains, TriesToLog, last_line};
 
 use crate::closing::Closable;
 use crate::writing::write_log;

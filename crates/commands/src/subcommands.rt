@@ -1,7 +1,8 @@
 //! The definition of the command line, for `clap`.
 
-ghost use Rattle.commands.specs.{◌≡◌, IfOk, Some, codes, false, option_map, app_of, new_app, rule_of, with_rule, out-Command, bare, check_mode, curspan};
-ghost use Rattle.commands.specs.{file_rule, log_rule, mode, on_screen, quiet_rule, size_rule, with_files};
+ghost use Rattle.std.specs.Prelude.{◌≡◌};
+ghost use Rattle.commands.specs.{IfOk, Some, codes, false, option_map, app_of, new_app, rule_of, with_rule, out-Command, bare, check_mode, curspan, file_rule, log_rule, mode, on_screen, quiet_rule};
+ghost use Rattle.commands.specs.{size_rule, with_files};
 ghost use Rattle.commands.specs.declared.subcommands.TheConstants.{EXAMPLE, VERSION};
 
 use crate::requests::Kind;

@@ -1,7 +1,8 @@
 -- What update_panels reads: no less than it changes, and no more than all of the damaged lines.
-use Rattle.compose.specs.{◌≡◌, ℕ, ◌+◌, ◌%◌, ◌^◌, true, false, Option, None, is_some, length, Ok, refl, sym, ap, subst, ◌∙◌, arith, picture_of, shown}
-use Rattle.compose.specs.{shown_blank, World, picture, after, composed_windows, composes, IsSound, world_after, UpdatePanels, Composed, Columns, AddsChanges}
-use Rattle.compose.specs.{columns_of, cells_above, Called, DamagesFew, MayRead, IsCovered, IsDesk, DeskTable, is_damaged_line, world}
+use Rattle.std.specs.Prelude.{◌≡◌, ◌+◌, ◌%◌, ◌^◌}
+use Rattle.compose.specs.{ℕ, true, false, Option, None, is_some, length, Ok, refl, sym, ap, subst, ◌∙◌, arith, picture_of, shown, shown_blank, World, picture, after, composed_windows, composes}
+use Rattle.compose.specs.{IsSound, world_after, UpdatePanels, Composed, Columns, AddsChanges, columns_of, cells_above, Called, DamagesFew, MayRead, IsCovered, IsDesk, DeskTable, is_damaged_line}
+use Rattle.compose.specs.{world}
 use Rattle.cell.proofs.PictureLemmas.{HasSize-lines_from, cell_or-lines_from, length-line}
 use Rattle.world.specs.declared.call.Call.TheVariants as calls
 use Rattle.world.proofs.RefreshLaws.{found-unmarked}

@@ -1,9 +1,9 @@
 -- Where damage covers what an accepted call may change, the damage of a desk still covers all that differs after it, and few lines are
 -- damaged: so it leaves a desk, and was made.
-use Rattle.compose.specs.{◌≡◌, ℕ, zero, suc, ◌<◌, Bool, true, false, Option, None, replicate, refl, sym, ap, ◌∙◌, Ok, arith, slice_index_or, length-replicate}
-use Rattle.compose.specs.{blank_picture, shown_at, shown_blank, windows, window_limit, World, first_world, picture, AreSoundWindows, is_update_panels}
-use Rattle.compose.specs.{refusal, world_after, affects_place, Columns, Call, UpdatePanels, Reply, AddsChanges, is_among, Damages, Called, CountsReads}
-use Rattle.compose.specs.{DamagesFew, MayLeave, MayTell, IsDesk, DeskTable, is_damaged_line, world}
+use Rattle.std.specs.Prelude.{◌≡◌, ◌<◌}
+use Rattle.compose.specs.{ℕ, zero, suc, Bool, true, false, Option, None, replicate, refl, sym, ap, ◌∙◌, Ok, arith, slice_index_or, length-replicate, blank_picture, shown_at, shown_blank, windows}
+use Rattle.compose.specs.{window_limit, World, first_world, picture, AreSoundWindows, is_update_panels, refusal, world_after, affects_place, Columns, Call, UpdatePanels, Reply, AddsChanges}
+use Rattle.compose.specs.{is_among, Damages, Called, CountsReads, DamagesFew, MayLeave, MayTell, IsDesk, DeskTable, is_damaged_line, world}
 use Rattle.world.specs.declared.call.Call.TheVariants as calls
 use Rattle.world.proofs.Sizes.{size-call}
 use Rattle.picture.proofs.DamageLaws.{damages-line}

@@ -1,6 +1,7 @@
 -- What a desk keeps, and the world that it represents, call by call.
-use Rattle.compose.specs.{◌≡◌, ℕ, Bool, Option, None, Result, Ok, Err, arith, IsShown, shown_blank, World, first_world, AreSoundWindows, IsSound, refusal}
-use Rattle.compose.specs.{takes_memory, world_after, Refused, Refusal, IsDesk, DeskTable, world, Called, MayLeave, Call, Reply, as_reply}
+use Rattle.std.specs.Prelude.{◌≡◌}
+use Rattle.compose.specs.{ℕ, Bool, Option, None, Result, Ok, Err, arith, IsShown, shown_blank, World, first_world, AreSoundWindows, IsSound, refusal, takes_memory, world_after, Refused, Refusal}
+use Rattle.compose.specs.{IsDesk, DeskTable, world, Called, MayLeave, Call, Reply, as_reply}
 use Rattle.cell.proofs.PictureLemmas.{ArePairs-first, EachCell-all_of, HasSize-all_of, IsShown-blank}
 use Rattle.world.proofs.Sizes.{size-call}
 

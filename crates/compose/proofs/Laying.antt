@@ -1,7 +1,7 @@
 -- A drawing is laid over a picture line by line.
-use Rattle.compose.specs.{◌≡◌, ℕ, ◌+◌, ◌<◌, ◌≤◌, Bool, true, false, ◌==◌, ◌&&◌, nat_le, nat_lt, if◌then◌else◌, Option, Some, None, inl, inr, refl, sym, ◌∙◌}
-use Rattle.compose.specs.{arith, option_map_or, cases_eq, cases_lt, eq-eqb, ne_eqb, Glyph, Picture, HasSize, picture_of, shown_at, Pairs, Shown, shown}
-use Rattle.compose.specs.{shown_blank, Drawing, shown_over}
+use Rattle.std.specs.Prelude.{◌≡◌, ◌+◌, ◌<◌, ◌≤◌, ◌==◌, ◌&&◌, if◌then◌else◌}
+use Rattle.compose.specs.{ℕ, Bool, true, false, nat_le, nat_lt, Option, Some, None, inl, inr, refl, sym, ◌∙◌, arith, option_map_or, cases_eq, cases_lt, eq-eqb, ne_eqb, Glyph, Picture, HasSize}
+use Rattle.compose.specs.{picture_of, shown_at, Pairs, Shown, shown, shown_blank, Drawing, shown_over}
 use Rattle.cell.proofs.PictureLemmas.{HasSize-lines_from, cell_or-lines_from, same_pictures}
 
 -- the drawing has no cell on line y

@@ -1,9 +1,9 @@
 -- What a method of a call answers is also the outcome of the call, or its reply.
-use Rattle.compose.specs.{◌≡◌, ℕ, Bool, None, true, Option, Result, refl, arith, Place, Refusal, Rect, WinId, Change, Edit, edit_window, edits, makes}
-use Rattle.compose.specs.{order_reply, shifts, windows_after, its_flag, its_number, no_answer, Window, Windows, stacking_order, stacking_refusal}
-use Rattle.compose.specs.{stacking_tests, writing_edit, Reply, Stacking, Writing, as_reply, is_query, Changed, WindowTable, windows, Drew, its_frame}
-use Rattle.compose.specs.{Arranged, no_windows, PanelTable, panels, affected_by, Affects, Answered, Ordered, Rearranges, as_outcome, drawn, numbered, shifted}
-use Rattle.compose.specs.{told, unseen, with_frame, written_window}
+use Rattle.std.specs.Prelude.{◌≡◌}
+use Rattle.compose.specs.{ℕ, Bool, None, true, Option, Result, refl, arith, Place, Refusal, Rect, WinId, Change, Edit, edit_window, edits, makes, order_reply, shifts, windows_after, its_flag}
+use Rattle.compose.specs.{its_number, no_answer, Window, Windows, stacking_order, stacking_refusal, stacking_tests, writing_edit, Reply, Stacking, Writing, as_reply, is_query, Changed, WindowTable}
+use Rattle.compose.specs.{windows, Drew, its_frame, Arranged, no_windows, PanelTable, panels, affected_by, Affects, Answered, Ordered, Rearranges, as_outcome, drawn, numbered, shifted, told, unseen}
+use Rattle.compose.specs.{with_frame, written_window}
 use Rattle.world.specs.declared.call.Call.TheVariants as calls
 use Rattle.compose.proofs.Arranging.{ordered}
 use Rattle.compose.proofs.DeskLemmas.{refused-as}

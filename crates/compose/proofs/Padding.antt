@@ -1,6 +1,7 @@
 -- The rectangle of the screen to which a pad's cells are copied is what the copy draws.
-use Rattle.compose.specs.{◌≡◌, ℕ, ◌+◌, ◌-◌, ◌<◌, ◌≤◌, true, false, ◌&&◌, nat_le, nat_lt, is_some, List, Option, Some, arith, and_from, and_parts, cases_lt}
-use Rattle.compose.specs.{leb-true, le-leb, lt-ltb, ltb-true, Rect, Windows, copywin_drawing, Columns, Damages, frame_holds, part_holds}
+use Rattle.std.specs.Prelude.{◌≡◌, ◌+◌, ◌-◌, ◌<◌, ◌≤◌, ◌&&◌}
+use Rattle.compose.specs.{ℕ, true, false, nat_le, nat_lt, is_some, List, Option, Some, arith, and_from, and_parts, cases_lt, leb-true, le-leb, lt-ltb, ltb-true, Rect, Windows, copywin_drawing}
+use Rattle.compose.specs.{Columns, Damages, frame_holds, part_holds}
 use Rattle.picture.proofs.DamageLaws.{damages-as}
 use Rattle.picture.proofs.Held.{held-between}
 use Rattle.compose.proofs.RefreshedLines.{IsOfPad, pad-above, pad-below, pad-piece}

@@ -1,8 +1,8 @@
 -- What a call on panels damages: the part of the panel that it names, as it was, and that of the panel that it changed or made, as it is.
-use Rattle.compose.specs.{◌≡◌, ℕ, ◌+◌, Bool, true, false, ◌||◌, Option, Some, None, List, [], ◌∷◌, refl, arith, MatchOption, ⊤, find, is_none, ◌==◌}
-use Rattle.compose.specs.{unwrap_or, option_map, option_map_or, true≢false, Rect, WinId, Panels, WindowMap, Windows, AreSoundPanels, Order, order_reply}
-use Rattle.compose.specs.{orders, panels_after, windows_after, order_shows_at, panel_shows_at, stays_on_top, after_stacking, new_panel_number, next_panel}
-use Rattle.compose.specs.{stacking_order, Reply, Stacking, IsFrameWithin, changed_panel, named_panel, ordered_panel, top_window}
+use Rattle.std.specs.Prelude.{◌≡◌, ◌+◌, ◌||◌, ◌∷◌, ◌==◌}
+use Rattle.compose.specs.{ℕ, Bool, true, false, Option, Some, None, List, [], refl, arith, MatchOption, ⊤, find, is_none, unwrap_or, option_map, option_map_or, true≢false, Rect, WinId, Panels}
+use Rattle.compose.specs.{WindowMap, Windows, AreSoundPanels, Order, order_reply, orders, panels_after, windows_after, order_shows_at, panel_shows_at, stays_on_top, after_stacking, new_panel_number}
+use Rattle.compose.specs.{next_panel, stacking_order, Reply, Stacking, IsFrameWithin, changed_panel, named_panel, ordered_panel, top_window}
 use Rattle.picture.proofs.VisiblePanels.{absent-hidden}
 
 find-free : (window : ℕ → Option ℕ) (ps : List ℕ) (p : ℕ) → find (λ q. is_none (window q)) ps ≡ Some p → window p ≡ None

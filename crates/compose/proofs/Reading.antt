@@ -1,8 +1,8 @@
 -- How many cells update_panels reads: as many as there are damaged columns. That is at least as many as it changes, and at most all of the
 -- damaged lines.
-use Rattle.compose.specs.{◌≡◌, ℕ, zero, suc, ◌+◌, ◌-◌, ◌*◌, ◌<◌, ◌≤◌, max, Bool, true, false, if◌then◌else◌, Option, Some, None, is_some, List, [], ◌∷◌}
-use Rattle.compose.specs.{length, arith, nat_tests, slice_index_or, count_by, range_with_len, sum_by-cons, and_from, eq-eqb, difference, line_difference}
-use Rattle.compose.specs.{same_shown, Picture, line_of, Shown, shown_blank, AreColumnsWithin, among, Columns, columns_of, has_columns, cells_above}
+use Rattle.std.specs.Prelude.{◌≡◌, ◌+◌, ◌-◌, ◌*◌, ◌<◌, ◌≤◌, if◌then◌else◌, ◌∷◌}
+use Rattle.compose.specs.{ℕ, zero, suc, max, Bool, true, false, Option, Some, None, is_some, List, [], length, arith, nat_tests, slice_index_or, count_by, range_with_len, sum_by-cons, and_from}
+use Rattle.compose.specs.{eq-eqb, difference, line_difference, same_shown, Picture, line_of, Shown, shown_blank, AreColumnsWithin, among, Columns, columns_of, has_columns, cells_above}
 use Rattle.compose.specs.{cells_of_line}
 
 -- ---- at most the columns of each damaged line

@@ -1,6 +1,7 @@
 -- What noutrefresh and pnoutrefresh draw on each line of the screen.
-use Rattle.compose.specs.{◌≡◌, ℕ, ◌+◌, ◌-◌, ◌<◌, ◌≤◌, false, Some, None, arith, nat_tests, Place, LARGEST_PAD, LARGEST_SCREEN, Window, Windows, cell_at}
-use Rattle.compose.specs.{AreSoundWindows, copywin_drawing, touched_columns, first_of, pnoutrefresh_tests, touched_cells, Columns}
+use Rattle.std.specs.Prelude.{◌≡◌, ◌+◌, ◌-◌, ◌<◌, ◌≤◌}
+use Rattle.compose.specs.{ℕ, false, Some, None, arith, nat_tests, Place, LARGEST_PAD, LARGEST_SCREEN, Window, Windows, cell_at, AreSoundWindows, copywin_drawing, touched_columns, first_of}
+use Rattle.compose.specs.{pnoutrefresh_tests, touched_cells, Columns}
 use Rattle.world.proofs.Allowed.{passed}
 use Rattle.picture.proofs.Placement.{IsPlacedAt}
 use Rattle.compose.proofs.Laying.{HasPiece, IsBare}

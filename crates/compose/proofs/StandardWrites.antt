@@ -1,7 +1,7 @@
 -- Of a write in the standard screen, it shows the frame; and where no panel is visible, nothing else shows anything of it.
-use Rattle.compose.specs.{◌≡◌, ℕ, ◌+◌, ◌<◌, ◌≤◌, Bool, false, ◌||◌, Option, Some, List, [], ◌∷◌, length, arith, sym, ◌∙◌, IsSome, IsSomeAnd, option_and_then}
-use Rattle.compose.specs.{reverse, filter_map, list_any, origin, Rect, AreRectangle, Panels, standard_screen, SharesPart, AreSoundWindows, IsStandardScreen}
-use Rattle.compose.specs.{GridPlace, HasPlace, Window, Windows, own, frame_shows_at, shows_at, frame_holds}
+use Rattle.std.specs.Prelude.{◌≡◌, ◌+◌, ◌<◌, ◌≤◌, ◌||◌, ◌∷◌}
+use Rattle.compose.specs.{ℕ, Bool, false, Option, Some, List, [], length, arith, sym, ◌∙◌, IsSome, IsSomeAnd, option_and_then, reverse, filter_map, list_any, origin, Rect, AreRectangle, Panels}
+use Rattle.compose.specs.{standard_screen, SharesPart, AreSoundWindows, IsStandardScreen, GridPlace, HasPlace, Window, Windows, own, frame_shows_at, shows_at, frame_holds}
 use Rattle.grids.proofs.Ancestors.{sound-there}
 use Rattle.grids.proofs.Seen.{seen-itself}
 use Rattle.grids.proofs.Touches.{there-and}

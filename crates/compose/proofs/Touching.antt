@@ -1,6 +1,7 @@
 -- The touched columns of a window are damaged line by line.
-use Rattle.compose.specs.{◌≡◌, ℕ, ◌+◌, ◌<◌, ◌≤◌, Bool, true, ◌&&◌, ◌||◌, nat_lt, if◌then◌else◌, Option, Some, None, is_some, List, arith, nat_tests, and_from}
-use Rattle.compose.specs.{and_parts, cases_lt, lt-ltb, ltb-true, Glyph, Rect, Drawing, Columns, frame_holds, Damages}
+use Rattle.std.specs.Prelude.{◌≡◌, ◌+◌, ◌<◌, ◌≤◌, ◌&&◌, ◌||◌, if◌then◌else◌}
+use Rattle.compose.specs.{ℕ, Bool, true, nat_lt, Option, Some, None, is_some, List, arith, nat_tests, and_from, and_parts, cases_lt, lt-ltb, ltb-true, Glyph, Rect, Drawing, Columns, frame_holds}
+use Rattle.compose.specs.{Damages}
 use Rattle.picture.proofs.DamageLaws.{damages-as, damages-none, damages-then}
 use Rattle.compose.proofs.Laying.{HasPiece, IsBare}
 

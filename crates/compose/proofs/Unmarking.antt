@@ -1,7 +1,8 @@
 -- Windows are unmarked one after another.
-use Rattle.compose.specs.{◌≡◌, ℕ, Bool, false, ◌||◌, ◌==◌, if◌then◌else◌, Option, None, List, [], ◌∷◌, arith, refl, cases_eq, IsSomeAnd, is_none, option_map}
-use Rattle.compose.specs.{list_any, WinId, set_in, Window, WindowMap, Windows, with_change, after_copying, lines_marked, after_writing, with_clear}
-use Rattle.compose.specs.{writing_refusal, Touchln, Clearok, asks_for_clear, without_marks, unmarked_lines, with_unmarked, first_of, NoSuchWindow}
+use Rattle.std.specs.Prelude.{◌≡◌, ◌||◌, ◌==◌, if◌then◌else◌, ◌∷◌}
+use Rattle.compose.specs.{ℕ, Bool, false, Option, None, List, [], arith, refl, cases_eq, IsSomeAnd, is_none, option_map, list_any, WinId, set_in, Window, WindowMap, Windows, with_change}
+use Rattle.compose.specs.{after_copying, lines_marked, after_writing, with_clear, writing_refusal, Touchln, Clearok, asks_for_clear, without_marks, unmarked_lines, with_unmarked, first_of}
+use Rattle.compose.specs.{NoSuchWindow}
 use mathlib.Core.Path.{fun_ext}
 use Rattle.world.specs.Rows.{is_among}
 

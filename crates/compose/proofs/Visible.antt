@@ -1,5 +1,6 @@
 -- The damage of one window after another.
-use Rattle.compose.specs.{◌≡◌, ℕ, Bool, false, ◌||◌, Option, List, ◌∷◌, refl, ◌∙◌, arith, list_any, Columns, Damages}
+use Rattle.std.specs.Prelude.{◌≡◌, ◌||◌, ◌∷◌}
+use Rattle.compose.specs.{ℕ, Bool, false, Option, List, refl, ◌∙◌, arith, list_any, Columns, Damages}
 use Rattle.picture.proofs.DamageLaws.{damages-none, damages-then}
 
 or-together : (a b c : Bool) → ((a || b) || c) ≡ (a || (b || c))

@@ -1,8 +1,8 @@
 -- A call on windows, made on a desk: it leaves a desk, and was made.
-use Rattle.compose.specs.{◌≡◌, ℕ, Bool, true, false, Option, List, Result, Ok, Err, inl, refl, sym, subst, arith, IfOk, Refusal, Change, Effect, arranges}
-use Rattle.compose.specs.{changes, IsSound, effect_shows_at, effect_of, is_update_panels, refusal, reply_of, world_after, Call, IsLinetouched, IsWintouched}
-use Rattle.compose.specs.{UpdatePanels, PanelAbove, PanelBelow, PanelHidden, PanelWindow, Reply, Columns, World, is_query, WindowTable, panels, Damages}
-use Rattle.compose.specs.{Called, CountsReads, DamagesFew, MayLeave, MayTell, IsDesk, DeskTable, is_damaged_line, world, Answered, ChangedDamaging}
+use Rattle.std.specs.Prelude.{◌≡◌}
+use Rattle.compose.specs.{ℕ, Bool, true, false, Option, List, Result, Ok, Err, inl, refl, sym, subst, arith, IfOk, Refusal, Change, Effect, arranges, changes, IsSound, effect_shows_at, effect_of}
+use Rattle.compose.specs.{is_update_panels, refusal, reply_of, world_after, Call, IsLinetouched, IsWintouched, UpdatePanels, PanelAbove, PanelBelow, PanelHidden, PanelWindow, Reply, Columns, World}
+use Rattle.compose.specs.{is_query, WindowTable, panels, Damages, Called, CountsReads, DamagesFew, MayLeave, MayTell, IsDesk, DeskTable, is_damaged_line, world, Answered, ChangedDamaging}
 use Rattle.world.specs.declared.call.Call.TheVariants as calls
 use Rattle.extents.proofs.Changing.{changes-none}
 use Rattle.compose.proofs.DamageCovers.{call-accepted}

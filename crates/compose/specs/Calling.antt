@@ -1,6 +1,7 @@
 -- A call that sends nothing, made on a desk: what it answers, and what it leaves.
-use Rattle.compose.specs.Names.{◌≡◌, ◌≤◌, ◌⊎◌, ◌+◌, ◌%◌, ◌^◌, ℕ, Bool, true, Some, None, Result, Ok, Err, IsSound, World, affected_after, most_cells, refusal}
-use Rattle.compose.specs.Names.{reply_of, takes_memory, world_after, difference, Refusal, NoMemory, AddsChanges, Call, UpdatePanels, Reply, Composed}
+use Rattle.std.specs.Prelude.{◌≡◌, ◌≤◌, ◌⊎◌, ◌+◌, ◌%◌, ◌^◌}
+use Rattle.compose.specs.Names.{ℕ, Bool, true, Some, None, Result, Ok, Err, IsSound, World, affected_after, most_cells, refusal, reply_of, takes_memory, world_after, difference, Refusal, NoMemory}
+use Rattle.compose.specs.Names.{AddsChanges, Call, UpdatePanels, Reply, Composed}
 use Rattle.compose.specs.Desks.{DeskTable, is_damaged_line, world}
 use Rattle.world.specs.declared.call.Call.TheVariants as calls
 

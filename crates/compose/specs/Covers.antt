@@ -1,6 +1,7 @@
 -- What always holds of a desk: its world is sound, its damage covers each place at which the virtual screen shows
 -- something else than the search from the top finds, and it keeps the changes of each line.
-use Rattle.compose.specs.Names.{◌≡◌, ℕ, ◌<◌, false, length, shown_at, AreColumnsWithin, IsSound, picture}
+use Rattle.std.specs.Prelude.{◌≡◌, ◌<◌}
+use Rattle.compose.specs.Names.{ℕ, false, length, shown_at, AreColumnsWithin, IsSound, picture}
 use Rattle.compose.specs.Desks.{DeskTable, damaged_columns, is_damaged_at, world}
 
 pub record IsCovered (t : DeskTable) : Type 0 where

@@ -1,6 +1,5 @@
 -- What a desk keeps, and the world that it represents.
-use Rattle.compose.specs.Names.{ℕ, Bool, Option, List, Pairs, VirtualScreen, World, Columns, WindowTable, windows, PanelTable, panels, columns_of}
-use Rattle.compose.specs.Names.{has_columns, is_among}
+use Rattle.compose.specs.Names.{ℕ, Bool, Option, List, Pairs, VirtualScreen, World, Columns, WindowTable, windows, PanelTable, panels, columns_of, has_columns, is_among}
 
 pub record DeskTable : Type 0 where
   pub windows : WindowTable

@@ -1,7 +1,8 @@
 //! What a call damages of the screen: a rectangle for each window that shows what it changed.
 
-ghost use Rattle.compose.specs.{◌≡◌, ◌<◌, ◌+◌, ◌==◌, ℕ, MatchOption, Some, ⊤, length, true, list_any, windows_from_top, frame_shows_at, with_change};
-ghost use Rattle.compose.specs.{windows as windows_of, panels, IsFrameWithin, part_holds, Damages, IsPossible, affected_shows_at, any_shows_at};
+ghost use Rattle.std.specs.Prelude.{◌≡◌, ◌<◌, ◌+◌, ◌==◌};
+ghost use Rattle.compose.specs.{ℕ, MatchOption, Some, ⊤, length, true, list_any, windows_from_top, frame_shows_at, with_change, windows as windows_of, panels, IsFrameWithin, part_holds, Damages};
+ghost use Rattle.compose.specs.{IsPossible, affected_shows_at, any_shows_at};
 
 use cell::{Rect, WinId};
 use extents::Extents;

@@ -1,8 +1,9 @@
 //! Calls on windows and panels, each with what it damages of the screen.
 
-ghost use Rattle.compose.specs.{◌≡◌, ◌==◌, ℕ, MatchOption, ⊤, false, length, option_map, option_map_or, is_in_panel, AreSoundPanels, copying_refusal};
-ghost use Rattle.compose.specs.{copying_change, writing_refusal, writing_edit, making_refusal, making_change, panel_number, panel_shows_at, edits, Call};
-ghost use Rattle.compose.specs.{windows as windows_of, panels, IsFrameWithin, part_holds, top_window, ChangedDamaging, OrderedDamaging};
+ghost use Rattle.std.specs.Prelude.{◌≡◌, ◌==◌};
+ghost use Rattle.compose.specs.{ℕ, MatchOption, ⊤, false, length, option_map, option_map_or, is_in_panel, AreSoundPanels, copying_refusal, copying_change, writing_refusal, writing_edit};
+ghost use Rattle.compose.specs.{making_refusal, making_change, panel_number, panel_shows_at, edits, Call, windows as windows_of, panels, IsFrameWithin, part_holds, top_window, ChangedDamaging};
+ghost use Rattle.compose.specs.{OrderedDamaging};
 
 use crate::damaging::{damage_affected, damage_part};
 use crate::dispatch::{arrange, changed_panel, copy, make, named_panel, ordered_panel, write};

@@ -1,9 +1,9 @@
 //! The windows and panels under a virtual screen.
 
-ghost use Rattle.compose.specs.{◌≡◌, ◌<◌, ◌≤◌, ◌-◌, ◌==◌, ◌&&◌, ℕ, None, Ok, Some, IfOk, false, true, if◌then◌else◌, length, nat_le, nat_lt, replicate};
-ghost use Rattle.compose.specs.{slice_index_or, result_err, AreShown, HasSize, line_of, picture_of, shown_at, blank, shown, first_world, picture};
-ghost use Rattle.compose.specs.{is_doupdate, IsSound, new_refusal, among, colour_tests, line_shown, HasPlace, RefusedBy, first_of, windows as windows_of};
-ghost use Rattle.compose.specs.{panels, IsSpan, Call, Refresh, damaged_columns, is_damaged_line, world, Called};
+ghost use Rattle.std.specs.Prelude.{◌≡◌, ◌<◌, ◌≤◌, ◌-◌, ◌==◌, ◌&&◌, if◌then◌else◌};
+ghost use Rattle.compose.specs.{ℕ, None, Ok, Some, IfOk, false, true, length, nat_le, nat_lt, replicate, slice_index_or, result_err, AreShown, HasSize, line_of, picture_of, shown_at, blank, shown};
+ghost use Rattle.compose.specs.{first_world, picture, is_doupdate, IsSound, new_refusal, among, colour_tests, line_shown, HasPlace, RefusedBy, first_of, windows as windows_of, panels, IsSpan, Call};
+ghost use Rattle.compose.specs.{Refresh, damaged_columns, is_damaged_line, world, Called};
 
 use crate::damaging::damage_part;
 use crate::damaging_calls::{arrange_damaging, copy_damaging, make_damaging, write_damaging};

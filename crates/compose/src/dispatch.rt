@@ -1,9 +1,9 @@
 //! The calls, by the group that they are in.
 
-ghost use Rattle.compose.specs.{◌≡◌, false, is_in_panel, AreSoundPanels, copying_refusal, copying_change, making_refusal, making_change, panel_number};
-ghost use Rattle.compose.specs.{is_doupdate, writing_refusal, writing_edit, edits, Call, Reply, as_reply, windows as windows_of, no_frame, its_panel};
-ghost use Rattle.compose.specs.{no_answer, panels, changed_panel, named_panel, ordered_panel, Affects, Rearranges, as_outcome, drawn, numbered, shifted};
-ghost use Rattle.compose.specs.{told, unseen, with_frame, Called};
+ghost use Rattle.std.specs.Prelude.{◌≡◌};
+ghost use Rattle.compose.specs.{false, is_in_panel, AreSoundPanels, copying_refusal, copying_change, making_refusal, making_change, panel_number, is_doupdate, writing_refusal, writing_edit, edits};
+ghost use Rattle.compose.specs.{Call, Reply, as_reply, windows as windows_of, no_frame, its_panel, no_answer, panels, changed_panel, named_panel, ordered_panel, Affects, Rearranges, as_outcome};
+ghost use Rattle.compose.specs.{drawn, numbered, shifted, told, unseen, with_frame, Called};
 
 use crate::damaging::Affected;
 use crate::desk::Desk;

@@ -1,7 +1,7 @@
 //! The touched columns and clear flags of the windows that make up the picture.
 
-ghost use Rattle.compose.specs.{◌≡◌, ◌∷◌, list_any, standard_screen, windows_from_top, asks_for_clear, with_unmarked, without_marks, Windows, with_change};
-ghost use Rattle.compose.specs.{windows as windows_of, panels};
+ghost use Rattle.std.specs.Prelude.{◌≡◌, ◌∷◌};
+ghost use Rattle.compose.specs.{list_any, standard_screen, windows_from_top, asks_for_clear, with_unmarked, without_marks, Windows, with_change, windows as windows_of, panels};
 
 use cell::WinId;
 use grids::Grids;

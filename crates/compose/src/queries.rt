@@ -1,8 +1,8 @@
 //! The calls that only ask: about a window, about what is touched of it, and about panels.
 
-ghost use Rattle.compose.specs.{◌≡◌, Ok, true, change_reply, order_reply, World, copying_change, copying_refusal, refusal, reply_of, query_refusal};
-ghost use Rattle.compose.specs.{query_reply, numbered_panel, panel_number, stacking_order, stacking_refusal, Call, as_reply, is_query, windows as windows_of};
-ghost use Rattle.compose.specs.{no_windows, panels, Answered};
+ghost use Rattle.std.specs.Prelude.{◌≡◌};
+ghost use Rattle.compose.specs.{Ok, true, change_reply, order_reply, World, copying_change, copying_refusal, refusal, reply_of, query_refusal, query_reply, numbered_panel, panel_number};
+ghost use Rattle.compose.specs.{stacking_order, stacking_refusal, Call, as_reply, is_query, windows as windows_of, no_windows, panels, Answered};
 
 use cell::{Refusal, WinId};
 use grids::Grids;

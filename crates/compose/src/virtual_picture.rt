@@ -1,7 +1,8 @@
 //! The picture of a virtual screen, which keeps what changed on it.
 
-ghost use Rattle.compose.specs.{◌≡◌, ◌<◌, ◌≤◌, ◌+◌, ◌-◌, ◌==◌, ◌&&◌, ℕ, IfOk, None, if◌then◌else◌, length, nat_le, nat_lt, replicate, HasSize, blank_picture};
-ghost use Rattle.compose.specs.{shown_at, shown, LARGEST_SCREEN, HasPlace, cell_at, AddsChanges, windows as windows_of, Damages, frame_holds};
+ghost use Rattle.std.specs.Prelude.{◌≡◌, ◌<◌, ◌≤◌, ◌+◌, ◌-◌, ◌==◌, ◌&&◌, if◌then◌else◌};
+ghost use Rattle.compose.specs.{ℕ, IfOk, None, length, nat_le, nat_lt, replicate, HasSize, blank_picture, shown_at, shown, LARGEST_SCREEN, HasPlace, cell_at, AddsChanges, windows as windows_of};
+ghost use Rattle.compose.specs.{Damages, frame_holds};
 
 use cell::{Grid, Pairs, Shown, WinId};
 use extents::Extents;

@@ -1,5 +1,6 @@
 -- What is printed, by whether a script ended with a fault.
-use Rattle.curspan.specs.{◌≡◌, false, true, Option, Some, None, is_some, MatchOption}
+use Rattle.std.specs.Prelude.{◌≡◌}
+use Rattle.curspan.specs.{false, true, Option, Some, None, is_some, MatchOption}
 
 pub without : {X : Type 0} {A : Type 0} (B : X → Type 0) (o : Option X) → is_some o ≡ false → A → MatchOption o A B
 without B None none a = a

@@ -1,5 +1,6 @@
 -- Streams on the start of a file.
-use Rattle.curspan.specs.Names.{◌≡◌, [], ⊤, false, MatchOption, Seen, SourceSeen}
+use Rattle.std.specs.Prelude.{◌≡◌}
+use Rattle.curspan.specs.Names.{[], ⊤, false, MatchOption, Seen, SourceSeen}
 
 -- Nothing was read of the source.
 pub record IsUnread (seen : SourceSeen) : Type 0 where

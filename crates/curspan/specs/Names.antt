@@ -27,8 +27,7 @@ pub use Rattle.paint.specs.Doupdates.{PainterState, first_painter}
 pub use Rattle.script.specs.Log.{last_line}
 pub use Rattle.script.specs.declared.fault.ScriptEnd.{ScriptEnd}
 pub use Rattle.script.specs.declared.fault.ScriptFault.TheVariants.{Log}
-pub use Rattle.std.proofs.Common.{Bool, IfErr, IfOk, List, MatchOption, MatchResult, None, Option, Some, [], ap, false, inl, inr, is_some, map, refl, rules}
-pub use Rattle.std.proofs.Common.{subst, sym, true, ℕ, ◌-◌, ◌<◌, ◌^◌, ◌∙◌, ◌≡◌, ◌⊎◌}
+pub use Rattle.std.proofs.Common.{Bool, IfErr, IfOk, List, MatchOption, MatchResult, None, Option, Some, [], ap, false, inl, inr, is_some, map, refl, rules, subst, sym, true, ℕ, ◌∙◌}
 pub use Rattle.std.specs.IoError.{error_kind}
 pub use Rattle.std.specs.Prelude.{⊤}
 pub use Rattle.std.specs.declared.io.ErrorKind.TheVariants.{IsADirectory, NotADirectory, NotFound, OutOfMemory, PermissionDenied}

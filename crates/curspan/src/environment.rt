@@ -1,6 +1,7 @@
 //! What the environment says of the size of the screen.
 
-ghost use Rattle.curspan.specs.{◌≡◌, IfErr, error_kind, OutOfMemory};
+ghost use Rattle.std.specs.Prelude.{◌≡◌};
+ghost use Rattle.curspan.specs.{IfErr, error_kind, OutOfMemory};
 
 use std::env::VarError;
 use std::io::ErrorKind;

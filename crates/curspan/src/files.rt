@@ -1,6 +1,7 @@
 //! The script and the log of the program: standard streams, or files of the system.
 
-ghost use Rattle.curspan.specs.{◌≡◌, ◌-◌, ◌^◌, IfOk, None, error_kind, IsUnread, fault_of_kind, at_place};
+ghost use Rattle.std.specs.Prelude.{◌≡◌, ◌-◌, ◌^◌};
+ghost use Rattle.curspan.specs.{IfOk, None, error_kind, IsUnread, fault_of_kind, at_place};
 
 use crate::opening::{FileSink, FileSource};
 use commands::OpenFault;

@@ -1,6 +1,7 @@
 //! Streams that a named file can take the place of.
 
-ghost use Rattle.curspan.specs.{◌≡◌, ℕ, List, Option, IfErr, IfOk, text_of, OpenFault, IsUnread, IsUnwritten, Seen, SourceSeen};
+ghost use Rattle.std.specs.Prelude.{◌≡◌};
+ghost use Rattle.curspan.specs.{ℕ, List, Option, IfErr, IfOk, text_of, OpenFault, IsUnread, IsUnwritten, Seen, SourceSeen};
 
 use commands::OpenFault;
 use desk::{Sink, Source};

@@ -1,6 +1,7 @@
 -- A call of a script is the call that its line says, wherever its text lies, and what it answered.
-use Rattle.desk.specs.{arith, ℕ, List, [], ◌∷◌, Ok, Err, Result, refl, subst, sym, Refusal, Seen, CallEnds, Writes, IsWithin, state_of, ScreenOver, placeless}
-use Rattle.desk.specs.{Call, Reply, MayAnswer, cells_of_answer, state_after, CountGrew, call_end}
+use Rattle.std.specs.Prelude.{◌∷◌}
+use Rattle.desk.specs.{arith, ℕ, List, [], Ok, Err, Result, refl, subst, sym, Refusal, Seen, CallEnds, Writes, IsWithin, state_of, ScreenOver, placeless, Call, Reply, MayAnswer, cells_of_answer}
+use Rattle.desk.specs.{state_after, CountGrew, call_end}
 use Rattle.desk.proofs.ReadLemmas.{call-grew, same-grew}
 use Rattle.desk.proofs.WriterLemmas.{Writes-refused}
 use Rattle.desk.proofs.StateLemmas.{is-kept}

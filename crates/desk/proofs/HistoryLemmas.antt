@@ -1,10 +1,9 @@
 -- Histories: what terminals show after one, and how one goes on by a call.
-use Rattle.desk.specs.{arith, ◌≡◌, ◌<◌, ℕ, ◌+◌, List, [], ◌∷◌, ◌++◌, Option, None, Some, Result, Ok, Err, length, take, get_or, cond, is_ok, is_some, refl}
-use Rattle.desk.specs.{sym, ap, ◌∙◌, subst, append_assoc, append-nil, ⊤, MatchOption, if◌then◌else◌, Appends-nil, Appends-trans, take_more, sum_by_push}
-use Rattle.desk.specs.{Appends, HasSize, Terminal, LeadsWithBreaks, showing, Seen, WriteFault, Agrees, ShownPicture, is_doupdate, Call, Refresh, Doupdate}
-use Rattle.desk.specs.{UpdatePanels, Reply, world, KeepsSize, ScreenOver, state_of, wanted, CallEnds, cut_of, CallMade, EndsInDoupdate, EndsInUpdate}
-use Rattle.desk.specs.{ShowsWorld, AreMade, HistoryEnds, HistoryShows, RunsAll, Step, calls_in, cells_in, fault_after, is_cut, is_done, is_refused_step}
-use Rattle.desk.specs.{last_fault, refuses, screen_after, counted, never-refused}
+use Rattle.std.specs.Prelude.{◌≡◌, ◌<◌, ◌+◌, ◌∷◌, ◌++◌, if◌then◌else◌}
+use Rattle.desk.specs.{arith, ℕ, List, [], Option, None, Some, Result, Ok, Err, length, take, get_or, cond, is_ok, is_some, refl, sym, ap, ◌∙◌, subst, append_assoc, append-nil, ⊤, MatchOption}
+use Rattle.desk.specs.{Appends-nil, Appends-trans, take_more, sum_by_push, Appends, HasSize, Terminal, LeadsWithBreaks, showing, Seen, WriteFault, Agrees, ShownPicture, is_doupdate, Call, Refresh}
+use Rattle.desk.specs.{Doupdate, UpdatePanels, Reply, world, KeepsSize, ScreenOver, state_of, wanted, CallEnds, cut_of, CallMade, EndsInDoupdate, EndsInUpdate, ShowsWorld, AreMade, HistoryEnds}
+use Rattle.desk.specs.{HistoryShows, RunsAll, Step, calls_in, cells_in, fault_after, is_cut, is_done, is_refused_step, last_fault, refuses, screen_after, counted, never-refused}
 use Rattle.paint.proofs.Repair.{Agrees-unknown, nothing-in_profile}
 use Rattle.desk.specs.declared.screen.Fault.{Fault}
 use Rattle.desk.specs.declared.screen.Fault.TheVariants.{Refused, Write}

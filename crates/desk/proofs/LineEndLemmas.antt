@@ -1,7 +1,7 @@
 -- How a line of a script ends.
-use Rattle.desk.specs.{arith, ◌≡◌, ℕ, [], ◌∷◌, Bool, true, false, Option, None, Some, Ok, Err, Result, is_err, is_ok, not, refl, sym, ◌∙◌, Appends-nil}
-use Rattle.desk.specs.{or-false, count_after, Seen, is_doupdate, CallEnds, call_end, TextFault, log_line, LineEnds, LineSays, Logs, StopsAt, log_failed, Call}
-use Rattle.desk.specs.{Refresh, Doupdate, Reply, Refusal, WriteFault, ScreenOver, each-call, ScriptFault, Write}
+use Rattle.std.specs.Prelude.{◌≡◌, ◌∷◌}
+use Rattle.desk.specs.{arith, ℕ, [], Bool, true, false, Option, None, Some, Ok, Err, Result, is_err, is_ok, not, refl, sym, ◌∙◌, Appends-nil, or-false, count_after, Seen, is_doupdate, CallEnds}
+use Rattle.desk.specs.{call_end, TextFault, log_line, LineEnds, LineSays, Logs, StopsAt, log_failed, Call, Refresh, Doupdate, Reply, Refusal, WriteFault, ScreenOver, each-call, ScriptFault, Write}
 use Rattle.desk.proofs.MakesLemmas.{Makes-nothing, Makes-one}
 use Rattle.desk.proofs.AnswerLemmas.{is_answered}
 use Rattle.desk.specs.declared.screen.Fault.TheVariants.{Write as Cut}

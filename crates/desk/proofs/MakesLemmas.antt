@@ -1,7 +1,7 @@
 -- Calls that were made, and what they leave: none, one, and one list after another.
-use Rattle.desk.specs.{arith, ◌≡◌, ℕ, List, [], ◌∷◌, ◌++◌, Result, refl, sym, subst, ◌∙◌, add-zero, append-nil, sum_by, flat_map-append, sum_by-append}
-use Rattle.desk.specs.{sum_by-cons, Refusal, Seen, IsWithin, ScreenOver, State, state_of, MayAnswer, Outcome, Run, all_sent, cells_of_answer, cells_read}
-use Rattle.desk.specs.{state_after, state_at_end, Makes, Writes, CountGrew, Call, Reply}
+use Rattle.std.specs.Prelude.{◌≡◌, ◌∷◌, ◌++◌}
+use Rattle.desk.specs.{arith, ℕ, List, [], Result, refl, sym, subst, ◌∙◌, add-zero, append-nil, sum_by, flat_map-append, sum_by-append, sum_by-cons, Refusal, Seen, IsWithin, ScreenOver, State}
+use Rattle.desk.specs.{state_of, MayAnswer, Outcome, Run, all_sent, cells_of_answer, cells_read, state_after, state_at_end, Makes, Writes, CountGrew, Call, Reply}
 use Rattle.desk.proofs.ReadLemmas.{reads-run, same-grew, then-grew}
 use Rattle.desk.proofs.Shortness.{short-run}
 use Rattle.desk.proofs.StateLemmas.{IsWithin-refl, IsWithin-trans, Run-within, state_at_end-within}

@@ -1,9 +1,9 @@
 -- How many cells a run reads.
-use Rattle.desk.specs.{◌≡◌, ◌≤◌, ℕ, ◌+◌, List, [], ◌∷◌, Bool, false, Option, Result, Ok, refl, sym, subst, ap, ◌∙◌, sum_by, is_ok, arith, add_assoc, ◌%◌, ◌^◌}
-use Rattle.desk.specs.{add-le-add, mod-add-mod, mod-mod, sum_by-cons, option_map_or, Glyph, Place, Refusal, World, most_cells, is_update_panels, reply_of}
-use Rattle.desk.specs.{both_numbers, cell_at_cursor, CountsReads, cells_of_reply, DeskTable, State, MayAnswer, Outcome, Run, cells_of_answer, cells_read}
-use Rattle.desk.specs.{state_after, CountGrew, ReadsFew, places_redrawn, with_acceptance, Call, Syncup, Delwin, Inch, UpdatePanels, Doupdate, Reply, Nothing}
-use Rattle.desk.specs.{Cell, DelPanel}
+use Rattle.std.specs.Prelude.{◌≡◌, ◌≤◌, ◌+◌, ◌∷◌, ◌%◌, ◌^◌}
+use Rattle.desk.specs.{ℕ, List, [], Bool, false, Option, Result, Ok, refl, sym, subst, ap, ◌∙◌, sum_by, is_ok, arith, add_assoc, add-le-add, mod-add-mod, mod-mod, sum_by-cons, option_map_or, Glyph}
+use Rattle.desk.specs.{Place, Refusal, World, most_cells, is_update_panels, reply_of, both_numbers, cell_at_cursor, CountsReads, cells_of_reply, DeskTable, State, MayAnswer, Outcome, Run}
+use Rattle.desk.specs.{cells_of_answer, cells_read, state_after, CountGrew, ReadsFew, places_redrawn, with_acceptance, Call, Syncup, Delwin, Inch, UpdatePanels, Doupdate, Reply, Nothing, Cell}
+use Rattle.desk.specs.{DelPanel}
 use Rattle.world.specs.declared.call.Call.TheVariants as calls
 
 -- ---- only update_panels answers a number of cells

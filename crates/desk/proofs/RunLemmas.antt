@@ -1,8 +1,8 @@
 -- A run goes on by one call.
-use Rattle.desk.specs.{◌≡◌, ℕ, ◌+◌, ◌≤◌, ◌++◌, List, [], ◌∷◌, length, take, drop, get_or, None, Some, ◌<◌, Ok, Err, refl, sym, ap, ◌∙◌, subst, count_by}
-use Rattle.desk.specs.{sum_by, cond, add-zero, ◌%◌, ◌^◌, Option, append-nil, take-append-drop, take_all, drop_more, take_more, sum_by_push, Refusal, Seen}
-use Rattle.desk.specs.{WriteFault, Outcome, cells_read, is_accepted, is_refused, cells_of_reply, CountGrew, ReadsFew, with_acceptance, CallEnds, Makes}
-use Rattle.desk.specs.{RunEnds, Stops, Writes, begins_with_doupdate, Call, Reply, ScreenOver, state_of}
+use Rattle.std.specs.Prelude.{◌≡◌, ◌+◌, ◌≤◌, ◌++◌, ◌∷◌, ◌<◌, ◌%◌, ◌^◌}
+use Rattle.desk.specs.{ℕ, List, [], length, take, drop, get_or, None, Some, Ok, Err, refl, sym, ap, ◌∙◌, subst, count_by, sum_by, cond, add-zero, Option, append-nil, take-append-drop, take_all}
+use Rattle.desk.specs.{drop_more, take_more, sum_by_push, Refusal, Seen, WriteFault, Outcome, cells_read, is_accepted, is_refused, cells_of_reply, CountGrew, ReadsFew, with_acceptance, CallEnds}
+use Rattle.desk.specs.{Makes, RunEnds, Stops, Writes, begins_with_doupdate, Call, Reply, ScreenOver, state_of}
 use Rattle.desk.proofs.ReadLemmas.{call-grew, same-grew}
 use Rattle.desk.proofs.MakesLemmas.{Makes-append, Makes-nothing, Makes-one}
 use Rattle.desk.proofs.StateLemmas.{is-kept}

@@ -1,6 +1,6 @@
 -- No call of a run sends more than its bound.
-use Rattle.desk.specs.{◌≡◌, ◌≤◌, ℕ, List, [], ◌∷◌, length, Result, Ok, Err, arith, Refusal, State, Outcome, AreShort, MayAnswer, Run, most_sent, state_after}
-use Rattle.desk.specs.{Call, Reply, each-call, quiet-reply}
+use Rattle.std.specs.Prelude.{◌≡◌, ◌≤◌, ◌∷◌}
+use Rattle.desk.specs.{ℕ, List, [], length, Result, Ok, Err, arith, Refusal, State, Outcome, AreShort, MayAnswer, Run, most_sent, state_after, Call, Reply, each-call, quiet-reply}
 
 sends-nothing : (sent : List ℕ) (most : ℕ) → sent ≡ [] → length sent ≤ most
 sends-nothing sent most none = grind arith

@@ -1,7 +1,7 @@
 -- What calls do to the writer of a screen.
-use Rattle.desk.specs.{arith, ◌≡◌, ℕ, Bool, false, ◌||◌, List, [], ◌∷◌, ◌++◌, Ok, Err, refl, sym, Appends-nil, Appends-trans, list_any-append, Refusal}
-use Rattle.desk.specs.{count_after, Seen, is_doupdate, world_after, Call, Doupdate, Reply, DeskTable, world, IsWithin, ScreenOver, after, state_of, Called}
-use Rattle.desk.specs.{DamagesFew, MayRefuse, never-refused, flushes_after, each-call, quiet-reply, CallEnds, Writes}
+use Rattle.std.specs.Prelude.{◌≡◌, ◌||◌, ◌∷◌, ◌++◌}
+use Rattle.desk.specs.{arith, ℕ, Bool, false, List, [], Ok, Err, refl, sym, Appends-nil, Appends-trans, list_any-append, Refusal, count_after, Seen, is_doupdate, world_after, Call, Doupdate, Reply}
+use Rattle.desk.specs.{DeskTable, world, IsWithin, ScreenOver, after, state_of, Called, DamagesFew, MayRefuse, never-refused, flushes_after, each-call, quiet-reply, CallEnds, Writes}
 use Rattle.world.specs.declared.call.Call.TheVariants as calls
 use Rattle.desk.proofs.StateLemmas.{painter-quiet}
 use Rattle.compose.proofs.DeskLemmas.{world-left}

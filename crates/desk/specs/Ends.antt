@@ -1,6 +1,7 @@
 -- How calls on a screen end, and what they do to it.
-use Rattle.desk.specs.Names.{◌≡◌, ◌≤◌, ◌==◌, ◌||◌, ℕ, List, [], ◌∷◌, ◌++◌, Bool, true, false, length, take, Option, Some, None, Result, Ok, Err, count_by}
-use Rattle.desk.specs.Names.{sum_by, list_any, Appends, count_after, Seen, IsUpdateText, WriteFault, CountsReads, MayRefuse, world, is_doupdate, Call, Reply}
+use Rattle.std.specs.Prelude.{◌≡◌, ◌≤◌, ◌==◌, ◌||◌, ◌∷◌, ◌++◌}
+use Rattle.desk.specs.Names.{ℕ, List, [], Bool, true, false, length, take, Option, Some, None, Result, Ok, Err, count_by, sum_by, list_any, Appends, count_after, Seen, IsUpdateText, WriteFault}
+use Rattle.desk.specs.Names.{CountsReads, MayRefuse, world, is_doupdate, Call, Reply}
 use Rattle.desk.specs.States.{IsWithin, ScreenOver, after, state_of, wanted}
 use Rattle.desk.specs.Runs.{Outcome, AreShort, MayAnswer, Run, all_sent, cells_read, flushes_after, is_accepted, is_refused, state_at_end}
 use Rattle.desk.specs.Reads.{CountGrew, ReadsFew, with_acceptance}

@@ -1,7 +1,7 @@
 -- How a script ends.
-use Rattle.desk.specs.Names.{◌≡◌, ◌⊎◌, ◌<◌, ◌∷◌, ◌++◌, ℕ, Bool, true, false, List, [], length, map, take, Option, Some, None, Result, Ok, Err, flat_map}
-use Rattle.desk.specs.Names.{list_any, Appends, Consumes, IsAtEnd, Keeps, Seen, count_after, next_count, WriteFault, SourceSeen, reading, log_line, Call}
-use Rattle.desk.specs.Names.{Refresh, Doupdate, TextFault, ScriptEnd, ScriptFault, Text, Reading as Reading_fault, Write, Log}
+use Rattle.std.specs.Prelude.{◌≡◌, ◌⊎◌, ◌<◌, ◌∷◌, ◌++◌}
+use Rattle.desk.specs.Names.{ℕ, Bool, true, false, List, [], length, map, take, Option, Some, None, Result, Ok, Err, flat_map, list_any, Appends, Consumes, IsAtEnd, Keeps, Seen, count_after}
+use Rattle.desk.specs.Names.{next_count, WriteFault, SourceSeen, reading, log_line, Call, Refresh, Doupdate, TextFault, ScriptEnd, ScriptFault, Text, Reading as Reading_fault, Write, Log}
 use Rattle.desk.specs.Runs.{Outcome, is_refused}
 use Rattle.desk.specs.Ends.{IsCut, Makes}
 use Rattle.desk.specs.Showing.{RunShows}

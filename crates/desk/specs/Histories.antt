@@ -1,8 +1,9 @@
 -- A history of a screen: calls in order, gone on with after each refusal and each failed write; and what terminals show
 -- after it.
 -- X/Open Curses Issue 7: doupdate shows the virtual screen.
-use Rattle.desk.specs.Names.{◌≡◌, ℕ, List, [], ◌∷◌, ◌++◌, Bool, true, false, if◌then◌else◌, Option, None, Result, Ok, Err, ⊤, count_by, is_ok, is_some, map}
-use Rattle.desk.specs.Names.{sum_by, Appends, Terminal, LeadsWithBreaks, Seen, WriteFault, Agrees, cells_of_reply, world, is_doupdate, Call, Reply}
+use Rattle.std.specs.Prelude.{◌≡◌, ◌∷◌, ◌++◌, if◌then◌else◌}
+use Rattle.desk.specs.Names.{ℕ, List, [], Bool, true, false, Option, None, Result, Ok, Err, ⊤, count_by, is_ok, is_some, map, sum_by, Appends, Terminal, LeadsWithBreaks, Seen, WriteFault, Agrees}
+use Rattle.desk.specs.Names.{cells_of_reply, world, is_doupdate, Call, Reply}
 use Rattle.desk.specs.States.{ScreenOver}
 use Rattle.desk.specs.Ends.{cut_of}
 use Rattle.desk.specs.Methods.{CallMade}

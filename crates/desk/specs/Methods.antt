@@ -1,5 +1,6 @@
 -- A call made on a screen.
-use Rattle.desk.specs.Names.{◌≡◌, ◌∷◌, ℕ, [], is_some, Result, count_after, Seen, world, IsSound, Call, Reply}
+use Rattle.std.specs.Prelude.{◌≡◌, ◌∷◌}
+use Rattle.desk.specs.Names.{ℕ, [], is_some, Result, count_after, Seen, world, IsSound, Call, Reply}
 use Rattle.desk.specs.Ends.{CallEnds, cut_of}
 use Rattle.desk.specs.Showing.{RunShows}
 use Rattle.desk.specs.States.{KeepsSize, ScreenOver}

@@ -1,8 +1,8 @@
 -- How many cells the update_panels of a run read: by how much the desk's count of them grew, and its bounds. The run's
 -- calls are listed with whether each was accepted.
 -- X/Open Curses Issue 7 and NetBSD panel(3) say nothing of it: these bounds are Curspan's own.
-use Rattle.desk.specs.Names.{◌≡◌, ℕ, ◌+◌, ◌%◌, ◌^◌, ◌≤◌, if◌then◌else◌, List, [], ◌∷◌, Bool, difference, World, bound_on_reads, is_update_panels, world_after}
-use Rattle.desk.specs.Names.{DeskTable, Call}
+use Rattle.std.specs.Prelude.{◌≡◌, ◌+◌, ◌%◌, ◌^◌, ◌≤◌, if◌then◌else◌, ◌∷◌}
+use Rattle.desk.specs.Names.{ℕ, List, [], Bool, difference, World, bound_on_reads, is_update_panels, world_after, DeskTable, Call}
 use Rattle.desk.specs.States.{State}
 use Rattle.desk.specs.Runs.{Outcome, is_accepted}
 

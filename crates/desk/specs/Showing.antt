@@ -1,6 +1,7 @@
 -- What a terminal shows after a run of calls: the theorem of the screen.
-use Rattle.desk.specs.Names.{◌≡◌, ℕ, ◌<◌, List, [], ◌∷◌, ◌++◌, Option, Some, None, Appends, no_rendition, HasSize, shown_at, World, picture, topmost_cursor}
-use Rattle.desk.specs.Names.{Terminal, Leads, LeadsWithBreaks, showing, Seen, Agrees, WriteFault, world, Call, Refresh, UpdatePanels, Doupdate}
+use Rattle.std.specs.Prelude.{◌≡◌, ◌<◌, ◌∷◌, ◌++◌}
+use Rattle.desk.specs.Names.{ℕ, List, [], Option, Some, None, Appends, no_rendition, HasSize, shown_at, World, picture, topmost_cursor, Terminal, Leads, LeadsWithBreaks, showing, Seen, Agrees}
+use Rattle.desk.specs.Names.{WriteFault, world, Call, Refresh, UpdatePanels, Doupdate}
 use Rattle.desk.specs.States.{ScreenOver}
 
 -- the calls end in doupdate

@@ -1,7 +1,8 @@
 -- A screen between two calls.
 -- X/Open Curses Issue 7: doupdate shows the virtual screen.
-use Rattle.desk.specs.Names.{◌≡◌, ℕ, Bool, true, MatchOption, Some, ⊤, if◌then◌else◌, IsSound, World, affected_after, is_doupdate, world_after, Call}
-use Rattle.desk.specs.Names.{DifferOnly, PainterState, ShownPicture, wanted_of, DeskTable, is_damaged_line, world}
+use Rattle.std.specs.Prelude.{◌≡◌, if◌then◌else◌}
+use Rattle.desk.specs.Names.{ℕ, Bool, true, MatchOption, Some, ⊤, IsSound, World, affected_after, is_doupdate, world_after, Call, DifferOnly, PainterState, ShownPicture, wanted_of, DeskTable}
+use Rattle.desk.specs.Names.{is_damaged_line, world}
 
 -- its world, what its painter knows, and the lines of the screen that may be damaged: those that are to be composed
 pub record State : Type 0 where

@@ -1,6 +1,7 @@
 //! A list of calls that are all made, whatever becomes of the writes.
 
-ghost use Rattle.desk.specs.{◌≡◌, ◌+◌, ◌-◌, ◌<◌, ◌^◌, IsSound, is_doupdate, world, cut_of};
+ghost use Rattle.std.specs.Prelude.{◌≡◌, ◌+◌, ◌-◌, ◌<◌, ◌^◌};
+ghost use Rattle.desk.specs.{IsSound, is_doupdate, world, cut_of};
 
 use crate::screen::{Fault, Screen, cells_of};
 use calls::Calls;

@@ -2,8 +2,8 @@
 
 mod writer;
 
-ghost use Rattle.desk.specs.{◌≡◌, ◌∷◌, ℕ, [], IfOk, None, is_some, false, new_refusal, RefusedBy, IsSound, first_world, is_doupdate, count_after};
-ghost use Rattle.desk.specs.{first_painter, cells_of_reply, is_damaged_line, world};
+ghost use Rattle.std.specs.Prelude.{◌≡◌, ◌∷◌};
+ghost use Rattle.desk.specs.{ℕ, [], IfOk, None, is_some, false, new_refusal, RefusedBy, IsSound, first_world, is_doupdate, count_after, first_painter, cells_of_reply, is_damaged_line, world};
 ghost use Rattle.desk.specs.declared.screen.Fault.TheVariants.{Refused};
 
 use calls::Calls;

@@ -1,7 +1,7 @@
 -- What continues a control sequence, and what doesn't.
-use Rattle.ecma.specs.{◌≡◌, ℕ, ◌+◌, ◌<◌, ◌≤◌, List, [], ◌∷◌, ◌++◌, length, None, inl, inr, refl, ◌∙◌, subst, arith, append_assoc, ◌⊎◌, IsTrue, AllByRecursion}
-use Rattle.ecma.specs.{join_with_byte, append-nil, is_printable, Function, Item, Printable, Control, Unfinished, IsDigit, AreParameters, IsBeginning, IsItem}
-use Rattle.ecma.specs.{MayPrecede, EndsOrEscapes, bytes_of, final_byte, introducer, Terminal, print, effect}
+use Rattle.std.specs.Prelude.{◌≡◌, ◌+◌, ◌<◌, ◌≤◌, ◌∷◌, ◌++◌, ◌⊎◌}
+use Rattle.ecma.specs.{ℕ, List, [], length, None, inl, inr, refl, ◌∙◌, subst, arith, append_assoc, IsTrue, AllByRecursion, join_with_byte, append-nil, is_printable, Function, Item, Printable}
+use Rattle.ecma.specs.{Control, Unfinished, IsDigit, AreParameters, IsBeginning, IsItem, MayPrecede, EndsOrEscapes, bytes_of, final_byte, introducer, Terminal, print, effect}
 use Rattle.ecma.proofs.Each.{each-append, each-back, each-prefix}
 use Rattle.ecma.proofs.Printing.{from_space}
 use Rattle.ecma.proofs.Stopping.{NoEffect}

@@ -1,6 +1,6 @@
 -- Pictures that differ in no place are one.
-use Rattle.ecma.specs.{◌≡◌, ℕ, List, [], ◌∷◌, length, refl, sym, ◌∙◌, arith, ◌↔◌, AllByRecursion, cases_Bool, Shown, Picture, HasSize, line_difference}
-use Rattle.ecma.specs.{difference}
+use Rattle.std.specs.Prelude.{◌≡◌, ◌∷◌, ◌↔◌}
+use Rattle.ecma.specs.{ℕ, List, [], length, refl, sym, ◌∙◌, arith, AllByRecursion, cases_Bool, Shown, Picture, HasSize, line_difference, difference}
 pub use Rattle.cell.specs.EqualityLaws.{same_rendition-equal, same_shown-equal, same_shown-self}
 
 -- ---- lines

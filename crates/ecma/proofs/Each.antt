@@ -1,5 +1,6 @@
 -- A fact of each item of a list.
-use Rattle.ecma.specs.{List, [], ◌∷◌, ◌++◌, AllByRecursion}
+use Rattle.std.specs.Prelude.{◌∷◌, ◌++◌}
+use Rattle.ecma.specs.{List, [], AllByRecursion}
 
 pub each-append : {X : Type 0} (P : X → Type 0) (a b : List X) → AllByRecursion P a → AllByRecursion P b → AllByRecursion P (a ++ b)
 each-append P [] b h k = k

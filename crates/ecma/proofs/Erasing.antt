@@ -1,9 +1,8 @@
 -- Lines of a picture, erased.
-use Rattle.ecma.specs.{◌≡◌, ℕ, zero, suc, ◌+◌, ◌-◌, ◌<◌, ◌≤◌, Bool, List, [], ◌∷◌, ◌++◌, length, get_or, set, take, drop, map, inl, inr, refl, sym, ap, ◌∙◌}
-use Rattle.ecma.specs.{arith, append_assoc, length-append, ◌==◌, ◌&&◌, nat_le, nat_lt, if◌then◌else◌, cases_eq, eq-eqb, ne_eqb, le-leb, lt-leb, lt-ltb}
-use Rattle.ecma.specs.{le-ltb, drop_more, get_or_append_left, get_or-append_right, get_or-drop, get_or-set_other, get_or-set_same, get_or-take, get_or_at}
-use Rattle.ecma.specs.{length-drop, length-map, length-take, length-take-le, map_push, set_at, take_more, Shown, shown_blank, Picture, HasSize, cell_or}
-use Rattle.ecma.specs.{line_of, blank_line, erased_line, erased_at}
+use Rattle.std.specs.Prelude.{◌≡◌, ◌+◌, ◌-◌, ◌<◌, ◌≤◌, ◌∷◌, ◌++◌, ◌==◌, ◌&&◌, if◌then◌else◌}
+use Rattle.ecma.specs.{ℕ, zero, suc, Bool, List, [], length, get_or, set, take, drop, map, inl, inr, refl, sym, ap, ◌∙◌, arith, append_assoc, length-append, nat_le, nat_lt, cases_eq, eq-eqb, ne_eqb}
+use Rattle.ecma.specs.{le-leb, lt-leb, lt-ltb, le-ltb, drop_more, get_or_append_left, get_or-append_right, get_or-drop, get_or-set_other, get_or-set_same, get_or-take, get_or_at, length-drop}
+use Rattle.ecma.specs.{length-map, length-take, length-take-le, map_push, set_at, take_more, Shown, shown_blank, Picture, HasSize, cell_or, line_of, blank_line, erased_line, erased_at}
 use Rattle.cell.proofs.PictureLemmas.{length-line, same_pictures}
 use Rattle.ecma.specs.declared.token.Erase.{Erase}
 use Rattle.ecma.specs.declared.token.Erase.TheVariants.{ToEnd, FromStart, All}

@@ -1,7 +1,7 @@
 -- Worked streams on a terminal of 4 by 10, for a reader of the definitions.
-use Rattle.ecma.specs.{◌≡◌, ℕ, [], ◌∷◌, ◌++◌, replicate, Option, Some, None, refl, arith, codes, Rendition, shown_blank, shown_with, no_rendition, Place}
-use Rattle.ecma.specs.{blank_picture, origin, Printable, Control, Unfinished, CUP, ED, EL, SGR, AreParameters, IsBeginning, escape, Terminal, effect, effects}
-use Rattle.ecma.specs.{position, erasure, select_all, select, IsInProfile, difference}
+use Rattle.std.specs.Prelude.{◌≡◌, ◌∷◌, ◌++◌}
+use Rattle.ecma.specs.{ℕ, [], replicate, Option, Some, None, refl, arith, codes, Rendition, shown_blank, shown_with, no_rendition, Place, blank_picture, origin, Printable, Control, Unfinished, CUP}
+use Rattle.ecma.specs.{ED, EL, SGR, AreParameters, IsBeginning, escape, Terminal, effect, effects, position, erasure, select_all, select, IsInProfile, difference}
 use Rattle.ecma.specs.declared.token.Erase.TheVariants.{ToEnd}
 
 -- a blank picture with its cursor and rendition

@@ -1,5 +1,6 @@
 -- What a stream reaches, and where it fails.
-use Rattle.ecma.specs.{◌≡◌, ℕ, List, length, arith, subst, Terminal, FailsAt, IsInProfile, Reaches}
+use Rattle.std.specs.Prelude.{◌≡◌}
+use Rattle.ecma.specs.{ℕ, List, length, arith, subst, Terminal, FailsAt, IsInProfile, Reaches}
 use Rattle.ecma.proofs.Unique.{Splits-same}
 use Rattle.ecma.proofs.Joining.{Reaches-in_profile}
 

@@ -1,8 +1,8 @@
 -- Streams one after another, and what a stream that was cut off leads to.
-use Rattle.ecma.specs.{◌≡◌, ℕ, zero, suc, ◌+◌, ◌-◌, ◌<◌, List, [], ◌∷◌, ◌++◌, length, take, drop, Some, None, inl, inr, refl, sym, ap, ◌∙◌, subst, arith}
-use Rattle.ecma.specs.{append_assoc, append-nil, take-append-drop, take-append-le, length-append, length-take-le, length-drop, take_all, take-append-add}
-use Rattle.ecma.specs.{AllByRecursion, option_and_then, Item, Printable, Control, Unfinished, IsItem, IsFinished, bytes_of, MayPrecede, EndsOrEscapes, Splits}
-use Rattle.ecma.specs.{Terminal, effect, effects, Leads, LeadsWithBreaks, EndsFinished, IsInProfile, Reaches, cases_lt}
+use Rattle.std.specs.Prelude.{◌≡◌, ◌+◌, ◌-◌, ◌<◌, ◌∷◌, ◌++◌}
+use Rattle.ecma.specs.{ℕ, zero, suc, List, [], length, take, drop, Some, None, inl, inr, refl, sym, ap, ◌∙◌, subst, arith, append_assoc, append-nil, take-append-drop, take-append-le, length-append}
+use Rattle.ecma.specs.{length-take-le, length-drop, take_all, take-append-add, AllByRecursion, option_and_then, Item, Printable, Control, Unfinished, IsItem, IsFinished, bytes_of, MayPrecede}
+use Rattle.ecma.specs.{EndsOrEscapes, Splits, Terminal, effect, effects, Leads, LeadsWithBreaks, EndsFinished, IsInProfile, Reaches, cases_lt}
 use Rattle.ecma.proofs.Each.{each-append}
 
 -- ---- effects of items one after another

@@ -1,8 +1,8 @@
 -- How many bytes a token has.
-use Rattle.ecma.specs.{◌≡◌, ℕ, ◌+◌, ◌*◌, ◌/◌, ◌%◌, ◌<◌, ◌≤◌, true, List, [], ◌∷◌, ◌++◌, length, refl, ap, arith, length-append, ◌∙◌, sym, decimal, ◌==◌}
-use Rattle.ecma.specs.{if◌then◌else◌, Option, Some, None, count_ones, agree_below_at, eqb-true, AllByRecursion, flat_map-append, decimal_digit, decimal_step}
-use Rattle.ecma.specs.{length-decimal-le, Rendition, IsColour, IsRendition, has_colour, LARGEST_SCREEN, LAST_COLOUR, first_foreground, first_background}
-use Rattle.ecma.specs.{spelling, selection, codes_of, codes_of_attributes, code_of_colour, longest, IsToken}
+use Rattle.std.specs.Prelude.{◌≡◌, ◌+◌, ◌*◌, ◌/◌, ◌%◌, ◌<◌, ◌≤◌, ◌∷◌, ◌++◌, ◌==◌, if◌then◌else◌}
+use Rattle.ecma.specs.{ℕ, true, List, [], length, refl, ap, arith, length-append, ◌∙◌, sym, decimal, Option, Some, None, count_ones, agree_below_at, eqb-true, AllByRecursion, flat_map-append}
+use Rattle.ecma.specs.{decimal_digit, decimal_step, length-decimal-le, Rendition, IsColour, IsRendition, has_colour, LARGEST_SCREEN, LAST_COLOUR, first_foreground, first_background, spelling}
+use Rattle.ecma.specs.{selection, codes_of, codes_of_attributes, code_of_colour, longest, IsToken}
 use Rattle.ecma.specs.declared.token.Token.{Token}
 use Rattle.ecma.specs.declared.token.Token.TheVariants.{Cup, Sgr}
 use Rattle.ecma.proofs.ParameterNumbers.{one_digit, few_attributes}

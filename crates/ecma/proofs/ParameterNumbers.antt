@@ -1,9 +1,8 @@
 -- Numbers in parameters, and the codes of a set of attributes.
-use Rattle.ecma.specs.{◌≡◌, ℕ, ◌+◌, ◌^◌, ◌<◌, ◌≤◌, Bool, true, List, [], ◌∷◌, ◌++◌, length, length-append, Option, Some, None, refl, arith, rules, unwrap_or}
-use Rattle.ecma.specs.{is_none, ◌&&◌, ◌==◌, nat_lt, decimal, list_all, AllByRecursion, digits_value, IsNumeralModel, numerals_by_value, decimal_nonempty}
-use Rattle.ecma.specs.{digits_decimal, digits_value-decimal, and_parts, ltb-true, eqb-true, agree_below_at, option_and_then, nat_tests, Rendition}
-use Rattle.ecma.specs.{IsRendition, no_rendition, LAST_COLOUR, IsDigit, first_foreground, first_background, number_or, select, select_all}
-use Rattle.ecma.specs.{codes_of_attributes, code_of_colour, codes_of}
+use Rattle.std.specs.Prelude.{◌≡◌, ◌+◌, ◌^◌, ◌<◌, ◌≤◌, ◌∷◌, ◌++◌, ◌&&◌, ◌==◌}
+use Rattle.ecma.specs.{ℕ, Bool, true, List, [], length, length-append, Option, Some, None, refl, arith, rules, unwrap_or, is_none, nat_lt, decimal, list_all, AllByRecursion, digits_value}
+use Rattle.ecma.specs.{IsNumeralModel, numerals_by_value, decimal_nonempty, digits_decimal, digits_value-decimal, and_parts, ltb-true, eqb-true, agree_below_at, option_and_then, nat_tests}
+use Rattle.ecma.specs.{Rendition, IsRendition, no_rendition, LAST_COLOUR, IsDigit, first_foreground, first_background, number_or, select, select_all, codes_of_attributes, code_of_colour, codes_of}
 use Rattle.ecma.proofs.Each.{each-append, each-weaker}
 
 numerals : IsNumeralModel (AllByRecursion IsDigit) (digits_value 10)

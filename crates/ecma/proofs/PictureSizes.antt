@@ -1,8 +1,8 @@
 -- No effect changes the size of the picture.
-use Rattle.ecma.specs.{◌≡◌, ℕ, zero, suc, ◌+◌, ◌<◌, Bool, true, false, cond, List, [], ◌∷◌, length, set, take, drop, map, Option, Some, None, ◌∙◌, arith}
-use Rattle.ecma.specs.{length-append, length-take, length-drop, option_map, option_and_then, AllByRecursion, length-set, length-map, Shown, shown_blank}
-use Rattle.ecma.specs.{shown_with, is_empty, Picture, Place, line_of, HasSize, Item, Printable, Control, Unfinished, CUP, ED, EL, SGR, Terminal, blank_line}
-use Rattle.ecma.specs.{erased_line, erased_at, erased_page, erase_line, erase_page, print_at, effect, effects, erasure}
+use Rattle.std.specs.Prelude.{◌≡◌, ◌+◌, ◌<◌, ◌∷◌}
+use Rattle.ecma.specs.{ℕ, zero, suc, Bool, true, false, cond, List, [], length, set, take, drop, map, Option, Some, None, ◌∙◌, arith, length-append, length-take, length-drop, option_map}
+use Rattle.ecma.specs.{option_and_then, AllByRecursion, length-set, length-map, Shown, shown_blank, shown_with, is_empty, Picture, Place, line_of, HasSize, Item, Printable, Control, Unfinished, CUP}
+use Rattle.ecma.specs.{ED, EL, SGR, Terminal, blank_line, erased_line, erased_at, erased_page, erase_line, erase_page, print_at, effect, effects, erasure}
 use Rattle.ecma.specs.declared.token.Erase.{Erase}
 use Rattle.ecma.specs.declared.token.Erase.TheVariants.{ToEnd, FromStart, All}
 use Rattle.ecma.proofs.Each.{each-append}

@@ -1,10 +1,9 @@
 -- What a reader has after one more byte.
-use Rattle.ecma.specs.{rules, ◌≡◌, ℕ, ◌+◌, ◌<◌, ◌≤◌, Bool, true, false, List, [], ◌∷◌, ◌++◌, length, map, Option, Some, None, inl, inr, refl, sym, ap, ◌∙◌}
-use Rattle.ecma.specs.{subst, arith, append_assoc, length-append, ◌⊎◌, if◌then◌else◌, IsTrue, codes, join_with_byte, option_and_then, cases_eq, cases_lt}
-use Rattle.ecma.specs.{ne_eqb, append-nil, length-map, map_push, digits_value_push, digit_value_digit, is_printable, Function, SGR, Printable, Control}
-use Rattle.ecma.specs.{Unfinished, IsDigit, AreParameters, IsBeginning, EndsOrEscapes, final_byte, control_sequence, escape, introducer, separator, Terminal}
-use Rattle.ecma.specs.{print, effect, FailsAt, IsInProfile, Leads, Parameter, parameter_of, no_digits, longer, function_of, Reader, saturating_u64, InText}
-use Rattle.ecma.specs.{InItem, InParameters, HasFailed, HasReadIn, Follows}
+use Rattle.std.specs.Prelude.{◌≡◌, ◌+◌, ◌<◌, ◌≤◌, ◌∷◌, ◌++◌, ◌⊎◌, if◌then◌else◌}
+use Rattle.ecma.specs.{rules, ℕ, Bool, true, false, List, [], length, map, Option, Some, None, inl, inr, refl, sym, ap, ◌∙◌, subst, arith, append_assoc, length-append, IsTrue, codes, join_with_byte}
+use Rattle.ecma.specs.{option_and_then, cases_eq, cases_lt, ne_eqb, append-nil, length-map, map_push, digits_value_push, digit_value_digit, is_printable, Function, SGR, Printable, Control}
+use Rattle.ecma.specs.{Unfinished, IsDigit, AreParameters, IsBeginning, EndsOrEscapes, final_byte, control_sequence, escape, introducer, separator, Terminal, print, effect, FailsAt, IsInProfile}
+use Rattle.ecma.specs.{Leads, Parameter, parameter_of, no_digits, longer, function_of, Reader, saturating_u64, InText, InItem, InParameters, HasFailed, HasReadIn, Follows}
 use Rattle.ecma.specs.declared.reader.State.{State}
 use Rattle.ecma.specs.declared.reader.State.TheVariants.{Text, Escape, Parameters, Failed}
 use Rattle.ecma.proofs.Each.{each-append, each-back, each-prefix}

@@ -1,7 +1,8 @@
 -- Renditions selected by the parameters of a control sequence.
-use Rattle.ecma.specs.{◌≡◌, ℕ, ◌+◌, ◌-◌, ◌<◌, List, [], ◌∷◌, ◌++◌, length, map, take, get_or, Option, Some, None, refl, ap, ◌∙◌, arith, bit_or, ne_eqb}
-use Rattle.ecma.specs.{and_mask, or_lt, and_le_l, append_assoc, map-append, map_push, take-append-drop, take_more, valid_attributes, without, Rendition}
-use Rattle.ecma.specs.{rendition_with, ColourPair, Parameter, parameter_of, number_of, number_or, select, select_all, with_on, with_off}
+use Rattle.std.specs.Prelude.{◌≡◌, ◌+◌, ◌-◌, ◌<◌, ◌∷◌, ◌++◌}
+use Rattle.ecma.specs.{ℕ, List, [], length, map, take, get_or, Option, Some, None, refl, ap, ◌∙◌, arith, bit_or, ne_eqb, and_mask, or_lt, and_le_l, append_assoc, map-append, map_push}
+use Rattle.ecma.specs.{take-append-drop, take_more, valid_attributes, without, Rendition, rendition_with, ColourPair, Parameter, parameter_of, number_of, number_or, select, select_all, with_on}
+use Rattle.ecma.specs.{with_off}
 use Rattle.ecma.proofs.ParameterNumbers.{select_all-append}
 
 -- ---- attributes

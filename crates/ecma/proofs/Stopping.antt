@@ -1,7 +1,7 @@
 -- Where no item with an effect begins, the stream fails, whatever follows.
-use Rattle.ecma.specs.{◌≡◌, ℕ, ◌+◌, ◌-◌, ◌<◌, ◌≤◌, List, [], ◌∷◌, ◌++◌, length, Option, Some, None, inl, inr, refl, sym, ap, ◌∙◌, subst, arith, append_assoc}
-use Rattle.ecma.specs.{length-append, rules, cases_lt, append-nil, Item, Printable, Control, Unfinished, IsItem, IsBeginning, bytes_of, MayPrecede}
-use Rattle.ecma.specs.{EndsOrEscapes, Splits, Terminal, effect, effects, FailsAt, IsInProfile, LeadsWithBreaks}
+use Rattle.std.specs.Prelude.{◌≡◌, ◌+◌, ◌-◌, ◌<◌, ◌≤◌, ◌∷◌, ◌++◌}
+use Rattle.ecma.specs.{ℕ, List, [], length, Option, Some, None, inl, inr, refl, sym, ap, ◌∙◌, subst, arith, append_assoc, length-append, rules, cases_lt, append-nil, Item, Printable, Control}
+use Rattle.ecma.specs.{Unfinished, IsItem, IsBeginning, bytes_of, MayPrecede, EndsOrEscapes, Splits, Terminal, effect, effects, FailsAt, IsInProfile, LeadsWithBreaks}
 use Rattle.ecma.proofs.Joining.{bytes_of_some, effects_first, effects-then, effects-append, Splits-append, Splits-then_escape, Splits-ends_then}
 use Rattle.ecma.proofs.Unique.{Splits-prefix}
 

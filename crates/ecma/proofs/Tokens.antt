@@ -1,7 +1,8 @@
 -- The spelling of a token is one item, with the token's effect.
-use Rattle.ecma.specs.{◌≡◌, ℕ, ◌+◌, ◌<◌, ◌≤◌, List, [], ◌∷◌, ◌++◌, length, map, Some, refl, sym, ap, arith, length-map, append-nil, decimal, AllByRecursion}
-use Rattle.ecma.specs.{join_with_byte, flat_map, length-decimal-le, lt-ltb, Rendition, IsRendition, no_rendition, Printable, Control, CUP, ED, EL, SGR}
-use Rattle.ecma.specs.{IsDigit, AreParameters, number_or, select, erasure_of, place_from_one, codes_of, spelling, erasure_spelling, IsToken, IsItemOf}
+use Rattle.std.specs.Prelude.{◌≡◌, ◌+◌, ◌<◌, ◌≤◌, ◌∷◌, ◌++◌}
+use Rattle.ecma.specs.{ℕ, List, [], length, map, Some, refl, sym, ap, arith, length-map, append-nil, decimal, AllByRecursion, join_with_byte, flat_map, length-decimal-le, lt-ltb, Rendition}
+use Rattle.ecma.specs.{IsRendition, no_rendition, Printable, Control, CUP, ED, EL, SGR, IsDigit, AreParameters, number_or, select, erasure_of, place_from_one, codes_of, spelling, erasure_spelling}
+use Rattle.ecma.specs.{IsToken, IsItemOf}
 use Rattle.ecma.specs.declared.token.Erase.{Erase}
 use Rattle.ecma.specs.declared.token.Token.{Token}
 use Rattle.ecma.specs.declared.token.Token.TheVariants.{Print, Cup, Sgr, El, Ed}

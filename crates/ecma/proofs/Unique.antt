@@ -1,7 +1,7 @@
 -- A stream is one sequence of items at most, and so is each prefix of it.
-use Rattle.ecma.specs.{◌≡◌, ℕ, ◌<◌, ◌≤◌, List, [], ◌∷◌, ◌++◌, length, refl, ap, arith, append_assoc, length-append, inl, inr, ◌⊎◌, ⊤, append-nil}
-use Rattle.ecma.specs.{AllByRecursion, join_with_byte, Function, Item, Control, Unfinished, IsDigit, AreParameters, IsBeginning, IsItem, MayPrecede}
-use Rattle.ecma.specs.{EndsOrEscapes, Splits, final_byte, bytes_of}
+use Rattle.std.specs.Prelude.{◌≡◌, ◌<◌, ◌≤◌, ◌∷◌, ◌++◌, ◌⊎◌}
+use Rattle.ecma.specs.{ℕ, List, [], length, refl, ap, arith, append_assoc, length-append, inl, inr, ⊤, append-nil, AllByRecursion, join_with_byte, Function, Item, Control, Unfinished, IsDigit}
+use Rattle.ecma.specs.{AreParameters, IsBeginning, IsItem, MayPrecede, EndsOrEscapes, Splits, final_byte, bytes_of}
 use Rattle.ecma.proofs.Each.{each-append, each-weaker}
 use Rattle.ecma.proofs.Joining.{bytes_of_some}
 use Rattle.ecma.proofs.Printing.{from_space}

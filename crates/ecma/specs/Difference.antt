@@ -1,5 +1,6 @@
 -- In how many places two pictures of one size differ where the new one has a colour, a measure of our own.
-use Rattle.ecma.specs.Names.{ℕ, ◌+◌, if◌then◌else◌, [], ◌∷◌, List, same_shown, Shown, has_colour, Picture}
+use Rattle.std.specs.Prelude.{◌+◌, if◌then◌else◌, ◌∷◌}
+use Rattle.ecma.specs.Names.{ℕ, [], List, same_shown, Shown, has_colour, Picture}
 
 -- in how many columns two lines differ where the new one has a colour
 abbrev pub line_colour_difference : List Shown → List Shown → ℕ

@@ -4,7 +4,8 @@
 -- The profile leaves out every other control function, the 8-bit form of CSI, intermediate bytes, private parameters
 -- (which begin with 03/12 to 03/15), the colon within a parameter, characters beyond 07/14, more than 16 parameters,
 -- and those of more than 3 digits.
-use Rattle.ecma.specs.Names.{◌≡◌, ℕ, ◌<◌, ◌≤◌, List, [], ◌∷◌, ◌++◌, length, codes, IsTrue, ⊤, join_with_byte, AllByRecursion, is_printable}
+use Rattle.std.specs.Prelude.{◌≡◌, ◌<◌, ◌≤◌, ◌∷◌, ◌++◌}
+use Rattle.ecma.specs.Names.{ℕ, List, [], length, codes, IsTrue, ⊤, join_with_byte, AllByRecursion, is_printable}
 
 -- the control functions of the profile
 pub data Function : Type 0 where

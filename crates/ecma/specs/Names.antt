@@ -8,20 +8,17 @@ pub use Rattle.cell.specs.ShownCells.{IsColour, IsRendition, Rendition, Shown, h
 pub use Rattle.cell.specs.declared.attr.Attr.{Attr}
 pub use Rattle.cell.specs.declared.colour.ColourPair.{ColourPair}
 pub use Rattle.cell.specs.declared.limits.TheConstants.{FIRST_CHARACTER, LARGEST_SCREEN, LAST_CHARACTER, LAST_COLOUR}
-pub use Rattle.std.proofs.Common.{All, Bool, IfErr, IfNone, IfOk, IfSome, IsErrOf, IsTrue, List, MatchOption, None, Option, Some, [], ap, append_assoc, arith}
-pub use Rattle.std.proofs.Common.{codes, cond, decimal, drop, false, find, get_or, if◌then◌else◌, inl, inr, is_none, length, length-append, length-drop}
-pub use Rattle.std.proofs.Common.{length-take, map, min, nat_le, nat_lt, refl, replicate, rules, set, slice_index, subst, suc, sym, take, true, unwrap_or}
-pub use Rattle.std.proofs.Common.{zero, ℕ, ◌%◌, ◌&&◌, ◌*◌, ◌++◌, ◌+◌, ◌-◌, ◌/◌, ◌<◌, ◌==◌, ◌^◌, ◌||◌, ◌↔◌, ◌∙◌, ◌∷◌, ◌≡◌, ◌≤◌, ◌⊎◌}
+pub use Rattle.std.proofs.Common.{All, Bool, IfErr, IfNone, IfOk, IfSome, IsErrOf, IsTrue, List, MatchOption, None, Option, Some, [], ap, append_assoc, arith, codes, cond, decimal, drop, false}
+pub use Rattle.std.proofs.Common.{find, get_or, inl, inr, is_none, length, length-append, length-drop, length-take, map, min, nat_le, nat_lt, refl, replicate, rules, set, slice_index, subst, suc}
+pub use Rattle.std.proofs.Common.{sym, take, true, unwrap_or, zero, ℕ, ◌∙◌}
 pub use Rattle.std.proofs.Math.Seq.{take-append-add, take-length}
-pub use Rattle.std.proofs.lemmas.Bool.{agree_below_at, and_parts, cases_Bool, cases_eq, cases_lt, eq-eqb, eqb-true, le-leb, le-ltb, leb-true, lt-leb, lt-ltb}
-pub use Rattle.std.proofs.lemmas.Bool.{ltb-false, ltb-true, ne_eqb}
+pub use Rattle.std.proofs.lemmas.Bool.{agree_below_at, and_parts, cases_Bool, cases_eq, cases_lt, eq-eqb, eqb-true, le-leb, le-ltb, leb-true, lt-leb, lt-ltb, ltb-false, ltb-true, ne_eqb}
 pub use Rattle.std.proofs.lemmas.Bool.Decides.{nat_tests}
 pub use Rattle.std.proofs.lemmas.Fmt.{decimal_digit, decimal_nonempty, decimal_step, digits_decimal, digits_value-decimal, length-decimal-le}
 pub use Rattle.std.proofs.lemmas.Grind.{common_steps}
 pub use Rattle.std.proofs.lemmas.Int.Digits.{digits_value_push}
-pub use Rattle.std.proofs.lemmas.List.{append-nil, drop_more, get_or-append_right, get_or-drop, get_or-set_other, get_or-set_same, get_or-take}
-pub use Rattle.std.proofs.lemmas.List.{get_or_append_left, get_or_at, get_or_read, length-map, length-set, length-take-le, map-append, map_push, set_at}
-pub use Rattle.std.proofs.lemmas.List.{take-append-drop, take-append-le, take-take, take_all, take_more, take_more_set}
+pub use Rattle.std.proofs.lemmas.List.{append-nil, drop_more, get_or-append_right, get_or-drop, get_or-set_other, get_or-set_same, get_or-take, get_or_append_left, get_or_at, get_or_read}
+pub use Rattle.std.proofs.lemmas.List.{length-map, length-set, length-take-le, map-append, map_push, set_at, take-append-drop, take-append-le, take-take, take_all, take_more, take_more_set}
 pub use Rattle.std.proofs.lemmas.List.Concat.{flat_map-append}
 pub use Rattle.std.proofs.lemmas.Nat.{and_le_l, and_mask, or_lt}
 pub use Rattle.std.proofs.lemmas.Slice.{take-put_mid}

@@ -1,6 +1,6 @@
 -- What is always true of a terminal of some size, and what is known of its lines.
-use Rattle.ecma.specs.Names.{◌≡◌, ◌≤◌, ◌<◌, ℕ, List, length, slice_index, Option, MatchOption, ⊤, Picture, Place, HasSize, shown_at, shown_blank}
-use Rattle.ecma.specs.Names.{LARGEST_SCREEN}
+use Rattle.std.specs.Prelude.{◌≡◌, ◌≤◌, ◌<◌}
+use Rattle.ecma.specs.Names.{ℕ, List, length, slice_index, Option, MatchOption, ⊤, Picture, Place, HasSize, shown_at, shown_blank, LARGEST_SCREEN}
 
 -- The picture has that size, from one column to the largest screen, and the cursor is a place of it, if it is known.
 pub record IsOnPage (lines columns : ℕ) (picture : Picture) (cursor : Option Place) : Type 0 where

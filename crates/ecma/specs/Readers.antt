@@ -1,5 +1,6 @@
 -- What a reader keeps after a stream of bytes, however that was cut.
-use Rattle.ecma.specs.Names.{◌≡◌, ℕ, ◌-◌, ◌^◌, min, List, [], ◌∷◌, ◌++◌, length, map, join_with_byte, blank_picture, origin}
+use Rattle.std.specs.Prelude.{◌≡◌, ◌-◌, ◌^◌, ◌∷◌, ◌++◌}
+use Rattle.ecma.specs.Names.{ℕ, min, List, [], length, map, join_with_byte, blank_picture, origin}
 use Rattle.ecma.specs.Items.{AreParameters, escape, introducer, separator}
 use Rattle.ecma.specs.Parameters.{Parameter, parameter_of}
 use Rattle.ecma.specs.Terminals.{Terminal}

@@ -1,7 +1,7 @@
 -- The one spelling of each token, and what a token does to a terminal.
 -- ECMA-48, 5th edition: 5.4, 8.3.21 CUP, 8.3.39 ED, 8.3.41 EL, 8.3.117 SGR.
-use Rattle.ecma.specs.Names.{◌≡◌, ◌==◌, ℕ, ◌+◌, ◌*◌, ◌<◌, List, [], ◌∷◌, ◌++◌, if◌then◌else◌, decimal, Option, Some, IsTrue, ⊤, option_map_or, flat_map}
-use Rattle.ecma.specs.Names.{bit_and, is_printable, Rendition, IsRendition, LARGEST_SCREEN}
+use Rattle.std.specs.Prelude.{◌≡◌, ◌==◌, ◌+◌, ◌*◌, ◌<◌, ◌∷◌, ◌++◌, if◌then◌else◌}
+use Rattle.ecma.specs.Names.{ℕ, List, [], decimal, Option, Some, IsTrue, ⊤, option_map_or, flat_map, bit_and, is_printable, Rendition, IsRendition, LARGEST_SCREEN}
 use Rattle.ecma.specs.Items.{CUP, ED, EL, SGR, separator, control_sequence, Item, IsItem, IsFinished, bytes_of}
 use Rattle.ecma.specs.Terminals.{Terminal, first_foreground, first_background, print, move_to, erase_line, erase_page, effect}
 use Rattle.ecma.specs.declared.token.Erase.{Erase}

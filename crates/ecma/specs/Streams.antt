@@ -1,6 +1,7 @@
 -- What a stream does to a terminal, and whether it is in the profile.
 -- ECMA-48, 5th edition: 5.4 for its items, and 8.3.21 CUP, 8.3.39 ED, 8.3.41 EL, 8.3.117 SGR for their effects.
-use Rattle.ecma.specs.Names.{◌≡◌, ℕ, ◌+◌, ◌<◌, ◌≤◌, List, [], ◌∷◌, length, Some, ⊤, AllByRecursion, no_rendition, Picture, Place}
+use Rattle.std.specs.Prelude.{◌≡◌, ◌+◌, ◌<◌, ◌≤◌, ◌∷◌}
+use Rattle.ecma.specs.Names.{ℕ, List, [], length, Some, ⊤, AllByRecursion, no_rendition, Picture, Place}
 use Rattle.ecma.specs.Items.{Item, Splits, IsFinished}
 use Rattle.ecma.specs.Terminals.{Terminal, effects}
 

@@ -3,9 +3,9 @@
 -- profile: that leaves out wrapping and scrolling (what is printed after the last column), the parameter 0 of CUP,
 -- places off the screen, erasing while an attribute or a colour is on, and every SGR code but those of the six
 -- attributes and of the eight colours.
-use Rattle.ecma.specs.Names.{◌==◌, ◌&&◌, nat_lt, nat_le, Bool, if◌then◌else◌, ℕ, ◌+◌, ◌-◌, List, [], ◌∷◌, ◌++◌, length, map, take, drop, Option, Some, None}
-use Rattle.ecma.specs.Names.{option_map, option_and_then, slice_set, bit_or, digits_value, without, Shown, shown_blank, shown_with, Rendition, no_rendition}
-use Rattle.ecma.specs.Names.{is_empty, Picture, Place, line_of, is_place, with_shown, LAST_COLOUR}
+use Rattle.std.specs.Prelude.{◌==◌, ◌&&◌, if◌then◌else◌, ◌+◌, ◌-◌, ◌∷◌, ◌++◌}
+use Rattle.ecma.specs.Names.{nat_lt, nat_le, Bool, ℕ, List, [], length, map, take, drop, Option, Some, None, option_map, option_and_then, slice_set, bit_or, digits_value, without, Shown}
+use Rattle.ecma.specs.Names.{shown_blank, shown_with, Rendition, no_rendition, is_empty, Picture, Place, line_of, is_place, with_shown, LAST_COLOUR}
 use Rattle.ecma.specs.declared.token.Erase.{Erase}
 use Rattle.ecma.specs.declared.token.Erase.TheVariants.{ToEnd, FromStart, All}
 use Rattle.ecma.specs.Items.{CUP, ED, EL, SGR, Item, Printable, Control, Unfinished}

@@ -1,7 +1,7 @@
 //! The cells of a page, and from which column on each line is known to be blank.
 
-ghost use Rattle.ecma.specs.{◌≡◌, ◌≤◌, ◌<◌, ◌==◌, ◌&&◌, ℕ, nat_le, nat_lt, if◌then◌else◌, length, IfOk, HasSize, blank_picture, line_of, shown_at};
-ghost use Rattle.ecma.specs.{with_shown, shown_blank, LARGEST_SCREEN};
+ghost use Rattle.std.specs.Prelude.{◌≡◌, ◌≤◌, ◌<◌, ◌==◌, ◌&&◌, if◌then◌else◌};
+ghost use Rattle.ecma.specs.{ℕ, nat_le, nat_lt, length, IfOk, HasSize, blank_picture, line_of, shown_at, with_shown, shown_blank, LARGEST_SCREEN};
 
 use cell::{Grid, LARGEST_SCREEN, Shown};
 use std::alloc::{AllocError, Global};

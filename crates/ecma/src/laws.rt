@@ -1,7 +1,8 @@
 //! What holds of streams and terminals by definition. Each function does nothing, and its contract is the law.
 
-ghost use Rattle.ecma.specs.{◌≡◌, ◌↔◌, ℕ, ◌<◌, ◌≤◌, List, [], ◌++◌, length, take, HasSize, Picture, difference, EndsOrEscapes, Item, Splits, Reader, HasRead};
-ghost use Rattle.ecma.specs.{Terminal, spelling, IsToken, IsItemOf, FailsAt, Leads, LeadsWithBreaks, IsInProfile, Reaches};
+ghost use Rattle.std.specs.Prelude.{◌≡◌, ◌↔◌, ◌<◌, ◌≤◌, ◌++◌};
+ghost use Rattle.ecma.specs.{ℕ, List, [], length, take, HasSize, Picture, difference, EndsOrEscapes, Item, Splits, Reader, HasRead, Terminal, spelling, IsToken, IsItemOf, FailsAt, Leads};
+ghost use Rattle.ecma.specs.{LeadsWithBreaks, IsInProfile, Reaches};
 ghost use Rattle.ecma.specs.declared.token.Token.{Token};
 
 /// A stream is one sequence of items at most. Of two sequences of items at its start, the one that leaves no more bytes

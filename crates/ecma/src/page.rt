@@ -1,8 +1,8 @@
 //! What a terminal shows, and what characters and control functions do to it.
 
-ghost use Rattle.ecma.specs.{◌≡◌, ◌≤◌, ◌<◌, ℕ, All, false, if◌then◌else◌, IfOk, List, ◌∷◌, [], ◌++◌, ◌-◌, length, map, take, drop, option_and_then};
-ghost use Rattle.ecma.specs.{is_printable, HasSize, is_place, line_of, shown_at, is_empty, LARGEST_SCREEN, Control, SGR, parameter_of, function_of};
-ghost use Rattle.ecma.specs.{blank_terminal, blank_line, effect, erase_line, erase_page, erased_at, move_to, print};
+ghost use Rattle.std.specs.Prelude.{◌≡◌, ◌≤◌, ◌<◌, if◌then◌else◌, ◌∷◌, ◌++◌, ◌-◌};
+ghost use Rattle.ecma.specs.{ℕ, All, false, IfOk, List, [], length, map, take, drop, option_and_then, is_printable, HasSize, is_place, line_of, shown_at, is_empty, LARGEST_SCREEN, Control, SGR};
+ghost use Rattle.ecma.specs.{parameter_of, function_of, blank_terminal, blank_line, effect, erase_line, erase_page, erased_at, move_to, print};
 
 use crate::cells::Cells;
 use crate::parameter::{Parameter, erasure, position};

@@ -1,7 +1,7 @@
 //! The parameters of control sequences.
 
-ghost use Rattle.ecma.specs.{◌≡◌, nat_lt, if◌then◌else◌, ℕ, List, ◌∷◌, [], ◌++◌, map, IsDigit, most_digits, parameter_of, longer, number_of, erasure};
-ghost use Rattle.ecma.specs.{position};
+ghost use Rattle.std.specs.Prelude.{◌≡◌, if◌then◌else◌, ◌∷◌, ◌++◌};
+ghost use Rattle.ecma.specs.{nat_lt, ℕ, List, [], map, IsDigit, most_digits, parameter_of, longer, number_of, erasure, position};
 
 use crate::token::Erase;
 use std::marker::Model;

@@ -1,6 +1,7 @@
 //! Positions of a screen, whose numbers are spelled once.
 
-ghost use Rattle.ecma.specs.{◌≡◌, ◌+◌, ◌<◌, ◌≤◌, ◌++◌, IfOk, decimal, length, take, LARGEST_SCREEN, spelling, IsNumber};
+ghost use Rattle.std.specs.Prelude.{◌≡◌, ◌+◌, ◌<◌, ◌≤◌, ◌++◌};
+ghost use Rattle.ecma.specs.{IfOk, decimal, length, take, LARGEST_SCREEN, spelling, IsNumber};
 
 use crate::spelling::{INTRODUCER, LONGEST_SPELLING, append, digits};
 use crate::token::Token;

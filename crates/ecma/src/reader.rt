@@ -1,7 +1,7 @@
 //! What is kept of a stream that is read byte by byte.
 
-ghost use Rattle.ecma.specs.{◌≡◌, ◌+◌, ◌≤◌, ℕ, IfNone, IfOk, IfSome, List, [], ◌∷◌, LARGEST_SCREEN, IsDigit, separator, HasRead, Follows, HasFailed};
-ghost use Rattle.ecma.specs.{blank_terminal, saturating_u64, IsInProfile};
+ghost use Rattle.std.specs.Prelude.{◌≡◌, ◌+◌, ◌≤◌, ◌∷◌};
+ghost use Rattle.ecma.specs.{ℕ, IfNone, IfOk, IfSome, List, [], LARGEST_SCREEN, IsDigit, separator, HasRead, Follows, HasFailed, blank_terminal, saturating_u64, IsInProfile};
 ghost use Rattle.ecma.specs.Terminals;
 
 use crate::page::Page;

@@ -1,6 +1,7 @@
 //! Selecting graphic renditions.
 
-ghost use Rattle.ecma.specs.{◌≡◌, ◌<◌, ℕ, List, ◌∷◌, [], ◌++◌, map, bits_of, parameter_of, number_or, select, select_all, with_off, with_on};
+ghost use Rattle.std.specs.Prelude.{◌≡◌, ◌<◌, ◌∷◌, ◌++◌};
+ghost use Rattle.ecma.specs.{ℕ, List, [], map, bits_of, parameter_of, number_or, select, select_all, with_off, with_on};
 
 use crate::parameter::Parameter;
 use bitflags::Flags;

@@ -1,7 +1,8 @@
 //! The spelling of tokens.
 
-ghost use Rattle.ecma.specs.{◌≡◌, ◌+◌, ◌*◌, ◌%◌, ◌<◌, ◌≤◌, [], ◌∷◌, ◌++◌, decimal, length, take, bits_of, IsRendition, LARGEST_SCREEN, introducer, spelling};
-ghost use Rattle.ecma.specs.{selection, codes_of_attributes, code_of_colour, erasure_spelling, longest, IsToken, IsItemOf};
+ghost use Rattle.std.specs.Prelude.{◌≡◌, ◌+◌, ◌*◌, ◌%◌, ◌<◌, ◌≤◌, ◌∷◌, ◌++◌};
+ghost use Rattle.ecma.specs.{[], decimal, length, take, bits_of, IsRendition, LARGEST_SCREEN, introducer, spelling, selection, codes_of_attributes, code_of_colour, erasure_spelling, longest};
+ghost use Rattle.ecma.specs.{IsToken, IsItemOf};
 
 use crate::token::{Erase, Token};
 use bitflags::Flags;

@@ -1,7 +1,8 @@
 //! A terminal: it reads a stream of bytes in pieces, and shows what the stream says.
 
-ghost use Rattle.ecma.specs.{◌≡◌, ◌↔◌, ◌⊎◌, ◌||◌, ◌<◌, ◌≤◌, ℕ, All, IfOk, IfErr, IfNone, IfSome, IsErrOf, IsTrue, List, [], length, Some, if◌then◌else◌};
-ghost use Rattle.ecma.specs.{is_no_size, is_place, line_of, shown_at, HasRead, HasReadSome, Follows, HasFailed, blank_terminal, IsInProfile};
+ghost use Rattle.std.specs.Prelude.{◌≡◌, ◌↔◌, ◌⊎◌, ◌||◌, ◌<◌, ◌≤◌, if◌then◌else◌};
+ghost use Rattle.ecma.specs.{ℕ, All, IfOk, IfErr, IfNone, IfSome, IsErrOf, IsTrue, List, [], length, Some, is_no_size, is_place, line_of, shown_at, HasRead, HasReadSome, Follows, HasFailed};
+ghost use Rattle.ecma.specs.{blank_terminal, IsInProfile};
 ghost use Rattle.ecma.specs.Terminals;
 
 use crate::reader::{NotInProfile, Reader};

@@ -1,7 +1,7 @@
 -- From parent to parent: which windows are the ancestors of one, and where it begins in each.
-use Rattle.grids.specs.{◌≡◌, ℕ, zero, suc, ◌+◌, ◌≤◌, false, ◌==◌, ◌||◌, Some, None, IsSome, IsSomeAnd, [], ◌∷◌, arith, option_map, Glyph, Backing, own_grid}
-use Rattle.grids.specs.{part_of, GridPlace, HasPlace, Window, WindowMap, Windows, ancestors, ancestors_within, derives, own, own_within, AreSoundWindows}
-use Rattle.grids.specs.{IsSoundWindow, in_parent, part_in_parent}
+use Rattle.std.specs.Prelude.{◌≡◌, ◌+◌, ◌≤◌, ◌==◌, ◌||◌, ◌∷◌}
+use Rattle.grids.specs.{ℕ, zero, suc, false, Some, None, IsSome, IsSomeAnd, [], arith, option_map, Glyph, Backing, own_grid, part_of, GridPlace, HasPlace, Window, WindowMap, Windows, ancestors}
+use Rattle.grids.specs.{ancestors_within, derives, own, own_within, AreSoundWindows, IsSoundWindow, in_parent, part_in_parent}
 use Rattle.grids.specs.declared.slot.Part.{Part}
 use Rattle.grids.specs.declared.place.Place.{Place}
 use Rattle.grids.proofs.Chain.{from_parent, no_parent, some_and, some_of}

@@ -1,8 +1,8 @@
 -- The chain of parents: it ends, and it is no longer than the number of windows.
-use Rattle.grids.specs.{◌≡◌, ℕ, zero, suc, ◌+◌, ◌-◌, ◌<◌, ◌≤◌, Option, Some, None, IsSome, IsSomeAnd, List, length, ap, arith, refl, sym, ◌∙◌, inl, inr, ◌⊎◌}
-use Rattle.grids.specs.{true, map, eqb, list_any, range_with_len, eq-eqb, list_any_at, get_or-map-range_with_len, length-map-range_with_len}
-use Rattle.grids.specs.{le-length_from_below, option_map, Glyph, glyph_at, MOST_WINDOWS, own_grid, own, own_within, window_limit, Kept, IsKept, backing_of}
-use Rattle.grids.specs.{window_of, slot_at, window_map, FitsIn, HasParentIn, IsChained, IsRoot, part_in, in_parent, depth_at, lines_at, columns_at}
+use Rattle.std.specs.Prelude.{◌≡◌, ◌+◌, ◌-◌, ◌<◌, ◌≤◌, ◌⊎◌}
+use Rattle.grids.specs.{ℕ, zero, suc, Option, Some, None, IsSome, IsSomeAnd, List, length, ap, arith, refl, sym, ◌∙◌, inl, inr, true, map, eqb, list_any, range_with_len, eq-eqb, list_any_at}
+use Rattle.grids.specs.{get_or-map-range_with_len, length-map-range_with_len, le-length_from_below, option_map, Glyph, glyph_at, MOST_WINDOWS, own_grid, own, own_within, window_limit, Kept, IsKept}
+use Rattle.grids.specs.{backing_of, window_of, slot_at, window_map, FitsIn, HasParentIn, IsChained, IsRoot, part_in, in_parent, depth_at, lines_at, columns_at}
 use Rattle.grids.specs.declared.place.Place.{Place}
 use Rattle.grids.specs.declared.slot.Part.{Part}
 use Rattle.grids.specs.declared.slot.Cells.{Cells}

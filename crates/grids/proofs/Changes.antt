@@ -1,8 +1,8 @@
 -- What a change of one slot does to the table and to the windows.
-use Rattle.grids.specs.{◌≡◌, ℕ, inl, inr, ◌<◌, ◌≢◌, Option, Some, None, IsSomeAnd, List, ap, arith, sym, ◌∙◌, subst, eq-eqb, ne_eqb, slice_set, option_map_or}
-use Rattle.grids.specs.{cases_eq, HasPlace, Window, WindowMap, with_change, with_window, IsOnScreen, IsStandardScreen, under_number, Kept, IsKept, window_of}
-use Rattle.grids.specs.{WindowTable, IsWindowTable, windows, slot_at, window_map, depth_at, grid_place, AreOrigins, HasParentIn, IsChained, HasLine}
-use Rattle.grids.specs.{ChangedBy, SetAt, StaysInPlace}
+use Rattle.std.specs.Prelude.{◌≡◌, ◌<◌, ◌≢◌}
+use Rattle.grids.specs.{ℕ, inl, inr, Option, Some, None, IsSomeAnd, List, ap, arith, sym, ◌∙◌, subst, eq-eqb, ne_eqb, slice_set, option_map_or, cases_eq, HasPlace, Window, WindowMap, with_change}
+use Rattle.grids.specs.{with_window, IsOnScreen, IsStandardScreen, under_number, Kept, IsKept, window_of, WindowTable, IsWindowTable, windows, slot_at, window_map, depth_at, grid_place, AreOrigins}
+use Rattle.grids.specs.{HasParentIn, IsChained, HasLine, ChangedBy, SetAt, StaysInPlace}
 use Rattle.std.specs.Option.{option_map}
 use Rattle.grids.proofs.Chain.{each_at, some_and, own_source, own_alone}
 use Rattle.grids.proofs.OneSlot.{SetAt-set, slot_below, each_set, KeepsShape, chained_set, parent_too}

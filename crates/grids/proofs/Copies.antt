@@ -1,6 +1,6 @@
 -- The drawings of copies: where they have nothing, and one cell or one line more.
-use Rattle.grids.specs.{◌≡◌, ℕ, ◌+◌, ◌-◌, ◌<◌, ◌≤◌, Bool, true, false, if◌then◌else◌, ◌||◌, Option, ◌⊎◌, None, is_some, arith, nat_tests, Glyph, WindowMap}
-use Rattle.grids.specs.{over, cell_at, filled_cells, overlaid_cell, copied_cells, rectangle_copied, piece_of}
+use Rattle.std.specs.Prelude.{◌≡◌, ◌+◌, ◌-◌, ◌<◌, ◌≤◌, if◌then◌else◌, ◌||◌, ◌⊎◌}
+use Rattle.grids.specs.{ℕ, Bool, true, false, Option, None, is_some, arith, nat_tests, Glyph, WindowMap, over, cell_at, filled_cells, overlaid_cell, copied_cells, rectangle_copied, piece_of}
 
 -- ---- where nothing is copied
 

@@ -1,7 +1,7 @@
 -- The rectangle that a copy of a line covers.
-use Rattle.grids.specs.{◌≡◌, ℕ, ◌+◌, ◌-◌, ◌<◌, ◌≤◌, Bool, true, false, if◌then◌else◌, ◌==◌, ◌&&◌, nat_lt, nat_le, Option, Some, None, is_some, IsSomeAnd}
-use Rattle.grids.specs.{arith, sym, ◌∙◌, nat_tests, and_parts, and_from, eqb-true, eq-eqb, leb-true, le-leb, option_and_then, Glyph, Window, Windows, Drawing}
-use Rattle.grids.specs.{HasPlace, cell_at, filled_cells, copied_cells, Covers, frame_at, frame_of, drawing_frame}
+use Rattle.std.specs.Prelude.{◌≡◌, ◌+◌, ◌-◌, ◌<◌, ◌≤◌, if◌then◌else◌, ◌==◌, ◌&&◌}
+use Rattle.grids.specs.{ℕ, Bool, true, false, nat_lt, nat_le, Option, Some, None, is_some, IsSomeAnd, arith, sym, ◌∙◌, nat_tests, and_parts, and_from, eqb-true, eq-eqb, leb-true, le-leb}
+use Rattle.grids.specs.{option_and_then, Glyph, Window, Windows, Drawing, HasPlace, cell_at, filled_cells, copied_cells, Covers, frame_at, frame_of, drawing_frame}
 use Rattle.world.proofs.FrameLaws.{frame_of-only, frame_of-none}
 
 -- a drawing that has just the columns from left to right of a line

@@ -1,7 +1,7 @@
 -- Copies step by step: each writes a piece that was not written before it is read.
-use Rattle.grids.specs.{◌≡◌, ℕ, ◌+◌, ◌-◌, ◌<◌, ◌≤◌, Bool, Option, Some, None, IsSome, ap, arith, sym, ◌∙◌, option_map, nat_tests, Rect, Window, WindowMap}
-use Rattle.grids.specs.{Windows, GridPlace, Drawing, grid_drawing, onward, over, own, put, put_windows, within, frame_of_two, copied_cells, drawing_frame}
-use Rattle.grids.specs.{AreRectanglesThere, AreRowsThere, AreThere, Drawn, RowCopied}
+use Rattle.std.specs.Prelude.{◌≡◌, ◌+◌, ◌-◌, ◌<◌, ◌≤◌}
+use Rattle.grids.specs.{ℕ, Bool, Option, Some, None, IsSome, ap, arith, sym, ◌∙◌, option_map, nat_tests, Rect, Window, WindowMap, Windows, GridPlace, Drawing, grid_drawing, onward, over, own, put}
+use Rattle.grids.specs.{put_windows, within, frame_of_two, copied_cells, drawing_frame, AreRectanglesThere, AreRowsThere, AreThere, Drawn, RowCopied}
 use Rattle.world.proofs.FrameLaws.{drawing_frame-over, drawing_frame-put}
 use Rattle.world.proofs.WindowLaws.{own-onward, put-put, cell_at-kept, put-nothing}
 use Rattle.grids.specs.declared.place.Place.{Place}

@@ -1,5 +1,6 @@
 -- A place of a derived window leads where its place of the parent leads: a longer walk comes to the same place.
-use Rattle.grids.specs.{◌≡◌, ℕ, zero, suc, ◌+◌, ◌≤◌, Some, IsSome, arith, refl, sym, ◌∙◌, part_of, GridPlace, Window, WindowMap, own, own_within}
+use Rattle.std.specs.Prelude.{◌≡◌, ◌+◌, ◌≤◌}
+use Rattle.grids.specs.{ℕ, zero, suc, Some, IsSome, arith, refl, sym, ◌∙◌, part_of, GridPlace, Window, WindowMap, own, own_within}
 use Rattle.world.proofs.WindowLaws.{own-onward}
 use Rattle.grids.specs.declared.slot.Part.{Part}
 

@@ -1,7 +1,7 @@
 -- What is known of a new window: its size, and where it is.
-use Rattle.grids.specs.{◌≡◌, ℕ, ◌+◌, ◌≤◌, Option, Some, None, List, arith, option_map, Backing, part_of, Window, WindowMap, IsOnScreen, extent}
-use Rattle.grids.specs.{derived_window, place_from, under_number, new_window, Kept, IsKept, window_of, WindowTable, IsWindowTable, windows, slot_at}
-use Rattle.grids.specs.{IsChained, HasParentIn, part_in, SetAt, IsFree}
+use Rattle.std.specs.Prelude.{◌≡◌, ◌+◌, ◌≤◌}
+use Rattle.grids.specs.{ℕ, Option, Some, None, List, arith, option_map, Backing, part_of, Window, WindowMap, IsOnScreen, extent, derived_window, place_from, under_number, new_window, Kept, IsKept}
+use Rattle.grids.specs.{window_of, WindowTable, IsWindowTable, windows, slot_at, IsChained, HasParentIn, part_in, SetAt, IsFree}
 use Rattle.grids.specs.declared.slot.Part.{Part}
 use Rattle.grids.specs.declared.slot.Cells.{Cells}
 use Rattle.grids.proofs.Chain.{shared_of}

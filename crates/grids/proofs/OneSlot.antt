@@ -1,6 +1,7 @@
 -- One slot has another window, or none: which slots are chained then.
-use Rattle.grids.specs.{◌≡◌, ℕ, ◌+◌, ◌<◌, ◌≤◌, Option, Some, None, MatchOption, List, length, slice_set, arith, get_or-set_other, get_or-set_same, ⊤}
-use Rattle.grids.specs.{cases_eq, cases_lt, get_or_past, length-set, MOST_WINDOWS, Kept, IsKept, slot_at, part_in, HasParentIn, IsChained, SameShape, SetAt}
+use Rattle.std.specs.Prelude.{◌≡◌, ◌+◌, ◌<◌, ◌≤◌}
+use Rattle.grids.specs.{ℕ, Option, Some, None, MatchOption, List, length, slice_set, arith, get_or-set_other, get_or-set_same, ⊤, cases_eq, cases_lt, get_or_past, length-set, MOST_WINDOWS, Kept}
+use Rattle.grids.specs.{IsKept, slot_at, part_in, HasParentIn, IsChained, SameShape, SetAt}
 use Rattle.grids.specs.declared.slot.Cells.{Cells}
 
 pub SetAt-set : (slots : List (Option Kept)) (at : ℕ) (o : Option Kept) → length slots ≤ MOST_WINDOWS + 1 → at < length slots → SetAt slots (slice_set slots at o) at o

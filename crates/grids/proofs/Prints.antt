@@ -1,6 +1,7 @@
 -- Characters that are printed after others in a line.
-use Rattle.grids.specs.{List, ◌≡◌, ℕ, ◌+◌, ◌-◌, ◌<◌, ◌≤◌, ◌==◌, ◌&&◌, nat_le, nat_lt, if◌then◌else◌, length, map, take, drop, arith, length-take, length-drop}
-use Rattle.grids.specs.{slice_index_or, nat_tests, get_or-drop, get_or-map, get_or-take, length-map, Glyph, blank, cell_or, printed_cell}
+use Rattle.std.specs.Prelude.{◌≡◌, ◌+◌, ◌-◌, ◌<◌, ◌≤◌, ◌==◌, ◌&&◌, if◌then◌else◌}
+use Rattle.grids.specs.{List, ℕ, nat_le, nat_lt, length, map, take, drop, arith, length-take, length-drop, slice_index_or, nat_tests, get_or-drop, get_or-map, get_or-take, length-map, Glyph, blank}
+use Rattle.grids.specs.{cell_or, printed_cell}
 
 -- columns of a line that were filled, and those that were filled after them, some of them again
 pub filled-on : {A : Type 0} (none : A) (old mid new : List (List A)) (y start from to end : ℕ) (f g : ℕ → A) → start ≤ from → from ≤ to → to ≤ end

@@ -1,6 +1,7 @@
 -- The rectangle of a window in which it shows a part of another.
-use Rattle.grids.specs.{◌≡◌, ℕ, ◌+◌, ◌-◌, ◌<◌, ◌≤◌, ◌&&◌, nat_le, Option, Some, None, IsSomeAnd, arith, refl, sym, subst, nat_tests, Rect, AreRectangle}
-use Rattle.grids.specs.{SharesPart, AreColumnsWithin, GridPlace, Window, WindowMap, own, Columns, among}
+use Rattle.std.specs.Prelude.{◌≡◌, ◌+◌, ◌-◌, ◌<◌, ◌≤◌, ◌&&◌}
+use Rattle.grids.specs.{ℕ, nat_le, Option, Some, None, IsSomeAnd, arith, refl, sym, subst, nat_tests, Rect, AreRectangle, SharesPart, AreColumnsWithin, GridPlace, Window, WindowMap, own, Columns}
+use Rattle.grids.specs.{among}
 use Rattle.grids.proofs.Shared.{shared-in, from-shared}
 
 -- ---- lines, or columns, from a first to a last one, as they are counted from another place on

@@ -1,6 +1,7 @@
 -- The origins of the slots, set one by one.
-use Rattle.grids.specs.{◌≡◌, ℕ, ◌+◌, ◌<◌, ◌≤◌, false, is_some, Option, Some, None, MatchOption, List, length, arith, refl, sym, ◌∙◌, subst, ⊤, cases_eq}
-use Rattle.grids.specs.{length-set, MOST_WINDOWS, own, Kept, IsChained, grid_place, slot_at, window_map, Led, SameShape, SetAt}
+use Rattle.std.specs.Prelude.{◌≡◌, ◌+◌, ◌<◌, ◌≤◌}
+use Rattle.grids.specs.{ℕ, false, is_some, Option, Some, None, MatchOption, List, length, arith, refl, sym, ◌∙◌, subst, ⊤, cases_eq, length-set, MOST_WINDOWS, own, Kept, IsChained, grid_place}
+use Rattle.grids.specs.{slot_at, window_map, Led, SameShape, SetAt}
 use mathlib.Core.Path.{fun_ext}
 use Rattle.grids.specs.declared.slot.Origin.{Origin}
 use Rattle.grids.proofs.Chain.{each_at}

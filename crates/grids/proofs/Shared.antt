@@ -1,5 +1,6 @@
 -- Which places of a window show cells of a rectangle of another, in lines and columns of a grid.
-use Rattle.grids.specs.{◌≡◌, ℕ, ◌+◌, ◌-◌, ◌≤◌, true, Some, arith, sym, ◌∙◌, Rect, GridPlace, WindowMap, onward, own, is_same_place, shows_part_of}
+use Rattle.std.specs.Prelude.{◌≡◌, ◌+◌, ◌-◌, ◌≤◌}
+use Rattle.grids.specs.{ℕ, true, Some, arith, sym, ◌∙◌, Rect, GridPlace, WindowMap, onward, own, is_same_place, shows_part_of}
 use Rattle.world.proofs.Below.{any_in-some, any_in-true}
 use Rattle.world.proofs.SharingLaws.{same-true, true-same}
 use Rattle.world.proofs.WindowLaws.{own-onward}

@@ -1,7 +1,7 @@
 -- A derived window that shows another part of its parent.
-use Rattle.grids.specs.{◌≡◌, ℕ, ◌+◌, ◌≤◌, Option, Some, List, ap, arith, sym, slice_set, WindowMap, with_change, IsOnScreen, with_part, IsKept, Kept}
-use Rattle.grids.specs.{window_of, WindowTable, IsWindowTable, windows, slot_at, window_map, IsChained, part_in, ChangedBy, SameShape, Settled, SetAt}
-use Rattle.grids.specs.{with_new_offset}
+use Rattle.std.specs.Prelude.{◌≡◌, ◌+◌, ◌≤◌}
+use Rattle.grids.specs.{ℕ, Option, Some, List, ap, arith, sym, slice_set, WindowMap, with_change, IsOnScreen, with_part, IsKept, Kept, window_of, WindowTable, IsWindowTable, windows, slot_at}
+use Rattle.grids.specs.{window_map, IsChained, part_in, ChangedBy, SameShape, Settled, SetAt, with_new_offset}
 use Rattle.std.specs.Option.{option_map}
 use Rattle.grids.specs.declared.slot.Part.{Part}
 use Rattle.grids.proofs.Chain.{parent_at, some_and, shared_of, own_alone}

@@ -1,7 +1,7 @@
 -- The cells that a window shows, read from the grid that it leads to.
-use Rattle.grids.specs.{◌≡◌, ℕ, ◌+◌, ◌<◌, Option, Some, IsSome, IsSomeAnd, List, length, map, get_or, refl, zero-add, arith, option_map, range_with_len}
-use Rattle.grids.specs.{length-map-range_with_len, get_or-map-range_with_len, Glyph, blank, GridPlace, Window, WindowMap, HasPlace, own, cell_of, cell_at}
-use Rattle.grids.specs.{line_shown, Kept, window_of, slot_at, window_map, columns_at, WindowTable}
+use Rattle.std.specs.Prelude.{◌≡◌, ◌+◌, ◌<◌}
+use Rattle.grids.specs.{ℕ, Option, Some, IsSome, IsSomeAnd, List, length, map, get_or, refl, zero-add, arith, option_map, range_with_len, length-map-range_with_len, get_or-map-range_with_len, Glyph}
+use Rattle.grids.specs.{blank, GridPlace, Window, WindowMap, HasPlace, own, cell_of, cell_at, line_shown, Kept, window_of, slot_at, window_map, columns_at, WindowTable}
 use Rattle.world.proofs.WindowLaws.{own-onward}
 use Rattle.grids.proofs.Chain.{some_and}
 

@@ -1,7 +1,8 @@
 -- The windows of a table are sound.
-use Rattle.grids.specs.{ℕ, ◌<◌, Option, IsSomeAnd, MatchOption, List, arith, ⊤, option_map, AllByRecursion, All-from_recursion, All-get_or, IsCell, blank}
-use Rattle.grids.specs.{Sheet, line_of, glyph_at, AreCells, HasSize, LARGEST_PAD, HasPlace, Windows, HasCells, IsPartOf, IsSoundWindow, AreSoundWindows, Kept}
-use Rattle.grids.specs.{IsGridOf, window_of, backing_of, WindowTable, IsWindowTable, windows, slot_at, window_map, FitsIn, HasParentIn}
+use Rattle.std.specs.Prelude.{◌<◌}
+use Rattle.grids.specs.{ℕ, Option, IsSomeAnd, MatchOption, List, arith, ⊤, option_map, AllByRecursion, All-from_recursion, All-get_or, IsCell, blank, Sheet, line_of, glyph_at, AreCells, HasSize}
+use Rattle.grids.specs.{LARGEST_PAD, HasPlace, Windows, HasCells, IsPartOf, IsSoundWindow, AreSoundWindows, Kept, IsGridOf, window_of, backing_of, WindowTable, IsWindowTable, windows, slot_at}
+use Rattle.grids.specs.{window_map, FitsIn, HasParentIn}
 use Rattle.cell.proofs.PictureLemmas.{length-line}
 use Rattle.grids.specs.declared.slot.Part.{Part}
 use Rattle.grids.specs.declared.slot.Cells.{Cells}

@@ -1,7 +1,7 @@
 -- What is touched of a window, passed on from window to window.
-use Rattle.grids.specs.{◌≡◌, ◌≢◌, ℕ, ◌+◌, ◌-◌, ◌≤◌, Bool, true, false, if◌then◌else◌, ◌==◌, ◌||◌, Option, Some, None, IsSome, IsSomeAnd, [], ◌∷◌, ap, arith}
-use Rattle.grids.specs.{refl, sym, ◌∙◌, eq-eqb, ne_eqb, zero-add, list_any, option_map, option_map_or, cases_eq, cases_lt, lt-ltb, le-ltb, nat_tests, part_of}
-use Rattle.grids.specs.{GridPlace, HasPlace, Window, WindowMap, Windows, ancestors, with_change, onward, own, shows_part_of, AreSoundWindows, after_copying}
+use Rattle.std.specs.Prelude.{◌≡◌, ◌≢◌, ◌+◌, ◌-◌, ◌≤◌, if◌then◌else◌, ◌==◌, ◌||◌, ◌∷◌}
+use Rattle.grids.specs.{ℕ, Bool, true, false, Option, Some, None, IsSome, IsSomeAnd, [], ap, arith, refl, sym, ◌∙◌, eq-eqb, ne_eqb, zero-add, list_any, option_map, option_map_or, cases_eq, cases_lt}
+use Rattle.grids.specs.{lt-ltb, le-ltb, nat_tests, part_of, GridPlace, HasPlace, Window, WindowMap, Windows, ancestors, with_change, onward, own, shows_part_of, AreSoundWindows, after_copying}
 use Rattle.grids.specs.{in_line, shows_touched_of, with_touches, Syncdown, Syncup, Columns, in_parent, among, part_in_parent, shows_touched, touched_shown}
 use Rattle.world.proofs.Below.{any_below-some, any_below-true}
 use Rattle.world.proofs.WindowLaws.{own-onward, touched-touched}

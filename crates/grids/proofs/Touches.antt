@@ -1,7 +1,7 @@
 -- A window that is touched line by line.
-use Rattle.grids.specs.{◌≡◌, ◌≢◌, ℕ, zero, suc, ◌+◌, ◌-◌, ◌<◌, ◌≤◌, Bool, false, if◌then◌else◌, ◌&&◌, nat_lt, nat_le, Option, Some, IsSomeAnd, ap, arith}
-use Rattle.grids.specs.{refl, sym, eq-eqb, ne_eqb, option_map, cases_eq, cases_lt, lt-ltb, le-ltb, nat_tests, Place, LARGEST_PAD, Window, WindowMap, Windows}
-use Rattle.grids.specs.{with_change, touched_below, joined_columns, with_touches, Columns, with_touched, EndsWithin}
+use Rattle.std.specs.Prelude.{◌≡◌, ◌≢◌, ◌+◌, ◌-◌, ◌<◌, ◌≤◌, if◌then◌else◌, ◌&&◌}
+use Rattle.grids.specs.{ℕ, zero, suc, Bool, false, nat_lt, nat_le, Option, Some, IsSomeAnd, ap, arith, refl, sym, eq-eqb, ne_eqb, option_map, cases_eq, cases_lt, lt-ltb, le-ltb, nat_tests, Place}
+use Rattle.grids.specs.{LARGEST_PAD, Window, WindowMap, Windows, with_change, touched_below, joined_columns, with_touches, Columns, with_touched, EndsWithin}
 use mathlib.Core.Path.{fun_ext}
 use Rattle.grids.proofs.Chain.{some_and}
 use Rattle.grids.proofs.Writes.{touched-none, touched-past}

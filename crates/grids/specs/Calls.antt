@@ -1,7 +1,7 @@
 -- A call made on a table of windows.
-use Rattle.grids.specs.Names.{◌≡◌, ℕ, Bool, false, IfOk, OnErr, OnOk, Option, Result, Some, result_err, Refusal, Change, after_change, change_reply}
-use Rattle.grids.specs.Names.{change_takes_memory, AreSoundWindows, copying_change, copying_refusal, making_change, making_refusal, query_refusal, Refused}
-use Rattle.grids.specs.Names.{Copying, Making, Query, Reply}
+use Rattle.std.specs.Prelude.{◌≡◌}
+use Rattle.grids.specs.Names.{ℕ, Bool, false, IfOk, OnErr, OnOk, Option, Result, Some, result_err, Refusal, Change, after_change, change_reply, change_takes_memory, AreSoundWindows, copying_change}
+use Rattle.grids.specs.Names.{copying_refusal, making_change, making_refusal, query_refusal, Refused, Copying, Making, Query, Reply}
 use Rattle.grids.specs.Tables.{WindowTable, windows}
 
 -- it was refused by its tests, and then nothing changed; else the answer and the windows are those of its effect

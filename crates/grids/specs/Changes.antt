@@ -1,6 +1,6 @@
 -- What changes where one slot changes.
-use Rattle.grids.specs.Names.{◌≡◌, ◌≢◌, ℕ, ◌+◌, ◌<◌, ◌≤◌, List, length, Option, Some, None, is_some, max, slice_set, if◌then◌else◌, ◌==◌, MOST_WINDOWS}
-use Rattle.grids.specs.Names.{joined_columns, Window, Drawing, laid_over}
+use Rattle.std.specs.Prelude.{◌≡◌, ◌≢◌, ◌+◌, ◌<◌, ◌≤◌, if◌then◌else◌, ◌==◌}
+use Rattle.grids.specs.Names.{ℕ, List, length, Option, Some, None, is_some, max, slice_set, MOST_WINDOWS, joined_columns, Window, Drawing, laid_over}
 use Rattle.grids.specs.declared.slot.Cells.{Cells}
 use Rattle.grids.specs.declared.slot.Cells.TheVariants.{Own, Shared}
 use Rattle.grids.specs.KeptSlots.{Kept, IsKept}

@@ -1,6 +1,6 @@
 -- A copy from one place on to another: what it wants, and what it does.
-use Rattle.grids.specs.Names.{◌≡◌, ℕ, ◌+◌, ◌-◌, if◌then◌else◌, Bool, Option, Rect, Drawing, HasPlace, WindowMap, Windows, put, copied_cells, drawing_frame}
-use Rattle.grids.specs.Names.{rectangle_copied}
+use Rattle.std.specs.Prelude.{◌≡◌, ◌+◌, ◌-◌, if◌then◌else◌}
+use Rattle.grids.specs.Names.{ℕ, Bool, Option, Rect, Drawing, HasPlace, WindowMap, Windows, put, copied_cells, drawing_frame, rectangle_copied}
 use Rattle.grids.specs.declared.place.Place.{Place}
 use Rattle.grids.specs.declared.rows.TheConstants.{PIECE}
 

@@ -1,5 +1,6 @@
 -- What printed characters become.
-use Rattle.grids.specs.Names.{ℕ, if◌then◌else◌, ◌==◌, Glyph}
+use Rattle.std.specs.Prelude.{if◌then◌else◌, ◌==◌}
+use Rattle.grids.specs.Names.{ℕ, Glyph}
 
 -- A character has the attributes and the pair of a pen; a space becomes the pen itself.
 abbrev pub printed_cell : Glyph → ℕ → Glyph

@@ -1,6 +1,7 @@
 -- What a slot keeps of a window, and the window that it represents.
-use Rattle.grids.specs.Names.{◌≡◌, ℕ, ◌<◌, ◌≤◌, Option, None, List, length, slice_index_or, ⊤, Place, HasSize, AreCells, glyph_at, LARGEST_PAD, Backing}
-use Rattle.grids.specs.Names.{own_grid, part_of, Window, AreColumnsWithin, AreSettingsWithin, Columns, Settings}
+use Rattle.std.specs.Prelude.{◌≡◌, ◌<◌, ◌≤◌}
+use Rattle.grids.specs.Names.{ℕ, Option, None, List, length, slice_index_or, ⊤, Place, HasSize, AreCells, glyph_at, LARGEST_PAD, Backing, own_grid, part_of, Window, AreColumnsWithin}
+use Rattle.grids.specs.Names.{AreSettingsWithin, Columns, Settings}
 use Rattle.grids.specs.declared.slot.Cells.{Cells}
 use Rattle.grids.specs.declared.slot.Cells.TheVariants.{Own, Shared}
 use Rattle.grids.specs.declared.slot.Origin.{Origin}

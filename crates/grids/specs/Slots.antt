@@ -1,6 +1,7 @@
 -- The list of slots, and the windows that they represent.
-use Rattle.grids.specs.Names.{◌≡◌, ℕ, ◌+◌, ◌≤◌, Bool, false, List, Option, Some, None, IsSomeAnd, MatchOption, slice_index_or, ⊤, option_map, option_map_or}
-use Rattle.grids.specs.Names.{LARGEST_PAD, GridPlace, WindowMap, own, IsPartOf, is_part_of}
+use Rattle.std.specs.Prelude.{◌≡◌, ◌+◌, ◌≤◌}
+use Rattle.grids.specs.Names.{ℕ, Bool, false, List, Option, Some, None, IsSomeAnd, MatchOption, slice_index_or, ⊤, option_map, option_map_or, LARGEST_PAD, GridPlace, WindowMap, own, IsPartOf}
+use Rattle.grids.specs.Names.{is_part_of}
 use Rattle.grids.specs.declared.slot.Part.{Part}
 use Rattle.grids.specs.declared.slot.Cells.{Cells}
 use Rattle.grids.specs.declared.slot.Cells.TheVariants.{Own, Shared}

@@ -1,6 +1,6 @@
 -- The table of windows, and the windows that it represents.
-use Rattle.grids.specs.Names.{ℕ, ◌+◌, ◌<◌, ◌≤◌, List, length, Option, MatchOption, IsSomeAnd, ⊤, LARGEST_SCREEN, MOST_WINDOWS, Windows, standard_screen}
-use Rattle.grids.specs.Names.{IsOnScreen, IsStandardScreen}
+use Rattle.std.specs.Prelude.{◌+◌, ◌<◌, ◌≤◌}
+use Rattle.grids.specs.Names.{ℕ, List, length, Option, MatchOption, IsSomeAnd, ⊤, LARGEST_SCREEN, MOST_WINDOWS, Windows, standard_screen, IsOnScreen, IsStandardScreen}
 use Rattle.grids.specs.KeptSlots.{Kept, window_of}
 use Rattle.grids.specs.Slots.{slot_at, window_map, AreOrigins, IsChained}
 

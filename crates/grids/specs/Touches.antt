@@ -1,5 +1,6 @@
 -- The touched columns of a line as a first and a last one, and none where the first is past the last.
-use Rattle.grids.specs.Names.{◌≡◌, ℕ, ◌⊎◌, ◌≤◌, List, Option, None, Some, if◌then◌else◌, nat_lt, slice_index_or, Columns}
+use Rattle.std.specs.Prelude.{◌≡◌, ◌⊎◌, ◌≤◌, if◌then◌else◌}
+use Rattle.grids.specs.Names.{ℕ, List, Option, None, Some, nat_lt, slice_index_or, Columns}
 
 abbrev pub columns_in : ℕ → ℕ → Option Columns
 columns_in first last = if nat_lt last first then None else Some (record { first = first; last = last })

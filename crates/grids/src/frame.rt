@@ -1,6 +1,7 @@
 //! Rectangles of a window.
 
-ghost use Rattle.grids.specs.{◌≡◌, frame_of_two};
+ghost use Rattle.std.specs.Prelude.{◌≡◌};
+ghost use Rattle.grids.specs.{frame_of_two};
 
 use cell::Rect;
 

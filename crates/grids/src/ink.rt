@@ -1,7 +1,8 @@
 //! Characters printed with a pen.
 
-ghost use Rattle.grids.specs.{◌≡◌, ℕ, ◌+◌, ◌-◌, ◌<◌, ◌≤◌, ◌==◌, ◌&&◌, nat_le, nat_lt, if◌then◌else◌, length, map, slice_index, slice_index_or, EachIndex};
-ghost use Rattle.grids.specs.{true, IsCell, blank, is_printable, LARGEST_PAD, EachCell, HasSize, cell_or, line_of, printed_cell};
+ghost use Rattle.std.specs.Prelude.{◌≡◌, ◌+◌, ◌-◌, ◌<◌, ◌≤◌, ◌==◌, ◌&&◌, if◌then◌else◌};
+ghost use Rattle.grids.specs.{ℕ, nat_le, nat_lt, length, map, slice_index, slice_index_or, EachIndex, true, IsCell, blank, is_printable, LARGEST_PAD, EachCell, HasSize, cell_or, line_of};
+ghost use Rattle.grids.specs.{printed_cell};
 
 use cell::{Cell, Grid};
 

@@ -1,8 +1,9 @@
 //! Making, moving and deleting windows and pads. The table knows no panels: it moves and deletes as if no window were
 //! in one.
 
-ghost use Rattle.grids.specs.{◌≡◌, ◌<◌, ◌≤◌, ◌+◌, ◌^◌, IsSome, IfOk, IfErr, MatchOption, ⊤, true, false, nat_le, first_of, is_inside, extent, place_from};
-ghost use Rattle.grids.specs.{part_tests, derived_from, next_window, makes, its_number, no_answer, Making, Changed, Made, windows};
+ghost use Rattle.std.specs.Prelude.{◌≡◌, ◌<◌, ◌≤◌, ◌+◌, ◌^◌};
+ghost use Rattle.grids.specs.{IsSome, IfOk, IfErr, MatchOption, ⊤, true, false, nat_le, first_of, is_inside, extent, place_from, part_tests, derived_from, next_window, makes, its_number, no_answer};
+ghost use Rattle.grids.specs.{Making, Changed, Made, windows};
 
 use crate::list::{change_slot, fill_slot_at, free_number, free_slot, has_derived, origin_of};
 use crate::parents::settle;

@@ -1,7 +1,7 @@
 //! What is touched of a window, and whether it asks for a clear screen.
 
-ghost use Rattle.grids.specs.{◌≡◌, ◌≤◌, ◌+◌, IsSomeAnd, AreSoundWindows, HasPlace, with_change, lines_marked, touched_columns, asks_for_clear, without_marks};
-ghost use Rattle.grids.specs.{its_flag, no_answer, Copying, Marked, windows};
+ghost use Rattle.std.specs.Prelude.{◌≡◌, ◌≤◌, ◌+◌};
+ghost use Rattle.grids.specs.{IsSomeAnd, AreSoundWindows, HasPlace, with_change, lines_marked, touched_columns, asks_for_clear, without_marks, its_flag, no_answer, Copying, Marked, windows};
 
 use crate::table::Grids;
 use cell::{Refusal, WinId};

@@ -1,7 +1,7 @@
 //! The chain from a window through its parents to the grid in which its cells are.
 
-ghost use Rattle.grids.specs.{◌≡◌, ◌<◌, ◌≤◌, ◌+◌, Some, IsSome, IsSomeAnd, MatchOption, ⊤, length, option_map, HasPlace, own, slot_at, window_map};
-ghost use Rattle.grids.specs.{grid_place, IsChained, part_in, depth_at, in_parent, Led, Settled};
+ghost use Rattle.std.specs.Prelude.{◌≡◌, ◌<◌, ◌≤◌, ◌+◌};
+ghost use Rattle.grids.specs.{Some, IsSome, IsSomeAnd, MatchOption, ⊤, length, option_map, HasPlace, own, slot_at, window_map, grid_place, IsChained, part_in, depth_at, in_parent, Led, Settled};
 
 use crate::place::Place;
 use crate::slot::{Origin, Slot};

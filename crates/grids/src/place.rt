@@ -1,6 +1,6 @@
 //! Places of windows.
 
-ghost use Rattle.grids.specs.{◌≡◌, ◌<◌, ◌+◌, ◌^◌};
+ghost use Rattle.std.specs.Prelude.{◌≡◌, ◌<◌, ◌+◌, ◌^◌};
 
 use cell::WinId;
 

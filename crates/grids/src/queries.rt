@@ -1,6 +1,7 @@
 //! Queries about a window or pad.
 
-ghost use Rattle.grids.specs.{◌≡◌, is_some, AreSoundWindows, cursor_of, place_on_screen, window_size, offset_in_parent, Query, Asked, parent_answer, windows};
+ghost use Rattle.std.specs.Prelude.{◌≡◌};
+ghost use Rattle.grids.specs.{is_some, AreSoundWindows, cursor_of, place_on_screen, window_size, offset_in_parent, Query, Asked, parent_answer, windows};
 
 use crate::table::Grids;
 use cell::{Refusal, WinId};

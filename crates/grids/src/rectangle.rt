@@ -1,6 +1,7 @@
 //! Copies of a rectangle.
 
-ghost use Rattle.grids.specs.{◌<◌, AreSoundWindows, AreRectanglesThere, RectangleCopied, windows};
+ghost use Rattle.std.specs.Prelude.{◌<◌};
+ghost use Rattle.grids.specs.{AreSoundWindows, AreRectanglesThere, RectangleCopied, windows};
 
 use crate::frame::frame_of_two;
 use crate::list::origin_of;

@@ -1,7 +1,7 @@
 //! Which windows show cells of one another.
 
-ghost use Rattle.grids.specs.{◌≡◌, ◌<◌, ◌≤◌, IsSome, IsSomeAnd, MatchOption, ⊤, option_map, AreRectangle, SharesPart, AreSoundWindows, HasPlace, derives};
-ghost use Rattle.grids.specs.{windows, depth_at, in_parent, part_in_parent};
+ghost use Rattle.std.specs.Prelude.{◌≡◌, ◌<◌, ◌≤◌};
+ghost use Rattle.grids.specs.{IsSome, IsSomeAnd, MatchOption, ⊤, option_map, AreRectangle, SharesPart, AreSoundWindows, HasPlace, derives, windows, depth_at, in_parent, part_in_parent};
 
 use crate::list::origin_of;
 use crate::parents::place_in_parent;

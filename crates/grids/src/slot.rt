@@ -1,9 +1,9 @@
 //! What the table keeps of one window.
 
-ghost use Rattle.grids.specs.{◌≡◌, ◌<◌, ◌≤◌, ◌+◌, ◌^◌, ◌&&◌, EachIndex, IfOk, IsSome, is_some, Some, None, length, map, slice_index, true, AllByRecursion};
-ghost use Rattle.grids.specs.{range_with_len, IsCell, is_printable, lines_marked, without_marks, with_place, with_part, filled_cells, listed_cells, set_in};
-ghost use Rattle.grids.specs.{with_cursor, with_settings, new_window, first_settings, blank_grid, any_below, cell_of, part_of, window_of, IsKept, Kept};
-ghost use Rattle.grids.specs.{HasShape, printed_cell, part_in, names_parent, with_touched, with_drawing, SameShape, with_new_offset, StaysInPlace};
+ghost use Rattle.std.specs.Prelude.{◌≡◌, ◌<◌, ◌≤◌, ◌+◌, ◌^◌, ◌&&◌};
+ghost use Rattle.grids.specs.{EachIndex, IfOk, IsSome, is_some, Some, None, length, map, slice_index, true, AllByRecursion, range_with_len, IsCell, is_printable, lines_marked, without_marks};
+ghost use Rattle.grids.specs.{with_place, with_part, filled_cells, listed_cells, set_in, with_cursor, with_settings, new_window, first_settings, blank_grid, any_below, cell_of, part_of, window_of};
+ghost use Rattle.grids.specs.{IsKept, Kept, HasShape, printed_cell, part_in, names_parent, with_touched, with_drawing, SameShape, with_new_offset, StaysInPlace};
 
 use crate::ink::print_in;
 use crate::touched::Touched;

@@ -1,7 +1,8 @@
 //! What is touched of a window, passed on to its ancestors or taken from them.
 
-ghost use Rattle.grids.specs.{◌≡◌, ◌≢◌, ℕ, ◌<◌, ◌≤◌, ◌+◌, ◌-◌, ◌&&◌, nat_le, ⊤, IsSome, IsSomeAnd, MatchOption, LARGEST_PAD, no_answer, AreColumnsWithin};
-ghost use Rattle.grids.specs.{HasPlace, with_change, with_touches, after_copying, among, Copying, Marked, windows, depth_at, EndsWithin, touched_shown};
+ghost use Rattle.std.specs.Prelude.{◌≡◌, ◌≢◌, ◌<◌, ◌≤◌, ◌+◌, ◌-◌, ◌&&◌};
+ghost use Rattle.grids.specs.{ℕ, nat_le, ⊤, IsSome, IsSomeAnd, MatchOption, LARGEST_PAD, no_answer, AreColumnsWithin, HasPlace, with_change, with_touches, after_copying, among, Copying, Marked};
+ghost use Rattle.grids.specs.{windows, depth_at, EndsWithin, touched_shown};
 
 use crate::place::Place;
 use crate::table::Grids;

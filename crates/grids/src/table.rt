@@ -1,9 +1,9 @@
 //! The windows and pads of a screen.
 
-ghost use Rattle.grids.specs.{◌≡◌, ℕ, ◌<◌, ◌≤◌, ◌-◌, None, IsSome, IsSomeAnd, MatchResult, IfOk, Some, option_map, RefusedBy, after_set_settings, set};
-ghost use Rattle.grids.specs.{set_in, with_cursor, AreSoundWindows, HasPlace, first_world, new_refusal, windows, WindowTable, IsWindowTable, slot_at};
-ghost use Rattle.grids.specs.{depth_at, grid_place, HasLine, Kept, window_of, ChangedBy, StaysInPlace, with_touched, FnOnceReturnsAtMut, FnOnceTakesAtMut};
-ghost use Rattle.grids.specs.{Window, with_change};
+ghost use Rattle.std.specs.Prelude.{◌≡◌, ◌<◌, ◌≤◌, ◌-◌};
+ghost use Rattle.grids.specs.{ℕ, None, IsSome, IsSomeAnd, MatchResult, IfOk, Some, option_map, RefusedBy, after_set_settings, set, set_in, with_cursor, AreSoundWindows, HasPlace, first_world};
+ghost use Rattle.grids.specs.{new_refusal, windows, WindowTable, IsWindowTable, slot_at, depth_at, grid_place, HasLine, Kept, window_of, ChangedBy, StaysInPlace, with_touched, FnOnceReturnsAtMut};
+ghost use Rattle.grids.specs.{FnOnceTakesAtMut, Window, with_change};
 
 use crate::list::change_slot;
 use crate::slot::{Origin, Slot};

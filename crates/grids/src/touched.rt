@@ -1,6 +1,7 @@
 //! The touched columns of a line.
 
-ghost use Rattle.grids.specs.{◌≡◌, ◌≤◌, IfSome, None, joined_columns};
+ghost use Rattle.std.specs.Prelude.{◌≡◌, ◌≤◌};
+ghost use Rattle.grids.specs.{IfSome, None, joined_columns};
 
 use std::marker::Model;
 use world::Columns;

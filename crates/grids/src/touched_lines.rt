@@ -1,7 +1,7 @@
 //! The touched columns of the lines of a window.
 
-ghost use Rattle.grids.specs.{◌≡◌, ℕ, ◌+◌, ◌<◌, ◌≤◌, ◌==◌, ◌&&◌, nat_le, nat_lt, if◌then◌else◌, IfOk, None, is_some, length, replicate, list_any};
-ghost use Rattle.grids.specs.{joined_columns, touched_in};
+ghost use Rattle.std.specs.Prelude.{◌≡◌, ◌+◌, ◌<◌, ◌≤◌, ◌==◌, ◌&&◌, if◌then◌else◌};
+ghost use Rattle.grids.specs.{ℕ, nat_le, nat_lt, IfOk, None, is_some, length, replicate, list_any, joined_columns, touched_in};
 
 use crate::touched::Touched;
 use std::alloc::{AllocError, Global};

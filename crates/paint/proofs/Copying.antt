@@ -1,7 +1,7 @@
 -- The columns in which two pictures may differ are copied from one to the other.
-use Rattle.paint.specs.{◌≡◌, ℕ, ◌+◌, ◌-◌, ◌<◌, ◌≤◌, ◌==◌, ◌&&◌, nat_le, nat_lt, inl, inr, Option, None, List, [], length, get_or, take, drop, ap, arith}
-use Rattle.paint.specs.{if◌then◌else◌, cases_eq, cases_lt, nat_tests, get_or-drop, get_or-take, get_or_past, Picture, HasSize, line_of, shown_at, Shown}
-use Rattle.paint.specs.{shown_blank, Columns, DifferOnly, IsWithin, columns_of}
+use Rattle.std.specs.Prelude.{◌≡◌, ◌+◌, ◌-◌, ◌<◌, ◌≤◌, ◌==◌, ◌&&◌, if◌then◌else◌}
+use Rattle.paint.specs.{ℕ, nat_le, nat_lt, inl, inr, Option, None, List, [], length, get_or, take, drop, ap, arith, cases_eq, cases_lt, nat_tests, get_or-drop, get_or-take, get_or_past, Picture}
+use Rattle.paint.specs.{HasSize, line_of, shown_at, Shown, shown_blank, Columns, DifferOnly, IsWithin, columns_of}
 use Rattle.cell.proofs.PictureLemmas.{length-line, same_pictures}
 
 -- nothing but blanks is shown outside of a picture

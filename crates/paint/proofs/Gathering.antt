@@ -1,6 +1,7 @@
 -- A text that is gathered, appended to, and passed on.
-use Rattle.paint.specs.{◌≡◌, ℕ, ◌+◌, ◌-◌, ◌%◌, ◌^◌, ◌≤◌, true, false, List, [], ◌++◌, length, Err, arith, add_assoc, append-nil, mod-add-mod, min, Seen}
-use Rattle.paint.specs.{Sends, WritesOnce, WriteFault, WritesFew, full_outbox, Gathers, GoesOut, IsGathered, Outbox}
+use Rattle.std.specs.Prelude.{◌≡◌, ◌+◌, ◌-◌, ◌%◌, ◌^◌, ◌≤◌, ◌++◌}
+use Rattle.paint.specs.{ℕ, true, false, List, [], length, Err, arith, add_assoc, append-nil, mod-add-mod, min, Seen, Sends, WritesOnce, WriteFault, WritesFew, full_outbox, Gathers, GoesOut}
+use Rattle.paint.specs.{IsGathered, Outbox}
 use Rattle.streams.proofs.Sends.{Sends-then}
 
 -- once a write failed the room is of no account

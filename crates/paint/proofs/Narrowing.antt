@@ -1,6 +1,7 @@
 -- The characters of cells, gathered piece by piece.
-use Rattle.paint.specs.{◌≡◌, ℕ, ◌+◌, ◌-◌, ◌<◌, ◌≤◌, List, ◌++◌, get_or, take, drop, subst, sym, ap, ◌∙◌, inl, inr, arith, append_assoc, take-add, cases_lt}
-use Rattle.paint.specs.{get_or-drop, get_or-take, map-append, IsShown, Shown, shown_blank, characters}
+use Rattle.std.specs.Prelude.{◌≡◌, ◌+◌, ◌-◌, ◌<◌, ◌≤◌, ◌++◌}
+use Rattle.paint.specs.{ℕ, List, get_or, take, drop, subst, sym, ap, ◌∙◌, inl, inr, arith, append_assoc, take-add, cases_lt, get_or-drop, get_or-take, map-append, IsShown, Shown, shown_blank}
+use Rattle.paint.specs.{characters}
 
 -- the bytes of a piece after those before it
 pub characters-further : (items now more : List ℕ) (cells : List Shown) (start end : ℕ) → start ≤ end → now ≡ items ++ characters (take start cells)

@@ -1,7 +1,7 @@
 -- The first of some cells that isn't of a run, by a mask with a bit for each.
-use Rattle.paint.specs.{◌≡◌, ℕ, zero, suc, ◌-◌, ◌^◌, ◌%◌, ◌<◌, ◌≤◌, Bool, true, false, List, [], ◌∷◌, length, get_or, map, sym, ap, ◌∙◌, subst, arith, eq-eqb}
-use Rattle.paint.specs.{ne_eqb, eqb, cond, w32, if◌then◌else◌, not, replicate, prefix_len, mask_l, top, zip2, cases_Bool, bitmask_splat, first_set_mask_l}
-use Rattle.paint.specs.{same_rendition, same_shown, same_rendition-equal, Rendition, Shown, shown_blank, AreEnds, AreOfRun, is_over}
+use Rattle.std.specs.Prelude.{◌≡◌, ◌-◌, ◌^◌, ◌%◌, ◌<◌, ◌≤◌, ◌∷◌, if◌then◌else◌}
+use Rattle.paint.specs.{ℕ, zero, suc, Bool, true, false, List, [], length, get_or, map, sym, ap, ◌∙◌, subst, arith, eq-eqb, ne_eqb, eqb, cond, w32, not, replicate, prefix_len, mask_l, top, zip2}
+use Rattle.paint.specs.{cases_Bool, bitmask_splat, first_set_mask_l, same_rendition, same_shown, same_rendition-equal, Rendition, Shown, shown_blank, AreEnds, AreOfRun, is_over}
 use lib.Count.{count_trailing_zeros}
 
 -- ---- the first items, as far as they pass a test

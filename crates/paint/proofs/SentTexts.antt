@@ -1,6 +1,7 @@
 -- What a text that was sent means for a painter.
-use Rattle.paint.specs.{◌≡◌, Bool, ℕ, ◌%◌, ◌^◌, true, List, length, Ok, Err, ap, ◌∙◌, arith, Keeps, take_all, WriteFault, next_count, Seen, Sends}
-use Rattle.paint.specs.{PainterState, ShownPicture, IsUpdateText, Updates, BreaksOff, WritesFew}
+use Rattle.std.specs.Prelude.{◌≡◌, ◌%◌, ◌^◌}
+use Rattle.paint.specs.{Bool, ℕ, true, List, length, Ok, Err, ap, ◌∙◌, arith, Keeps, take_all, WriteFault, next_count, Seen, Sends, PainterState, ShownPicture, IsUpdateText, Updates, BreaksOff}
+use Rattle.paint.specs.{WritesFew}
 use Rattle.streams.proofs.Sends.{Appends-keeps, cut-unflushed, whole-flushed}
 
 -- a flush is no write

@@ -1,7 +1,7 @@
 -- What a terminal shows after the opening.
-use Rattle.paint.specs.{◌≡◌, ℕ, ◌<◌, List, [], ◌∷◌, ◌++◌, length, map, Some, refl, sym, ap, ◌∙◌, subst, arith, AllByRecursion, digits, splat_is_map, lt-ltb}
-use Rattle.paint.specs.{no_rendition, shown_blank, Picture, HasSize, blank_picture, line_of, origin, Cup, Sgr, Ed, Terminal, blank_line, Leads, showing}
-use Rattle.paint.specs.{spelling, codes_of_attributes, opening}
+use Rattle.std.specs.Prelude.{◌≡◌, ◌<◌, ◌∷◌, ◌++◌}
+use Rattle.paint.specs.{ℕ, List, [], length, map, Some, refl, sym, ap, ◌∙◌, subst, arith, AllByRecursion, digits, splat_is_map, lt-ltb, no_rendition, shown_blank, Picture, HasSize, blank_picture}
+use Rattle.paint.specs.{line_of, origin, Cup, Sgr, Ed, Terminal, blank_line, Leads, showing, spelling, codes_of_attributes, opening}
 use Rattle.cell.proofs.PictureLemmas.{HasSize-all_of, IsRendition-none, length-line}
 use Rattle.ecma.specs.declared.token.Erase.TheVariants.{All}
 use Rattle.ecma.proofs.Leading.{Leads-token}

@@ -1,6 +1,6 @@
 -- Cells of one rendition that are printed together: runs, and a few cells between two that are shown already.
-use Rattle.paint.specs.{◌≡◌, ℕ, ◌+◌, ◌-◌, ◌<◌, ◌≤◌, ◌∙◌, false, List, length, get_or, drop, inl, inr, arith, cases_lt, same_shown, Rendition, Shown}
-use Rattle.paint.specs.{shown_blank, line_bytes, IsRun, IsStretch}
+use Rattle.std.specs.Prelude.{◌≡◌, ◌+◌, ◌-◌, ◌<◌, ◌≤◌}
+use Rattle.paint.specs.{ℕ, ◌∙◌, false, List, length, get_or, drop, inl, inr, arith, cases_lt, same_shown, Rendition, Shown, shown_blank, line_bytes, IsRun, IsStretch}
 use Rattle.paint.proofs.CellRuns.{run-short}
 use Rattle.paint.proofs.Costs.{left, line_bytes-later, line_bytes-other}
 

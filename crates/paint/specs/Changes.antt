@@ -1,5 +1,6 @@
 -- In which columns of each line a picture may differ from the one that was shown last.
-use Rattle.paint.specs.Names.{◌≡◌, ℕ, ◌≤◌, Option, List, length, HasSize, Picture, LARGEST_SCREEN, Columns, DifferOnly}
+use Rattle.std.specs.Prelude.{◌≡◌, ◌≤◌}
+use Rattle.paint.specs.Names.{ℕ, Option, List, length, HasSize, Picture, LARGEST_SCREEN, Columns, DifferOnly}
 
 -- a picture that is shown and one that is wanted, of one size, no larger than a screen, differ at no other place
 pub record IsFrame (lines columns : ℕ) (extents : List (Option Columns)) (old new : Picture) : Type 0 where

@@ -1,9 +1,9 @@
 -- What a doupdate sends, what it leaves of the painter, and which streams agree with a painter.
 -- X/Open Curses Issue 7: doupdate, clearok.
-use Rattle.paint.specs.Names.{◌≡◌, ℕ, ◌+◌, ◌-◌, ◌*◌, ◌%◌, ◌^◌, ◌<◌, ◌≤◌, ◌==◌, ◌&&◌, List, [], ◌∷◌, ◌++◌, Bool, true, length, take, codes, Option, Some, None}
-use Rattle.paint.specs.Names.{⊤, MatchOption, Result, MatchResult, if◌then◌else◌, is_ok, Appends, Picture, Place, HasSize, blank_picture, origin, Cup}
-use Rattle.paint.specs.Names.{difference, VirtualScreen, LARGEST_SCREEN, colour_difference, escape, colour_bytes, none_bytes, position_bytes, selection_bytes}
-use Rattle.paint.specs.Names.{spelling, Terminal, IsInProfile, LeadsWithBreaks, Shows, showing, count_after, next_count, Seen, Sent, WriteFault}
+use Rattle.std.specs.Prelude.{◌≡◌, ◌+◌, ◌-◌, ◌*◌, ◌%◌, ◌^◌, ◌<◌, ◌≤◌, ◌==◌, ◌&&◌, ◌∷◌, ◌++◌, if◌then◌else◌}
+use Rattle.paint.specs.Names.{ℕ, List, [], Bool, true, length, take, codes, Option, Some, None, ⊤, MatchOption, Result, MatchResult, is_ok, Appends, Picture, Place, HasSize, blank_picture, origin}
+use Rattle.paint.specs.Names.{Cup, difference, VirtualScreen, LARGEST_SCREEN, colour_difference, escape, colour_bytes, none_bytes, position_bytes, selection_bytes, spelling, Terminal, IsInProfile}
+use Rattle.paint.specs.Names.{LeadsWithBreaks, Shows, showing, count_after, next_count, Seen, Sent, WriteFault}
 use Rattle.paint.specs.declared.outbox.TheConstants.{ROOM}
 
 -- a picture with a cursor

@@ -18,11 +18,9 @@ pub use Rattle.ecma.specs.declared.token.Erase.TheVariants.{ToEnd}
 pub use Rattle.ecma.specs.declared.token.Token.{Token}
 pub use Rattle.ecma.specs.declared.token.Token.TheVariants.{Cup, Ed, El, Print, Sgr}
 pub use Rattle.extents.specs.Extents.{DifferOnly, IsWithin, columns_of}
-pub use Rattle.std.proofs.Common.{Bool, Err, IfErr, IfNone, IfOk, IsErrOf, IsTrue, List, MatchOption, MatchResult, None, Ok, Option, Result, Some, []}
-pub use Rattle.std.proofs.Common.{add-one, add_assoc, ap, append-nil, append_assoc, arith, codes, cond, count_by, drop, eq-eqb, eqb, false, filter, get_or}
-pub use Rattle.std.proofs.Common.{if◌then◌else◌, inl, inr, is_ok, length, length-append, length-drop, length-set, length-take-le, map, min, nat_le, nat_lt}
-pub use Rattle.std.proofs.Common.{ne_eqb, not, refl, replicate, rules, set, slice_index_or, subst, suc, sum_by, sym, take, true, w32, zero, ℕ, ◌%◌, ◌&&◌, ◌*◌}
-pub use Rattle.std.proofs.Common.{◌++◌, ◌+◌, ◌-◌, ◌<◌, ◌==◌, ◌^◌, ◌||◌, ◌↔◌, ◌∙◌, ◌∷◌, ◌≡◌, ◌≢◌, ◌≤◌, ◌⊎◌}
+pub use Rattle.std.proofs.Common.{Bool, Err, IfErr, IfNone, IfOk, IsErrOf, IsTrue, List, MatchOption, MatchResult, None, Ok, Option, Result, Some, [], add-one, add_assoc, ap, append-nil}
+pub use Rattle.std.proofs.Common.{append_assoc, arith, codes, cond, count_by, drop, eq-eqb, eqb, false, filter, get_or, inl, inr, is_ok, length, length-append, length-drop, length-set}
+pub use Rattle.std.proofs.Common.{length-take-le, map, min, nat_le, nat_lt, ne_eqb, not, refl, replicate, rules, set, slice_index_or, subst, suc, sum_by, sym, take, true, w32, zero, ℕ, ◌∙◌}
 pub use Rattle.std.proofs.Math.ListN.{get_or-append, get_or-map}
 pub use Rattle.std.proofs.Math.Nat.{mod-add-mod}
 pub use Rattle.std.proofs.Math.Seq.{take-add, take-length}
@@ -30,9 +28,8 @@ pub use Rattle.std.proofs.Props.{props}
 pub use Rattle.std.proofs.lemmas.Bool.{and_parts, cases_Bool, cases_eq, cases_lt, eqb-true, le-leb, le-ltb, lt-leb, lt-ltb}
 pub use Rattle.std.proofs.lemmas.Bool.Decides.{nat_tests}
 pub use Rattle.std.proofs.lemmas.Grind.{elements}
-pub use Rattle.std.proofs.lemmas.List.{drop-drop, drop_all, drop_more, ext_get_or, get_or-append_right, get_or-drop, get_or-set_other, get_or-set_same}
-pub use Rattle.std.proofs.lemmas.List.{get_or-take, get_or_default, get_or_past, length-map, length-take, map-append, nil_from_length, set-get_or, set_past}
-pub use Rattle.std.proofs.lemmas.List.{take_all}
+pub use Rattle.std.proofs.lemmas.List.{drop-drop, drop_all, drop_more, ext_get_or, get_or-append_right, get_or-drop, get_or-set_other, get_or-set_same, get_or-take, get_or_default, get_or_past}
+pub use Rattle.std.proofs.lemmas.List.{length-map, length-take, map-append, nil_from_length, set-get_or, set_past, take_all}
 pub use Rattle.std.proofs.lemmas.List.Elements.{All-push}
 pub use Rattle.std.proofs.lemmas.List.Sums.{sum_by-append, sum_by-cons, sum_by_push}
 pub use Rattle.std.proofs.lemmas.Option.{MatchOption-from_none}

@@ -1,6 +1,7 @@
 //! Where a line, and a page, are blank up to their end, which one erasure draws.
 
-ghost use Rattle.paint.specs.{◌≡◌, ℕ, ◌<◌, ◌≤◌, ⊤, MatchOption, length, slice_index_or, shown_at, shown_blank, IsLastChange, IsPageEnd};
+ghost use Rattle.std.specs.Prelude.{◌≡◌, ◌<◌, ◌≤◌};
+ghost use Rattle.paint.specs.{ℕ, ⊤, MatchOption, length, slice_index_or, shown_at, shown_blank, IsLastChange, IsPageEnd};
 
 use crate::changes::Frame;
 use cell::{Grid, LANES, Shown, last_diff};

@@ -1,6 +1,7 @@
 //! A picture that is wanted over the one that is shown, and where they may differ.
 
-ghost use Rattle.paint.specs.{props, ◌≤◌, LARGEST_SCREEN, IsFrame};
+ghost use Rattle.std.specs.Prelude.{◌≤◌};
+ghost use Rattle.paint.specs.{props, LARGEST_SCREEN, IsFrame};
 
 use cell::{Grid, Shown};
 use ecma::Positions;

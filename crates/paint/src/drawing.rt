@@ -1,8 +1,8 @@
 //! Strokes drawn by a pen, one after another or rendition by rendition.
 
-ghost use Rattle.paint.specs.{◌≡◌, ◌+◌, ◌-◌, ◌<◌, ◌≤◌, ◌++◌, ◌∷◌, [], ℕ, ⊤, All, List, MatchOption, None, Some, drop, filter, length, slice_index_or, take};
-ghost use Rattle.paint.specs.{true, Picture, Place, line_of, no_rendition, shown_blank, position_bytes, columns_of, LARGEST_SCREEN, Seen, AreDrawn};
-ghost use Rattle.paint.specs.{IsPageEnd, IsStroke, IsUnderWay, IsWay, is_of, no_stroke, HaveOneRendition, cells_between, SameTerminals, DrawsWithin};
+ghost use Rattle.std.specs.Prelude.{◌≡◌, ◌+◌, ◌-◌, ◌<◌, ◌≤◌, ◌++◌, ◌∷◌};
+ghost use Rattle.paint.specs.{[], ℕ, ⊤, All, List, MatchOption, None, Some, drop, filter, length, slice_index_or, take, true, Picture, Place, line_of, no_rendition, shown_blank, position_bytes};
+ghost use Rattle.paint.specs.{columns_of, LARGEST_SCREEN, Seen, AreDrawn, IsPageEnd, IsStroke, IsUnderWay, IsWay, is_of, no_stroke, HaveOneRendition, cells_between, SameTerminals, DrawsWithin};
 ghost use Rattle.paint.specs.{IsPlainAt, most_approach, picture_bytes, run_bytes, with_cells};
 ghost use Rattle.paint.specs.declared.pen.Pen.{Pen as AnyPen};
 ghost use Rattle.paint.specs.declared.strokes.TheConstants.{ROOM};

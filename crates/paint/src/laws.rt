@@ -1,8 +1,8 @@
 //! What a painter's texts show after all that was sent to a terminal before. Each function does nothing, and
 //! its contract is the law.
 
-ghost use Rattle.paint.specs.{◌≡◌, ◌≤◌, ℕ, Bool, List, [], ◌++◌, length, take, Some, None, HasSize, Terminal, IsInProfile, LeadsWithBreaks, showing};
-ghost use Rattle.paint.specs.{PainterState, ShownPicture, IsUpdateText, Agrees};
+ghost use Rattle.std.specs.Prelude.{◌≡◌, ◌≤◌, ◌++◌};
+ghost use Rattle.paint.specs.{ℕ, Bool, List, [], length, take, Some, None, HasSize, Terminal, IsInProfile, LeadsWithBreaks, showing, PainterState, ShownPicture, IsUpdateText, Agrees};
 
 /// A painter that knows nothing agrees with every stream in the profile, and so with the empty one.
 pub fn unknown_agrees()

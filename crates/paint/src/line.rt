@@ -1,7 +1,7 @@
 //! The changed cells of a line, and runs of them that have one rendition.
 
-ghost use Rattle.paint.specs.{◌≡◌, ◌-◌, ◌<◌, ◌≤◌, ℕ, false, true, length, slice_index_or, same_shown, shown_blank, LANES, AreEnds, AreOfRun, IsRun};
-ghost use Rattle.paint.specs.{IsStretch, is_over};
+ghost use Rattle.std.specs.Prelude.{◌≡◌, ◌-◌, ◌<◌, ◌≤◌};
+ghost use Rattle.paint.specs.{ℕ, false, true, length, slice_index_or, same_shown, shown_blank, LANES, AreEnds, AreOfRun, IsRun, IsStretch, is_over};
 ghost use Rattle.paint.specs.declared.line.TheConstants.{FEW};
 
 use cell::{LANES, Rendition, Shown, first_diff};

@@ -1,7 +1,8 @@
 //! Gathers a text in a buffer of fixed size, from which it goes out in pieces.
 
-ghost use Rattle.paint.specs.{◌≡◌, ◌≤◌, ◌<◌, ◌+◌, ◌++◌, ◌^◌, ℕ, IfOk, List, [], length, slice_index_or, array_vec_len, IsShown, shown_blank, LANES};
-ghost use Rattle.paint.specs.{LARGEST_SCREEN, Sends, WritesOnce, Seen, WritesFew, Gathers, GoesOut, IsGathered, empty_outbox, characters};
+ghost use Rattle.std.specs.Prelude.{◌≡◌, ◌≤◌, ◌<◌, ◌+◌, ◌++◌, ◌^◌};
+ghost use Rattle.paint.specs.{ℕ, IfOk, List, [], length, slice_index_or, array_vec_len, IsShown, shown_blank, LANES, LARGEST_SCREEN, Sends, WritesOnce, Seen, WritesFew, Gathers, GoesOut};
+ghost use Rattle.paint.specs.{IsGathered, empty_outbox, characters};
 ghost use Rattle.paint.specs.declared.outbox.TheConstants.{ROOM};
 
 use arrayvec::ArrayVec;

@@ -1,9 +1,9 @@
 //! A pen: it knows where a terminal's cursor is and how the terminal prints, and draws there by strokes.
 
-ghost use Rattle.paint.specs.{◌≡◌, ◌+◌, ◌<◌, ◌≤◌, ◌++◌, [], ℕ, IfOk, List, length, slice_index_or, Some, ◌^◌, LARGEST_SCREEN, no_rendition, shown_blank};
-ghost use Rattle.paint.specs.{Picture, line_of, origin, spelling, IsToken, erased_at, erased_page, ToEnd, Ed, El, Sends, Seen, WritesFew, opening, Gathers};
-ghost use Rattle.paint.specs.{IsGathered, empty_outbox, change, characters, first_pen, is_at, move_from, with_cells, within, Draws, Erases, IsPlainAt};
-ghost use Rattle.paint.specs.{SameTerminals};
+ghost use Rattle.std.specs.Prelude.{◌≡◌, ◌+◌, ◌<◌, ◌≤◌, ◌++◌, ◌^◌};
+ghost use Rattle.paint.specs.{[], ℕ, IfOk, List, length, slice_index_or, Some, LARGEST_SCREEN, no_rendition, shown_blank, Picture, line_of, origin, spelling, IsToken, erased_at, erased_page, ToEnd};
+ghost use Rattle.paint.specs.{Ed, El, Sends, Seen, WritesFew, opening, Gathers, IsGathered, empty_outbox, change, characters, first_pen, is_at, move_from, with_cells, within, Draws, Erases};
+ghost use Rattle.paint.specs.{IsPlainAt, SameTerminals};
 
 use crate::outbox::Outbox;
 use bitflags::Flags;

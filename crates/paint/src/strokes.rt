@@ -1,8 +1,8 @@
 //! Strokes: each writes what is wanted where it writes, so that a pen may draw them in any order. They are found line by
 //! line, and are as many as there is room for.
 
-ghost use Rattle.paint.specs.{◌≡◌, ◌+◌, ◌-◌, ◌<◌, ◌≤◌, ◌++◌, ◌∷◌, [], IfOk, List, if◌then◌else◌, length, min, LARGEST_SCREEN, AreAlike, ArePlanned};
-ghost use Rattle.paint.specs.{IsPageEnd};
+ghost use Rattle.std.specs.Prelude.{◌≡◌, ◌+◌, ◌-◌, ◌<◌, ◌≤◌, ◌++◌, ◌∷◌, if◌then◌else◌};
+ghost use Rattle.paint.specs.{[], IfOk, List, length, min, LARGEST_SCREEN, AreAlike, ArePlanned, IsPageEnd};
 ghost use Rattle.paint.specs.declared.strokes.Stroke.{Stroke as AnyStroke};
 ghost use Rattle.paint.specs.declared.strokes.TheConstants.{ROOM};
 

@@ -1,7 +1,8 @@
 //! How many bytes the strokes of a frame take, drawn as they were found or rendition by rendition. It is counted while
 //! they are found, and only where another rendition comes: elsewhere both take the same. What it answers is a choice.
 
-ghost use Rattle.paint.specs.{◌+◌, ◌≤◌, ◌<◌, length, LARGEST_SCREEN};
+ghost use Rattle.std.specs.Prelude.{◌+◌, ◌≤◌, ◌<◌};
+ghost use Rattle.paint.specs.{length, LARGEST_SCREEN};
 ghost use Rattle.paint.specs.declared.tally.TheConstants.{PASSES};
 
 use crate::line::leading;

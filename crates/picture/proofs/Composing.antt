@@ -1,7 +1,7 @@
 -- Damaged lines are composed one after another.
-use Rattle.picture.specs.{◌≡◌, ℕ, zero, suc, ◌+◌, ◌-◌, ◌*◌, ◌<◌, ◌≤◌, false, ◌==◌, ◌&&◌, nat_le, nat_lt, if◌then◌else◌, Option, Some, None, List, length}
-use Rattle.picture.specs.{refl, sym, ap, subst, ◌∙◌, arith, get_or-set_other, get_or-set_same, slice_set, mul-le-mul_left, mul-le-mul_right, cases_eq, eq-eqb}
-use Rattle.picture.specs.{ne_eqb, nat_tests, length-set, Picture, HasSize, shown_at, Shown, LARGEST_SCREEN, AreColumnsWithin, Columns, columns_of, is_among}
+use Rattle.std.specs.Prelude.{◌≡◌, ◌+◌, ◌-◌, ◌*◌, ◌<◌, ◌≤◌, ◌==◌, ◌&&◌, if◌then◌else◌}
+use Rattle.picture.specs.{ℕ, zero, suc, false, nat_le, nat_lt, Option, Some, None, List, length, refl, sym, ap, subst, ◌∙◌, arith, get_or-set_other, get_or-set_same, slice_set, mul-le-mul_left}
+use Rattle.picture.specs.{mul-le-mul_right, cases_eq, eq-eqb, ne_eqb, nat_tests, length-set, Picture, HasSize, shown_at, Shown, LARGEST_SCREEN, AreColumnsWithin, Columns, columns_of, is_among}
 use Rattle.picture.specs.{cells_above, cells_of_line}
 use Rattle.picture.proofs.Lines.{ShownAbove}
 

@@ -1,7 +1,7 @@
 -- What steps do to the damage, one after another; and what is damaged of a rectangle.
-use Rattle.picture.specs.{◌≡◌, ℕ, ◌+◌, ◌<◌, ◌≤◌, Bool, true, false, ◌&&◌, ◌||◌, nat_lt, if◌then◌else◌, Option, Some, None, is_some, List, length, inl, inr}
-use Rattle.picture.specs.{refl, ap, arith, get_or-set_other, get_or-set_same, rules, MatchOption, slice_set, ⊤, option_map, and_parts, and_from, or_left}
-use Rattle.picture.specs.{or_right, or_cases, cases_eq, cases_lt, leb-true, le-leb, nat_tests, length-set, Rect, Columns, any_below, joined_columns, among}
+use Rattle.std.specs.Prelude.{◌≡◌, ◌+◌, ◌<◌, ◌≤◌, ◌&&◌, ◌||◌, if◌then◌else◌}
+use Rattle.picture.specs.{ℕ, Bool, true, false, nat_lt, Option, Some, None, is_some, List, length, inl, inr, refl, ap, arith, get_or-set_other, get_or-set_same, rules, MatchOption, slice_set, ⊤}
+use Rattle.picture.specs.{option_map, and_parts, and_from, or_left, or_right, or_cases, cases_eq, cases_lt, leb-true, le-leb, nat_tests, length-set, Rect, Columns, any_below, joined_columns, among}
 use Rattle.picture.specs.{columns_of, has_columns, is_among, AreEnds, Damages, IsFrameWithin, frame_has_line, frame_holds}
 use Rattle.world.proofs.Below.{any_below-some}
 

@@ -1,6 +1,7 @@
 -- A place that a rectangle holds lies between its sides, and one that a window's rectangle holds is a place of the window.
-use Rattle.picture.specs.{◌≡◌, ℕ, ◌-◌, ◌<◌, ◌≤◌, true, false, Option, arith, IsSomeAnd, is_some, option_map_or, and_parts, leb-true, ltb-true, origin, Rect}
-use Rattle.picture.specs.{holds, holds_place, place_of, screen_place, is_no_pad, HasPlace, Window, WindowMap, frame_holds}
+use Rattle.std.specs.Prelude.{◌≡◌, ◌-◌, ◌<◌, ◌≤◌}
+use Rattle.picture.specs.{ℕ, true, false, Option, arith, IsSomeAnd, is_some, option_map_or, and_parts, leb-true, ltb-true, origin, Rect, holds, holds_place, place_of, screen_place, is_no_pad}
+use Rattle.picture.specs.{HasPlace, Window, WindowMap, frame_holds}
 
 pub record IsBetween (r : Rect) (y x : ℕ) : Type 0 where
   pub top : r.top ≤ y

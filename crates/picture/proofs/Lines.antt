@@ -1,6 +1,6 @@
 -- A picture is made line by line, and a line column by column.
-use Rattle.picture.specs.{◌≡◌, ℕ, ◌<◌, ◌≤◌, ◌==◌, ◌&&◌, nat_le, nat_lt, if◌then◌else◌, length, sym, ◌∙◌, arith, Shown, shown_blank, Picture, HasSize}
-use Rattle.picture.specs.{picture_of, line_of, shown_at}
+use Rattle.std.specs.Prelude.{◌≡◌, ◌<◌, ◌≤◌, ◌==◌, ◌&&◌, if◌then◌else◌}
+use Rattle.picture.specs.{ℕ, nat_le, nat_lt, length, sym, ◌∙◌, arith, Shown, shown_blank, Picture, HasSize, picture_of, line_of, shown_at}
 use Rattle.cell.proofs.PictureLemmas.{HasSize-lines_from, same_pictures, cell_or-lines_from}
 
 -- the columns of line y from a first one on and before x are made, and all others are those of the old picture

@@ -1,7 +1,7 @@
 -- The owner of a column is found from the bottom up as well: each visible panel that holds the column takes it over.
-use Rattle.picture.specs.{◌≡◌, ◌≢◌, ◌+◌, ◌≤◌, ℕ, Bool, true, false, if◌then◌else◌, Option, Some, None, List, [], ◌∷◌, reverse, refl, sym, ap, subst, ◌∙◌}
-use Rattle.picture.specs.{arith, find, option_map_or, option_or, reverse-append, find-append, Rect, AreOnce, IsOut, Panels, holds, owner, panel_holds}
-use Rattle.picture.specs.{WindowMap, frame_holds, AreSpans}
+use Rattle.std.specs.Prelude.{◌≡◌, ◌≢◌, ◌+◌, ◌≤◌, if◌then◌else◌, ◌∷◌}
+use Rattle.picture.specs.{ℕ, Bool, true, false, Option, Some, None, List, [], reverse, refl, sym, ap, subst, ◌∙◌, arith, find, option_map_or, option_or, reverse-append, find-append, Rect, AreOnce}
+use Rattle.picture.specs.{IsOut, Panels, holds, owner, panel_holds, WindowMap, frame_holds, AreSpans}
 use Rattle.picture.specs.declared.spans.Spans.{Spans}
 
 -- the last of a list that passes a test, or another one

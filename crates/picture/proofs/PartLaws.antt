@@ -1,6 +1,6 @@
 -- The part of the screen on which a window is, or on which it shows cells of another.
-use Rattle.picture.specs.{◌≡◌, ℕ, ◌+◌, Bool, true, Some, arith, rules, and_parts, and_from, leb-true, le-leb, ltb-true, lt-ltb, Rect, AreRectangle}
-use Rattle.picture.specs.{IsSmallest, SharesPart, Windows, shows_at, frame_holds}
+use Rattle.std.specs.Prelude.{◌≡◌, ◌+◌}
+use Rattle.picture.specs.{ℕ, Bool, true, Some, arith, rules, and_parts, and_from, leb-true, le-leb, ltb-true, lt-ltb, Rect, AreRectangle, IsSmallest, SharesPart, Windows, shows_at, frame_holds}
 use Rattle.picture.proofs.Held.{held-between}
 use Rattle.picture.proofs.Placement.{IsPlacedAt}
 

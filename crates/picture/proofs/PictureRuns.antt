@@ -1,8 +1,8 @@
 -- A line of the picture is made run by run, each from a piece of one window's line.
-use Rattle.picture.specs.{◌≡◌, ℕ, ◌+◌, ◌-◌, ◌≤◌, ◌==◌, ◌&&◌, true, if◌then◌else◌, List, length, nat_le, nat_lt, sym, ap, ◌∙◌, arith, add_assoc}
-use Rattle.picture.specs.{slice_index_or, nat_tests, Glyph, blank, HasSize, Picture, Place, line_of, shown_at, Pairs, shown, Rect, HasPlace, WindowMap}
-use Rattle.picture.specs.{Windows, is_no_pad, panel_number, Panels, found_from_top, holds, owner, place_of, standard_screen, window_or_standard, GrewBy}
-use Rattle.picture.specs.{IsPiece, frame_holds, IsSpan, mod-add-mod}
+use Rattle.std.specs.Prelude.{◌≡◌, ◌+◌, ◌-◌, ◌≤◌, ◌==◌, ◌&&◌, if◌then◌else◌}
+use Rattle.picture.specs.{ℕ, true, List, length, nat_le, nat_lt, sym, ap, ◌∙◌, arith, add_assoc, slice_index_or, nat_tests, Glyph, blank, HasSize, Picture, Place, line_of, shown_at, Pairs, shown}
+use Rattle.picture.specs.{Rect, HasPlace, WindowMap, Windows, is_no_pad, panel_number, Panels, found_from_top, holds, owner, place_of, standard_screen, window_or_standard, GrewBy, IsPiece}
+use Rattle.picture.specs.{frame_holds, IsSpan, mod-add-mod}
 use Rattle.picture.specs.declared.span.Span.{Span}
 use Rattle.picture.proofs.Held.{IsBetween, held-between, held-no-pad, held-place}
 use Rattle.picture.proofs.Lines.{LineShown}

@@ -1,6 +1,7 @@
 -- A window is at a place of the screen.
-use Rattle.picture.specs.{◌≡◌, ℕ, ◌+◌, ◌<◌, ◌≤◌, Option, Some, None, refl, ap, ◌∙◌, arith, option_and_then, option_map, Place, LARGEST_SCREEN, Window}
-use Rattle.picture.specs.{Windows, AreColumnsWithin, AreSoundWindows, place_on_screen, window_size}
+use Rattle.std.specs.Prelude.{◌≡◌, ◌+◌, ◌<◌, ◌≤◌}
+use Rattle.picture.specs.{ℕ, Option, Some, None, refl, ap, ◌∙◌, arith, option_and_then, option_map, Place, LARGEST_SCREEN, Window, Windows, AreColumnsWithin, AreSoundWindows, place_on_screen}
+use Rattle.picture.specs.{window_size}
 
 -- the window is there, at this place of the screen
 pub record IsPlacedAt (windows : Windows) (w : ℕ) (place : Place) (lines : ℕ) : Type 0 where

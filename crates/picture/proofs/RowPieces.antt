@@ -1,6 +1,7 @@
 -- A piece of a window's line is cut out of its row.
-use Rattle.picture.specs.{◌≡◌, ℕ, ◌+◌, ◌-◌, ◌<◌, ◌≤◌, Option, List, length, take, drop, ◌∙◌, arith, IsSomeAnd, get_or-drop, get_or-take, length-drop}
-use Rattle.picture.specs.{length-take, Glyph, blank, HasPlace, Window, WindowMap, line_shown, IsPiece}
+use Rattle.std.specs.Prelude.{◌≡◌, ◌+◌, ◌-◌, ◌<◌, ◌≤◌}
+use Rattle.picture.specs.{ℕ, Option, List, length, take, drop, ◌∙◌, arith, IsSomeAnd, get_or-drop, get_or-take, length-drop, length-take, Glyph, blank, HasPlace, Window, WindowMap, line_shown}
+use Rattle.picture.specs.{IsPiece}
 use Rattle.grids.proofs.Showing.{line-has}
 
 -- a place further left on the same line

@@ -1,6 +1,7 @@
 -- No panel is visible twice, and the one that the search finds holds the place.
-use Rattle.picture.specs.{◌≡◌, ◌≢◌, ℕ, suc, Bool, true, Option, Some, List, [], ◌∷◌, refl, arith, AllPairs, find, AllByRecursion, recursion_from_All, AreOnce}
-use Rattle.picture.specs.{IsOut, Panels, holds, owner, standard_screen, window_or_standard, WindowMap}
+use Rattle.std.specs.Prelude.{◌≡◌, ◌≢◌, ◌∷◌}
+use Rattle.picture.specs.{ℕ, suc, Bool, true, Option, Some, List, [], refl, arith, AllPairs, find, AllByRecursion, recursion_from_All, AreOnce, IsOut, Panels, holds, owner, standard_screen}
+use Rattle.picture.specs.{window_or_standard, WindowMap}
 
 -- ---- no panel is visible twice
 

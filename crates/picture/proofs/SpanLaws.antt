@@ -1,7 +1,7 @@
 -- The spans of a line after a panel is laid over it, and that one of them is what the search finds.
-use Rattle.picture.specs.{◌≡◌, ◌≢◌, ℕ, ◌+◌, ◌-◌, ◌<◌, ◌≤◌, ◌==◌, ◌&&◌, nat_le, nat_lt, true, false, if◌then◌else◌, Option, Some, None, List, inl, inr}
-use Rattle.picture.specs.{slice_index, sym, ap, subst, ◌∙◌, arith, cases_eq, cases_lt, nat_tests, contains, Panels, owner, WindowMap, panel_number, IsSpan}
-use Rattle.picture.specs.{AreSpans, IsEndFrom, numbered}
+use Rattle.std.specs.Prelude.{◌≡◌, ◌≢◌, ◌+◌, ◌-◌, ◌<◌, ◌≤◌, ◌==◌, ◌&&◌, if◌then◌else◌}
+use Rattle.picture.specs.{ℕ, nat_le, nat_lt, true, false, Option, Some, None, List, inl, inr, slice_index, sym, ap, subst, ◌∙◌, arith, cases_eq, cases_lt, nat_tests, contains, Panels, owner}
+use Rattle.picture.specs.{WindowMap, panel_number, IsSpan, AreSpans, IsEndFrom, numbered}
 use Rattle.picture.specs.declared.span.Span.{Span}
 use Rattle.picture.specs.declared.spans.Spans.{Spans}
 

@@ -1,6 +1,7 @@
 -- In a sound world the standard screen holds each place of the screen, and the window of each visible panel is there.
-use Rattle.picture.specs.{◌≡◌, ℕ, ◌<◌, true, false, Option, arith, IsSomeAnd, option_map_or, lt-ltb, le-leb, Window, WindowMap, Windows, Panels, holds}
-use Rattle.picture.specs.{holds_place, standard_screen, AreSoundPanels, AreSoundWindows, IsStandardScreen, HasPanelWindows}
+use Rattle.std.specs.Prelude.{◌≡◌, ◌<◌}
+use Rattle.picture.specs.{ℕ, true, false, Option, arith, IsSomeAnd, option_map_or, lt-ltb, le-leb, Window, WindowMap, Windows, Panels, holds, holds_place, standard_screen, AreSoundPanels}
+use Rattle.picture.specs.{AreSoundWindows, IsStandardScreen, HasPanelWindows}
 
 holds-there : (windows : Windows) (o : Option Window) (y x : ℕ) → IsSomeAnd o (IsStandardScreen windows) → y < windows.lines → x < windows.columns
     → option_map_or (holds_place y x) o false ≡ true

@@ -1,6 +1,6 @@
 -- A visible panel is there.
-use Rattle.picture.specs.{◌≡◌, ℕ, Bool, true, false, ◌==◌, Option, None, List, [], ◌∷◌, inl, inr, refl, sym, subst, ◌∙◌, All, IsSome, list_any, eqb-true}
-use Rattle.picture.specs.{or_cases, All-head, All-tail}
+use Rattle.std.specs.Prelude.{◌≡◌, ◌==◌, ◌∷◌}
+use Rattle.picture.specs.{ℕ, Bool, true, false, Option, None, List, [], inl, inr, refl, sym, subst, ◌∙◌, All, IsSome, list_any, eqb-true, or_cases, All-head, All-tail}
 
 visible-there : (window : ℕ → Option ℕ) (p : ℕ) (visible : List ℕ) → All (λ q. IsSome (window q)) visible → list_any (λ q. q == p) visible ≡ true → IsSome (window p)
 visible-there window p [] h is = cc

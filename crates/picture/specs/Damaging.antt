@@ -1,6 +1,6 @@
 -- What a step does to the damaged columns of the screen's lines, and how many they are.
-use Rattle.picture.specs.Names.{◌≡◌, ◌⊎◌, ℕ, zero, suc, ◌+◌, ◌-◌, ◌<◌, Bool, true, MatchOption, Option, Some, List, length, ⊤, option_map, option_map_or}
-use Rattle.picture.specs.Names.{AreColumnsWithin, Columns, columns_of, is_among}
+use Rattle.std.specs.Prelude.{◌≡◌, ◌⊎◌, ◌+◌, ◌-◌, ◌<◌}
+use Rattle.picture.specs.Names.{ℕ, zero, suc, Bool, true, MatchOption, Option, Some, List, length, ⊤, option_map, option_map_or, AreColumnsWithin, Columns, columns_of, is_among}
 
 -- a column is this one, if there is one, or one of the first n that pass a test
 abbrev pub IsEnd : ℕ → Option ℕ → (ℕ → Bool) → ℕ → Type 0

@@ -1,6 +1,6 @@
 -- Rectangles of the screen, both ends inclusive, and pieces of a window's line.
-use Rattle.picture.specs.Names.{◌≡◌, ℕ, ◌+◌, ◌<◌, Bool, false, ◌&&◌, nat_le, Option, List, length, slice_index_or, option_map_or, Glyph, blank, Rect}
-use Rattle.picture.specs.Names.{WindowMap, cell_at}
+use Rattle.std.specs.Prelude.{◌≡◌, ◌+◌, ◌<◌, ◌&&◌}
+use Rattle.picture.specs.Names.{ℕ, Bool, false, nat_le, Option, List, length, slice_index_or, option_map_or, Glyph, blank, Rect, WindowMap, cell_at}
 
 -- the rectangle has the line
 abbrev pub frame_has_line : Rect → ℕ → Bool

@@ -1,6 +1,7 @@
 -- What is wanted of a picture so that composing its damaged places alone makes it that of the windows and panels.
-use Rattle.picture.specs.Names.{◌≡◌, ℕ, ◌<◌, false, List, length, Option, HasSize, Picture, shown_at, Pairs, shown, Panels, found_from_top, AreColumnsWithin}
-use Rattle.picture.specs.Names.{AreSoundPanels, AreSoundWindows, Windows, Columns, columns_of, is_among}
+use Rattle.std.specs.Prelude.{◌≡◌, ◌<◌}
+use Rattle.picture.specs.Names.{ℕ, false, List, length, Option, HasSize, Picture, shown_at, Pairs, shown, Panels, found_from_top, AreColumnsWithin, AreSoundPanels, AreSoundWindows, Windows, Columns}
+use Rattle.picture.specs.Names.{columns_of, is_among}
 
 -- The windows and the panels are sound, and everywhere but at the damage a picture of the screen's size shows what the search from the top finds.
 pub record IsRepairable (ws : Windows) (ps : Panels) (pairs : Pairs) (damage : List (Option Columns)) (picture : Picture) : Type 0 where

@@ -1,6 +1,7 @@
 -- The spans of a line: columns side by side at which the search from the top finds the same panel, or the standard
 -- screen.
-use Rattle.picture.specs.Names.{◌≡◌, ◌≢◌, ℕ, ◌+◌, ◌<◌, ◌≤◌, true, All, MatchOption, ⊤, Panels, owner, WindowMap, is_no_pad, panel_number}
+use Rattle.std.specs.Prelude.{◌≡◌, ◌≢◌, ◌+◌, ◌<◌, ◌≤◌}
+use Rattle.picture.specs.Names.{ℕ, true, All, MatchOption, ⊤, Panels, owner, WindowMap, is_no_pad, panel_number}
 use Rattle.picture.specs.declared.span.Span.{Span}
 
 -- the window of each visible panel is there, and no pad

@@ -1,7 +1,7 @@
 //! A part of a line of the picture, composed of pieces of windows.
 
-ghost use Rattle.picture.specs.{◌≡◌, ◌<◌, ◌≤◌, ◌+◌, ◌-◌, ◌==◌, ◌&&◌, ℕ, true, if◌then◌else◌, length, nat_le, nat_lt, HasSize, line_of, shown_at, shown};
-ghost use Rattle.picture.specs.{found_from_top, holds, standard_screen, panels, GrewBy, HasPanelWindows, KnowsOwners};
+ghost use Rattle.std.specs.Prelude.{◌≡◌, ◌<◌, ◌≤◌, ◌+◌, ◌-◌, ◌==◌, ◌&&◌, if◌then◌else◌};
+ghost use Rattle.picture.specs.{ℕ, true, length, nat_le, nat_lt, HasSize, line_of, shown_at, shown, found_from_top, holds, standard_screen, panels, GrewBy, HasPanelWindows, KnowsOwners};
 
 use crate::owners::Owners;
 use crate::rows::Rows;

@@ -1,8 +1,8 @@
 //! The search from the top, along the lines of the screen. What it finds in one line holds in those below it up to
 //! where a panel begins or ends, and is kept for them.
 
-ghost use Rattle.picture.specs.{◌≡◌, ◌≢◌, ◌<◌, ◌≤◌, ℕ, Some, Option, if◌then◌else◌, LARGEST_SCREEN, Panels, WindowMap, panels, frame_holds, HasPanelWindows};
-ghost use Rattle.picture.specs.{IsSpan, AreInside, AreSpans, KnowsOwners};
+ghost use Rattle.std.specs.Prelude.{◌≡◌, ◌≢◌, ◌<◌, ◌≤◌, if◌then◌else◌};
+ghost use Rattle.picture.specs.{ℕ, Some, Option, LARGEST_SCREEN, Panels, WindowMap, panels, frame_holds, HasPanelWindows, IsSpan, AreInside, AreSpans, KnowsOwners};
 
 use crate::rows::Rows;
 use crate::span::Span;

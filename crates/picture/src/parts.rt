@@ -1,7 +1,8 @@
 //! Which part of the screen shows something of a window.
 
-ghost use Rattle.picture.specs.{◌≡◌, ◌≤◌, ◌==◌, ℕ, false, All, IsSome, MatchOption, ⊤, list_any, holds, place_of, AreSoundPanels, HasPlace, is_no_pad};
-ghost use Rattle.picture.specs.{follows_at, panel_shows_at, shows_at, windows as windows_of, panels, IsFrameWithin, part_holds};
+ghost use Rattle.std.specs.Prelude.{◌≡◌, ◌≤◌, ◌==◌};
+ghost use Rattle.picture.specs.{ℕ, false, All, IsSome, MatchOption, ⊤, list_any, holds, place_of, AreSoundPanels, HasPlace, is_no_pad, follows_at, panel_shows_at, shows_at, windows as windows_of};
+ghost use Rattle.picture.specs.{panels, IsFrameWithin, part_holds};
 
 use cell::{Rect, WinId};
 use grids::Grids;

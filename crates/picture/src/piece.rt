@@ -1,7 +1,7 @@
 //! A part of a window's line, put into a picture.
 
-ghost use Rattle.picture.specs.{◌≡◌, ◌<◌, ◌≤◌, ◌+◌, ◌-◌, ◌==◌, ◌&&◌, ℕ, if◌then◌else◌, nat_le, nat_lt, HasSize, shown_at, shown, HasPlace, cell_at};
-ghost use Rattle.picture.specs.{windows as windows_of, IsPiece};
+ghost use Rattle.std.specs.Prelude.{◌≡◌, ◌<◌, ◌≤◌, ◌+◌, ◌-◌, ◌==◌, ◌&&◌, if◌then◌else◌};
+ghost use Rattle.picture.specs.{ℕ, nat_le, nat_lt, HasSize, shown_at, shown, HasPlace, cell_at, windows as windows_of, IsPiece};
 
 use cell::{Cell, Grid, Pairs, Shown, WinId, show_cells};
 use grids::{Grids, Place};

@@ -1,7 +1,7 @@
 //! Composes the damaged part of the picture of windows and panels again.
 
-ghost use Rattle.picture.specs.{◌≡◌, ◌≤◌, ℕ, None, length, AreShown, picture_of, shown, found_from_top, panels, GrewBy, AddsChanges, columns_of, is_among};
-ghost use Rattle.picture.specs.{Damages, cells_above, IsRepairable};
+ghost use Rattle.std.specs.Prelude.{◌≡◌, ◌≤◌};
+ghost use Rattle.picture.specs.{ℕ, None, length, AreShown, picture_of, shown, found_from_top, panels, GrewBy, AddsChanges, columns_of, is_among, Damages, cells_above, IsRepairable};
 
 use crate::line::compose_columns;
 use crate::owners::Owners;

@@ -1,7 +1,7 @@
 //! Where the lines of windows come from that a picture is composed of, and how many of their cells were read.
 
-ghost use Rattle.picture.specs.{◌≡◌, ◌<◌, ◌≤◌, ◌+◌, ◌-◌, ℕ, true, LARGEST_SCREEN, cursor_on_screen, holds, place_of, HasPlace, Windows, is_no_pad};
-ghost use Rattle.picture.specs.{windows as windows_of, GrewBy, IsPiece, frame_holds};
+ghost use Rattle.std.specs.Prelude.{◌≡◌, ◌<◌, ◌≤◌, ◌+◌, ◌-◌};
+ghost use Rattle.picture.specs.{ℕ, true, LARGEST_SCREEN, cursor_on_screen, holds, place_of, HasPlace, Windows, is_no_pad, windows as windows_of, GrewBy, IsPiece, frame_holds};
 
 use crate::parts::window_part;
 use crate::piece::piece;

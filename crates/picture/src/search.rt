@@ -1,7 +1,8 @@
 //! The search from the top visible panel down to the standard screen, and the topmost's cursor.
 
-ghost use Rattle.picture.specs.{◌≡◌, ◌<◌, cursor_of_topmost, cursor_on_screen, found_from_top, place_of, topmost, window_or_standard, AreSoundPanels};
-ghost use Rattle.picture.specs.{AreSoundWindows, panel_number, windows as windows_of, panels};
+ghost use Rattle.std.specs.Prelude.{◌≡◌, ◌<◌};
+ghost use Rattle.picture.specs.{cursor_of_topmost, cursor_on_screen, found_from_top, place_of, topmost, window_or_standard, AreSoundPanels, AreSoundWindows, panel_number, windows as windows_of};
+ghost use Rattle.picture.specs.{panels};
 
 use crate::rows::{Rows, TableRows};
 use crate::span::owner_span;

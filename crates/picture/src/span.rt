@@ -1,6 +1,7 @@
 //! The spans of a line: columns side by side at which the search from the top finds the same panel.
 
-ghost use Rattle.picture.specs.{◌≤◌, panels, HasPanelWindows, IsSpan};
+ghost use Rattle.std.specs.Prelude.{◌≤◌};
+ghost use Rattle.picture.specs.{panels, HasPanelWindows, IsSpan};
 
 use crate::owners::Owners;
 use crate::rows::Rows;

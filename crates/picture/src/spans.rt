@@ -1,7 +1,7 @@
 //! The spans of a line, and panels that are laid over it one after another.
 
-ghost use Rattle.picture.specs.{◌≡◌, ◌≢◌, ◌+◌, ◌<◌, ◌≤◌, ◌==◌, ◌&&◌, ◌||◌, ℕ, Some, None, Option, true, false, if◌then◌else◌, nat_le, nat_lt, slice_index};
-ghost use Rattle.picture.specs.{IsNext, contains, Panels, owner, WindowMap, panel_number, IsSpan, AreInside, AreSpans, numbered};
+ghost use Rattle.std.specs.Prelude.{◌≡◌, ◌≢◌, ◌+◌, ◌<◌, ◌≤◌, ◌==◌, ◌&&◌, ◌||◌, if◌then◌else◌};
+ghost use Rattle.picture.specs.{ℕ, Some, None, Option, true, false, nat_le, nat_lt, slice_index, IsNext, contains, Panels, owner, WindowMap, panel_number, IsSpan, AreInside, AreSpans, numbered};
 
 use crate::span::Span;
 use small_set::SmallSet;

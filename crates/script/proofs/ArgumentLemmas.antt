@@ -1,6 +1,7 @@
 -- Lemmas on the arguments of a call, one after another.
-use Rattle.script.specs.{◌≡◌, ℕ, ◌+◌, ◌<◌, true, List, [], ◌∷◌, length, drop, refl, arith, Option, Some, None, drop_all, slice_split, join_with_byte, Bor}
-use Rattle.script.specs.{join_with_byte-slice_split, length-slice_split, is_space, arguments, is_text, parse_arguments, Arguments, pieces_of}
+use Rattle.std.specs.Prelude.{◌≡◌, ◌+◌, ◌<◌, ◌∷◌}
+use Rattle.script.specs.{ℕ, true, List, [], length, drop, refl, arith, Option, Some, None, drop_all, slice_split, join_with_byte, Bor, join_with_byte-slice_split, length-slice_split, is_space}
+use Rattle.script.specs.{arguments, is_text, parse_arguments, Arguments, pieces_of}
 use Rattle.script.specs.declared.words.Form.{Form}
 
 pub arguments_none : (forms : List Form) → arguments forms [] ≡ []

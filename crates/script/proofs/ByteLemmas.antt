@@ -1,9 +1,9 @@
 -- A line is gathered a byte at a time.
-use Rattle.script.specs.{zero, suc, ◌+◌, ◌-◌, take, drop, get_or, position, add-one, drop-cons, length-take, Some, None, if◌then◌else◌, ◌↔◌, IsOk, OnOk}
-use Rattle.script.specs.{Result, is_err, eqb-true, drop-drop, drop-take, take-append-drop, position-Some, fails_before_first, position_or_len, ◌≡◌, ℕ, ◌≤◌}
-use Rattle.script.specs.{◌<◌, Bool, true, false, ◌==◌, List, [], ◌∷◌, ◌++◌, length, refl, sym, ap, ◌∙◌, arith, append_assoc, append-nil, length-append}
-use Rattle.script.specs.{Consumes, Consumes-nil, Consumes-trans, list_any-append, nat_tests, is_newline, newline, SourceSeen, HasNoNewline, ReadingEnds}
-use Rattle.script.specs.{ReadsLine, ReadsWhole, work_left, MovesBytes, ReadsByte}
+use Rattle.std.specs.Prelude.{◌+◌, ◌-◌, if◌then◌else◌, ◌↔◌, ◌≡◌, ◌≤◌, ◌<◌, ◌==◌, ◌∷◌, ◌++◌}
+use Rattle.script.specs.{zero, suc, take, drop, get_or, position, add-one, drop-cons, length-take, Some, None, IsOk, OnOk, Result, is_err, eqb-true, drop-drop, drop-take, take-append-drop}
+use Rattle.script.specs.{position-Some, fails_before_first, position_or_len, ℕ, Bool, true, false, List, [], length, refl, sym, ap, ◌∙◌, arith, append_assoc, append-nil, length-append, Consumes}
+use Rattle.script.specs.{Consumes-nil, Consumes-trans, list_any-append, nat_tests, is_newline, newline, SourceSeen, HasNoNewline, ReadingEnds, ReadsLine, ReadsWhole, work_left, MovesBytes}
+use Rattle.script.specs.{ReadsByte}
 use Rattle.script.specs.declared.bytes.TheConstants.{LONGEST_PIECE}
 use Rattle.script.specs.declared.limits.TheConstants.{LONGEST_LINE}
 use Rattle.script.specs.declared.bytes.LineEnd.{LineEnd}

@@ -1,6 +1,7 @@
 -- Lemmas on the pieces of a line.
-use Rattle.script.specs.{◌≡◌, ℕ, ◌+◌, ◌-◌, Some, None, position, List, [], ◌∷◌, length, take, drop, arith, length-drop, slice_split, take_all}
-use Rattle.script.specs.{fails_before_first, position_or_len_is, slice_split_first, slice_split_none, nat_tests, position-Some, is_space}
+use Rattle.std.specs.Prelude.{◌≡◌, ◌+◌, ◌-◌, ◌∷◌}
+use Rattle.script.specs.{ℕ, Some, None, position, List, [], length, take, drop, arith, length-drop, slice_split, take_all, fails_before_first, position_or_len_is, slice_split_first}
+use Rattle.script.specs.{slice_split_none, nat_tests, position-Some, is_space}
 
 -- the text from a place on
 pub rest_of : (xs : List ℕ) (i : ℕ) → take (length xs - i) (drop i xs) ≡ drop i xs

@@ -1,6 +1,6 @@
 -- Lemmas on numbers in digits.
-use Rattle.script.specs.{◌≡◌, ℕ, ◌+◌, ◌-◌, ◌*◌, ◌<◌, true, List, length, get_or, add-one, pow-suc, arith, is_ascii_digit, nat_tests, list_all_more}
-use Rattle.script.specs.{digits_value_more, DigitsSoFar}
+use Rattle.std.specs.Prelude.{◌≡◌, ◌+◌, ◌-◌, ◌*◌, ◌<◌}
+use Rattle.script.specs.{ℕ, true, List, length, get_or, add-one, pow-suc, arith, is_ascii_digit, nat_tests, list_all_more, digits_value_more, DigitsSoFar}
 
 -- the number so far goes on by a digit
 pub one_digit_more : (ds : List ℕ) (i value : ℕ) → DigitsSoFar ds i value → i < length ds → is_ascii_digit (get_or ds i 0) ≡ true

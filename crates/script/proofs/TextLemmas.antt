@@ -1,5 +1,6 @@
 -- Lemmas on texts that are read a character at a time.
-use Rattle.script.specs.{arith, ◌≡◌, ℕ, false, ◌==◌, List, [], ◌∷◌, ◌++◌, Option, Some, option_map, refl, append_assoc, list_any, backslash, text_of}
+use Rattle.std.specs.Prelude.{◌≡◌, ◌==◌, ◌∷◌, ◌++◌}
+use Rattle.script.specs.{arith, ℕ, false, List, [], Option, Some, option_map, refl, append_assoc, list_any, backslash, text_of}
 
 pub nothing_before : (r : Option (List ℕ)) (xs : List ℕ) → xs ≡ [] → r ≡ option_map (λ t. xs ++ t) r
 nothing_before r xs e = grind arith

@@ -1,5 +1,6 @@
 -- Each word is found among the words, and in the row of its first letter.
-use Rattle.script.specs.{◌≡◌, ℕ, List, Option, None, Some, refl, sym, ap, ◌∙◌, bytes_eq-Decides, find_named, words_like, entry_of, word_of, words}
+use Rattle.std.specs.Prelude.{◌≡◌}
+use Rattle.script.specs.{ℕ, List, Option, None, Some, refl, sym, ap, ◌∙◌, bytes_eq-Decides, find_named, words_like, entry_of, word_of, words}
 use Rattle.script.proofs.WordLemmas.{find-passes}
 use Rattle.script.specs.declared.words.Word.{Word}
 use Rattle.script.specs.declared.words.Word.TheVariants.{Making, Writing, Copying, Query, Stacking, Refresh}

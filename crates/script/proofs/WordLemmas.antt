@@ -1,6 +1,6 @@
 -- A word is searched for among those of its first letter, one after another.
-use Rattle.script.specs.{◌≡◌, ℕ, ◌+◌, ◌<◌, Bool, true, false, Option, Some, List, [], ◌∷◌, length, drop, get_or, find, add-one, drop-cons, map, ◌%◌, arith}
-use Rattle.script.specs.{slice_get, slice_index_or, words_like}
+use Rattle.std.specs.Prelude.{◌≡◌, ◌+◌, ◌<◌, ◌∷◌, ◌%◌}
+use Rattle.script.specs.{ℕ, Bool, true, false, Option, Some, List, [], length, drop, get_or, find, add-one, drop-cons, map, arith, slice_get, slice_index_or, words_like}
 use Rattle.script.specs.declared.written_words.TheConstants.{WORDS}
 
 pub find-next : {A : Type 0} (p : A → Bool) (xs : List A) (i : ℕ) (d : A) (found : Option A) → i < length xs → p (get_or xs i d) ≡ false

@@ -1,5 +1,6 @@
 -- The bytes that have a meaning in a script, by name. Which ones have is Curspan's own choice.
-use Rattle.script.specs.Names.{◌==◌, ℕ, Bool, not, is_printable}
+use Rattle.std.specs.Prelude.{◌==◌}
+use Rattle.script.specs.Names.{ℕ, Bool, not, is_printable}
 
 abbrev pub backspace : ℕ
 backspace = 8

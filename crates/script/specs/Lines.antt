@@ -1,6 +1,6 @@
 -- What reading a script line by line ensures of its bytes, however the reader cuts them.
-use Rattle.script.specs.Names.{◌≡◌, ◌+◌, ◌*◌, ℕ, Bool, true, false, List, [], ◌∷◌, ◌++◌, ◌≤◌, ◌<◌, ◌||◌, length, Option, Some, None, list_any, Consumes}
-use Rattle.script.specs.Names.{IsAtEnd, count_after, SourceSeen}
+use Rattle.std.specs.Prelude.{◌≡◌, ◌+◌, ◌*◌, ◌∷◌, ◌++◌, ◌≤◌, ◌<◌, ◌||◌}
+use Rattle.script.specs.Names.{ℕ, Bool, true, false, List, [], length, Option, Some, None, list_any, Consumes, IsAtEnd, count_after, SourceSeen}
 use Rattle.script.specs.Characters.{is_newline, newline}
 use Rattle.script.specs.declared.bytes.TheConstants.{LONGEST_PIECE}
 use Rattle.script.specs.declared.limits.TheConstants.{LONGEST_LINE}

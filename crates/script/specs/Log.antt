@@ -1,6 +1,7 @@
 -- The lines of a script's log. Their form is Curspan's own; docs/curspan.1 describes it under LOG.
-use Rattle.script.specs.Names.{ℕ, if◌then◌else◌, List, [], ◌∷◌, ◌++◌, codes, decimal, Option, Some, None, Result, Ok, Err, option_map_or, hex_digits}
-use Rattle.script.specs.Names.{refusal_text, Refusal, PanelId, Reply, Nothing, Number, TwoNumbers, Cell, Flag, Panel, Composed, Sent}
+use Rattle.std.specs.Prelude.{if◌then◌else◌, ◌∷◌, ◌++◌}
+use Rattle.script.specs.Names.{ℕ, List, [], codes, decimal, Option, Some, None, Result, Ok, Err, option_map_or, hex_digits, refusal_text, Refusal, PanelId, Reply, Nothing, Number, TwoNumbers, Cell}
+use Rattle.script.specs.Names.{Flag, Panel, Composed, Sent}
 use Rattle.script.specs.Characters.{newline, space}
 use Rattle.script.specs.declared.fault.ScriptFault.{ScriptFault}
 use Rattle.script.specs.declared.fault.ScriptFault.TheVariants.{Text, Reading, Write, Log}

@@ -5,11 +5,9 @@ pub use Rattle.cell.specs.Refusals.{refusal_text}
 pub use Rattle.cell.specs.declared.attr.Attr.{Attr}
 pub use Rattle.cell.specs.declared.refusal.Refusal.{Refusal}
 pub use Rattle.cell.specs.declared.window.WinId.{WinId}
-pub use Rattle.std.proofs.Common.{Bool, Err, IfErr, IfSome, IsOk, List, None, Ok, OnOk, Option, Result, Some, [], add-one, ap, append-nil, append_assoc}
-pub use Rattle.std.proofs.Common.{arith, codes, decimal, drop, drop-cons, false, find, get_or, if◌then◌else◌, is_err, is_some, length, length-append}
-pub use Rattle.std.proofs.Common.{length-drop, length-take, map, min, nat_le, nat_lt, not, option_and_then, option_map, pos, position, pow-suc, refl, rules}
-pub use Rattle.std.proofs.Common.{slice_get, slice_index, slice_index_or, suc, sym, take, true, zero, ℕ, ℤ, ◌%◌, ◌&&◌, ◌*◌, ◌++◌, ◌+◌, ◌-ℤ◌, ◌-◌, ◌<◌, ◌==◌}
-pub use Rattle.std.proofs.Common.{◌^◌, ◌||◌, ◌↔◌, ◌∙◌, ◌∷◌, ◌≡◌, ◌≢◌, ◌≤◌}
+pub use Rattle.std.proofs.Common.{Bool, Err, IfErr, IfSome, IsOk, List, None, Ok, OnOk, Option, Result, Some, [], add-one, ap, append-nil, append_assoc, arith, codes, decimal, drop, drop-cons}
+pub use Rattle.std.proofs.Common.{false, find, get_or, is_err, is_some, length, length-append, length-drop, length-take, map, min, nat_le, nat_lt, not, option_and_then, option_map, pos, position}
+pub use Rattle.std.proofs.Common.{pow-suc, refl, rules, slice_get, slice_index, slice_index_or, suc, sym, take, true, zero, ℕ, ℤ, ◌∙◌}
 pub use Rattle.std.proofs.KnownBytes.{Consumes-nil, Consumes-trans}
 pub use Rattle.std.proofs.lemmas.Bool.{eqb-true}
 pub use Rattle.std.proofs.lemmas.Bool.Decides.{nat_tests}
@@ -33,15 +31,14 @@ pub use Rattle.streams.specs.Counts.{count_after}
 pub use Rattle.streams.specs.Sources.{SourceSeen}
 pub use Rattle.world.specs.declared.call.Call.{Call}
 pub use Rattle.world.specs.declared.call.Call.TheVariants.{Copying, Making, Query, Refresh, Stacking, Writing}
-pub use Rattle.world.specs.declared.call.Copying.TheVariants.{Copywin, IsLinetouched, IsWintouched, Overlay, Overwrite, Syncdown, Syncup, Touchline, Touchln}
-pub use Rattle.world.specs.declared.call.Copying.TheVariants.{Touchwin, Untouchwin}
+pub use Rattle.world.specs.declared.call.Copying.TheVariants.{Copywin, IsLinetouched, IsWintouched, Overlay, Overwrite, Syncdown, Syncup, Touchline, Touchln, Touchwin, Untouchwin}
 pub use Rattle.world.specs.declared.call.Making.TheVariants.{Delwin, Derwin, Mvderwin, Mvwin, Newpad, Newwin, Subpad, Subwin}
 pub use Rattle.world.specs.declared.call.Query.TheVariants.{Getbegyx, Getmaxyx, Getparyx, Getyx, Inch}
 pub use Rattle.world.specs.declared.call.Refresh.TheVariants.{Doupdate, InitPair, Noutrefresh, Pnoutrefresh, UpdatePanels}
 pub use Rattle.world.specs.declared.call.Reply.{Reply}
 pub use Rattle.world.specs.declared.call.Reply.TheVariants.{Cell, Composed, Flag, Nothing, Number, Panel, Sent, TwoNumbers}
-pub use Rattle.world.specs.declared.call.Stacking.TheVariants.{BottomPanel, DelPanel, HidePanel, MovePanel, NewPanel, PanelAbove, PanelBelow, PanelHidden}
-pub use Rattle.world.specs.declared.call.Stacking.TheVariants.{PanelWindow, ReplacePanel, ShowPanel, TopPanel}
-pub use Rattle.world.specs.declared.call.Writing.TheVariants.{Addch, Addstr, Attroff, Attron, Attrset, Bkgdpair, Bkgdset, Clear, Clearok, Clrtobot, Clrtoeol}
-pub use Rattle.world.specs.declared.call.Writing.TheVariants.{ColorSet, Delch, Deleteln, Erase, Insch, Insertln, Move, Scrl, Scrollok, Setscrreg}
+pub use Rattle.world.specs.declared.call.Stacking.TheVariants.{BottomPanel, DelPanel, HidePanel, MovePanel, NewPanel, PanelAbove, PanelBelow, PanelHidden, PanelWindow, ReplacePanel, ShowPanel}
+pub use Rattle.world.specs.declared.call.Stacking.TheVariants.{TopPanel}
+pub use Rattle.world.specs.declared.call.Writing.TheVariants.{Addch, Addstr, Attroff, Attron, Attrset, Bkgdpair, Bkgdset, Clear, Clearok, Clrtobot, Clrtoeol, ColorSet, Delch, Deleteln, Erase, Insch}
+pub use Rattle.world.specs.declared.call.Writing.TheVariants.{Insertln, Move, Scrl, Scrollok, Setscrreg}
 pub use Rattle.world.specs.declared.panel.PanelId.{PanelId}

@@ -1,5 +1,6 @@
 -- What is left of a line, if something is, and the pieces between its single spaces.
-use Rattle.script.specs.Names.{◌+◌, ℕ, List, [], length, Option, Some, None, slice_split, Bor}
+use Rattle.std.specs.Prelude.{◌+◌}
+use Rattle.script.specs.Names.{ℕ, List, [], length, Option, Some, None, slice_split, Bor}
 use Rattle.script.specs.Characters.{is_space}
 
 -- the pieces between single spaces of what is left of a line, if something is

@@ -1,7 +1,7 @@
 -- What a script says: its calls with the numbers of their lines, up to the first fault. The form of scripts is
 -- Curspan's own; docs/curspan.1 describes it under SCRIPT and Arguments, and the faults in their order under LOG.
-use Rattle.script.specs.Names.{◌+◌, ◌-◌, ◌^◌, ◌==◌, ◌&&◌, ℕ, Bool, true, false, not, List, [], ◌∷◌, length, min, Option, Some, None, Result, Ok, Err, nat_lt}
-use Rattle.script.specs.Names.{if◌then◌else◌, join_with_byte, list_any, slice_split, option_map_or, Call}
+use Rattle.std.specs.Prelude.{◌+◌, ◌-◌, ◌^◌, ◌==◌, ◌&&◌, ◌∷◌, if◌then◌else◌}
+use Rattle.script.specs.Names.{ℕ, Bool, true, false, not, List, [], length, min, Option, Some, None, Result, Ok, Err, nat_lt, join_with_byte, list_any, slice_split, option_map_or, Call}
 use Rattle.script.specs.Characters.{is_bad_byte, is_newline, is_space, number_sign, space}
 use Rattle.script.specs.declared.limits.TheConstants.{LONGEST_LINE}
 use Rattle.script.specs.Words.{Entry, entry_of, no_arguments, word_of}

@@ -1,7 +1,7 @@
 -- The forms of arguments in a script. They are Curspan's own; docs/curspan.1 describes them under Arguments.
-use Rattle.script.specs.Names.{◌+◌, ◌*◌, ◌==◌, ◌&&◌, ◌||◌, ℕ, ℤ, pos, ◌-ℤ◌, Bool, true, false, not, List, [], ◌∷◌, ◌++◌, codes, length, slice_index, Option}
-use Rattle.script.specs.Names.{Some, None, option_map, option_and_then, position, nat_le, if◌then◌else◌, bytes_eq, digits_value, is_ascii_digit, list_all}
-use Rattle.script.specs.Names.{hexadecimal}
+use Rattle.std.specs.Prelude.{◌+◌, ◌*◌, ◌==◌, ◌&&◌, ◌||◌, ◌-ℤ◌, ◌∷◌, ◌++◌, if◌then◌else◌}
+use Rattle.script.specs.Names.{ℕ, ℤ, pos, Bool, true, false, not, List, [], codes, length, slice_index, Option, Some, None, option_map, option_and_then, position, nat_le, bytes_eq, digits_value}
+use Rattle.script.specs.Names.{is_ascii_digit, list_all, hexadecimal}
 use Rattle.script.specs.Characters.{backslash, backspace, carriage_return, digit_0, letter_b, letter_n, letter_r, letter_x, minus, newline}
 use Rattle.script.specs.declared.limits.TheConstants.{ALL_ATTRIBUTES, GREATEST_NUMBER, GREATEST_SIGNED, MOST_DIGITS}
 use Rattle.script.specs.Words.{Arguments}

@@ -2,13 +2,12 @@
 -- of the calls in X/Open Curses Issue 7, and of those on panels in NetBSD's panel(3), without the `w` that some begin
 -- with; their arguments come in the order that they have there. That a window is given by its number, and a character
 -- with attributes by both, is Curspan's own (docs/curspan.1).
-use Rattle.script.specs.Names.{ℕ, ℤ, pos, Bool, false, List, [], ◌∷◌, codes, slice_index, Option, None, option_map, find, flat_map, bytes_eq, Bor, Attr}
-use Rattle.script.specs.Names.{WinId, PanelId, Call, Making, Writing, Copying, Query, Stacking, Refresh, Newwin, Subwin, Derwin, Newpad, Subpad, Delwin}
-use Rattle.script.specs.Names.{Mvwin, Mvderwin, Move, Addch, Addstr, Insch, Delch, Insertln, Deleteln, Erase, Clear, Clrtoeol, Clrtobot, Scrl, Setscrreg}
-use Rattle.script.specs.Names.{Scrollok, Clearok, Attrset, Attron, Attroff, Bkgdset, ColorSet, Bkgdpair, Overlay, Overwrite, Copywin, Touchwin, Untouchwin}
-use Rattle.script.specs.Names.{Touchline, Touchln, Syncup, Syncdown, IsLinetouched, IsWintouched, Getyx, Getbegyx, Getmaxyx, Getparyx, Inch, NewPanel}
-use Rattle.script.specs.Names.{DelPanel, ShowPanel, HidePanel, TopPanel, BottomPanel, MovePanel, ReplacePanel, PanelAbove, PanelBelow, PanelWindow}
-use Rattle.script.specs.Names.{PanelHidden, Noutrefresh, Pnoutrefresh, UpdatePanels, Doupdate, InitPair}
+use Rattle.std.specs.Prelude.{◌∷◌}
+use Rattle.script.specs.Names.{ℕ, ℤ, pos, Bool, false, List, [], codes, slice_index, Option, None, option_map, find, flat_map, bytes_eq, Bor, Attr, WinId, PanelId, Call, Making, Writing, Copying}
+use Rattle.script.specs.Names.{Query, Stacking, Refresh, Newwin, Subwin, Derwin, Newpad, Subpad, Delwin, Mvwin, Mvderwin, Move, Addch, Addstr, Insch, Delch, Insertln, Deleteln, Erase, Clear}
+use Rattle.script.specs.Names.{Clrtoeol, Clrtobot, Scrl, Setscrreg, Scrollok, Clearok, Attrset, Attron, Attroff, Bkgdset, ColorSet, Bkgdpair, Overlay, Overwrite, Copywin, Touchwin, Untouchwin}
+use Rattle.script.specs.Names.{Touchline, Touchln, Syncup, Syncdown, IsLinetouched, IsWintouched, Getyx, Getbegyx, Getmaxyx, Getparyx, Inch, NewPanel, DelPanel, ShowPanel, HidePanel, TopPanel}
+use Rattle.script.specs.Names.{BottomPanel, MovePanel, ReplacePanel, PanelAbove, PanelBelow, PanelWindow, PanelHidden, Noutrefresh, Pnoutrefresh, UpdatePanels, Doupdate, InitPair}
 use Rattle.script.specs.declared.written_words.TheConstants.{WORDS}
 use Rattle.script.specs.declared.words.Form.{Form}
 use Rattle.script.specs.declared.words.Form.TheVariants.{Number, NumberOrNone, Signed, Attributes, Flag, Character, Text}

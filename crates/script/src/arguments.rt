@@ -1,7 +1,7 @@
 //! The arguments of a call, as a script has them.
 
-ghost use Rattle.script.specs.{◌≡◌, ◌≤◌, ◌<◌, ◌+◌, ◌∷◌, ◌++◌, [], length, is_some, IfSome, Some, None, false, OnTrue, attributes, character, no_arguments};
-ghost use Rattle.script.specs.{number, panel_or_none, window_at, parse_argument};
+ghost use Rattle.std.specs.Prelude.{◌≡◌, ◌≤◌, ◌<◌, ◌+◌, ◌∷◌, ◌++◌};
+ghost use Rattle.script.specs.{[], length, is_some, IfSome, Some, None, false, OnTrue, attributes, character, no_arguments, number, panel_or_none, window_at, parse_argument};
 
 use crate::limits::{GREATEST_NUMBER, LONGEST_LINE, MOST_ARGUMENTS};
 use crate::numbers::{attributes_of, flag_of, number_or_none, number_up_to, signed_number};

@@ -1,8 +1,8 @@
 //! The bytes of a script, one after another, and its lines.
 
-ghost use Rattle.script.specs.{◌≡◌, ◌≤◌, ◌<◌, ◌+◌, ◌∷◌, ℕ, [], length, slice_index, take, drop, position, IfSome, true, false, is_newline, ReadingEnds};
-ghost use Rattle.script.specs.{ReadsLine, ReadsWhole, end_failed, goes_on, has_newline, line_ended, line_failed, met_end, position_or_len, MovesBytes};
-ghost use Rattle.script.specs.{ReadsByte, byte_ended, byte_failed, is_byte};
+ghost use Rattle.std.specs.Prelude.{◌≡◌, ◌≤◌, ◌<◌, ◌+◌, ◌∷◌};
+ghost use Rattle.script.specs.{ℕ, [], length, slice_index, take, drop, position, IfSome, true, false, is_newline, ReadingEnds, ReadsLine, ReadsWhole, end_failed, goes_on, has_newline, line_ended};
+ghost use Rattle.script.specs.{line_failed, met_end, position_or_len, MovesBytes, ReadsByte, byte_ended, byte_failed, is_byte};
 
 use crate::limits::LONGEST_LINE;
 use arrayvec::ArrayVec;

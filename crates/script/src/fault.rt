@@ -1,6 +1,7 @@
 //! What is wrong with a script's text, and how a script ends.
 
-ghost use Rattle.script.specs.{◌≡◌, ◌≤◌, length};
+ghost use Rattle.std.specs.Prelude.{◌≡◌, ◌≤◌};
+ghost use Rattle.script.specs.{length};
 
 use streams::WriteFault;
 use thiserror::Error;

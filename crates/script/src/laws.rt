@@ -1,6 +1,7 @@
 //! What holds of the definitions alone. Each function does nothing, and its contract is the law.
 
-ghost use Rattle.script.specs.{◌≡◌, Some, entry_of, word_of};
+ghost use Rattle.std.specs.Prelude.{◌≡◌};
+ghost use Rattle.script.specs.{Some, entry_of, word_of};
 ghost use Rattle.script.specs.declared.limits.TheConstants.{ALL_ATTRIBUTES, GREATEST_NUMBER, GREATEST_SIGNED, LONGEST_LINE, MOST_ARGUMENTS, MOST_DIGITS};
 ghost use Rattle.script.specs.declared.words.Word.{Word};
 

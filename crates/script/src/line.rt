@@ -1,8 +1,8 @@
 //! What a line of a script says.
 
-ghost use Rattle.script.specs.{◌≡◌, ◌≤◌, ◌+◌, ◌<◌, ◌∷◌, ◌≢◌, ◌↔◌, ℕ, List, length, position, slice_index, IfSome, Some, None, false, true, list_all};
-ghost use Rattle.script.specs.{list_any, slice_split, OnTrue, is_printable, no_arguments, parse_arguments, is_bad_byte, is_space, arguments, is_skipped};
-ghost use Rattle.script.specs.{is_text, parse_line, pieces_of, room_of, Reads, TakesFirst};
+ghost use Rattle.std.specs.Prelude.{◌≡◌, ◌≤◌, ◌+◌, ◌<◌, ◌∷◌, ◌≢◌, ◌↔◌};
+ghost use Rattle.script.specs.{ℕ, List, length, position, slice_index, IfSome, Some, None, false, true, list_all, list_any, slice_split, OnTrue, is_printable, no_arguments, parse_arguments};
+ghost use Rattle.script.specs.{is_bad_byte, is_space, arguments, is_skipped, is_text, parse_line, pieces_of, room_of, Reads, TakesFirst};
 ghost use Rattle.script.specs.declared.words.Form.{Form};
 
 use crate::arguments::Arguments;

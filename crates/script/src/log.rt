@@ -1,7 +1,8 @@
 //! The lines of the log.
 
-ghost use Rattle.script.specs.{◌≡◌, ◌≤◌, ◌+◌, ◌<◌, ◌++◌, length, take, Some, is_err, is_some, true, IfErr, OnOk, option_map_or, Appends, codes, decimal, []};
-ghost use Rattle.script.specs.{◌∷◌, newline, answer_text, last_line, log_line, panel_text, reply_text, count_after};
+ghost use Rattle.std.specs.Prelude.{◌≡◌, ◌≤◌, ◌+◌, ◌<◌, ◌++◌, ◌∷◌};
+ghost use Rattle.script.specs.{length, take, Some, is_err, is_some, true, IfErr, OnOk, option_map_or, Appends, codes, decimal, [], newline, answer_text, last_line, log_line, panel_text, reply_text};
+ghost use Rattle.script.specs.{count_after};
 
 use crate::fault::ScriptFault;
 use arrayvec::ArrayVec;

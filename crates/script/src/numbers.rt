@@ -1,7 +1,8 @@
 //! Numbers, attributes and flags as a script has them.
 
-ghost use Rattle.script.specs.{◌≡◌, ◌≤◌, ◌<◌, ◌∷◌, length, take, slice_index, IfSome, None, true, false, is_ascii_digit, list_all, slice_split, is_space};
-ghost use Rattle.script.specs.{pieces_of, DigitsSoFar, attributes_of, flag_of, hex_byte, hex_value, negative, number_or_none, number_up_to, signed_number};
+ghost use Rattle.std.specs.Prelude.{◌≡◌, ◌≤◌, ◌<◌, ◌∷◌};
+ghost use Rattle.script.specs.{length, take, slice_index, IfSome, None, true, false, is_ascii_digit, list_all, slice_split, is_space, pieces_of, DigitsSoFar, attributes_of, flag_of, hex_byte};
+ghost use Rattle.script.specs.{hex_value, negative, number_or_none, number_up_to, signed_number};
 
 use crate::limits::{ALL_ATTRIBUTES, GREATEST_NUMBER, GREATEST_SIGNED, MOST_DIGITS};
 

@@ -1,7 +1,7 @@
 //! Texts as a script has them.
 
-ghost use Rattle.script.specs.{◌≡◌, ◌≤◌, ◌<◌, ◌∷◌, length, Some, None, IfSome, option_and_then, option_map, if◌then◌else◌, ◌==◌, backslash, after_x};
-ghost use Rattle.script.specs.{escaped_character, text_of};
+ghost use Rattle.std.specs.Prelude.{◌≡◌, ◌≤◌, ◌<◌, ◌∷◌, if◌then◌else◌, ◌==◌};
+ghost use Rattle.script.specs.{length, Some, None, IfSome, option_and_then, option_map, backslash, after_x, escaped_character, text_of};
 
 use crate::limits::LONGEST_LINE;
 use crate::numbers::hex_byte;

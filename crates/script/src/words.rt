@@ -1,7 +1,7 @@
 //! The calls by their script words: how a word is found, and what its row says.
 
-ghost use Rattle.script.specs.{◌≡◌, ◌≤◌, ◌<◌, [], IfSome, length, map, option_map, slice_index_or, bytes_eq, entry_of, placeless, word_of, IsRow, find_named};
-ghost use Rattle.script.specs.{words_like};
+ghost use Rattle.std.specs.Prelude.{◌≡◌, ◌≤◌, ◌<◌};
+ghost use Rattle.script.specs.{[], IfSome, length, map, option_map, slice_index_or, bytes_eq, entry_of, placeless, word_of, IsRow, find_named, words_like};
 
 use crate::arguments::Arguments;
 use crate::limits::MOST_ARGUMENTS;

@@ -1,6 +1,6 @@
 -- Chains of nodes that name one another, over the two functions that say which is above and which below.
-use Rattle.stack.specs.{◌≡◌, ℕ, zero, suc, ◌<◌, ◌≤◌, List, [], ◌∷◌, ◌++◌, length, reverse, sym, ap, subst, ◌∙◌, arith, AllByRecursion, eq-eqb, ne_eqb}
-use Rattle.stack.specs.{AreOnce, IsChain, IsOut, way}
+use Rattle.std.specs.Prelude.{◌≡◌, ◌<◌, ◌≤◌, ◌∷◌, ◌++◌}
+use Rattle.stack.specs.{ℕ, zero, suc, List, [], length, reverse, sym, ap, subst, ◌∙◌, arith, AllByRecursion, eq-eqb, ne_eqb, AreOnce, IsChain, IsOut, way}
 use mathlib.Core.List.{reverse_aux}
 use Rattle.stack.proofs.DistinctNumbers.{out-back, out-prefix}
 

@@ -1,7 +1,7 @@
 -- Lists of numbers without duplicates.
-use Rattle.stack.specs.{◌≡◌, ℕ, ◌<◌, ◌≤◌, true, false, ◌==◌, List, [], ◌∷◌, ◌++◌, length, reverse, sym, ap, subst, ◌⊎◌, inl, inr, refl, eqb, arith}
-use Rattle.stack.specs.{AllByRecursion, IsDistinct, list_any, cases_eq, eq-eqb, ne_eqb, or_cases, eqb-true, length-le_from_distinct_below, without, first_in}
-use Rattle.stack.specs.{next_in, AreOnce, IsOut}
+use Rattle.std.specs.Prelude.{◌≡◌, ◌<◌, ◌≤◌, ◌==◌, ◌∷◌, ◌++◌, ◌⊎◌}
+use Rattle.stack.specs.{ℕ, true, false, List, [], length, reverse, sym, ap, subst, inl, inr, refl, eqb, arith, AllByRecursion, IsDistinct, list_any, cases_eq, eq-eqb, ne_eqb, or_cases, eqb-true}
+use Rattle.stack.specs.{length-le_from_distinct_below, without, first_in, next_in, AreOnce, IsOut}
 use mathlib.Core.List.{reverse_aux}
 
 -- ---- outside a list

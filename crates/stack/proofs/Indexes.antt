@@ -1,8 +1,8 @@
 -- How the numbers that are taken and the panels of windows follow the nodes.
-use Rattle.stack.specs.{◌≡◌, ℕ, zero, suc, ◌+◌, ◌-◌, ◌<◌, ◌≤◌, ◌==◌, if◌then◌else◌, Option, None, rules, [], Some, is_some, MatchOption, List, ◌∷◌, ◌++◌}
-use Rattle.stack.specs.{length, set, take, replicate, slice_index_or, length-set, get_or-set_same, get_or-set_other, refl, sym, subst, ◌∙◌, inl, inr, arith}
-use Rattle.stack.specs.{cases_eq, eq-eqb, ne_eqb, length_push, take_all, MOST_PANELS, WinId, option_map, with_entry, held_by, holder_at, window_limit}
-use Rattle.stack.specs.{IsIndexed, node_at, above_at, below_at, window_at, window_in, Windowed, contains}
+use Rattle.std.specs.Prelude.{◌≡◌, ◌+◌, ◌-◌, ◌<◌, ◌≤◌, ◌==◌, if◌then◌else◌, ◌∷◌, ◌++◌}
+use Rattle.stack.specs.{ℕ, zero, suc, Option, None, rules, [], Some, is_some, MatchOption, List, length, set, take, replicate, slice_index_or, length-set, get_or-set_same, get_or-set_other, refl}
+use Rattle.stack.specs.{sym, subst, ◌∙◌, inl, inr, arith, cases_eq, eq-eqb, ne_eqb, length_push, take_all, MOST_PANELS, WinId, option_map, with_entry, held_by, holder_at, window_limit, IsIndexed}
+use Rattle.stack.specs.{node_at, above_at, below_at, window_at, window_in, Windowed, contains}
 use Rattle.stack.specs.declared.nodes.Node.{Node}
 use Rattle.stack.proofs.Windows.{given-other, given-same, window-free}
 

@@ -1,7 +1,7 @@
 -- What the nodes say of the neighbours of a panel is what the order says.
-use Rattle.stack.specs.{◌≡◌, ℕ, ◌<◌, false, not, ◌==◌, if◌then◌else◌, Option, None, Some, List, [], ◌∷◌, ◌++◌, reverse, sym, ap, subst, ◌∙◌, refl, arith}
-use Rattle.stack.specs.{AllByRecursion, last_or, list_any, eq-eqb, ne_eqb, append_assoc, reverse-append, first_in, next_in, above_at, below_at, AreOnce}
-use Rattle.stack.specs.{IsChain, IsPanel, IsThreaded}
+use Rattle.std.specs.Prelude.{◌≡◌, ◌<◌, ◌==◌, if◌then◌else◌, ◌∷◌, ◌++◌}
+use Rattle.stack.specs.{ℕ, false, not, Option, None, Some, List, [], reverse, sym, ap, subst, ◌∙◌, refl, arith, AllByRecursion, last_or, list_any, eq-eqb, ne_eqb, append_assoc, reverse-append}
+use Rattle.stack.specs.{first_in, next_in, above_at, below_at, AreOnce, IsChain, IsPanel, IsThreaded}
 use mathlib.Core.List.{reverse_aux}
 use Rattle.stack.specs.declared.nodes.Node.{Node}
 use Rattle.stack.proofs.Chains.{chain-back, chain-prefix, chain-reverse, not-first}

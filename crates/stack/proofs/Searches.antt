@@ -1,7 +1,7 @@
 -- The search for the number of the next panel, and for the panel of a window, step by step.
-use Rattle.stack.specs.{◌≡◌, ℕ, zero, suc, ◌+◌, ◌-◌, ◌<◌, ◌≤◌, ◌==◌, Bool, if◌then◌else◌, true, false, Option, None, Some, is_none, is_some, List, find, sym}
-use Rattle.stack.specs.{◌∙◌, refl, arith, range_with_len, cases_eq, eq-eqb, false≢true, ne_eqb, false_from_ne_true, MOST_PANELS, is_in_panel, panel_limit}
-use Rattle.stack.specs.{new_panel_number, panel_number, PanelId, is_taken, window_at, panels, table_of, IsPanelTable}
+use Rattle.std.specs.Prelude.{◌≡◌, ◌+◌, ◌-◌, ◌<◌, ◌≤◌, ◌==◌, if◌then◌else◌}
+use Rattle.stack.specs.{ℕ, zero, suc, Bool, true, false, Option, None, Some, is_none, is_some, List, find, sym, ◌∙◌, refl, arith, range_with_len, cases_eq, eq-eqb, false≢true, ne_eqb}
+use Rattle.stack.specs.{false_from_ne_true, MOST_PANELS, is_in_panel, panel_limit, new_panel_number, panel_number, PanelId, is_taken, window_at, panels, table_of, IsPanelTable}
 use Rattle.world.proofs.PanelLaws.{in_panel-some, in_panel-true}
 use Rattle.stack.specs.declared.nodes.Node.{Node}
 use Rattle.stack.proofs.Tables.{is-panel}

@@ -1,8 +1,8 @@
 -- Tables of panels: what is known of each, and each call's table.
-use Rattle.stack.specs.{◌≡◌, ℕ, true, false, ◌<◌, ◌⊎◌, Option, None, Some, IsSome, List, [], ◌∷◌, ◌++◌, length, sym, subst, ◌∙◌, refl, inl, inr, arith, eqb}
-use Rattle.stack.specs.{rules, is_none, is_some, eqb-false, cases_eq, length_push, All-from_recursion, apart_from_distinct, Hidden, first_of, Panels}
-use Rattle.stack.specs.{first_panels, after_del_panel, after_replace_panel, is_hidden, without, IsSoundOrder, visible_tests, with_panel, with_entry, no_node}
-use Rattle.stack.specs.{node_at, window_at, window_in, from_bottom, IsOut, IsPanel, IsThreaded, panels, table_of, IsPanelTable, PanelTable, Entered, IsFree}
+use Rattle.std.specs.Prelude.{◌≡◌, ◌<◌, ◌⊎◌, ◌∷◌, ◌++◌}
+use Rattle.stack.specs.{ℕ, true, false, Option, None, Some, IsSome, List, [], length, sym, subst, ◌∙◌, refl, inl, inr, arith, eqb, rules, is_none, is_some, eqb-false, cases_eq, length_push}
+use Rattle.stack.specs.{All-from_recursion, apart_from_distinct, Hidden, first_of, Panels, first_panels, after_del_panel, after_replace_panel, is_hidden, without, IsSoundOrder, visible_tests}
+use Rattle.stack.specs.{with_panel, with_entry, no_node, node_at, window_at, window_in, from_bottom, IsOut, IsPanel, IsThreaded, panels, table_of, IsPanelTable, PanelTable, Entered, IsFree}
 use Rattle.stack.specs.{NodeMade, Windowed, Reordered}
 use Rattle.stack.specs.declared.nodes.Node.{Node}
 use Rattle.stack.proofs.DistinctNumbers.{distinct-once, each-weaker, out-each}

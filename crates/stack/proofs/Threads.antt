@@ -1,7 +1,7 @@
 -- The order through the nodes, before and after a panel leaves or enters it.
-use Rattle.stack.specs.{◌≡◌, ℕ, ◌<◌, ◌≤◌, ◌==◌, if◌then◌else◌, Option, IsSome, List, [], ◌∷◌, ◌++◌, length, reverse, sym, ap, subst, ◌∙◌, inl, inr, arith}
-use Rattle.stack.specs.{AllByRecursion, cases_eq, eq-eqb, ne_eqb, cases_lt, get_or_past, length-reverse, without, node_at, above_at, below_at, IsAlone, IsOut}
-use Rattle.stack.specs.{IsPanel, IsThreaded, from_bottom, from_top, Linked, Reordered, SameWindows}
+use Rattle.std.specs.Prelude.{◌≡◌, ◌<◌, ◌≤◌, ◌==◌, if◌then◌else◌, ◌∷◌, ◌++◌}
+use Rattle.stack.specs.{ℕ, Option, IsSome, List, [], length, reverse, sym, ap, subst, ◌∙◌, inl, inr, arith, AllByRecursion, cases_eq, eq-eqb, ne_eqb, cases_lt, get_or_past, length-reverse, without}
+use Rattle.stack.specs.{node_at, above_at, below_at, IsAlone, IsOut, IsPanel, IsThreaded, from_bottom, from_top, Linked, Reordered, SameWindows}
 use Rattle.stack.specs.declared.nodes.Node.{Node}
 use Rattle.stack.proofs.Chains.{Inserted, Removed, chain-back, chain-prefix, chain-pushed, chain-put, chain-removed, chain-reverse, chain-same, first-each, last-each, not-first, not-last, way-chain}
 use Rattle.stack.proofs.DistinctNumbers.{each-append, each-back, each-prefix, each-reverse, each-weaker, length-once, once-after, once-before, once-push, once-without, out-append, out-back, out-each}

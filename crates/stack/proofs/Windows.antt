@@ -1,7 +1,8 @@
 -- The windows of panels, and where one of them changes.
-use Rattle.stack.specs.{◌≡◌, ℕ, zero, suc, ◌<◌, Option, None, IsSome, List, [], ◌∷◌, ◌++◌, length, map, slice_index_or, sym, ap, ◌∙◌, ◌⊎◌, refl, inl, inr}
-use Rattle.stack.specs.{arith, AllByRecursion, cases_eq, cases_order, eq-eqb, ne_eqb, get_or_append_left, get_or_past, get_or_push, length_push, with_entry}
-use Rattle.stack.specs.{no_node, node_at, above_at, below_at, window_at, window_in, from_bottom, IsOut, IsPanel, IsThreaded, panels, table_of, Windowed}
+use Rattle.std.specs.Prelude.{◌≡◌, ◌<◌, ◌∷◌, ◌++◌, ◌⊎◌}
+use Rattle.stack.specs.{ℕ, zero, suc, Option, None, IsSome, List, [], length, map, slice_index_or, sym, ap, ◌∙◌, refl, inl, inr, arith, AllByRecursion, cases_eq, cases_order, eq-eqb, ne_eqb}
+use Rattle.stack.specs.{get_or_append_left, get_or_past, get_or_push, length_push, with_entry, no_node, node_at, above_at, below_at, window_at, window_in, from_bottom, IsOut, IsPanel, IsThreaded}
+use Rattle.stack.specs.{panels, table_of, Windowed}
 use Rattle.stack.specs.declared.nodes.Node.{Node}
 use Rattle.stack.proofs.Chains.{chain-same}
 use Rattle.stack.proofs.DistinctNumbers.{each-weaker}

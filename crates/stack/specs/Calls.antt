@@ -1,6 +1,7 @@
 -- A call on panels, made on a table of panels.
-use Rattle.stack.specs.Names.{◌≡◌, ℕ, Bool, IfOk, List, None, OnErr, OnOk, Option, Result, Some, result_err, WinId, first_of, Refusal, order_reply}
-use Rattle.stack.specs.Names.{order_takes_memory, Refused, Windows, IsSoundOrder, after_stacking, stacking_order, stacking_refusal, Reply, Stacking}
+use Rattle.std.specs.Prelude.{◌≡◌}
+use Rattle.stack.specs.Names.{ℕ, Bool, IfOk, List, None, OnErr, OnOk, Option, Result, Some, result_err, WinId, first_of, Refusal, order_reply, order_takes_memory, Refused, Windows, IsSoundOrder}
+use Rattle.stack.specs.Names.{after_stacking, stacking_order, stacking_refusal, Reply, Stacking}
 use Rattle.stack.specs.Tables.{PanelTable, panels}
 
 -- it was refused by its tests of panels, and then nothing changed; else the answer and the panels are those of its

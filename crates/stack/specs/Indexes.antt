@@ -1,7 +1,7 @@
 -- The indexes by which the least free number and the panel of a window are found: the set of the numbers that are
 -- taken, and a panel for each number that a window of a screen can have.
-use Rattle.stack.specs.Names.{◌≡◌, ℕ, ◌+◌, ◌<◌, ◌≤◌, ◌==◌, ◌||◌, Bool, if◌then◌else◌, Option, None, Some, is_some, List, length, slice_index_or, MOST_PANELS}
-use Rattle.stack.specs.Names.{MOST_WINDOWS, contains}
+use Rattle.std.specs.Prelude.{◌≡◌, ◌+◌, ◌<◌, ◌≤◌, ◌==◌, ◌||◌, if◌then◌else◌}
+use Rattle.stack.specs.Names.{ℕ, Bool, Option, None, Some, is_some, List, length, slice_index_or, MOST_PANELS, MOST_WINDOWS, contains}
 use Rattle.stack.specs.Nodes.{window_at}
 use Rattle.stack.specs.declared.nodes.Node.{Node}
 

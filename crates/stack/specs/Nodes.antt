@@ -1,8 +1,8 @@
 -- The nodes of the doubly linked list that is the order, by the numbers of their panels. Each names the panels right
 -- above and below. The node 0 is the end of both ways, in the place of the standard screen: above it is the bottom
 -- panel, below it the top one.
-use Rattle.stack.specs.Names.{◌≡◌, ℕ, zero, suc, ◌<◌, Bool, if◌then◌else◌, ◌==◌, Option, None, IsSome, List, [], ◌∷◌, length, slice_index_or, ⊤, option_map}
-use Rattle.stack.specs.Names.{AllByRecursion}
+use Rattle.std.specs.Prelude.{◌≡◌, ◌<◌, if◌then◌else◌, ◌==◌, ◌∷◌}
+use Rattle.stack.specs.Names.{ℕ, zero, suc, Bool, Option, None, IsSome, List, [], length, slice_index_or, ⊤, option_map, AllByRecursion}
 use Rattle.stack.specs.declared.nodes.Node.{Node}
 
 -- a node of no panel

@@ -1,5 +1,6 @@
 -- The panels as the stack shows them, and the panels of the world that they represent.
-use Rattle.stack.specs.Names.{◌≡◌, ℕ, ◌+◌, ◌<◌, ◌≤◌, Option, Some, None, List, length, map, slice_index_or, MOST_PANELS, Panels}
+use Rattle.std.specs.Prelude.{◌≡◌, ◌+◌, ◌<◌, ◌≤◌}
+use Rattle.stack.specs.Names.{ℕ, Option, Some, None, List, length, map, slice_index_or, MOST_PANELS, Panels}
 use Rattle.stack.specs.Nodes.{from_bottom, IsThreaded, window_at, window_in}
 use Rattle.stack.specs.declared.nodes.Node.{Node}
 

@@ -1,8 +1,8 @@
 //! Which numbers belong to panels, and the window of each.
 
-ghost use Rattle.stack.specs.{◌≡◌, ◌==◌, if◌then◌else◌, ℕ, None, Some, IfSome, MatchOption, OnOk, OnErr, is_some, false, ⊤, result_err, first_of};
-ghost use Rattle.stack.specs.{is_in_panel, is_hidden, new_panel_number, panel_number, panel_tests, visible_tests, window_at, IsPanel, panels, table_of};
-ghost use Rattle.stack.specs.{IsPanelTable, Entered, IsFree, NodeMade};
+ghost use Rattle.std.specs.Prelude.{◌≡◌, ◌==◌, if◌then◌else◌};
+ghost use Rattle.stack.specs.{ℕ, None, Some, IfSome, MatchOption, OnOk, OnErr, is_some, false, ⊤, result_err, first_of, is_in_panel, is_hidden, new_panel_number, panel_number, panel_tests};
+ghost use Rattle.stack.specs.{visible_tests, window_at, IsPanel, panels, table_of, IsPanelTable, Entered, IsFree, NodeMade};
 
 use crate::nodes::{Node, Nodes};
 use cell::{MOST_PANELS, Refusal, WinId};

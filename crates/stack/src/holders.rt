@@ -1,6 +1,7 @@
 //! Which panel each window is in.
 
-ghost use Rattle.stack.specs.{◌≡◌, ◌<◌, ◌≤◌, ℕ, length, OnOk, option_map, holder_at, held_by, window_limit};
+ghost use Rattle.std.specs.Prelude.{◌≡◌, ◌<◌, ◌≤◌};
+ghost use Rattle.stack.specs.{ℕ, length, OnOk, option_map, holder_at, held_by, window_limit};
 
 use cell::{MOST_WINDOWS, WinId};
 use std::alloc::{AllocError, Global};

@@ -1,6 +1,7 @@
 //! Changes of the order: two nodes become neighbours, a panel leaves the order, a panel enters it.
 
-ghost use Rattle.stack.specs.{◌<◌, ◌++◌, ◌∷◌, [], length, without, from_bottom, IsThreaded, IsPanel, IsOut, Linked, Reordered};
+ghost use Rattle.std.specs.Prelude.{◌<◌, ◌++◌, ◌∷◌};
+ghost use Rattle.stack.specs.{[], length, without, from_bottom, IsThreaded, IsPanel, IsOut, Linked, Reordered};
 
 use crate::nodes::Nodes;
 

@@ -1,7 +1,8 @@
 //! The nodes of the doubly linked list of the visible panels.
 
-ghost use Rattle.stack.specs.{◌≡◌, ◌<◌, ◌≤◌, ◌-◌, ◌++◌, ◌∷◌, ◌==◌, [], ℕ, false, true, None, Some, MatchOption, length, slice_set, is_ok, if◌then◌else◌, ⊤};
-ghost use Rattle.stack.specs.{option_map, MOST_PANELS, contains, is_taken, no_node, node_at, window_at, window_in, Windowed};
+ghost use Rattle.std.specs.Prelude.{◌≡◌, ◌<◌, ◌≤◌, ◌-◌, ◌++◌, ◌∷◌, ◌==◌, if◌then◌else◌};
+ghost use Rattle.stack.specs.{[], ℕ, false, true, None, Some, MatchOption, length, slice_set, is_ok, ⊤, option_map, MOST_PANELS, contains, is_taken, no_node, node_at, window_at, window_in};
+ghost use Rattle.stack.specs.{Windowed};
 
 use crate::holders::Holders;
 use cell::{MOST_PANELS, MOST_WINDOWS, WinId};

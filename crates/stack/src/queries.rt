@@ -1,7 +1,8 @@
 //! Queries about panels. None changes the stack.
 
-ghost use Rattle.stack.specs.{◌≡◌, Some, IfSome, is_some, reverse, length, ◌≤◌, MOST_PANELS, is_in_panel, is_hidden, panel_above, panel_below, panel_number};
-ghost use Rattle.stack.specs.{IsSoundOrder, Stacking, Asked, as_is, window_number, panels};
+ghost use Rattle.std.specs.Prelude.{◌≡◌, ◌≤◌};
+ghost use Rattle.stack.specs.{Some, IfSome, is_some, reverse, length, MOST_PANELS, is_in_panel, is_hidden, panel_above, panel_below, panel_number, IsSoundOrder, Stacking, Asked, as_is};
+ghost use Rattle.stack.specs.{window_number, panels};
 
 use crate::entries::{holder, panel_at, require_panel, require_visible};
 use crate::table::Stack;

@@ -1,6 +1,7 @@
 //! The panels of a screen.
 
-ghost use Rattle.stack.specs.{◌≡◌, first_panels, panels};
+ghost use Rattle.std.specs.Prelude.{◌≡◌};
+ghost use Rattle.stack.specs.{first_panels, panels};
 
 use crate::nodes::Nodes;
 use std::alloc::Global;

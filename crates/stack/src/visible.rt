@@ -1,6 +1,7 @@
 //! Walks through the order.
 
-ghost use Rattle.stack.specs.{◌≡◌, YieldsFirstBy, item_count, from_bottom, from_top};
+ghost use Rattle.std.specs.Prelude.{◌≡◌};
+ghost use Rattle.stack.specs.{YieldsFirstBy, item_count, from_bottom, from_top};
 
 use crate::nodes::Nodes;
 use std::marker::Model;

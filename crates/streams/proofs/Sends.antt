@@ -1,6 +1,7 @@
 -- Texts that are sent one after another.
-use Rattle.streams.specs.{eq-eqb, ne_eqb, ◌≡◌, ℕ, ◌+◌, ◌<◌, ◌≤◌, ◌==◌, List, [], ◌++◌, length, take, drop, Option, Result, Ok, Err, ◌∙◌, arith, append_assoc}
-use Rattle.streams.specs.{length-append, Appends, Keeps, append-nil, take-append-drop, length-take-le, take-append-add, next_count, count_after, Seen, Sends}
+use Rattle.std.specs.Prelude.{◌≡◌, ◌+◌, ◌<◌, ◌≤◌, ◌==◌, ◌++◌}
+use Rattle.streams.specs.{eq-eqb, ne_eqb, ℕ, List, [], length, take, drop, Option, Result, Ok, Err, ◌∙◌, arith, append_assoc, length-append, Appends, Keeps, append-nil, take-append-drop}
+use Rattle.streams.specs.{length-take-le, take-append-add, next_count, count_after, Seen, Sends}
 use Rattle.streams.specs.declared.sending.WriteFault.{WriteFault}
 
 -- one flush more exactly where all of a text was sent

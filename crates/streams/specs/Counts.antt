@@ -1,6 +1,7 @@
 -- How the failures of a sink or a source, and the writes and flushes of a sink, are counted. No standard says it; the answers are
 -- those of std::io.
-use Rattle.streams.specs.Names.{ℕ, ◌+◌, ◌%◌, ◌^◌, ◌==◌, ◌&&◌, nat_lt, if◌then◌else◌, Bool, List, length}
+use Rattle.std.specs.Prelude.{◌+◌, ◌%◌, ◌^◌, ◌==◌, ◌&&◌, if◌then◌else◌}
+use Rattle.streams.specs.Names.{ℕ, nat_lt, Bool, List, length}
 
 -- a counter that wraps around from the greatest u64 to 0
 abbrev pub next_count : ℕ → ℕ

@@ -1,7 +1,6 @@
 -- The names from below: definitions take them from here, proofs and code from `specs`.
-pub use Rattle.std.proofs.Common.{Bool, Err, IfErr, IsErr, IsErrAnd, IsTrue, List, None, Ok, Option, Result, [], append_assoc, arith, decimal, drop, false}
-pub use Rattle.std.proofs.Common.{if◌then◌else◌, is_err, length, length-append, nat_lt, take, true, ℕ, ◌%◌, ◌&&◌, ◌++◌, ◌+◌, ◌-◌, ◌<◌, ◌==◌, ◌^◌, ◌||◌, ◌↔◌}
-pub use Rattle.std.proofs.Common.{◌∙◌, ◌≡◌, ◌≢◌, ◌≤◌}
+pub use Rattle.std.proofs.Common.{Bool, Err, IfErr, IsErr, IsErrAnd, IsTrue, List, None, Ok, Option, Result, [], append_assoc, arith, decimal, drop, false, is_err, length, length-append, nat_lt}
+pub use Rattle.std.proofs.Common.{take, true, ℕ, ◌∙◌}
 pub use Rattle.std.proofs.Math.Seq.{take-append-add}
 pub use Rattle.std.proofs.lemmas.Bool.{eq-eqb, ne_eqb}
 pub use Rattle.std.proofs.lemmas.Grind.{common_steps}

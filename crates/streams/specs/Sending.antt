@@ -1,6 +1,7 @@
 -- What sending a text does to a sink.
 -- No standard says it; the answers are those of Rust's std::io::Write.
-use Rattle.streams.specs.Names.{◌≡◌, ℕ, ◌+◌, ◌<◌, ◌≤◌, ◌%◌, ◌^◌, List, length, take, Result, Ok, Err, Appends}
+use Rattle.std.specs.Prelude.{◌≡◌, ◌+◌, ◌<◌, ◌≤◌, ◌%◌, ◌^◌}
+use Rattle.streams.specs.Names.{ℕ, List, length, take, Result, Ok, Err, Appends}
 use Rattle.streams.specs.declared.sending.WriteFault.{WriteFault}
 use Rattle.streams.specs.Counts.{next_count}
 use Rattle.streams.specs.Sinks.{Seen}

@@ -1,7 +1,8 @@
 -- Sinks. A sink takes a stream of bytes, piece by piece, and counts its failures. This says what has been seen of it so
 -- far.
 -- No standard says it; the answers are those of Rust's std::io::Write.
-use Rattle.streams.specs.Names.{None, if◌then◌else◌, ◌==◌, ℕ, List, length, Option, Result, Ok, Err, Bool, true, false}
+use Rattle.std.specs.Prelude.{if◌then◌else◌, ◌==◌}
+use Rattle.streams.specs.Names.{None, ℕ, List, length, Option, Result, Ok, Err, Bool, true, false}
 use Rattle.streams.specs.Counts.{moved_nothing}
 
 -- The bytes that it took so far, where they are known, how many failures it counted, how many writes took all of their

@@ -1,7 +1,8 @@
 -- Sources. A source gives a stream of bytes, piece by piece, and counts its failures. This says what has been seen of
 -- it so far.
 -- No standard says it; the answers are those of Rust's std::io::Read.
-use Rattle.streams.specs.Names.{ℕ, List, Bool, true, Option, Result, Ok, Err, if◌then◌else◌}
+use Rattle.std.specs.Prelude.{if◌then◌else◌}
+use Rattle.streams.specs.Names.{ℕ, List, Bool, true, Option, Result, Ok, Err}
 use Rattle.streams.specs.Counts.{moved_nothing}
 
 -- The bytes that are left, where they are known, whether a read met the end, whether another came after that, how many

@@ -1,6 +1,7 @@
 //! A sink that keeps nothing.
 
-ghost use Rattle.streams.specs.{◌≡◌, None, nothing_seen};
+ghost use Rattle.std.specs.Prelude.{◌≡◌};
+ghost use Rattle.streams.specs.{None, nothing_seen};
 
 use crate::sink::Sink;
 use std::io;

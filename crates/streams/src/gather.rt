@@ -1,6 +1,7 @@
 //! Gathering a text in a buffer of fixed size before it is sent.
 
-ghost use Rattle.streams.specs.{◌≡◌, ◌≤◌, ◌+◌, ◌++◌, decimal, length};
+ghost use Rattle.std.specs.Prelude.{◌≡◌, ◌≤◌, ◌+◌, ◌++◌};
+ghost use Rattle.streams.specs.{decimal, length};
 
 use arrayvec::ArrayVec;
 use itoa::Buffer;

@@ -1,6 +1,7 @@
 //! By which kind of error a call of a stream failed.
 
-ghost use Rattle.streams.specs.{◌≡◌, ◌↔◌, IsErrAnd, IsTrue, error_kind};
+ghost use Rattle.std.specs.Prelude.{◌≡◌, ◌↔◌};
+ghost use Rattle.streams.specs.{IsErrAnd, IsTrue, error_kind};
 
 use std::io;
 use std::io::ErrorKind;

@@ -1,6 +1,7 @@
 //! A stream whose reads and writes are made again where a signal interrupted them.
 
-ghost use Rattle.streams.specs.{◌≡◌, ◌≢◌, IfErr, ReadsAtMost, WritesAtMost, ReadConsumes, WriteAppends, error_kind};
+ghost use Rattle.std.specs.Prelude.{◌≡◌, ◌≢◌};
+ghost use Rattle.streams.specs.{IfErr, ReadsAtMost, WritesAtMost, ReadConsumes, WriteAppends, error_kind};
 
 use crate::outcome::fails_by;
 use std::io;

@@ -1,6 +1,7 @@
 //! Sending a text to a sink.
 
-ghost use Rattle.streams.specs.{◌≡◌, ◌+◌, ◌^◌, ◌<◌, length, Sends, WritesOnce};
+ghost use Rattle.std.specs.Prelude.{◌≡◌, ◌+◌, ◌^◌, ◌<◌};
+ghost use Rattle.streams.specs.{length, Sends, WritesOnce};
 
 use crate::sink::Sink;
 

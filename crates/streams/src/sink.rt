@@ -1,7 +1,7 @@
 //! Sinks: what takes the bytes of a text.
 
-ghost use Rattle.streams.specs.{◌≡◌, ℕ, false, is_err, WritesAtMost, WriteAppends, Keeps, count_after, next_count, Seen, write_fails, write_is_whole};
-ghost use Rattle.streams.specs.{flushed_after_write, flushed_after_flush};
+ghost use Rattle.std.specs.Prelude.{◌≡◌};
+ghost use Rattle.streams.specs.{ℕ, false, is_err, WritesAtMost, WriteAppends, Keeps, count_after, next_count, Seen, write_fails, write_is_whole, flushed_after_write, flushed_after_flush};
 
 use std::io;
 use std::io::Write;

@@ -1,6 +1,7 @@
 //! Sources: what gives the bytes of a text.
 
-ghost use Rattle.streams.specs.{◌≡◌, ◌-◌, ◌^◌, ◌||◌, false, is_err, IsErr, ReadsAtMost, ReadConsumes, count_after, SourceSeen, met_end_after_read};
+ghost use Rattle.std.specs.Prelude.{◌≡◌, ◌-◌, ◌^◌, ◌||◌};
+ghost use Rattle.streams.specs.{false, is_err, IsErr, ReadsAtMost, ReadConsumes, count_after, SourceSeen, met_end_after_read};
 
 use std::io;
 use std::io::{ErrorKind, Read};

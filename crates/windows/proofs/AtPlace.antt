@@ -1,5 +1,6 @@
 -- One cell: its rectangle, and its write.
-use Rattle.windows.specs.{◌≡◌, ℕ, ◌<◌, Some, arith, cases_eq, nat_tests, Glyph, Place, Windows, Window, put, filled_cells, at_place, frame_of, IsStateOf}
+use Rattle.std.specs.Prelude.{◌≡◌, ◌<◌}
+use Rattle.windows.specs.{ℕ, Some, arith, cases_eq, nat_tests, Glyph, Place, Windows, Window, put, filled_cells, at_place, frame_of, IsStateOf}
 use Rattle.windows.specs.declared.state.WindowState.{WindowState}
 use Rattle.windows.proofs.NextWrites.{once}
 use Rattle.windows.proofs.Rectangles.{block}

@@ -1,6 +1,7 @@
 -- What a call does to a window of a known state, and the rectangle that it answers.
-use Rattle.windows.specs.{◌≡◌, ℕ, Option, Some, None, Ok, arith, option_and_then, Drawing, Window, Windows, put, if_there, Change, after_change, change_frame}
-use Rattle.windows.specs.{after_edit, draws, AreSoundWindows, Refusal, Rect, WindowTable, windows, Drew, IsStateOf, window_in_state}
+use Rattle.std.specs.Prelude.{◌≡◌}
+use Rattle.windows.specs.{ℕ, Option, Some, None, Ok, arith, option_and_then, Drawing, Window, Windows, put, if_there, Change, after_change, change_frame, after_edit, draws, AreSoundWindows, Refusal}
+use Rattle.windows.specs.{Rect, WindowTable, windows, Drew, IsStateOf, window_in_state}
 use Rattle.windows.specs.declared.state.WindowState.{WindowState}
 
 -- a call that was accepted

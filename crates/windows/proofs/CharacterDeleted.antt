@@ -1,6 +1,7 @@
 -- A character deleted: the rectangle, its two writes, and the frame of the call.
-use Rattle.windows.specs.{◌≡◌, ℕ, ◌+◌, ◌-◌, ◌<◌, false, Some, arith, cases_eq, nat_tests, Glyph, Place, Rect, WindowMap, Windows, Window, put, filled_cells}
-use Rattle.windows.specs.{copied_cells, character_deleted, frame_of, drawing_frame, delch_drawing, IsStateOf}
+use Rattle.std.specs.Prelude.{◌≡◌, ◌+◌, ◌-◌, ◌<◌}
+use Rattle.windows.specs.{ℕ, false, Some, arith, cases_eq, nat_tests, Glyph, Place, Rect, WindowMap, Windows, Window, put, filled_cells, copied_cells, character_deleted, frame_of, drawing_frame}
+use Rattle.windows.specs.{delch_drawing, IsStateOf}
 use Rattle.windows.specs.declared.state.WindowState.{WindowState}
 use Rattle.windows.proofs.NextWrites.{twice}
 use Rattle.windows.proofs.Rectangles.{block}

@@ -1,9 +1,9 @@
 -- Characters that are printed in one line, before its last column, are one write of that line.
-use Rattle.windows.specs.{◌≡◌, ℕ, zero, suc, ◌+◌, ◌-◌, ◌<◌, true, false, Option, Some, IsSome, List, [], ◌∷◌, ◌++◌, length, get_or, take, drop, map, ap}
-use Rattle.windows.specs.{arith, refl, sym, ◌∙◌, eq-eqb, list_any, cases_eq, ne_eqb, eqb-true, nat_tests, take_more, take-append-drop, list_any-append, Glyph}
-use Rattle.windows.specs.{is_printable, Place, Rect, Window, WindowMap, Windows, GridPlace, Drawing, own, own_within, window_limit, with_change}
-use Rattle.windows.specs.{after_drawing, put, set_in, set, with_cursor, listed_cells, written_glyph, at_place, frame_of_two, drawn_to, character_printed}
-use Rattle.windows.specs.{character_drawing, typed_in, typed_drawing, after_character, after_text, is_bad_character, Settings, printed_cell, IsStateOf}
+use Rattle.std.specs.Prelude.{◌≡◌, ◌+◌, ◌-◌, ◌<◌, ◌∷◌, ◌++◌}
+use Rattle.windows.specs.{ℕ, zero, suc, true, false, Option, Some, IsSome, List, [], length, get_or, take, drop, map, ap, arith, refl, sym, ◌∙◌, eq-eqb, list_any, cases_eq, ne_eqb, eqb-true}
+use Rattle.windows.specs.{nat_tests, take_more, take-append-drop, list_any-append, Glyph, is_printable, Place, Rect, Window, WindowMap, Windows, GridPlace, Drawing, own, own_within, window_limit}
+use Rattle.windows.specs.{with_change, after_drawing, put, set_in, set, with_cursor, listed_cells, written_glyph, at_place, frame_of_two, drawn_to, character_printed, character_drawing, typed_in}
+use Rattle.windows.specs.{typed_drawing, after_character, after_text, is_bad_character, Settings, printed_cell, IsStateOf}
 use mathlib.Core.Path.{fun_ext}
 use Rattle.world.proofs.WindowLaws.{own-put, put-nothing}
 use Rattle.world.proofs.PutLaws.{put-then}

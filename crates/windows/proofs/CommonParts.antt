@@ -1,6 +1,7 @@
 -- The places of the screen that two windows cover are a rectangle of each.
-use Rattle.windows.specs.{◌≡◌, ℕ, ◌+◌, ◌-◌, ◌<◌, max, min, Bool, true, ◌&&◌, nat_lt, nat_le, Some, arith, cases_lt, nat_tests, Place, Window, Windows}
-use Rattle.windows.specs.{Drawing, put, frame_of, common_cells, rectangle_copied, place_on_screen, drawing_frame}
+use Rattle.std.specs.Prelude.{◌≡◌, ◌+◌, ◌-◌, ◌<◌, ◌&&◌}
+use Rattle.windows.specs.{ℕ, max, min, Bool, true, nat_lt, nat_le, Some, arith, cases_lt, nat_tests, Place, Window, Windows, Drawing, put, frame_of, common_cells, rectangle_copied, place_on_screen}
+use Rattle.windows.specs.{drawing_frame}
 use Rattle.world.proofs.PutLaws.{AreSame, put-same}
 use Rattle.world.proofs.FrameLaws.{frame_of-is, frame-same, only_frame}
 

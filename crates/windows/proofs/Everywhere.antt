@@ -1,6 +1,7 @@
 -- All cells: their rectangle, the writes of their lines, and what the calls that clear a window do and answer.
-use Rattle.windows.specs.{◌≡◌, ℕ, ◌-◌, ◌<◌, ◌≤◌, Some, arith, nat_tests, Glyph, origin, Rect, Windows, Window, put, set, with_cursor, everywhere, frame_of}
-use Rattle.windows.specs.{drawing_frame, after_edit, draws, erase_drawing, after_clear, IsStateOf}
+use Rattle.std.specs.Prelude.{◌≡◌, ◌-◌, ◌<◌, ◌≤◌}
+use Rattle.windows.specs.{ℕ, Some, arith, nat_tests, Glyph, origin, Rect, Windows, Window, put, set, with_cursor, everywhere, frame_of, drawing_frame, after_edit, draws, erase_drawing, after_clear}
+use Rattle.windows.specs.{IsStateOf}
 use Rattle.windows.specs.declared.state.WindowState.{WindowState}
 use Rattle.windows.proofs.LineDrawings.{above}
 use Rattle.windows.proofs.NextWrites.{ends_above}

@@ -1,8 +1,8 @@
 -- What drawings do to two small windows, for a reader of the definitions. Each has three lines of three letters, window 0 lower-case ones
 -- and window 1 capitals. After each drawing come drawings with one argument changed, which are others.
-use Rattle.windows.specs.{◌≡◌, ◌++◌, ◌+◌, ◌*◌, ℕ, List, Some, None, true, false, refl, codes, map, is_some, negsuc, pos, Glyph, origin, Drawing, Window}
-use Rattle.windows.specs.{WindowMap, Windows, no_windows, own_grid, put, with_window, window_limit, first_settings, line_shown, at_place, character_deleted}
-use Rattle.windows.specs.{character_inserted, everywhere, lines_down, lines_up, to_bottom, to_end_of_line, scrl_drawing}
+use Rattle.std.specs.Prelude.{◌≡◌, ◌++◌, ◌+◌, ◌*◌}
+use Rattle.windows.specs.{ℕ, List, Some, None, true, false, refl, codes, map, is_some, negsuc, pos, Glyph, origin, Drawing, Window, WindowMap, Windows, no_windows, own_grid, put, with_window}
+use Rattle.windows.specs.{window_limit, first_settings, line_shown, at_place, character_deleted, character_inserted, everywhere, lines_down, lines_up, to_bottom, to_end_of_line, scrl_drawing}
 
 letter : ℕ → Glyph
 letter character = record { character = character; attributes = 0; pair = 0 }

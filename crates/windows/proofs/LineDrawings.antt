@@ -1,5 +1,6 @@
 -- A drawing line by line: the lines of it above line k, and those from line k on.
-use Rattle.windows.specs.{ℕ, if◌then◌else◌, nat_lt, nat_le, None, Drawing}
+use Rattle.std.specs.Prelude.{if◌then◌else◌}
+use Rattle.windows.specs.{ℕ, nat_lt, nat_le, None, Drawing}
 
 abbrev pub above : ℕ → Drawing → Drawing
 above k f y x = if nat_lt y k then f y x else None

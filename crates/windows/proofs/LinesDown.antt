@@ -1,6 +1,7 @@
 -- Lines moved down: their rectangle, what the call that inserts a line does and answers, and the writes, upwards.
-use Rattle.windows.specs.{◌≡◌, ℕ, ◌+◌, ◌-◌, ◌<◌, ◌≤◌, false, Some, None, arith, inl, inr, cases_lt, nat_tests, Glyph, Rect, WindowMap, Windows, Window, put}
-use Rattle.windows.specs.{filled_cells, copied_cells, lines_down, frame_of, drawing_frame, after_edit, draws, insertln_drawing, IsStateOf}
+use Rattle.std.specs.Prelude.{◌≡◌, ◌+◌, ◌-◌, ◌<◌, ◌≤◌}
+use Rattle.windows.specs.{ℕ, false, Some, None, arith, inl, inr, cases_lt, nat_tests, Glyph, Rect, WindowMap, Windows, Window, put, filled_cells, copied_cells, lines_down, frame_of, drawing_frame}
+use Rattle.windows.specs.{after_edit, draws, insertln_drawing, IsStateOf}
 use Rattle.windows.specs.declared.state.WindowState.{WindowState}
 use Rattle.windows.proofs.LineDrawings.{from}
 use Rattle.windows.proofs.NextWrites.{starts_below, ends_below, line_cleared_before, line_taken_above}

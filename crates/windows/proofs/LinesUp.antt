@@ -1,6 +1,7 @@
 -- Lines moved up: their rectangle, what the call that deletes a line does and answers, and the writes, downwards.
-use Rattle.windows.specs.{◌≡◌, ℕ, ◌+◌, ◌-◌, ◌<◌, ◌≤◌, false, Some, None, arith, inl, inr, cases_lt, nat_tests, Glyph, Rect, WindowMap, Windows, Window, put}
-use Rattle.windows.specs.{filled_cells, copied_cells, lines_up, frame_of, drawing_frame, after_edit, draws, deleteln_drawing, IsStateOf}
+use Rattle.std.specs.Prelude.{◌≡◌, ◌+◌, ◌-◌, ◌<◌, ◌≤◌}
+use Rattle.windows.specs.{ℕ, false, Some, None, arith, inl, inr, cases_lt, nat_tests, Glyph, Rect, WindowMap, Windows, Window, put, filled_cells, copied_cells, lines_up, frame_of, drawing_frame}
+use Rattle.windows.specs.{after_edit, draws, deleteln_drawing, IsStateOf}
 use Rattle.windows.specs.declared.state.WindowState.{WindowState}
 use Rattle.windows.proofs.LineDrawings.{above}
 use Rattle.windows.proofs.NextWrites.{starts_above, ends_above, line_cleared, line_taken_below}

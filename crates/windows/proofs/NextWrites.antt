@@ -1,6 +1,6 @@
 -- What one more write of a line adds to a drawing, for a window of a known state.
-use Rattle.windows.specs.{◌≡◌, ℕ, ◌+◌, ◌-◌, ◌<◌, ◌≤◌, false, Some, None, arith, sym, cases_eq, nat_tests, Glyph, WindowMap, Windows, Drawing, cell_at, put}
-use Rattle.windows.specs.{over, filled_cells, copied_cells, IsStateOf}
+use Rattle.std.specs.Prelude.{◌≡◌, ◌+◌, ◌-◌, ◌<◌, ◌≤◌}
+use Rattle.windows.specs.{ℕ, false, Some, None, arith, sym, cases_eq, nat_tests, Glyph, WindowMap, Windows, Drawing, cell_at, put, over, filled_cells, copied_cells, IsStateOf}
 use Rattle.windows.specs.declared.state.WindowState.{WindowState}
 use Rattle.windows.proofs.States.{spot-of}
 use Rattle.world.proofs.WindowLaws.{put-nothing}

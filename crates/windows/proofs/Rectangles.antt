@@ -1,5 +1,6 @@
 -- Drawings that write a rectangle, or nothing.
-use Rattle.windows.specs.{◌≡◌, ℕ, ◌<◌, ◌≤◌, ◌&&◌, nat_le, Some, None, is_some, arith, nat_tests, Window, Drawing, frame_of, Rect}
+use Rattle.std.specs.Prelude.{◌≡◌, ◌<◌, ◌≤◌, ◌&&◌}
+use Rattle.windows.specs.{ℕ, nat_le, Some, None, is_some, arith, nat_tests, Window, Drawing, frame_of, Rect}
 use Rattle.world.proofs.FrameLaws.{frame_of-only, frame_of-none}
 
 -- the drawing has a cell for just these places of the window

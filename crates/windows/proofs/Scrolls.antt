@@ -1,5 +1,6 @@
 -- The lines of a region, scrolled by a number of lines.
-use Rattle.windows.specs.{◌≡◌, ℕ, ℤ, pos, ◌-◌, Some, None, ap, refl, sym, ◌∙◌, arith, Windows, put, frame_of, scrl_drawing, Rect, IsStateOf, window_in_state}
+use Rattle.std.specs.Prelude.{◌≡◌, ◌-◌}
+use Rattle.windows.specs.{ℕ, ℤ, pos, Some, None, ap, refl, sym, ◌∙◌, arith, Windows, put, frame_of, scrl_drawing, Rect, IsStateOf, window_in_state}
 use Rattle.world.proofs.WindowLaws.{put-nothing}
 use Rattle.windows.specs.declared.state.WindowState.{WindowState}
 use Rattle.windows.proofs.LinesUp.{frame-lines_up}

@@ -1,7 +1,7 @@
 -- A window keeps its size and its settings where something is written; and other settings are one change of it.
-use Rattle.windows.specs.{◌≡◌, ℕ, ◌<◌, Option, Some, None, IsSome, IsSomeAnd, arith, refl, ◌∙◌, eqb-true, and_le_l, and_mask, or_lt, bits_of}
-use Rattle.windows.specs.{valid_attributes, without, bit_or, Window, WindowMap, Windows, GridPlace, Drawing, own, after_drawing, put_windows, put, HasPlace}
-use Rattle.windows.specs.{after_set_settings, set, AreSoundWindows, Settings, IsStateOf}
+use Rattle.std.specs.Prelude.{◌≡◌, ◌<◌}
+use Rattle.windows.specs.{ℕ, Option, Some, None, IsSome, IsSomeAnd, arith, refl, ◌∙◌, eqb-true, and_le_l, and_mask, or_lt, bits_of, valid_attributes, without, bit_or, Window, WindowMap, Windows}
+use Rattle.windows.specs.{GridPlace, Drawing, own, after_drawing, put_windows, put, HasPlace, after_set_settings, set, AreSoundWindows, Settings, IsStateOf}
 use Rattle.windows.specs.declared.state.WindowState.{WindowState}
 
 -- a window of a sound world has the state that its size and its settings make

@@ -1,6 +1,7 @@
 -- The rectangle of a text is the smallest that holds those of its characters.
-use Rattle.windows.specs.{◌≡◌, ℕ, Option, None, List, [], ◌∷◌, ◌++◌, ap, arith, refl, sym, ◌∙◌, option_and_then, Rect, Drawing, Window, Windows, frame_of}
-use Rattle.windows.specs.{frame_of_two, after_character, after_text, drawing_of_character, text_drawing, drawing_frame, edit_frame, types}
+use Rattle.std.specs.Prelude.{◌≡◌, ◌∷◌, ◌++◌}
+use Rattle.windows.specs.{ℕ, Option, None, List, [], ap, arith, refl, sym, ◌∙◌, option_and_then, Rect, Drawing, Window, Windows, frame_of, frame_of_two, after_character, after_text}
+use Rattle.windows.specs.{drawing_of_character, text_drawing, drawing_frame, edit_frame, types}
 use Rattle.world.proofs.FrameLaws.{drawing_frame-over, frame_of-none}
 use Rattle.world.proofs.ViewLaws.{outline_of}
 use Rattle.world.proofs.WritingLaws.{view-edit}

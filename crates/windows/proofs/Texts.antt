@@ -1,7 +1,7 @@
 -- Writing a character makes and deletes no window; and the rectangle of several characters.
-use Rattle.windows.specs.{◌≡◌, ℕ, Bool, true, false, if◌then◌else◌, Option, None, is_some, List, [], ◌∷◌, arith, refl, option_map, list_all, list_any}
-use Rattle.windows.specs.{and_parts, is_printable, Place, Window, WindowMap, Windows, GridPlace, Drawing, put_from, put, set, frame_of_two, drawn_to}
-use Rattle.windows.specs.{to_next_line, character_printed, line_ended, typed_in, Rect, is_bad_character, Settings}
+use Rattle.std.specs.Prelude.{◌≡◌, if◌then◌else◌, ◌∷◌}
+use Rattle.windows.specs.{ℕ, Bool, true, false, Option, None, is_some, List, [], arith, refl, option_map, list_all, list_any, and_parts, is_printable, Place, Window, WindowMap, Windows, GridPlace}
+use Rattle.windows.specs.{Drawing, put_from, put, set, frame_of_two, drawn_to, to_next_line, character_printed, line_ended, typed_in, Rect, is_bad_character, Settings}
 
 -- ---- no window comes or goes
 

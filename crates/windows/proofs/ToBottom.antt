@@ -1,6 +1,6 @@
 -- The rest of a line and all lines below: their rectangle, their writes, and the frame of the call that clears them.
-use Rattle.windows.specs.{◌≡◌, ℕ, ◌+◌, ◌-◌, ◌<◌, ◌≤◌, Some, arith, cases_eq, nat_tests, Glyph, Place, Rect, Windows, Window, put, filled_cells, to_bottom}
-use Rattle.windows.specs.{frame_of, drawing_frame, clrtobot_drawing, IsStateOf}
+use Rattle.std.specs.Prelude.{◌≡◌, ◌+◌, ◌-◌, ◌<◌, ◌≤◌}
+use Rattle.windows.specs.{ℕ, Some, arith, cases_eq, nat_tests, Glyph, Place, Rect, Windows, Window, put, filled_cells, to_bottom, frame_of, drawing_frame, clrtobot_drawing, IsStateOf}
 use Rattle.world.proofs.FrameLaws.{frame_of-only}
 use Rattle.windows.specs.declared.state.WindowState.{WindowState}
 use Rattle.windows.proofs.LineDrawings.{above}

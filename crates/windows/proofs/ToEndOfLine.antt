@@ -1,6 +1,6 @@
 -- The rest of a line: its rectangle, its write, and the frame of the call that clears it.
-use Rattle.windows.specs.{◌≡◌, ℕ, ◌-◌, ◌<◌, Some, arith, cases_eq, nat_tests, Glyph, Place, Rect, Windows, Window, put, filled_cells, to_end_of_line}
-use Rattle.windows.specs.{frame_of, drawing_frame, clrtoeol_drawing, IsStateOf}
+use Rattle.std.specs.Prelude.{◌≡◌, ◌-◌, ◌<◌}
+use Rattle.windows.specs.{ℕ, Some, arith, cases_eq, nat_tests, Glyph, Place, Rect, Windows, Window, put, filled_cells, to_end_of_line, frame_of, drawing_frame, clrtoeol_drawing, IsStateOf}
 use Rattle.windows.specs.declared.state.WindowState.{WindowState}
 use Rattle.windows.proofs.NextWrites.{once}
 use Rattle.windows.proofs.Rectangles.{block}

@@ -1,7 +1,7 @@
 -- A character written at the cursor of a window of a known state.
-use Rattle.windows.specs.{◌≡◌, ℕ, ◌+◌, ◌-◌, ◌<◌, ◌≤◌, Bool, true, false, if◌then◌else◌, ◌==◌, ◌&&◌, Option, Some, None, arith, refl, sym, ◌∙◌, bit_or}
-use Rattle.windows.specs.{nat_tests, bits_of, valid_attributes, Glyph, Place, Windows, put, filled_cells, set, with_cursor, written_glyph, at_place}
-use Rattle.windows.specs.{to_end_of_line, lines_up, frame_of, frame_of_two, to_next_line, next_line_drawing, character_printed, character_drawing, line_ended}
+use Rattle.std.specs.Prelude.{◌≡◌, ◌+◌, ◌-◌, ◌<◌, ◌≤◌, if◌then◌else◌, ◌==◌, ◌&&◌}
+use Rattle.windows.specs.{ℕ, Bool, true, false, Option, Some, None, arith, refl, sym, ◌∙◌, bit_or, nat_tests, bits_of, valid_attributes, Glyph, Place, Windows, put, filled_cells, set, with_cursor}
+use Rattle.windows.specs.{written_glyph, at_place, to_end_of_line, lines_up, frame_of, frame_of_two, to_next_line, next_line_drawing, character_printed, character_drawing, line_ended}
 use Rattle.windows.specs.{line_ended_drawing, typed_in, typed_drawing, after_character, Rect, Settings, IsStateOf, window_in_state}
 use Rattle.windows.specs.declared.state.WindowState.{WindowState}
 use Rattle.world.proofs.EditLaws.{frame-if-there}

@@ -1,6 +1,7 @@
 -- A call that writes in a window, copies to it, or sets how it is written in, made on a table of windows.
-use Rattle.windows.specs.Names.{◌≡◌, IfOk, None, OnErr, OnOk, Option, Result, result_err, Refusal, Rect, Change, after_change, change_frame, edits}
-use Rattle.windows.specs.Names.{AreSoundWindows, copying_change, copying_refusal, writing_edit, writing_refusal, Copying, Writing, WindowTable, windows}
+use Rattle.std.specs.Prelude.{◌≡◌}
+use Rattle.windows.specs.Names.{IfOk, None, OnErr, OnOk, Option, Result, result_err, Refusal, Rect, Change, after_change, change_frame, edits, AreSoundWindows, copying_change, copying_refusal}
+use Rattle.windows.specs.Names.{writing_edit, writing_refusal, Copying, Writing, WindowTable, windows}
 
 -- it was refused exactly by its tests, and then nothing changed; else the frame and the windows are those of its effect
 pub record Drew {T : Type 0} (frame_of : T → Option Rect) (old : WindowTable) (refusal : Option Refusal) (change : Change) (r : Result T Refusal) (new : WindowTable)

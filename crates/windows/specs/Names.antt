@@ -9,10 +9,8 @@ pub use Rattle.cell.specs.declared.window.Rect.{Rect}
 pub use Rattle.grids.specs.Calls.{Asked}
 pub use Rattle.grids.specs.Inks.{printed_cell}
 pub use Rattle.grids.specs.Tables.{WindowTable, windows}
-pub use Rattle.std.proofs.Common.{Bool, EachIndex, IfOk, IsSome, IsSomeAnd, List, MatchResult, None, Ok, OnErr, OnOk, Option, Result, Some, [], ap, arith}
-pub use Rattle.std.proofs.Common.{codes, drop, eq-eqb, false, get_or, if◌then◌else◌, inl, inr, is_some, length, map, max, min, nat_le, nat_lt, negsuc}
-pub use Rattle.std.proofs.Common.{option_and_then, pos, refl, rules, slice_index, suc, sym, take, true, zero, ℕ, ℤ, ◌&&◌, ◌*◌, ◌++◌, ◌+◌, ◌-◌, ◌<◌, ◌==◌, ◌^◌}
-pub use Rattle.std.proofs.Common.{◌∙◌, ◌∷◌, ◌≡◌, ◌≤◌}
+pub use Rattle.std.proofs.Common.{Bool, EachIndex, IfOk, IsSome, IsSomeAnd, List, MatchResult, None, Ok, OnErr, OnOk, Option, Result, Some, [], ap, arith, codes, drop, eq-eqb, false, get_or, inl}
+pub use Rattle.std.proofs.Common.{inr, is_some, length, map, max, min, nat_le, nat_lt, negsuc, option_and_then, pos, refl, rules, slice_index, suc, sym, take, true, zero, ℕ, ℤ, ◌∙◌}
 pub use Rattle.std.proofs.lemmas.Bool.{and_parts, cases_eq, cases_lt, eqb-true, ne_eqb}
 pub use Rattle.std.proofs.lemmas.Bool.Decides.{nat_tests}
 pub use Rattle.std.proofs.lemmas.Int.{to_z-of_z}
@@ -23,24 +21,23 @@ pub use Rattle.std.specs.Int.RustNames.{bit_or}
 pub use Rattle.std.specs.List.{list_all, list_any}
 pub use Rattle.std.specs.Option.{option_map}
 pub use Rattle.std.specs.Result.{result_err}
-pub use Rattle.world.specs.Drawings.{at_place, character_deleted, character_inserted, everywhere, lines_down, lines_up, to_bottom, to_end_of_line}
-pub use Rattle.world.specs.Drawings.{written_glyph}
+pub use Rattle.world.specs.Drawings.{at_place, character_deleted, character_inserted, everywhere, lines_down, lines_up, to_bottom, to_end_of_line, written_glyph}
 pub use Rattle.world.specs.Effects.{Change, after_change, after_edit, change_frame, drawing_frame, draws, edit_frame, edits, types}
 pub use Rattle.world.specs.Frames.{frame_of, frame_of_two}
 pub use Rattle.world.specs.Rows.{copied_cells, filled_cells, line_shown, listed_cells}
 pub use Rattle.world.specs.Settings.{after_set_settings, set, set_in, with_cursor}
 pub use Rattle.world.specs.Sound.{AreSettingsWithin, AreSoundWindows}
-pub use Rattle.world.specs.Typing.{after_character, after_text, character_drawing, character_printed, drawing_of_character, drawn_to, line_ended}
-pub use Rattle.world.specs.Typing.{line_ended_drawing, next_line_drawing, text_drawing, to_next_line, typed_drawing, typed_in}
-pub use Rattle.world.specs.WindowMaps.{Drawing, GridPlace, HasPlace, Window, WindowMap, Windows, after_drawing, cell_at, if_there, no_windows, over, own}
-pub use Rattle.world.specs.WindowMaps.{own_grid, own_within, put, put_from, put_windows, with_change, with_window}
+pub use Rattle.world.specs.Typing.{after_character, after_text, character_drawing, character_printed, drawing_of_character, drawn_to, line_ended, line_ended_drawing, next_line_drawing, text_drawing}
+pub use Rattle.world.specs.Typing.{to_next_line, typed_drawing, typed_in}
+pub use Rattle.world.specs.WindowMaps.{Drawing, GridPlace, HasPlace, Window, WindowMap, Windows, after_drawing, cell_at, if_there, no_windows, over, own, own_grid, own_within, put, put_from}
+pub use Rattle.world.specs.WindowMaps.{put_windows, with_change, with_window}
 unfoldable pub use Rattle.world.specs.WindowMaps.{window_limit}
 pub use Rattle.world.specs.Worlds.{blank_grid, first_settings, first_world}
 pub use Rattle.world.specs.calls.Copying.{common_cells, copying_change, copying_refusal, overlay_tests, rectangle_copied}
 pub use Rattle.world.specs.calls.Making.{new_refusal}
 pub use Rattle.world.specs.calls.Queries.{cell_at_cursor, place_on_screen}
-pub use Rattle.world.specs.calls.Writing.{after_clear, clrtobot_drawing, clrtoeol_drawing, delch_drawing, deleteln_drawing, erase_drawing, insch_drawing}
-pub use Rattle.world.specs.calls.Writing.{insertln_drawing, is_bad_character, scrl_drawing, writing_edit, writing_refusal}
+pub use Rattle.world.specs.calls.Writing.{after_clear, clrtobot_drawing, clrtoeol_drawing, delch_drawing, deleteln_drawing, erase_drawing, insch_drawing, insertln_drawing, is_bad_character}
+pub use Rattle.world.specs.calls.Writing.{scrl_drawing, writing_edit, writing_refusal}
 pub use Rattle.world.specs.declared.call.Copying.{Copying}
 pub use Rattle.world.specs.declared.call.Query.{Query}
 pub use Rattle.world.specs.declared.call.Writing.{Writing}

@@ -1,7 +1,7 @@
 //! The calls that copy cells from window to window.
 
-ghost use Rattle.windows.specs.{◌≡◌, None, ◌+◌, ◌-◌, ◌<◌, ◌^◌, max, min, nat_lt, first_of, common_cells, overlay_tests, draws, edits, Copying, windows};
-ghost use Rattle.windows.specs.{Copied, Drew, its_frame};
+ghost use Rattle.std.specs.Prelude.{◌≡◌, ◌+◌, ◌-◌, ◌<◌, ◌^◌};
+ghost use Rattle.windows.specs.{None, max, min, nat_lt, first_of, common_cells, overlay_tests, draws, edits, Copying, windows, Copied, Drew, its_frame};
 
 use crate::state::state_of;
 use crate::table::Windows;

@@ -1,7 +1,8 @@
 //! The drawings of the writing calls, made of writes of one line each. The window must exist and have the given state.
 
-ghost use Rattle.windows.specs.{◌≡◌, ◌<◌, ◌≤◌, ◌+◌, ◌-◌, false, put, copied_cells, filled_cells, at_place, character_deleted, character_inserted, everywhere};
-ghost use Rattle.windows.specs.{lines_down, lines_up, to_bottom, to_end_of_line, windows, IsStateOf, DrewInState, HasStateAndLines, HasStateAndPlace};
+ghost use Rattle.std.specs.Prelude.{◌≡◌, ◌<◌, ◌≤◌, ◌+◌, ◌-◌};
+ghost use Rattle.windows.specs.{false, put, copied_cells, filled_cells, at_place, character_deleted, character_inserted, everywhere, lines_down, lines_up, to_bottom, to_end_of_line, windows};
+ghost use Rattle.windows.specs.{IsStateOf, DrewInState, HasStateAndLines, HasStateAndPlace};
 
 use crate::state::WindowState;
 use cell::{Cell, WinId};

@@ -1,6 +1,6 @@
 //! Rectangles of a window.
 
-ghost use Rattle.windows.specs.{◌≡◌, ◌-◌, ◌<◌};
+ghost use Rattle.std.specs.Prelude.{◌≡◌, ◌-◌, ◌<◌};
 
 use crate::state::WindowState;
 use cell::Rect;

@@ -1,7 +1,7 @@
 //! What a call reads of its window first, and sets of it.
 
-ghost use Rattle.windows.specs.{◌≡◌, ◌<◌, ◌≤◌, IsSomeAnd, MatchResult, None, bits_of, set, with_cursor, HasPlace, AreSoundWindows, windows, IsStateOf};
-ghost use Rattle.windows.specs.{HasStateAndPlace};
+ghost use Rattle.std.specs.Prelude.{◌≡◌, ◌<◌, ◌≤◌};
+ghost use Rattle.windows.specs.{IsSomeAnd, MatchResult, None, bits_of, set, with_cursor, HasPlace, AreSoundWindows, windows, IsStateOf, HasStateAndPlace};
 
 use cell::{Refusal, WinId};
 use grids::Grids;

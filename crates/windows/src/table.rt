@@ -1,6 +1,7 @@
 //! The windows and pads of a screen.
 
-ghost use Rattle.windows.specs.{◌≡◌, IfOk, RefusedBy, AreSoundWindows, first_world, new_refusal, windows};
+ghost use Rattle.std.specs.Prelude.{◌≡◌};
+ghost use Rattle.windows.specs.{IfOk, RefusedBy, AreSoundWindows, first_world, new_refusal, windows};
 
 use cell::Refusal;
 use grids::Grids;

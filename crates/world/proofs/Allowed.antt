@@ -1,7 +1,7 @@
 -- What each effect requires of windows and panels, and that the tests of its call ensure it.
-use Rattle.world.specs.{◌≡◌, ℕ, zero, suc, ◌+◌, Bool, false, if◌then◌else◌, ◌==◌, Option, Some, None, arith, ⊤, Refusal, WindowMap, Windows, Panels}
-use Rattle.world.specs.{is_in_panel, standard_screen, AreSoundPanels, IsSoundPanel, Change, asks, deletes, edits, makes, marks, moves, shifts, free_among}
-use Rattle.world.specs.{has_derived, has_no_parent, making_change, making_refusal}
+use Rattle.std.specs.Prelude.{◌≡◌, ◌+◌, if◌then◌else◌, ◌==◌}
+use Rattle.world.specs.{ℕ, zero, suc, Bool, false, Option, Some, None, arith, ⊤, Refusal, WindowMap, Windows, Panels, is_in_panel, standard_screen, AreSoundPanels, IsSoundPanel, Change, asks}
+use Rattle.world.specs.{deletes, edits, makes, marks, moves, shifts, free_among, has_derived, has_no_parent, making_change, making_refusal}
 use Rattle.world.proofs.PanelLaws.{in_panel-some}
 use Rattle.world.specs.declared.written_calls.Making.{Making}
 

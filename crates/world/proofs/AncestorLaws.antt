@@ -1,6 +1,7 @@
 -- Where all windows but one are as they were: what each window shows that neither is that one nor derives from it.
-use Rattle.world.specs.{◌≡◌, ℕ, zero, suc, false, ◌==◌, Option, Some, refl, arith, list_any, eqb-false, Window, WindowMap, Windows, GridPlace}
-use Rattle.world.specs.{ancestors_within, cell_at, derives, own, own_within, with_window, window_limit, shifted_to}
+use Rattle.std.specs.Prelude.{◌≡◌, ◌==◌}
+use Rattle.world.specs.{ℕ, zero, suc, false, Option, Some, refl, arith, list_any, eqb-false, Window, WindowMap, Windows, GridPlace, ancestors_within, cell_at, derives, own, own_within, with_window}
+use Rattle.world.specs.{window_limit, shifted_to}
 
 pub replaced-off : (window : WindowMap) (w : ℕ) (o : Option Window) (v : ℕ) → (v ≡ w → ⊥) → with_window window w o v ≡ window v
 replaced-off window w o v other = grind arith

@@ -1,6 +1,6 @@
 -- Tests of the numbers below a number, and of the places of a rectangle.
-use Rattle.world.specs.{◌≡◌, ℕ, zero, suc, ◌+◌, ◌<◌, Bool, true, ◌&&◌, nat_le, arith, cases_eq, and_parts, and_from, or_cases, or_left, or_right, leb-true}
-use Rattle.world.specs.{le-leb, any_below, IsIn, any_in, Rect}
+use Rattle.std.specs.Prelude.{◌≡◌, ◌+◌, ◌<◌, ◌&&◌}
+use Rattle.world.specs.{ℕ, zero, suc, Bool, true, nat_le, arith, cases_eq, and_parts, and_from, or_cases, or_left, or_right, leb-true, le-leb, any_below, IsIn, any_in, Rect}
 
 pub record FoundBelow (n : ℕ) (test : ℕ → Bool) : Type 0 where
   pub number : ℕ

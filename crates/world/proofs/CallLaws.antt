@@ -1,6 +1,7 @@
 -- At a place that a call doesn't affect, neither the picture changes nor what the virtual screen shows.
-use Rattle.world.specs.{◌≡◌, ℕ, ◌<◌, false, None, ap, arith, ⊤, shown_at, shown, IsSound, World, picture, Effect, after, arranges, colours, composed_windows}
-use Rattle.world.specs.{composes, refreshes, shows, effect_of, is_update_panels, refusal, world_after, affects_place, effect_shows_at}
+use Rattle.std.specs.Prelude.{◌≡◌, ◌<◌}
+use Rattle.world.specs.{ℕ, false, None, ap, arith, ⊤, shown_at, shown, IsSound, World, picture, Effect, after, arranges, colours, composed_windows, composes, refreshes, shows, effect_of}
+use Rattle.world.specs.{is_update_panels, refusal, world_after, affects_place, effect_shows_at}
 use Rattle.cell.proofs.PictureLemmas.{cell_or-lines_from}
 use Rattle.world.proofs.Allowed.{allowed-making}
 use Rattle.world.proofs.RefreshLaws.{found-lines, found-unmarked}

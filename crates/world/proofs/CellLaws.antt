@@ -1,11 +1,10 @@
 -- Which cells windows show after a call: those that it wrote, and else those that were there.
-use Rattle.world.specs.{◌≡◌, ℕ, ◌<◌, false, if◌then◌else◌, ◌==◌, ◌||◌, Option, Some, None, IsSome, arith, refl, ap, subst, sym, ◌∙◌, MatchOption, ⊤}
-use Rattle.world.specs.{option_map, cases_eq, eqb-false, eqb-true, ne_eqb, or_parts, Glyph, blank, Place, Backing, own_grid, part_of, Drawing, GridPlace}
-use Rattle.world.specs.{HasPlace, IsWrite, Window, WindowMap, Windows, cell_at, cell_in_grid, cell_of, derives, laid_over, own, put, put_from, put_windows}
-use Rattle.world.specs.{touched_by, unwritten, window_limit, with_window, AreSoundWindows, IsSound, World, Covers, IsFrameOf, Panels, Change, after_change}
-use Rattle.world.specs.{asks, edits, marks, makes, deletes, moves, shifts, Edit, after_edit, edit_drawing, edit_frame, edit_window, Effect, after, arranges}
-use Rattle.world.specs.{refreshes, composes, shows, colours, effect_frame, changes, adds, orders, carries, shifted_to, effect_of, refusal, making_change}
-use Rattle.world.specs.{has_derived, Writes, WritesAt, leads_elsewhere, leads_elsewhere_by, windows_after_call}
+use Rattle.std.specs.Prelude.{◌≡◌, ◌<◌, if◌then◌else◌, ◌==◌, ◌||◌}
+use Rattle.world.specs.{ℕ, false, Option, Some, None, IsSome, arith, refl, ap, subst, sym, ◌∙◌, MatchOption, ⊤, option_map, cases_eq, eqb-false, eqb-true, ne_eqb, or_parts, Glyph, blank, Place}
+use Rattle.world.specs.{Backing, own_grid, part_of, Drawing, GridPlace, HasPlace, IsWrite, Window, WindowMap, Windows, cell_at, cell_in_grid, cell_of, derives, laid_over, own, put, put_from}
+use Rattle.world.specs.{put_windows, touched_by, unwritten, window_limit, with_window, AreSoundWindows, IsSound, World, Covers, IsFrameOf, Panels, Change, after_change, asks, edits, marks, makes}
+use Rattle.world.specs.{deletes, moves, shifts, Edit, after_edit, edit_drawing, edit_frame, edit_window, Effect, after, arranges, refreshes, composes, shows, colours, effect_frame, changes, adds}
+use Rattle.world.specs.{orders, carries, shifted_to, effect_of, refusal, making_change, has_derived, Writes, WritesAt, leads_elsewhere, leads_elsewhere_by, windows_after_call}
 use Rattle.world.proofs.Allowed.{IsAllowed}
 use Rattle.world.proofs.AncestorLaws.{own-beside, replaced-off}
 use Rattle.world.proofs.CallLaws.{IsReady, ready}

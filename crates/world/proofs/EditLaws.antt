@@ -1,10 +1,9 @@
 -- What an edit leaves is one write of its drawing, but for settings; and its frame is that of the drawing.
-use Rattle.world.specs.{◌≡◌, ℕ, ◌+◌, ◌-◌, ◌==◌, Bool, true, false, if◌then◌else◌, ◌||◌, nat_lt, Option, Some, None, List, [], ◌∷◌, arith, refl}
-use Rattle.world.specs.{option_and_then, option_map, option_map_or, Place, Drawing, GridPlace, Window, WindowMap, Windows, after_drawing, no_cells, over, put}
-use Rattle.world.specs.{put_from, put_windows, set, with_cursor, at_place, to_end_of_line, written_glyph, frame_of, after_character, after_text, backspace}
-use Rattle.world.specs.{carriage_return, character_drawing, character_printed, drawn_to, is_last_line, line_ended, line_ended_drawing, newline}
-use Rattle.world.specs.{next_line_drawing, region_up, scrolls, text_drawing, to_next_line, typed_drawing, typed_in, DifferInSettings, Edit, after_edit, draws}
-use Rattle.world.specs.{edit_drawing, edit_frame, edit_window, sets, types, with_its_settings, first_settings}
+use Rattle.std.specs.Prelude.{◌≡◌, ◌+◌, ◌-◌, ◌==◌, if◌then◌else◌, ◌||◌, ◌∷◌}
+use Rattle.world.specs.{ℕ, Bool, true, false, nat_lt, Option, Some, None, List, [], arith, refl, option_and_then, option_map, option_map_or, Place, Drawing, GridPlace, Window, WindowMap, Windows}
+use Rattle.world.specs.{after_drawing, no_cells, over, put, put_from, put_windows, set, with_cursor, at_place, to_end_of_line, written_glyph, frame_of, after_character, after_text, backspace}
+use Rattle.world.specs.{carriage_return, character_drawing, character_printed, drawn_to, is_last_line, line_ended, line_ended_drawing, newline, next_line_drawing, region_up, scrolls, text_drawing}
+use Rattle.world.specs.{to_next_line, typed_drawing, typed_in, DifferInSettings, Edit, after_edit, draws, edit_drawing, edit_frame, edit_window, sets, types, with_its_settings, first_settings}
 use Rattle.world.proofs.FrameLaws.{frame_of-none}
 use Rattle.world.proofs.ViewLaws.{SameCells, backing_of, outline_of, own-same}
 use Rattle.world.proofs.WindowLaws.{put-nothing, put-put}

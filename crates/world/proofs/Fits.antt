@@ -1,9 +1,9 @@
 -- What each effect requires of a sound world, so that it leaves one.
-use Rattle.world.specs.{◌≡◌, ◌≢◌, ℕ, ◌+◌, ◌<◌, ◌≤◌, true, false, Some, None, IsSome, IsSomeAnd, MatchOption, ⊤, list_any, IsCell, ArePairs, LARGEST_PAD}
-use Rattle.world.specs.{MOST_PANELS, MOST_WINDOWS, Backing, own_grid, part_of, Drawing, Window, Windows, Panels, is_in_panel, standard_screen, World}
-use Rattle.world.specs.{AreColumnsWithin, AreSettingsWithin, AreSoundPanels, HasCells, IsOnScreen, IsPartOf, Change, asks, edits, marks, makes, deletes}
-use Rattle.world.specs.{moves, shifts, Edit, sets, draws, types, Effect, arranges, refreshes, composes, shows, colours, Order, changes, adds, orders, carries}
-use Rattle.world.specs.{with_colours, has_derived, is_bad_character}
+use Rattle.std.specs.Prelude.{◌≡◌, ◌≢◌, ◌+◌, ◌<◌, ◌≤◌}
+use Rattle.world.specs.{ℕ, true, false, Some, None, IsSome, IsSomeAnd, MatchOption, ⊤, list_any, IsCell, ArePairs, LARGEST_PAD, MOST_PANELS, MOST_WINDOWS, Backing, own_grid, part_of, Drawing}
+use Rattle.world.specs.{Window, Windows, Panels, is_in_panel, standard_screen, World, AreColumnsWithin, AreSettingsWithin, AreSoundPanels, HasCells, IsOnScreen, IsPartOf, Change, asks, edits, marks}
+use Rattle.world.specs.{makes, deletes, moves, shifts, Edit, sets, draws, types, Effect, arranges, refreshes, composes, shows, colours, Order, changes, adds, orders, carries, with_colours}
+use Rattle.world.specs.{has_derived, is_bad_character}
 use Rattle.world.specs.declared.settings.Settings.{Settings}
 
 -- ---- edits

@@ -1,6 +1,7 @@
 -- The tests of the calls that write and copy ensure what their effects require.
-use Rattle.world.specs.{◌≡◌, ℕ, true, Some, None, arith, nat_tests, and_le_l, and_le_r, IsCell, is_printable, written_glyph, Window, Windows}
-use Rattle.world.specs.{AreSettingsWithin, AreSoundWindows, copying_change, copying_refusal, writing_edit, writing_refusal}
+use Rattle.std.specs.Prelude.{◌≡◌}
+use Rattle.world.specs.{ℕ, true, Some, None, arith, nat_tests, and_le_l, and_le_r, IsCell, is_printable, written_glyph, Window, Windows, AreSettingsWithin, AreSoundWindows, copying_change}
+use Rattle.world.specs.{copying_refusal, writing_edit, writing_refusal}
 use Rattle.world.proofs.Allowed.{passed}
 use Rattle.world.proofs.Fits.{FitsChange, FitsEdit}
 use Rattle.world.proofs.SoundCells.{IsCell-written, attributes-or, copied-cells, held-cell, overlaid, shown, touched-within}

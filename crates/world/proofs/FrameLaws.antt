@@ -1,6 +1,7 @@
 -- The rectangle of a drawing is the smallest one that holds its places.
-use Rattle.world.specs.{◌≡◌, ℕ, zero, suc, ◌<◌, min, max, Bool, true, if◌then◌else◌, Option, Some, None, is_some, arith, ◌⊎◌, cases_lt, Window, Windows}
-use Rattle.world.specs.{Drawing, over, put, frame_of_two, frame_at, frame_in_line, frame_above, frame_of, Covers, IsSmallest, IsFrameOf, drawing_frame, Rect}
+use Rattle.std.specs.Prelude.{◌≡◌, ◌<◌, if◌then◌else◌, ◌⊎◌}
+use Rattle.world.specs.{ℕ, zero, suc, min, max, Bool, true, Option, Some, None, is_some, arith, cases_lt, Window, Windows, Drawing, over, put, frame_of_two, frame_at, frame_in_line, frame_above}
+use Rattle.world.specs.{frame_of, Covers, IsSmallest, IsFrameOf, drawing_frame, Rect}
 
 -- ---- there is only one
 

@@ -1,5 +1,6 @@
 -- A line that a call doesn't affect has no place that it affects.
-use Rattle.world.specs.{arith, ◌≡◌, ℕ, ◌<◌, false, World, affects_line, affects_place}
+use Rattle.std.specs.Prelude.{◌≡◌, ◌<◌}
+use Rattle.world.specs.{arith, ℕ, false, World, affects_line, affects_place}
 use Rattle.world.proofs.Below.{any_below-some}
 use Rattle.world.specs.declared.call.Call.{Call}
 

@@ -1,8 +1,8 @@
 -- Making, deleting and moving windows: which places of the screen keep what the search finds there.
-use Rattle.world.specs.{◌≡◌, ℕ, zero, suc, ◌<◌, Bool, true, false, ◌==◌, Option, Some, None, IsSome, ap, arith, refl, option_map_or, list_any, eqb-false}
-use Rattle.world.specs.{false_from_ne_true, or_from, ne_eqb, GridPlace, Window, WindowMap, Windows, ancestors_within, derives, own, own_within, window_limit}
-use Rattle.world.specs.{Panels, cell_on_screen, found_from_top, holds, standard_screen, windows_from_top, AreSoundPanels, AreSoundWindows, Change}
-use Rattle.world.specs.{after_change, deletes, after_marks, moved_to, moves, under_number, shifted_to, has_derived, has_no_parent, is_part_of}
+use Rattle.std.specs.Prelude.{◌≡◌, ◌<◌, ◌==◌}
+use Rattle.world.specs.{ℕ, zero, suc, Bool, true, false, Option, Some, None, IsSome, ap, arith, refl, option_map_or, list_any, eqb-false, false_from_ne_true, or_from, ne_eqb, GridPlace, Window}
+use Rattle.world.specs.{WindowMap, Windows, ancestors_within, derives, own, own_within, window_limit, Panels, cell_on_screen, found_from_top, holds, standard_screen, windows_from_top}
+use Rattle.world.specs.{AreSoundPanels, AreSoundWindows, Change, after_change, deletes, after_marks, moved_to, moves, under_number, shifted_to, has_derived, has_no_parent, is_part_of}
 use Rattle.world.specs.{change_shows_at, follows_at, move_shows_at}
 use mathlib.Core.Path.{fun_ext}
 use Rattle.world.proofs.Allowed.{IsAllowed, not-in-panel, sound-panel}

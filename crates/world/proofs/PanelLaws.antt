@@ -1,5 +1,6 @@
 -- Which windows are in panels.
-use Rattle.world.specs.{◌≡◌, ℕ, ◌≤◌, true, false, ◌==◌, Some, arith, eq-eqb, option_map_or, eqb-true, MOST_PANELS, Panels, is_in_panel, panel_limit}
+use Rattle.std.specs.Prelude.{◌≡◌, ◌≤◌, ◌==◌}
+use Rattle.world.specs.{ℕ, true, false, Some, arith, eq-eqb, option_map_or, eqb-true, MOST_PANELS, Panels, is_in_panel, panel_limit}
 use Rattle.world.proofs.Below.{any_below-some, any_below-true}
 
 -- exactly those that some panel has

@@ -1,8 +1,8 @@
 -- A write through a window leaves the picture as it is at every place of the screen where its frame isn't shown.
-use Rattle.world.specs.{◌≡◌, ℕ, ◌-◌, ◌<◌, Bool, true, false, Option, Some, None, IsSome, List, [], ◌∷◌, ap, arith, refl, option_map_or, list_any, and_parts}
-use Rattle.world.specs.{and_from, or_parts, Drawing, GridPlace, HasPlace, Window, WindowMap, Windows, own, put_windows, Covers, IsFrameOf, IsIn, frame_of}
-use Rattle.world.specs.{frame_of_two, Panels, cell_on_screen, found_from_top, holds, place_of, standard_screen, windows_from_top, windows_of_picture}
-use Rattle.world.specs.{is_same_place, AreSoundWindows, frame_shows_at, shows_at, Rect}
+use Rattle.std.specs.Prelude.{◌≡◌, ◌-◌, ◌<◌, ◌∷◌}
+use Rattle.world.specs.{ℕ, Bool, true, false, Option, Some, None, IsSome, List, [], ap, arith, refl, option_map_or, list_any, and_parts, and_from, or_parts, Drawing, GridPlace, HasPlace, Window}
+use Rattle.world.specs.{WindowMap, Windows, own, put_windows, Covers, IsFrameOf, IsIn, frame_of, frame_of_two, Panels, cell_on_screen, found_from_top, holds, place_of, standard_screen}
+use Rattle.world.specs.{windows_from_top, windows_of_picture, is_same_place, AreSoundWindows, frame_shows_at, shows_at, Rect}
 use mathlib.Core.Path.{fun_ext}
 use Rattle.world.proofs.Below.{any_in-some, any_in-true}
 use Rattle.world.proofs.FrameLaws.{frame_of-is}

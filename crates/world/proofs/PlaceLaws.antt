@@ -1,7 +1,7 @@
 -- Which windows have a place on the screen after each effect, and that panels stay sound.
-use Rattle.world.specs.{◌≡◌, ℕ, Bool, true, false, if◌then◌else◌, Option, Some, None, ◌≢◌, arith, IsSome, IsSomeAnd, is_some, option_map, option_map_or}
-use Rattle.world.specs.{ne_eqb, Place, Window, WindowMap, Windows, with_change, Panels, standard_screen, AreSoundPanels, Change, Edit, after_change}
-use Rattle.world.specs.{after_edit, deletes, edits, moved_to, under_number}
+use Rattle.std.specs.Prelude.{◌≡◌, if◌then◌else◌, ◌≢◌}
+use Rattle.world.specs.{ℕ, Bool, true, false, Option, Some, None, arith, IsSome, IsSomeAnd, is_some, option_map, option_map_or, ne_eqb, Place, Window, WindowMap, Windows, with_change, Panels}
+use Rattle.world.specs.{standard_screen, AreSoundPanels, Change, Edit, after_change, after_edit, deletes, edits, moved_to, under_number}
 use Rattle.world.proofs.Allowed.{IsAllowed, not-in-panel}
 use Rattle.world.proofs.PictureLaws.{SameView}
 use Rattle.world.proofs.WritingLaws.{view-edit}

@@ -1,7 +1,7 @@
 -- Writes through one window: what it shows after one, and when several are one.
-use Rattle.world.specs.{◌≡◌, ℕ, ◌+◌, ◌<◌, if◌then◌else◌, ◌==◌, Option, Some, None, is_some, unwrap_or, ap, arith, refl, ◌∙◌, option_map, ne_eqb, nat_tests}
-use Rattle.world.specs.{Glyph, Window, WindowMap, GridPlace, Drawing, own, cell_at, within, grid_drawing, laid_over, touched_below, after_drawing}
-use Rattle.world.specs.{put_windows, onward, over}
+use Rattle.std.specs.Prelude.{◌≡◌, ◌+◌, ◌<◌, if◌then◌else◌, ◌==◌}
+use Rattle.world.specs.{ℕ, Option, Some, None, is_some, unwrap_or, ap, arith, refl, ◌∙◌, option_map, ne_eqb, nat_tests, Glyph, Window, WindowMap, GridPlace, Drawing, own, cell_at, within}
+use Rattle.world.specs.{grid_drawing, laid_over, touched_below, after_drawing, put_windows, onward, over}
 use Rattle.world.proofs.WindowLaws.{own-onward, put-put, put-takes, cell_at-kept}
 
 -- ---- only what is in the window is drawn

@@ -1,6 +1,6 @@
 -- Refreshing windows changes neither what the search from the top finds nor the topmost's cursor.
-use Rattle.world.specs.{◌≡◌, ℕ, Bool, List, arith, WindowMap, Windows, with_change, Panels, cursor_of_topmost, found_from_top, World, composed_windows}
-use Rattle.world.specs.{unmarked_lines, with_unmarked, world_after}
+use Rattle.std.specs.Prelude.{◌≡◌}
+use Rattle.world.specs.{ℕ, Bool, List, arith, WindowMap, Windows, with_change, Panels, cursor_of_topmost, found_from_top, World, composed_windows, unmarked_lines, with_unmarked, world_after}
 use Rattle.world.specs.declared.call.Call.TheVariants as calls
 use Rattle.world.specs.declared.written_calls.Refresh.{Refresh}
 use Rattle.world.specs.declared.written_calls.Refresh.TheVariants.{UpdatePanels}

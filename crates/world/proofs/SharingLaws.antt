@@ -1,6 +1,7 @@
 -- The places at which one window shows cells of a rectangle of another are a rectangle, or there are none.
-use Rattle.world.specs.{◌≡◌, ℕ, ◌+◌, ◌-◌, ◌<◌, ◌≤◌, min, true, Option, Some, arith, refl, eq-eqb, cases_eq, cases_lt, and_parts, and_from, eqb-true, Window}
-use Rattle.world.specs.{WindowMap, GridPlace, own, AreRectangle, SharesPart, is_same_place, Rect}
+use Rattle.std.specs.Prelude.{◌≡◌, ◌+◌, ◌-◌, ◌<◌, ◌≤◌}
+use Rattle.world.specs.{ℕ, min, true, Option, Some, arith, refl, eq-eqb, cases_eq, cases_lt, and_parts, and_from, eqb-true, Window, WindowMap, GridPlace, own, AreRectangle, SharesPart}
+use Rattle.world.specs.{is_same_place, Rect}
 use Rattle.world.proofs.Below.{FoundIn, any_in-some, any_in-true}
 use Rattle.world.proofs.WindowLaws.{own-onward}
 

@@ -1,6 +1,7 @@
 -- No effect changes the size of the screen, and so no call.
-use Rattle.world.specs.{arith, ◌≡◌, ℕ, Option, List, [], ◌∷◌, option_map_or, Window, Windows, Panels, World, after_text, Change, Edit, Effect, Order, after}
-use Rattle.world.specs.{after_change, after_edit, windows_after, world_after}
+use Rattle.std.specs.Prelude.{◌≡◌, ◌∷◌}
+use Rattle.world.specs.{arith, ℕ, Option, List, [], option_map_or, Window, Windows, Panels, World, after_text, Change, Edit, Effect, Order, after, after_change, after_edit, windows_after}
+use Rattle.world.specs.{world_after}
 use Rattle.world.specs.declared.call.Call.{Call}
 
 pub record SameSize (one other : Windows) : Type 0 where

@@ -1,7 +1,7 @@
 -- Each effect leaves a sound world sound, and so does each call that isn't refused.
-use Rattle.world.specs.{◌≡◌, Some, None, arith, Windows, Panels, window_or_standard, World, AreSoundPanels, AreSoundWindows, IsSound, Change, asks, edits}
-use Rattle.world.specs.{marks, makes, deletes, moves, shifts, Effect, arranges, refreshes, composes, Order, changes, carries, after, after_change}
-use Rattle.world.specs.{composed_windows, windows_after, effect_of, refusal, world_after}
+use Rattle.std.specs.Prelude.{◌≡◌}
+use Rattle.world.specs.{Some, None, arith, Windows, Panels, window_or_standard, World, AreSoundPanels, AreSoundWindows, IsSound, Change, asks, edits, marks, makes, deletes, moves, shifts, Effect}
+use Rattle.world.specs.{arranges, refreshes, composes, Order, changes, carries, after, after_change, composed_windows, windows_after, effect_of, refusal, world_after}
 use Rattle.world.specs.declared.call.Call.{Call}
 use Rattle.world.proofs.Allowed.{sound-panel}
 use Rattle.world.proofs.CallLaws.{IsReady, ready}

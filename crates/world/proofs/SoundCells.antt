@@ -1,8 +1,8 @@
 -- In sound windows each place of a window shows a cell, what is drawn are cells, and what is touched are columns of its line.
-use Rattle.world.specs.{◌≡◌, ℕ, zero, suc, ◌+◌, ◌-◌, ◌<◌, ◌≤◌, Bool, true, Option, Some, arith, IsSome, MatchOption, ⊤, bit_or, nat_tests, or_lt, Glyph}
-use Rattle.world.specs.{IsCell, is_printable, Place, HasPlace, Window, Windows, cell_at, cell_in_grid, own_within, touched_below, window_limit}
-use Rattle.world.specs.{cell_on_screen, holds, at_place, to_end_of_line, written_glyph, overlaid_cell, AreColumnsWithin, AreSettingsWithin, AreSoundWindows}
-use Rattle.world.specs.{copywin_drawing}
+use Rattle.std.specs.Prelude.{◌≡◌, ◌+◌, ◌-◌, ◌<◌, ◌≤◌}
+use Rattle.world.specs.{ℕ, zero, suc, Bool, true, Option, Some, arith, IsSome, MatchOption, ⊤, bit_or, nat_tests, or_lt, Glyph, IsCell, is_printable, Place, HasPlace, Window, Windows, cell_at}
+use Rattle.world.specs.{cell_in_grid, own_within, touched_below, window_limit, cell_on_screen, holds, at_place, to_end_of_line, written_glyph, overlaid_cell, AreColumnsWithin, AreSettingsWithin}
+use Rattle.world.specs.{AreSoundWindows, copywin_drawing}
 use Rattle.world.proofs.Fits.{HasCellsOnly}
 use Rattle.world.proofs.WindowLaws.{own-onward}
 use Rattle.world.specs.declared.settings.Columns.{Columns}

@@ -1,10 +1,9 @@
 -- An edit leaves sound windows sound, and so do marks.
-use Rattle.world.specs.{◌≡◌, ℕ, ◌+◌, ◌<◌, Bool, true, false, if◌then◌else◌, ◌==◌, nat_lt, Option, Some, None, List, [], ◌∷◌, arith, refl, MatchOption, ⊤}
-use Rattle.world.specs.{list_any, option_map, eqb-true, or_parts, nat_tests, is_printable, Place, Backing, Drawing, GridPlace, Window, WindowMap, Windows}
-use Rattle.world.specs.{grid_drawing, if_there, laid_over, own, parent_number, put, put_from, with_change, within, set, with_cursor, at_place, written_glyph}
-use Rattle.world.specs.{after_text, backspace, carriage_return, character_printed, is_last_line, newline, scrolls, to_next_line, typed_in, Edit, after_edit}
-use Rattle.world.specs.{after_marks, draws, marks, sets, types, unmarked_lines, with_unmarked, AreColumnsWithin, AreSettingsWithin, AreSoundWindows, HasCells}
-use Rattle.world.specs.{IsSoundWindow, IsStandardScreen, is_bad_character}
+use Rattle.std.specs.Prelude.{◌≡◌, ◌+◌, ◌<◌, if◌then◌else◌, ◌==◌, ◌∷◌}
+use Rattle.world.specs.{ℕ, Bool, true, false, nat_lt, Option, Some, None, List, [], arith, refl, MatchOption, ⊤, list_any, option_map, eqb-true, or_parts, nat_tests, is_printable, Place, Backing}
+use Rattle.world.specs.{Drawing, GridPlace, Window, WindowMap, Windows, grid_drawing, if_there, laid_over, own, parent_number, put, put_from, with_change, within, set, with_cursor, at_place}
+use Rattle.world.specs.{written_glyph, after_text, backspace, carriage_return, character_printed, is_last_line, newline, scrolls, to_next_line, typed_in, Edit, after_edit, after_marks, draws, marks}
+use Rattle.world.specs.{sets, types, unmarked_lines, with_unmarked, AreColumnsWithin, AreSettingsWithin, AreSoundWindows, HasCells, IsSoundWindow, IsStandardScreen, is_bad_character}
 use Rattle.world.proofs.Fits.{FitsChange, FitsEdit, HasCellsOnly, KeepsSettings}
 use Rattle.world.proofs.PictureLaws.{SameView, outline-put}
 use Rattle.world.proofs.SoundCells.{IsCell-written, cell-sound, cells-at_place, cells-to_end_of_line, touched-within}

@@ -1,11 +1,10 @@
 -- Making, deleting, moving and shifting a window leave sound windows sound.
-use Rattle.world.specs.{◌≡◌, ◌≢◌, ℕ, zero, suc, ◌+◌, ◌-◌, ◌<◌, ◌≤◌, Bool, true, false, ◌==◌, ◌&&◌, ◌||◌, Option, Some, None, List, map, arith, refl, sym, eqb}
-use Rattle.world.specs.{IsSome, IsSomeAnd, MatchOption, is_none, is_some, unwrap_or, ⊤, option_map_or, list_any, range_with_len, eq-eqb, eqb-false, eqb-true}
-use Rattle.world.specs.{ne_eqb, nat_tests, list_any_at, get_or-map-range_with_len, length-map-range_with_len, le-length_from_below, Place, is_no_size}
-use Rattle.world.specs.{LARGEST_PAD, MOST_WINDOWS, Window, WindowMap, Windows, own, own_within, parent_number, parent_of, window_limit, with_change}
-use Rattle.world.specs.{with_window, standard_screen, blank_grid, new_window, AreSoundWindows, HasCells, IsSoundWindow, deletes, makes, moves, shifts}
-use Rattle.world.specs.{moved_to, shifted_to, under_number, with_part, with_place, derived_from, free_among, is_full, is_inside, is_outside, is_part_of}
-use Rattle.world.specs.{making_change, making_refusal, new_number, next_window, window_on_screen}
+use Rattle.std.specs.Prelude.{◌≡◌, ◌≢◌, ◌+◌, ◌-◌, ◌<◌, ◌≤◌, ◌==◌, ◌&&◌, ◌||◌}
+use Rattle.world.specs.{ℕ, zero, suc, Bool, true, false, Option, Some, None, List, map, arith, refl, sym, eqb, IsSome, IsSomeAnd, MatchOption, is_none, is_some, unwrap_or, ⊤, option_map_or}
+use Rattle.world.specs.{list_any, range_with_len, eq-eqb, eqb-false, eqb-true, ne_eqb, nat_tests, list_any_at, get_or-map-range_with_len, length-map-range_with_len, le-length_from_below, Place}
+use Rattle.world.specs.{is_no_size, LARGEST_PAD, MOST_WINDOWS, Window, WindowMap, Windows, own, own_within, parent_number, parent_of, window_limit, with_change, with_window, standard_screen}
+use Rattle.world.specs.{blank_grid, new_window, AreSoundWindows, HasCells, IsSoundWindow, deletes, makes, moves, shifts, moved_to, shifted_to, under_number, with_part, with_place, derived_from}
+use Rattle.world.specs.{free_among, is_full, is_inside, is_outside, is_part_of, making_change, making_refusal, new_number, next_window, window_on_screen}
 use Rattle.world.specs.declared.written_calls.Making.{Making}
 use Rattle.world.proofs.Allowed.{free-number, passed}
 use Rattle.world.proofs.MoveLaws.{no-part}

@@ -1,9 +1,9 @@
 -- An order leaves sound panels sound.
-use Rattle.world.specs.{◌≡◌, ◌≢◌, ℕ, zero, suc, ◌+◌, ◌-◌, ◌<◌, ◌≤◌, false, not, if◌then◌else◌, ◌==◌, Option, Some, None, List, [], ◌∷◌, ◌++◌, refl, sym}
-use Rattle.world.specs.{arith, eq-eqb, All, AllPairs, IsSome, IsSomeAnd, MatchOption, find, is_none, unwrap_or, ⊤, range_with_len, eqb-true, ne_eqb, All-cons}
-use Rattle.world.specs.{All-filter, All-push, filter_passes, AllPairs-cons, AllPairs-filter, all_pairs_push, MOST_PANELS, Refusal, WindowMap, Windows, Panels}
-use Rattle.world.specs.{is_in_panel, panel_limit, standard_screen, AreSoundPanels, IsSoundPanel, Order, adds, orders, panels_after, windows_after, with_entry}
-use Rattle.world.specs.{next_panel, new_panel_number, stacking_order, stacking_refusal}
+use Rattle.std.specs.Prelude.{◌≡◌, ◌≢◌, ◌+◌, ◌-◌, ◌<◌, ◌≤◌, if◌then◌else◌, ◌==◌, ◌∷◌, ◌++◌}
+use Rattle.world.specs.{ℕ, zero, suc, false, not, Option, Some, None, List, [], refl, sym, arith, eq-eqb, All, AllPairs, IsSome, IsSomeAnd, MatchOption, find, is_none, unwrap_or, ⊤, range_with_len}
+use Rattle.world.specs.{eqb-true, ne_eqb, All-cons, All-filter, All-push, filter_passes, AllPairs-cons, AllPairs-filter, all_pairs_push, MOST_PANELS, Refusal, WindowMap, Windows, Panels}
+use Rattle.world.specs.{is_in_panel, panel_limit, standard_screen, AreSoundPanels, IsSoundPanel, Order, adds, orders, panels_after, windows_after, with_entry, next_panel, new_panel_number}
+use Rattle.world.specs.{stacking_order, stacking_refusal}
 use Rattle.world.specs.calls.Stacking.{without}
 use Rattle.world.proofs.Allowed.{passed, sound-panel}
 use Rattle.world.proofs.Fits.{FitsOrder}

@@ -1,10 +1,9 @@
 -- Refreshing leaves a sound virtual screen sound, and so does each other effect.
-use Rattle.world.specs.{◌≡◌, ℕ, ◌<◌, Bool, true, false, Option, Some, None, List, [], ◌∷◌, map, arith, zero-add, if◌then◌else◌, MatchOption, ◌&&◌, find, ⊤}
-use Rattle.world.specs.{option_map_or, AllByRecursion, range_with_len, nat_tests, length-set, All-from_recursion, All-from_get_or, All-get_or}
-use Rattle.world.specs.{recursion_from_All, length-map-range_with_len, get_or-map-range_with_len, Glyph, IsCell, Picture, Place, origin, AreShown, HasSize}
-use Rattle.world.specs.{picture_of, shown_at, ArePairs, IsShown, Pairs, Shown, shown, Window, WindowMap, Windows, World, picture, Panels, cursor_from}
-use Rattle.world.specs.{found_from_top, holds, panel_holds, screen_place, standard_screen, window_or_standard, IsSound, IsSoundVirtual, IsSoundWindow, Effect}
-use Rattle.world.specs.{after, composes, refreshes, shown_over, refresh_effect, refresh_refusal}
+use Rattle.std.specs.Prelude.{◌≡◌, ◌<◌, ◌∷◌, if◌then◌else◌, ◌&&◌}
+use Rattle.world.specs.{ℕ, Bool, true, false, Option, Some, None, List, [], map, arith, zero-add, MatchOption, find, ⊤, option_map_or, AllByRecursion, range_with_len, nat_tests, length-set}
+use Rattle.world.specs.{All-from_recursion, All-from_get_or, All-get_or, recursion_from_All, length-map-range_with_len, get_or-map-range_with_len, Glyph, IsCell, Picture, Place, origin, AreShown}
+use Rattle.world.specs.{HasSize, picture_of, shown_at, ArePairs, IsShown, Pairs, Shown, shown, Window, WindowMap, Windows, World, picture, Panels, cursor_from, found_from_top, holds, panel_holds}
+use Rattle.world.specs.{screen_place, standard_screen, window_or_standard, IsSound, IsSoundVirtual, IsSoundWindow, Effect, after, composes, refreshes, shown_over, refresh_effect, refresh_refusal}
 use Rattle.cell.proofs.PictureLemmas.{HasSize-lines_from, each-set, length-line}
 use Rattle.world.specs.declared.written_calls.Refresh.{Refresh}
 use Rattle.world.specs.declared.written_calls.Refresh.TheVariants.{Pnoutrefresh}

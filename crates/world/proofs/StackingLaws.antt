@@ -1,10 +1,10 @@
 -- A call on a panel leaves the picture as it is at every place of the screen where the panel isn't seen, before or
 -- after.
-use Rattle.world.specs.{◌≡◌, ◌≢◌, ℕ, ◌<◌, Bool, true, false, not, ◌==◌, ◌&&◌, ◌||◌, Option, Some, None, List, [], ◌∷◌, ◌++◌, inl, inr, ap, refl, arith, find}
-use Rattle.world.specs.{is_none, reverse, unwrap_or, ⊤, last_or, list_any, option_map_or, cases_eq, eq-eqb, eqb-true, ne_eqb, or_parts, and-false, append-nil}
-use Rattle.world.specs.{filter-append, WindowMap, Windows, Panels, cell_on_screen, found_from_top, holds, panel_holds, standard_screen, topmost}
-use Rattle.world.specs.{window_or_standard, AreSoundPanels, AreSoundWindows, Order, adds, carries, changes, with_entry, moved_to, orders, panels_after}
-use Rattle.world.specs.{windows_after, order_shows_at, panel_shows_at, stays_on_top, stacking_order, stacking_refusal}
+use Rattle.std.specs.Prelude.{◌≡◌, ◌≢◌, ◌<◌, ◌==◌, ◌&&◌, ◌||◌, ◌∷◌, ◌++◌}
+use Rattle.world.specs.{ℕ, Bool, true, false, not, Option, Some, None, List, [], inl, inr, ap, refl, arith, find, is_none, reverse, unwrap_or, ⊤, last_or, list_any, option_map_or, cases_eq, eq-eqb}
+use Rattle.world.specs.{eqb-true, ne_eqb, or_parts, and-false, append-nil, filter-append, WindowMap, Windows, Panels, cell_on_screen, found_from_top, holds, panel_holds, standard_screen, topmost}
+use Rattle.world.specs.{window_or_standard, AreSoundPanels, AreSoundWindows, Order, adds, carries, changes, with_entry, moved_to, orders, panels_after, windows_after, order_shows_at, panel_shows_at}
+use Rattle.world.specs.{stays_on_top, stacking_order, stacking_refusal}
 use mathlib.Core.List.{reverse_aux}
 use mathlib.Core.Path.{fun_ext}
 use Rattle.world.specs.calls.Stacking.{without}

@@ -1,8 +1,9 @@
 -- What determines which windows hold a place of the screen, and which cells they show; and where the search from the
 -- top finds the same.
-use Rattle.world.specs.{◌≡◌, ℕ, zero, suc, ◌-◌, Bool, true, false, if◌then◌else◌, Option, Some, None, List, [], ◌∷◌, ap, refl, arith, find, reverse}
-use Rattle.world.specs.{option_map, filter_map, list_any, or_parts, Place, Backing, Window, WindowMap, cell_at, with_change, own, own_within, window_limit}
-use Rattle.world.specs.{Panels, cell_on_screen, found_from_top, holds, owner, panel_holds, place_of, standard_screen, window_or_standard, windows_from_top}
+use Rattle.std.specs.Prelude.{◌≡◌, ◌-◌, if◌then◌else◌, ◌∷◌}
+use Rattle.world.specs.{ℕ, zero, suc, Bool, true, false, Option, Some, None, List, [], ap, refl, arith, find, reverse, option_map, filter_map, list_any, or_parts, Place, Backing, Window, WindowMap}
+use Rattle.world.specs.{cell_at, with_change, own, own_within, window_limit, Panels, cell_on_screen, found_from_top, holds, owner, panel_holds, place_of, standard_screen, window_or_standard}
+use Rattle.world.specs.{windows_from_top}
 use mathlib.Core.Path.{fun_ext}
 
 -- what doesn't look at what a change changes is the same

@@ -1,7 +1,7 @@
 -- Laws of windows that share cells.
-use Rattle.world.specs.{◌≡◌, ℕ, zero, suc, ◌+◌, ◌<◌, Bool, false, if◌then◌else◌, ◌==◌, ◌&&◌, ◌||◌, nat_lt, Option, Some, None, is_some, IsSome, ap, arith}
-use Rattle.world.specs.{refl, sym, ◌∙◌, option_and_then, option_map, eqb-true, nat_tests, Glyph, Backing, own_grid, part_of, Window, WindowMap, GridPlace}
-use Rattle.world.specs.{Drawing, through_backing, own_within, own, cell_at, within, grid_drawing, laid_over, joined_columns, touched_below, touched_by}
+use Rattle.std.specs.Prelude.{◌≡◌, ◌+◌, ◌<◌, if◌then◌else◌, ◌==◌, ◌&&◌, ◌||◌}
+use Rattle.world.specs.{ℕ, zero, suc, Bool, false, nat_lt, Option, Some, None, is_some, IsSome, ap, arith, refl, sym, ◌∙◌, option_and_then, option_map, eqb-true, nat_tests, Glyph, Backing, own_grid}
+use Rattle.world.specs.{part_of, Window, WindowMap, GridPlace, Drawing, through_backing, own_within, own, cell_at, within, grid_drawing, laid_over, joined_columns, touched_below, touched_by}
 use Rattle.world.specs.{after_drawing, put_from, put_windows, HasPlace, window_limit, onward, over}
 use mathlib.Core.Path.{fun_ext}
 use Rattle.world.specs.declared.settings.Columns.{Columns}

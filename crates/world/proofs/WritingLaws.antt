@@ -1,6 +1,7 @@
 -- What an edit writes: it leaves the picture as it is at every place of the screen where its frame isn't shown.
-use Rattle.world.specs.{◌≡◌, ℕ, ◌<◌, ◌≤◌, true, false, Option, Some, arith, refl, ◌∙◌, Drawing, HasPlace, Window, WindowMap, Windows, put_windows, Panels}
-use Rattle.world.specs.{found_from_top, holds, standard_screen, AreSoundWindows, Edit, after_edit, edit_drawing, edit_frame, edit_window, edit_shows_at, Rect}
+use Rattle.std.specs.Prelude.{◌≡◌, ◌<◌, ◌≤◌}
+use Rattle.world.specs.{ℕ, true, false, Option, Some, arith, refl, ◌∙◌, Drawing, HasPlace, Window, WindowMap, Windows, put_windows, Panels, found_from_top, holds, standard_screen, AreSoundWindows}
+use Rattle.world.specs.{Edit, after_edit, edit_drawing, edit_frame, edit_window, edit_shows_at, Rect}
 use Rattle.world.proofs.EditLaws.{differ-cells, edit-draws, frame-edit}
 use Rattle.world.proofs.FrameLaws.{frame_of-is}
 use Rattle.world.proofs.PictureLaws.{SameView, found-put, outline-put, standard-holds}

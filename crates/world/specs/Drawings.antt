@@ -1,7 +1,8 @@
 -- What the writing calls draw in a window. Places past the window's edges are ignored.
 -- X/Open Curses Issue 7: addch ("Rendition of characters placed into a window"), clrtoeol, clrtobot, erase, insch,
 -- delch, insertln, deleteln, scrl.
-use Rattle.world.specs.Names.{ℕ, ◌+◌, ◌-◌, if◌then◌else◌, ◌==◌, ◌&&◌, ◌||◌, nat_lt, nat_le, Some, None, bit_or, bits_of, Glyph, Place}
+use Rattle.std.specs.Prelude.{◌+◌, ◌-◌, if◌then◌else◌, ◌==◌, ◌&&◌, ◌||◌}
+use Rattle.world.specs.Names.{ℕ, nat_lt, nat_le, Some, None, bit_or, bits_of, Glyph, Place}
 use Rattle.world.specs.WindowMaps.{Drawing, WindowMap, cell_at}
 use Rattle.world.specs.declared.settings.Settings.{Settings}
 

@@ -1,8 +1,9 @@
 -- What calls do, said once for each effect: a call is its tests and one of these effects.
 -- X/Open Curses Issue 7 and NetBSD panel(3) say what each call does; that these few effects cover them all is Curspan's
 -- own finding.
-use Rattle.world.specs.Names.{◌≡◌, ℕ, Bool, true, false, if◌then◌else◌, ◌==◌, ◌||◌, Option, Some, None, List, [], ◌∷◌, ◌++◌, slice_set, list_any}
-use Rattle.world.specs.Names.{option_and_then, option_map, option_map_or, Picture, Place, picture_of, shown_at, Pairs, Shown, shown, VirtualScreen, Rect}
+use Rattle.std.specs.Prelude.{◌≡◌, if◌then◌else◌, ◌==◌, ◌||◌, ◌∷◌, ◌++◌}
+use Rattle.world.specs.Names.{ℕ, Bool, true, false, Option, Some, None, List, [], slice_set, list_any, option_and_then, option_map, option_map_or, Picture, Place, picture_of, shown_at, Pairs, Shown}
+use Rattle.world.specs.Names.{shown, VirtualScreen, Rect}
 use Rattle.world.specs.WindowMaps.{Backing, own_grid, part_of, Drawing, Window, WindowMap, Windows, with_change, drawing_if_there, if_there, no_cells, put, with_window}
 use Rattle.world.specs.Settings.{set}
 use Rattle.world.specs.PanelOrder.{Panels, window_or_standard, windows_of_picture}

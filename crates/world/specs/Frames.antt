@@ -1,7 +1,8 @@
 -- The rectangle that a drawing covers in a window: the smallest that holds each place of the window for which the
 -- drawing has a cell.
 -- The functions of `windows` that write answer it; X/Open Curses has no such answer.
-use Rattle.world.specs.Names.{◌≡◌, ℕ, zero, suc, ◌<◌, ◌≤◌, min, max, true, if◌then◌else◌, Option, Some, None, is_some, IsSomeAnd, Rect}
+use Rattle.std.specs.Prelude.{◌≡◌, ◌<◌, ◌≤◌, if◌then◌else◌}
+use Rattle.world.specs.Names.{ℕ, zero, suc, min, max, true, Option, Some, None, is_some, IsSomeAnd, Rect}
 use Rattle.world.specs.WindowMaps.{Drawing, Window}
 
 -- the smallest rectangle that holds two

@@ -8,23 +8,19 @@ pub use Rattle.cell.specs.ShownCells.{ArePairs, IsShown, Pairs, Shown, first_pai
 pub use Rattle.cell.specs.VirtualScreens.{VirtualScreen}
 pub use Rattle.cell.specs.declared.limits.TheConstants.{LARGEST_PAD, LARGEST_SCREEN, LAST_COLOUR, LAST_PAIR, MOST_PANELS, MOST_WINDOWS}
 pub use Rattle.cell.specs.declared.refusal.Refusal.{Refusal}
-pub use Rattle.cell.specs.declared.refusal.Refusal.TheVariants.{BadCharacter, BadPair, BadRectangle, BadRegion, BadSize, HasDerived, Hidden, InPanel, IsPad}
-pub use Rattle.cell.specs.declared.refusal.Refusal.TheVariants.{NoSuchPanel, NoSuchWindow, NotDerived, NotPad, OffScreen, OutsideParent, OutsideWindow}
-pub use Rattle.cell.specs.declared.refusal.Refusal.TheVariants.{ScrollingOff, StandardScreen, TooMany}
+pub use Rattle.cell.specs.declared.refusal.Refusal.TheVariants.{BadCharacter, BadPair, BadRectangle, BadRegion, BadSize, HasDerived, Hidden, InPanel, IsPad, NoSuchPanel, NoSuchWindow, NotDerived}
+pub use Rattle.cell.specs.declared.refusal.Refusal.TheVariants.{NotPad, OffScreen, OutsideParent, OutsideWindow, ScrollingOff, StandardScreen, TooMany}
 pub use Rattle.cell.specs.declared.window.Rect.{Rect}
 pub use Rattle.cell.specs.declared.window.TheConstants.WinId.{STANDARD}
 pub use Rattle.cell.specs.declared.window.WinId.{WinId}
-pub use Rattle.std.proofs.Common.{All, AllPairs, Bool, IsSome, IsSomeAnd, List, MatchOption, None, Option, Result, Some, [], ap, arith, eq-eqb, eqb, false}
-pub use Rattle.std.proofs.Common.{find, fold, if◌then◌else◌, inl, inr, is_none, is_some, length, map, max, min, nat_le, nat_lt, negsuc, not, option_and_then}
-pub use Rattle.std.proofs.Common.{option_map, pos, refl, reverse, slice_index_or, slice_set, subst, suc, sym, true, unwrap_or, zero, zero-add, ℕ, ℤ, ◌&&◌}
-pub use Rattle.std.proofs.Common.{◌*◌, ◌++◌, ◌+◌, ◌-◌, ◌<◌, ◌==◌, ◌||◌, ◌∙◌, ◌∷◌, ◌≡◌, ◌≢◌, ◌≤◌, ◌⊎◌}
+pub use Rattle.std.proofs.Common.{All, AllPairs, Bool, IsSome, IsSomeAnd, List, MatchOption, None, Option, Result, Some, [], ap, arith, eq-eqb, eqb, false, find, fold, inl, inr, is_none, is_some}
+pub use Rattle.std.proofs.Common.{length, map, max, min, nat_le, nat_lt, negsuc, not, option_and_then, option_map, pos, refl, reverse, slice_index_or, slice_set, subst, suc, sym, true, unwrap_or}
+pub use Rattle.std.proofs.Common.{zero, zero-add, ℕ, ℤ, ◌∙◌}
 pub use Rattle.std.proofs.Math.Bool.{and-false}
-pub use Rattle.std.proofs.lemmas.Bool.{and_from, and_parts, cases_eq, cases_lt, eqb-false, eqb-true, false_from_ne_true, le-leb, leb-true, ne_eqb, or_cases}
-pub use Rattle.std.proofs.lemmas.Bool.{or_from, or_left, or_parts, or_right}
+pub use Rattle.std.proofs.lemmas.Bool.{and_from, and_parts, cases_eq, cases_lt, eqb-false, eqb-true, false_from_ne_true, le-leb, leb-true, ne_eqb, or_cases, or_from, or_left, or_parts, or_right}
 pub use Rattle.std.proofs.lemmas.Bool.Decides.{nat_tests}
 pub use Rattle.std.proofs.lemmas.List.{append-nil, length-set}
-pub use Rattle.std.proofs.lemmas.List.Elements.{All-cons, All-filter, All-from_get_or, All-from_recursion, All-get_or, All-push, filter-append, filter_passes}
-pub use Rattle.std.proofs.lemmas.List.Elements.{recursion_from_All}
+pub use Rattle.std.proofs.lemmas.List.Elements.{All-cons, All-filter, All-from_get_or, All-from_recursion, All-get_or, All-push, filter-append, filter_passes, recursion_from_All}
 pub use Rattle.std.proofs.lemmas.List.Folds.{list_any_at}
 pub use Rattle.std.proofs.lemmas.List.FromFn.{get_or-map-range_with_len, length-map-range_with_len}
 pub use Rattle.std.proofs.lemmas.List.Kept.{AllPairs-cons, AllPairs-filter}

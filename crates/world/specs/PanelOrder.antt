@@ -1,7 +1,7 @@
 -- The panels, and the picture that they make of the windows.
 -- NetBSD panel(3): panels are windows with an order of depth, above the standard screen; hidden ones are not in it.
-use Rattle.world.specs.Names.{unwrap_or, ℕ, ◌+◌, ◌-◌, Bool, false, ◌==◌, ◌&&◌, Option, Some, None, List, [], ◌∷◌, reverse, find, filter_map, last_or}
-use Rattle.world.specs.Names.{option_map_or, Glyph, Place, origin, MOST_PANELS, STANDARD}
+use Rattle.std.specs.Prelude.{◌+◌, ◌-◌, ◌==◌, ◌&&◌, ◌∷◌}
+use Rattle.world.specs.Names.{unwrap_or, ℕ, Bool, false, Option, Some, None, List, [], reverse, find, filter_map, last_or, option_map_or, Glyph, Place, origin, MOST_PANELS, STANDARD}
 use Rattle.world.specs.WindowMaps.{Window, WindowMap, any_below, cell_at}
 use Rattle.world.specs.Rows.{is_among}
 

@@ -1,7 +1,7 @@
 -- The cells of one line of a window: what is read, and the three writes of which each call's write is made.
 -- X/Open Curses Issue 7: "Characters"; copywin, overlay.
-use Rattle.world.specs.Names.{ℕ, ◌+◌, ◌-◌, Bool, if◌then◌else◌, ◌==◌, nat_lt, nat_le, ◌&&◌, Option, Some, None, List, [], length, slice_index_or, map}
-use Rattle.world.specs.Names.{range_with_len, option_map_or, Glyph, blank}
+use Rattle.std.specs.Prelude.{◌+◌, ◌-◌, if◌then◌else◌, ◌==◌, ◌&&◌}
+use Rattle.world.specs.Names.{ℕ, Bool, nat_lt, nat_le, Option, Some, None, List, [], length, slice_index_or, map, range_with_len, option_map_or, Glyph, blank}
 use Rattle.world.specs.WindowMaps.{WindowMap, Drawing, cell_at}
 
 -- x is one of n numbers from a first one on

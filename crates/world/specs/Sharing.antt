@@ -1,6 +1,7 @@
 -- Which places of a window show cells of a part of another.
 -- X/Open Curses Issue 7: subwin and derwin (a derived window shares the cells of its parent).
-use Rattle.world.specs.Names.{◌≡◌, ℕ, ◌+◌, Bool, true, false, ◌==◌, ◌&&◌, nat_le, Option, Some, None, Rect}
+use Rattle.std.specs.Prelude.{◌≡◌, ◌+◌, ◌==◌, ◌&&◌}
+use Rattle.world.specs.Names.{ℕ, Bool, true, false, nat_le, Option, Some, None, Rect}
 use Rattle.world.specs.WindowMaps.{GridPlace, HasPlace, WindowMap, any_below, own}
 
 -- both are there, and one place of a grid

@@ -1,6 +1,7 @@
 -- The sound worlds: those that there can be. Each call leaves a sound world sound.
-use Rattle.world.specs.Names.{◌≡◌, ◌≢◌, ℕ, ◌+◌, ◌<◌, ◌≤◌, Option, Some, None, is_some, IsSome, IsSomeAnd, MatchOption, ⊤, All, AllPairs, bits_of, Glyph}
-use Rattle.world.specs.Names.{IsCell, origin, HasSize, AreShown, ArePairs, LARGEST_PAD, LARGEST_SCREEN, LAST_PAIR, MOST_PANELS, MOST_WINDOWS, VirtualScreen}
+use Rattle.std.specs.Prelude.{◌≡◌, ◌≢◌, ◌+◌, ◌<◌, ◌≤◌}
+use Rattle.world.specs.Names.{ℕ, Option, Some, None, is_some, IsSome, IsSomeAnd, MatchOption, ⊤, All, AllPairs, bits_of, Glyph, IsCell, origin, HasSize, AreShown, ArePairs, LARGEST_PAD}
+use Rattle.world.specs.Names.{LARGEST_SCREEN, LAST_PAIR, MOST_PANELS, MOST_WINDOWS, VirtualScreen}
 use Rattle.world.specs.WindowMaps.{Backing, own_grid, part_of, Window, WindowMap, Windows, own}
 use Rattle.world.specs.PanelOrder.{Panels, standard_screen}
 use Rattle.world.specs.Worlds.{World}

@@ -1,7 +1,8 @@
 -- Typing characters in a window: what each draws, and where the cursor goes.
 -- X/Open Curses Issue 7: addch, addstr. Where the cursor goes at the ends of lines and of the window, and what scrolls
 -- then, is Curspan's own choice.
-use Rattle.world.specs.Names.{ℕ, ◌+◌, ◌-◌, Bool, if◌then◌else◌, ◌==◌, ◌&&◌, ◌||◌, nat_lt, List, [], ◌∷◌, fold, Place}
+use Rattle.std.specs.Prelude.{◌+◌, ◌-◌, if◌then◌else◌, ◌==◌, ◌&&◌, ◌||◌, ◌∷◌}
+use Rattle.world.specs.Names.{ℕ, Bool, nat_lt, List, [], fold, Place}
 use Rattle.world.specs.WindowMaps.{Drawing, Window, WindowMap, Windows, drawing_if_there, if_there, no_cells, over, put}
 use Rattle.world.specs.Settings.{set, with_cursor}
 use Rattle.world.specs.Drawings.{written_glyph, at_place, to_end_of_line, lines_up}

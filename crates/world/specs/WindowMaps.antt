@@ -1,9 +1,9 @@
 -- Windows and pads: what they are, which cells they share, and what it is to write in one.
 -- X/Open Curses Issue 7: newwin, subwin and derwin (a derived window shares the cells of its parent), newpad, touchwin.
 -- Lines and columns count from 0; a place is named by its line y and its column x.
-use Rattle.world.specs.Names.{◌≡◌, ℕ, zero, suc, ◌+◌, ◌-◌, ◌<◌, min, max, Bool, false, if◌then◌else◌, ◌==◌, nat_lt, nat_le, ◌&&◌, ◌||◌, Option, Some, None}
-use Rattle.world.specs.Names.{is_some, is_none, unwrap_or, option_and_then, IsSome, IsSomeAnd, List, [], ◌∷◌, list_any, option_map, option_map_or, Glyph}
-use Rattle.world.specs.Names.{blank, Place, MOST_WINDOWS}
+use Rattle.std.specs.Prelude.{◌≡◌, ◌+◌, ◌-◌, ◌<◌, if◌then◌else◌, ◌==◌, ◌&&◌, ◌||◌, ◌∷◌}
+use Rattle.world.specs.Names.{ℕ, zero, suc, min, max, Bool, false, nat_lt, nat_le, Option, Some, None, is_some, is_none, unwrap_or, option_and_then, IsSome, IsSomeAnd, List, [], list_any}
+use Rattle.world.specs.Names.{option_map, option_map_or, Glyph, blank, Place, MOST_WINDOWS}
 use Rattle.world.specs.declared.settings.Columns.{Columns}
 use Rattle.world.specs.declared.settings.Settings.{Settings}
 

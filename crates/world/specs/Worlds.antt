@@ -1,7 +1,8 @@
 -- The world that calls change: the windows, the panels, the colour pairs, and the virtual screen, which is what the
 -- next doupdate shows.
 -- X/Open Curses Issue 7: wnoutrefresh and doupdate ("virtual screen"), init_pair; NetBSD panel(3): update_panels.
-use Rattle.world.specs.Names.{ℕ, ◌-◌, false, Option, Some, None, blank, Place, origin, blank_picture, Shown, Pairs, shown, first_pairs, VirtualScreen}
+use Rattle.std.specs.Prelude.{◌-◌}
+use Rattle.world.specs.Names.{ℕ, false, Option, Some, None, blank, Place, origin, blank_picture, Shown, Pairs, shown, first_pairs, VirtualScreen}
 use Rattle.world.specs.WindowMaps.{Backing, own_grid, Window, Windows, no_windows, with_window}
 use Rattle.world.specs.PanelOrder.{Panels, first_panels, standard_screen, found_from_top, cursor_of_topmost}
 use Rattle.world.specs.declared.settings.Settings.{Settings}

@@ -1,13 +1,12 @@
 //! What holds of the definitions alone. Each function does nothing, and its contract is the law.
 
-ghost use Rattle.world.specs.{◌≡◌, ◌<◌, ◌≤◌, ℕ, false, List, Option, Some, None, IsSome, option_map, ◌⊎◌, Rect, AreRectangle, Covers, IsFrameOf, frame_of};
-ghost use Rattle.world.specs.{frame_of_two, Panels, cursor_of_topmost, found_from_top, is_in_panel, SharesPart, AreSoundPanels, AreSoundWindows, IsSound};
-ghost use Rattle.world.specs.{World, picture, call_frame, effect_of, is_update_panels, refusal, world_after, affects_line, affects_place, change_shows_at};
-ghost use Rattle.world.specs.{edit_shows_at, frame_shows_at, move_shows_at, order_shows_at, Writes, WritesAt, leads_elsewhere, windows_after_call};
-ghost use Rattle.world.specs.{after_making, has_no_parent, making_change, making_refusal, stacking_order, stacking_refusal, DifferInSettings, Edit};
-ghost use Rattle.world.specs.{after_edit, edit_drawing, edit_frame, edit_window, panels_after, shifted_to, windows_after, with_unmarked, Glyph, shown_at};
-ghost use Rattle.world.specs.{Drawing, GridPlace, HasPlace, IsWrite, Window, WindowMap, Windows, cell_at, cell_in_grid, derives, onward, over, own, put};
-ghost use Rattle.world.specs.{put_windows};
+ghost use Rattle.std.specs.Prelude.{◌≡◌, ◌<◌, ◌≤◌, ◌⊎◌};
+ghost use Rattle.world.specs.{ℕ, false, List, Option, Some, None, IsSome, option_map, Rect, AreRectangle, Covers, IsFrameOf, frame_of, frame_of_two, Panels, cursor_of_topmost, found_from_top};
+ghost use Rattle.world.specs.{is_in_panel, SharesPart, AreSoundPanels, AreSoundWindows, IsSound, World, picture, call_frame, effect_of, is_update_panels, refusal, world_after, affects_line};
+ghost use Rattle.world.specs.{affects_place, change_shows_at, edit_shows_at, frame_shows_at, move_shows_at, order_shows_at, Writes, WritesAt, leads_elsewhere, windows_after_call, after_making};
+ghost use Rattle.world.specs.{has_no_parent, making_change, making_refusal, stacking_order, stacking_refusal, DifferInSettings, Edit, after_edit, edit_drawing, edit_frame, edit_window};
+ghost use Rattle.world.specs.{panels_after, shifted_to, windows_after, with_unmarked, Glyph, shown_at, Drawing, GridPlace, HasPlace, IsWrite, Window, WindowMap, Windows, cell_at, cell_in_grid};
+ghost use Rattle.world.specs.{derives, onward, over, own, put, put_windows};
 ghost use Rattle.world.specs.declared.call.Call.{Call};
 ghost use Rattle.world.specs.declared.written_calls.Making.{Making};
 ghost use Rattle.world.specs.declared.written_calls.Refresh.{Refresh};

@@ -1,6 +1,7 @@
 //! The settings of a window, and the columns of a line.
 
-ghost use Rattle.world.specs.{◌≡◌, Some, joined_columns};
+ghost use Rattle.std.specs.Prelude.{◌≡◌};
+ghost use Rattle.world.specs.{Some, joined_columns};
 
 use cell::{Attr, Cell, PairId};
 

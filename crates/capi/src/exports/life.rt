@@ -1,6 +1,7 @@
 //! Opening a screen, taking its bytes, and closing it.
 
-ghost use Rattle.capi.specs.{◌≡◌, None, Forgotten, Opened, Taken, saturated};
+ghost use Rattle.std.specs.Prelude.{◌≡◌};
+ghost use Rattle.capi.specs.{None, Forgotten, Opened, Taken, saturated};
 
 use crate::answer::Answer;
 use crate::handle::Handle;

@@ -1,6 +1,7 @@
 -- What reporting a script's lines one after another does: definitions for the contracts of single steps.
-use Rattle.checks.specs.Names.{◌≡◌, ◌++◌, [], ℕ, Bool, true, false, not, List, flat_map, Seen, SourceSeen, parse_line, LineEnd, Newline, ScriptEnd}
-use Rattle.checks.specs.Names.{ReadFailed, LineTooLong, ReadsStream, PuttingEnds, WritingEnds}
+use Rattle.std.specs.Prelude.{◌≡◌, ◌++◌}
+use Rattle.checks.specs.Names.{[], ℕ, Bool, true, false, not, List, flat_map, Seen, SourceSeen, parse_line, LineEnd, Newline, ScriptEnd, ReadFailed, LineTooLong, ReadsStream, PuttingEnds}
+use Rattle.checks.specs.Names.{WritingEnds}
 use Rattle.checks.specs.CheckCommand.{AreFindingsOf, ReportsFault, ReportsLine, count_of, report}
 use Rattle.checks.specs.declared.report.Report.{Report}
 

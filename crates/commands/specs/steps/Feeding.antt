@@ -1,5 +1,6 @@
 -- What reading a stream into a terminal does: definitions for the contracts of single steps.
-use Rattle.commands.specs.Names.{◌≡◌, ◌⊎◌, ℕ, Bool, List, Option, Some, None, Follows, Reader, NotInProfile, Seen, SourceSeen}
+use Rattle.std.specs.Prelude.{◌≡◌, ◌⊎◌}
+use Rattle.commands.specs.Names.{ℕ, Bool, List, Option, Some, None, Follows, Reader, NotInProfile, Seen, SourceSeen}
 use Rattle.commands.specs.ShowCommand.{ReadsStream, offset_line}
 use Rattle.commands.specs.Written.{IsNotWritten, IsWritten}
 

@@ -1,5 +1,6 @@
 -- What the rows of a subcommand say of a size: definitions for the contracts of single steps.
-use Rattle.commands.specs.Names.{◌≡◌, List, Option, Row, Text, ErrorKind}
+use Rattle.std.specs.Prelude.{◌≡◌}
+use Rattle.commands.specs.Names.{List, Option, Row, Text, ErrorKind}
 use Rattle.clap.specs.declared.error.kind.ErrorKind.TheVariants as errors
 use Rattle.commands.specs.CommandLine.{LacksSize, LacksSizes, Sizes, SizesOf, is_quiet_by, kind_text, log_by, script_by, text_of}
 use Rattle.commands.specs.declared.requests.Invocation.{Invocation}

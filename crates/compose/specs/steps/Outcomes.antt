@@ -1,8 +1,8 @@
 -- A call made on windows, with what it affects of what is shown, and one with what it damages; and a call on panels.
-use Rattle.compose.specs.Names.{◌≡◌, ℕ, Bool, IfOk, OnErr, OnOk, Option, Some, None, List, Result, Ok, Err, option_map, result_err, Refusal, Change}
-use Rattle.compose.specs.Names.{edit_window, order_reply, order_takes_memory, windows_after, Panels, change_shows_at, order_shows_at, Refused, after_stacking}
-use Rattle.compose.specs.Names.{stacking_order, stacking_refusal, Rect, WinId, Reply, Flag, Nothing, Number, writing_edit, Stacking, Writing, no_windows}
-use Rattle.compose.specs.Names.{Columns, Changed, WindowTable, windows, PanelTable, panels, Damages}
+use Rattle.std.specs.Prelude.{◌≡◌}
+use Rattle.compose.specs.Names.{ℕ, Bool, IfOk, OnErr, OnOk, Option, Some, None, List, Result, Ok, Err, option_map, result_err, Refusal, Change, edit_window, order_reply, order_takes_memory}
+use Rattle.compose.specs.Names.{windows_after, Panels, change_shows_at, order_shows_at, Refused, after_stacking, stacking_order, stacking_refusal, Rect, WinId, Reply, Flag, Nothing, Number}
+use Rattle.compose.specs.Names.{writing_edit, Stacking, Writing, no_windows, Columns, Changed, WindowTable, windows, PanelTable, panels, Damages}
 use Rattle.compose.specs.declared.damaging.Affected.TheVariants.{Written, Moved}
 use Rattle.compose.specs.declared.dispatch.Outcome.{Outcome}
 use Rattle.compose.specs.steps.Changes.{affected_by}

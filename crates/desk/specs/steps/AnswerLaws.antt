@@ -1,6 +1,6 @@
 -- The answer of each call on a screen but doupdate is of the kind that the call has, and no update_panels is refused.
-use Rattle.desk.specs.Names.{◌≡◌, ℕ, false, Ok, Err, refl, Seen, is_doupdate, Call, Refresh, UpdatePanels, Reply, is_damaged_line, world, IsAnswerTo}
-use Rattle.desk.specs.Names.{kind-of-answer, never-refused}
+use Rattle.std.specs.Prelude.{◌≡◌}
+use Rattle.desk.specs.Names.{ℕ, false, Ok, Err, refl, Seen, is_doupdate, Call, Refresh, UpdatePanels, Reply, is_damaged_line, world, IsAnswerTo, kind-of-answer, never-refused}
 use Rattle.desk.specs.Methods.{CallMade}
 use Rattle.desk.specs.States.{ScreenOver, state_of}
 use Rattle.desk.specs.steps.Quiet.{quiet-reply}

@@ -1,5 +1,6 @@
 -- What is counted of a history, when one more call was made.
-use Rattle.desk.specs.Names.{◌+◌, if◌then◌else◌, Result, cond, is_ok, is_some, is_doupdate, Call, Reply}
+use Rattle.std.specs.Prelude.{◌+◌, if◌then◌else◌}
+use Rattle.desk.specs.Names.{Result, cond, is_ok, is_some, is_doupdate, Call, Reply}
 use Rattle.desk.specs.Ends.{cut_of}
 use Rattle.desk.specs.Histories.{cells_of_end, refuses}
 use Rattle.desk.specs.declared.history.RunAllEnd.{RunAllEnd}

@@ -1,5 +1,6 @@
 -- Doupdate is the only call that sends, and the others may answer what a desk answers.
-use Rattle.desk.specs.Names.{◌≡◌, ℕ, false, List, [], refl, MayTell, is_doupdate, Call, Doupdate, Reply}
+use Rattle.std.specs.Prelude.{◌≡◌}
+use Rattle.desk.specs.Names.{ℕ, false, List, [], refl, MayTell, is_doupdate, Call, Doupdate, Reply}
 use Rattle.world.specs.declared.call.Call.TheVariants as calls
 use Rattle.desk.specs.Runs.{MayReply}
 use Rattle.desk.specs.States.{State}

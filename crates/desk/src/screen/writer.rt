@@ -1,6 +1,7 @@
 //! Another writer for a screen, and a terminal of which nothing is known.
 
-ghost use Rattle.desk.specs.{◌≡◌, None};
+ghost use Rattle.std.specs.Prelude.{◌≡◌};
+ghost use Rattle.desk.specs.{None};
 
 use super::Screen;
 use std::mem::replace;

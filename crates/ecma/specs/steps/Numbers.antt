@@ -1,5 +1,6 @@
 -- Numbers that are spelled once, each with the separator after it.
-use Rattle.ecma.specs.Names.{◌≡◌, ℕ, ◌+◌, List, [], ◌∷◌, ◌++◌, decimal, length, take}
+use Rattle.std.specs.Prelude.{◌≡◌, ◌+◌, ◌∷◌, ◌++◌}
+use Rattle.ecma.specs.Names.{ℕ, List, [], decimal, length, take}
 use Rattle.ecma.specs.Items.{separator}
 
 -- a text begins with a number and the separator

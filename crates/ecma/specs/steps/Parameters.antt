@@ -1,5 +1,6 @@
 -- The parameters of a control sequence, digit by digit, and the byte that ends one.
-use Rattle.ecma.specs.Names.{ℕ, ◌+◌, ◌*◌, ◌-◌, ◌≤◌, ◌<◌, ◌^◌, ◌==◌, if◌then◌else◌, [], ◌∷◌, find, Option}
+use Rattle.std.specs.Prelude.{◌+◌, ◌*◌, ◌-◌, ◌≤◌, ◌<◌, ◌^◌, ◌==◌, if◌then◌else◌, ◌∷◌}
+use Rattle.ecma.specs.Names.{ℕ, [], find, Option}
 use Rattle.ecma.specs.Items.{Function, CUP, ED, EL, SGR, final_byte, most_digits}
 use Rattle.ecma.specs.Parameters.{Parameter}
 

@@ -1,5 +1,6 @@
 -- The touched columns of a line that are found from their ends have these ends.
-use Rattle.grids.specs.Names.{◌≡◌, ℕ, inl, inr, refl, le-ltb}
+use Rattle.std.specs.Prelude.{◌≡◌}
+use Rattle.grids.specs.Names.{ℕ, inl, inr, refl, le-ltb}
 use Rattle.grids.specs.Touches.{AreEnds, columns_in, first_in, last_in}
 
 pub first-back : (first last : ℕ) → AreEnds first last → first_in (columns_in first last) ≡ first

@@ -1,5 +1,6 @@
 -- A line of a window, and where it is in a grid.
-use Rattle.grids.specs.Names.{◌≡◌, ℕ, ◌<◌, List, Option, Some, GridPlace, own}
+use Rattle.std.specs.Prelude.{◌≡◌, ◌<◌}
+use Rattle.grids.specs.Names.{ℕ, List, Option, Some, GridPlace, own}
 use Rattle.grids.specs.KeptSlots.{Kept}
 use Rattle.grids.specs.Slots.{IsRoot, columns_at, lines_at, window_map}
 

@@ -1,5 +1,6 @@
 -- The origins of the slots, set one by one.
-use Rattle.grids.specs.Names.{◌≡◌, ℕ, List, Option, Some, slice_set}
+use Rattle.std.specs.Prelude.{◌≡◌}
+use Rattle.grids.specs.Names.{ℕ, List, Option, Some, slice_set}
 use Rattle.grids.specs.declared.slot.Origin.{Origin}
 use Rattle.grids.specs.KeptSlots.{Kept}
 use Rattle.grids.specs.Slots.{slot_at}

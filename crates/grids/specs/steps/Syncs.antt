@@ -1,6 +1,6 @@
 -- What one window shows of what is touched of another, in lines and columns.
-use Rattle.grids.specs.Names.{ℕ, ◌+◌, ◌-◌, ◌≤◌, Bool, false, if◌then◌else◌, ◌&&◌, nat_lt, nat_le, Option, Some, None, IsSomeAnd, option_map_or, Place}
-use Rattle.grids.specs.Names.{LARGEST_PAD, Backing, own_grid, part_of, Window, WindowMap, among}
+use Rattle.std.specs.Prelude.{◌+◌, ◌-◌, ◌≤◌, if◌then◌else◌, ◌&&◌}
+use Rattle.grids.specs.Names.{ℕ, Bool, false, nat_lt, nat_le, Option, Some, None, IsSomeAnd, option_map_or, Place, LARGEST_PAD, Backing, own_grid, part_of, Window, WindowMap, among}
 use Rattle.grids.specs.declared.slot.Part.{Part}
 
 -- the line is the window's, and the column is touched there

@@ -1,5 +1,6 @@
 -- A text that is gathered in an outbox and goes out in pieces, until a write fails.
-use Rattle.paint.specs.Names.{◌≡◌, ℕ, ◌+◌, ◌-◌, ◌*◌, ◌%◌, ◌^◌, ◌≤◌, min, Bool, true, false, List, [], ◌++◌, length, Ok, Err, Seen, Sends}
+use Rattle.std.specs.Prelude.{◌≡◌, ◌+◌, ◌-◌, ◌*◌, ◌%◌, ◌^◌, ◌≤◌, ◌++◌}
+use Rattle.paint.specs.Names.{ℕ, min, Bool, true, false, List, [], length, Ok, Err, Seen, Sends}
 use Rattle.paint.specs.Doupdates.{full_outbox}
 
 -- What is kept of a text: the bytes in the buffer, how many went out before them, and whether a write failed.

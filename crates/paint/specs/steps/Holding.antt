@@ -1,5 +1,6 @@
 -- The text of a doupdate, gathered in an outbox.
-use Rattle.paint.specs.Names.{◌≡◌, ℕ, ◌-◌, ◌<◌, ◌^◌, Bool, List, length, Option, option_map, HasSize, Picture, Place, Seen}
+use Rattle.std.specs.Prelude.{◌≡◌, ◌-◌, ◌<◌, ◌^◌}
+use Rattle.paint.specs.Names.{ℕ, Bool, List, length, Option, option_map, HasSize, Picture, Place, Seen}
 use Rattle.paint.specs.declared.pen.Pen.{Pen}
 use Rattle.paint.specs.Doupdates.{PainterState, ShownPicture, IsUpdateText, start_from}
 use Rattle.paint.specs.steps.Gathering.{IsGathered, Outbox}

@@ -1,8 +1,8 @@
 -- What the strokes of a pen send, what a terminal shows after them, and how many bytes they have.
-use Rattle.paint.specs.Names.{◌≡◌, ℕ, ◌+◌, ◌-◌, ◌*◌, ◌≤◌, if◌then◌else◌, List, [], ◌∷◌, length, map, Option, Some, None, Bool, false, nat_lt, slice_index_or}
-use Rattle.paint.specs.Names.{list_all, Rendition, Shown, has_colour, no_rendition, shown_blank, Picture, Place, with_shown, same_rendition, line_difference}
-use Rattle.paint.specs.Names.{difference, line_colour_difference, colour_difference, colour_bytes, position_bytes, spelling, Leads, Terminal, Token, Cup, Sgr}
-use Rattle.paint.specs.Names.{Seen}
+use Rattle.std.specs.Prelude.{◌≡◌, ◌+◌, ◌-◌, ◌*◌, ◌≤◌, if◌then◌else◌, ◌∷◌}
+use Rattle.paint.specs.Names.{ℕ, List, [], length, map, Option, Some, None, Bool, false, nat_lt, slice_index_or, list_all, Rendition, Shown, has_colour, no_rendition, shown_blank, Picture, Place}
+use Rattle.paint.specs.Names.{with_shown, same_rendition, line_difference, difference, line_colour_difference, colour_difference, colour_bytes, position_bytes, spelling, Leads, Terminal, Token, Cup}
+use Rattle.paint.specs.Names.{Sgr, Seen}
 use Rattle.paint.specs.declared.pen.Pen.{Pen}
 use Rattle.paint.specs.Doupdates.{place_bytes, same_place}
 use Rattle.paint.specs.steps.Gathering.{Gathers, empty_outbox}

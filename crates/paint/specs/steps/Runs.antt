@@ -1,6 +1,6 @@
 -- Runs: cells of a line that are changed, and have one rendition.
-use Rattle.paint.specs.Names.{◌≡◌, ℕ, ◌+◌, ◌-◌, ◌<◌, ◌≤◌, ◌||◌, not, if◌then◌else◌, Bool, false, List, length, take, drop, slice_index_or, Rendition, Shown}
-use Rattle.paint.specs.Names.{shown_blank, same_rendition, same_shown}
+use Rattle.std.specs.Prelude.{◌≡◌, ◌+◌, ◌-◌, ◌<◌, ◌≤◌, ◌||◌, if◌then◌else◌}
+use Rattle.paint.specs.Names.{ℕ, not, Bool, false, List, length, take, drop, slice_index_or, Rendition, Shown, shown_blank, same_rendition, same_shown}
 use Rattle.paint.specs.steps.Pens.{line_bytes}
 
 -- a line's cells from a column up to another, which isn't one of them

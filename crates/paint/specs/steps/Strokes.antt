@@ -1,8 +1,8 @@
 -- What strokes draw, in any order. A stroke writes what is wanted where it is: so each place shows what was shown or what
 -- is wanted, and of what was drawn no more matters than which strokes were.
-use Rattle.paint.specs.Names.{⊤, Some, slice_index_or, All, ◌≡◌, ℕ, ◌+◌, ◌<◌, ◌≤◌, ◌==◌, ◌&&◌, ◌||◌, not, nat_lt, Bool, true, false, List, [], ◌++◌, drop}
-use Rattle.paint.specs.Names.{filter, length, sum_by, count_by, zero, suc, Picture, Place, line_of, shown_at, Rendition, Shown, no_rendition, shown_blank}
-use Rattle.paint.specs.Names.{none_bytes, position_bytes, Seen}
+use Rattle.std.specs.Prelude.{◌≡◌, ◌+◌, ◌<◌, ◌≤◌, ◌==◌, ◌&&◌, ◌||◌, ◌++◌}
+use Rattle.paint.specs.Names.{⊤, Some, slice_index_or, All, ℕ, not, nat_lt, Bool, true, false, List, [], drop, filter, length, sum_by, count_by, zero, suc, Picture, Place, line_of, shown_at}
+use Rattle.paint.specs.Names.{Rendition, Shown, no_rendition, shown_blank, none_bytes, position_bytes, Seen}
 use Rattle.paint.specs.declared.drawing.Way.{Way}
 use Rattle.paint.specs.declared.drawing.Way.TheVariants.{Moved, Plain, Printed}
 use Rattle.paint.specs.declared.pen.Pen.{Pen}

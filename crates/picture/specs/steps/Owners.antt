@@ -1,7 +1,7 @@
 -- The spans of a line, by their last columns, and the lines of which they are known to be those that the search from
 -- the top finds.
-use Rattle.picture.specs.Names.{◌≡◌, ◌≢◌, ℕ, ◌+◌, ◌<◌, ◌≤◌, ◌==◌, if◌then◌else◌, true, false, Option, Some, None, List, slice_index, LARGEST_SCREEN, contains}
-use Rattle.picture.specs.Names.{Panels, owner, WindowMap}
+use Rattle.std.specs.Prelude.{◌≡◌, ◌≢◌, ◌+◌, ◌<◌, ◌≤◌, ◌==◌, if◌then◌else◌}
+use Rattle.picture.specs.Names.{ℕ, true, false, Option, Some, None, List, slice_index, LARGEST_SCREEN, contains, Panels, owner, WindowMap}
 use Rattle.picture.specs.declared.owners.Owners.{Owners}
 use Rattle.picture.specs.declared.spans.Spans.{Spans}
 

@@ -1,5 +1,6 @@
 -- What reading the next byte of a script ensures, and moving some bytes into a line.
-use Rattle.script.specs.Names.{◌≡◌, ℕ, Bool, true, false, List, [], ◌∷◌, ◌++◌, ◌≤◌, length, Consumes, IsAtEnd, SourceSeen}
+use Rattle.std.specs.Prelude.{◌≡◌, ◌∷◌, ◌++◌, ◌≤◌}
+use Rattle.script.specs.Names.{ℕ, Bool, true, false, List, [], length, Consumes, IsAtEnd, SourceSeen}
 use Rattle.script.specs.Lines.{HasNoNewline}
 use Rattle.script.specs.declared.bytes.Next.{Next}
 use Rattle.script.specs.declared.bytes.Next.TheVariants.{Byte, End, Failed}

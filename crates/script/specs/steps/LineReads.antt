@@ -1,5 +1,6 @@
 -- What the functions that read a line ensure about it.
-use Rattle.script.specs.Names.{◌≡◌, ℕ, List, ◌∷◌, Option, Some, None, Result, Ok, Err, slice_split, Bor, Call}
+use Rattle.std.specs.Prelude.{◌≡◌, ◌∷◌}
+use Rattle.script.specs.Names.{ℕ, List, Option, Some, None, Result, Ok, Err, slice_split, Bor, Call}
 use Rattle.script.specs.Characters.{is_space}
 use Rattle.script.specs.Pieces.{pieces_of}
 use Rattle.script.specs.Readings.{arguments}

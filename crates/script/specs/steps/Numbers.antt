@@ -1,5 +1,6 @@
 -- What the functions that read a number ensure about its digits.
-use Rattle.script.specs.Names.{◌≡◌, ◌^◌, ◌<◌, ℕ, true, List, take, list_all, is_ascii_digit, digits_value}
+use Rattle.std.specs.Prelude.{◌≡◌, ◌^◌, ◌<◌}
+use Rattle.script.specs.Names.{ℕ, true, List, take, list_all, is_ascii_digit, digits_value}
 
 -- The first bytes are digits, and this is their number.
 pub record DigitsSoFar (text : List ℕ) (count value : ℕ) : Type 0 where

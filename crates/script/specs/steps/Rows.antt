@@ -1,5 +1,6 @@
 -- What the tables of words ensure: definitions for their own contracts.
-use Rattle.script.specs.Names.{◌≡◌, ◌≤◌, ◌%◌, ℕ, List, [], ◌∷◌, length, Option, find, map, slice_index_or, bytes_eq}
+use Rattle.std.specs.Prelude.{◌≡◌, ◌≤◌, ◌%◌, ◌∷◌}
+use Rattle.script.specs.Names.{ℕ, List, [], length, Option, find, map, slice_index_or, bytes_eq}
 use Rattle.script.specs.Words.{Arguments, Entry, entry_of, placeless}
 use Rattle.script.specs.declared.limits.TheConstants.{MOST_ARGUMENTS}
 use Rattle.script.specs.declared.words.Row.{Row}

@@ -1,5 +1,6 @@
 -- What changes where a number becomes a panel's, and where a panel's window changes.
-use Rattle.stack.specs.Names.{◌≡◌, ℕ, ◌+◌, ◌<◌, ◌≤◌, Option, Some, None, List, length, MOST_PANELS, with_entry}
+use Rattle.std.specs.Prelude.{◌≡◌, ◌+◌, ◌<◌, ◌≤◌}
+use Rattle.stack.specs.Names.{ℕ, Option, Some, None, List, length, MOST_PANELS, with_entry}
 use Rattle.stack.specs.Nodes.{above_at, below_at, window_at, from_bottom, IsOut, IsThreaded}
 use Rattle.stack.specs.Tables.{IsPanelTable}
 use Rattle.stack.specs.declared.nodes.Node.{Node}

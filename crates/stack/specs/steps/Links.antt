@@ -1,5 +1,6 @@
 -- What changes where two nodes become neighbours, and where a panel leaves or enters the order.
-use Rattle.stack.specs.Names.{◌≡◌, ℕ, ◌==◌, if◌then◌else◌, List, length}
+use Rattle.std.specs.Prelude.{◌≡◌, ◌==◌, if◌then◌else◌}
+use Rattle.stack.specs.Names.{ℕ, List, length}
 use Rattle.stack.specs.Nodes.{above_at, below_at, window_at, from_bottom, IsThreaded}
 use Rattle.stack.specs.declared.nodes.Node.{Node}
 

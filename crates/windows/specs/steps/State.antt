@@ -1,5 +1,6 @@
 -- What a call reads of its window first.
-use Rattle.windows.specs.Names.{◌≡◌, ℕ, ◌<◌, ◌≤◌, Some, None, IsSome, LARGEST_PAD, Window, Windows, own, blank_grid, AreSettingsWithin, AreSoundWindows}
+use Rattle.std.specs.Prelude.{◌≡◌, ◌<◌, ◌≤◌}
+use Rattle.windows.specs.Names.{ℕ, Some, None, IsSome, LARGEST_PAD, Window, Windows, own, blank_grid, AreSettingsWithin, AreSoundWindows}
 use Rattle.windows.specs.declared.state.WindowState.{WindowState}
 
 -- window w is there with this size and these settings, and all windows are sound

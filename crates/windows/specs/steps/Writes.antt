@@ -1,6 +1,6 @@
 -- What a step of a call wants of its window, and what it writes there.
-use Rattle.windows.specs.Names.{◌≡◌, ℕ, ◌<◌, ◌≤◌, Option, List, Rect, Drawing, Windows, put, AreSoundWindows, frame_of, character_printed, character_drawing}
-use Rattle.windows.specs.Names.{after_edit, edit_frame, types}
+use Rattle.std.specs.Prelude.{◌≡◌, ◌<◌, ◌≤◌}
+use Rattle.windows.specs.Names.{ℕ, Option, List, Rect, Drawing, Windows, put, AreSoundWindows, frame_of, character_printed, character_drawing, after_edit, edit_frame, types}
 use Rattle.windows.specs.declared.state.WindowState.{WindowState}
 use Rattle.windows.specs.steps.State.{IsStateOf, window_in_state}
 

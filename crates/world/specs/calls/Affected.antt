@@ -1,8 +1,8 @@
 -- The places and the lines of the screen at which a call can change the picture, or lays cells over the virtual screen,
 -- and how many cells of windows an update_panels may read for them.
 -- X/Open Curses Issue 7 and NetBSD panel(3) say nothing of what a refresh reads: these bounds are Curspan's own.
-use Rattle.world.specs.Names.{ℕ, ◌+◌, ◌-◌, ◌*◌, Bool, true, false, not, if◌then◌else◌, ◌==◌, ◌&&◌, ◌||◌, Option, None, is_none, is_some, List, [], ◌∷◌}
-use Rattle.world.specs.Names.{count_by, list_any, range_with_len, option_map_or, Rect}
+use Rattle.std.specs.Prelude.{◌+◌, ◌-◌, ◌*◌, if◌then◌else◌, ◌==◌, ◌&&◌, ◌||◌, ◌∷◌}
+use Rattle.world.specs.Names.{ℕ, Bool, true, false, not, Option, None, is_none, is_some, List, [], count_by, list_any, range_with_len, option_map_or, Rect}
 use Rattle.world.specs.WindowMaps.{WindowMap, Windows, any_below, derives}
 use Rattle.world.specs.PanelOrder.{Panels, holds, panel_holds, place_of, topmost, windows_from_top, windows_of_picture}
 use Rattle.world.specs.Worlds.{World}

@@ -5,8 +5,9 @@
 -- to be there.
 -- A copy is one write, whose drawing has the cells of the source as they are before it: also where source and
 -- destination share cells.
-use Rattle.world.specs.Names.{ℕ, ◌+◌, ◌-◌, Bool, true, false, not, if◌then◌else◌, ◌==◌, nat_lt, nat_le, ◌&&◌, ◌||◌, Option, Some, None, is_some, List, []}
-use Rattle.world.specs.Names.{◌∷◌, list_any, option_map_or, first_of, Rect, Refusal, NoSuchWindow, OutsideWindow, IsPad, BadRectangle}
+use Rattle.std.specs.Prelude.{◌+◌, ◌-◌, if◌then◌else◌, ◌==◌, ◌&&◌, ◌||◌, ◌∷◌}
+use Rattle.world.specs.Names.{ℕ, Bool, true, false, not, nat_lt, nat_le, Option, Some, None, is_some, List, [], list_any, option_map_or, first_of, Rect, Refusal, NoSuchWindow, OutsideWindow, IsPad}
+use Rattle.world.specs.Names.{BadRectangle}
 use Rattle.world.specs.WindowMaps.{Drawing, Window, WindowMap, Windows, ancestors, any_below, cell_at, derives, is_missing, touched_below}
 use Rattle.world.specs.PanelOrder.{cell_on_screen, holds, place_of}
 use Rattle.world.specs.Rows.{is_among, overlaid_cell}

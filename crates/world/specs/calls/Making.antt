@@ -1,10 +1,9 @@
 -- The calls that make, move and delete windows and pads: each with its tests and its effect.
 -- X/Open Curses Issue 7: newwin, derwin, subwin, newpad, subpad, delwin, mvwin, mvderwin. That a size of 0 reaches to
 -- the edge of the parent too, the limits of size and of number, and the order of the tests are Curspan's own choice.
-use Rattle.world.specs.Names.{ℕ, zero, suc, ◌+◌, ◌-◌, Bool, true, false, not, if◌then◌else◌, ◌==◌, nat_lt, nat_le, ◌&&◌, ◌||◌, Option, Some, None, is_none}
-use Rattle.world.specs.Names.{is_some, unwrap_or, List, [], ◌∷◌, option_and_then, option_map, option_map_or, Place, is_no_size, first_of, LARGEST_PAD}
-use Rattle.world.specs.Names.{LARGEST_SCREEN, Refusal, OffScreen, OutsideParent, HasDerived, InPanel, IsPad, NotPad, NotDerived, BadSize, StandardScreen}
-use Rattle.world.specs.Names.{TooMany}
+use Rattle.std.specs.Prelude.{◌+◌, ◌-◌, if◌then◌else◌, ◌==◌, ◌&&◌, ◌||◌, ◌∷◌}
+use Rattle.world.specs.Names.{ℕ, zero, suc, Bool, true, false, not, nat_lt, nat_le, Option, Some, None, is_none, is_some, unwrap_or, List, [], option_and_then, option_map, option_map_or, Place}
+use Rattle.world.specs.Names.{is_no_size, first_of, LARGEST_PAD, LARGEST_SCREEN, Refusal, OffScreen, OutsideParent, HasDerived, InPanel, IsPad, NotPad, NotDerived, BadSize, StandardScreen, TooMany}
 use Rattle.world.specs.WindowMaps.{Backing, own_grid, part_of, Window, WindowMap, Windows, any_below, parent_number, window_limit}
 use Rattle.world.specs.PanelOrder.{standard_screen, place_of}
 use Rattle.world.specs.Worlds.{new_window, blank_grid}

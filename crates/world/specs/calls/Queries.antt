@@ -1,7 +1,7 @@
 -- The calls that ask about a window: each with its tests and its answer.
 -- X/Open Curses Issue 7: getyx, getbegyx, getmaxyx, getparyx, inch.
-use Rattle.world.specs.Names.{ℕ, Bool, Option, Some, None, option_and_then, List, [], ◌∷◌, option_map, option_map_or, Glyph, Place, first_of, Refusal, IsPad}
-use Rattle.world.specs.Names.{NotDerived}
+use Rattle.std.specs.Prelude.{◌∷◌}
+use Rattle.world.specs.Names.{ℕ, Bool, Option, Some, None, option_and_then, List, [], option_map, option_map_or, Glyph, Place, first_of, Refusal, IsPad, NotDerived}
 use Rattle.world.specs.WindowMaps.{Backing, own_grid, part_of, WindowMap, Windows, cell_at}
 use Rattle.world.specs.calls.Making.{is_pad, has_no_parent}
 use Rattle.world.specs.calls.Rules.{Rule, missing_window}

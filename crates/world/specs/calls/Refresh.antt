@@ -2,8 +2,9 @@
 -- its tests and its effect.
 -- X/Open Curses Issue 7: wnoutrefresh, pnoutrefresh, doupdate, init_pair. NetBSD panel(3): update_panels. The order of
 -- the tests is Curspan's own choice.
-use Rattle.world.specs.Names.{ℕ, ◌+◌, ◌-◌, Bool, true, false, if◌then◌else◌, ◌==◌, ◌&&◌, ◌||◌, not, nat_lt, nat_le, Option, Some, None, List, [], ◌∷◌}
-use Rattle.world.specs.Names.{option_map_or, first_of, LAST_COLOUR, Refusal, BadPair, BadRectangle, IsPad, NotPad, OffScreen, OutsideWindow}
+use Rattle.std.specs.Prelude.{◌+◌, ◌-◌, if◌then◌else◌, ◌==◌, ◌&&◌, ◌||◌, ◌∷◌}
+use Rattle.world.specs.Names.{ℕ, Bool, true, false, not, nat_lt, nat_le, Option, Some, None, List, [], option_map_or, first_of, LAST_COLOUR, Refusal, BadPair, BadRectangle, IsPad, NotPad, OffScreen}
+use Rattle.world.specs.Names.{OutsideWindow}
 use Rattle.world.specs.WindowMaps.{Drawing, WindowMap, Windows}
 use Rattle.world.specs.Rows.{is_among}
 use Rattle.world.specs.PanelOrder.{cell_on_screen, cursor_on_screen, holds, place_of}

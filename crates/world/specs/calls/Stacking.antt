@@ -3,9 +3,9 @@
 -- panel_above, panel_below, panel_window, panel_hidden.
 -- That show_panel puts a visible panel on top too, which window a panel may have, the limit of numbers and the order of
 -- the tests are Curspan's own choice.
-use Rattle.world.specs.Names.{◌≡◌, ◌≢◌, ℕ, ◌-◌, ◌≤◌, Bool, not, if◌then◌else◌, ◌==◌, Option, Some, None, is_none, unwrap_or, IsSome, MatchOption, List, []}
-use Rattle.world.specs.Names.{◌∷◌, ◌++◌, reverse, All, AllPairs, find, ⊤, option_map, filter, list_any, range_with_len, first_of, MOST_PANELS, Refusal}
-use Rattle.world.specs.Names.{NoSuchWindow, NoSuchPanel, OffScreen, IsPad, InPanel, Hidden, StandardScreen, TooMany}
+use Rattle.std.specs.Prelude.{◌≡◌, ◌≢◌, ◌-◌, ◌≤◌, if◌then◌else◌, ◌==◌, ◌∷◌, ◌++◌}
+use Rattle.world.specs.Names.{ℕ, Bool, not, Option, Some, None, is_none, unwrap_or, IsSome, MatchOption, List, [], reverse, All, AllPairs, find, ⊤, option_map, filter, list_any, range_with_len}
+use Rattle.world.specs.Names.{first_of, MOST_PANELS, Refusal, NoSuchWindow, NoSuchPanel, OffScreen, IsPad, InPanel, Hidden, StandardScreen, TooMany}
 use Rattle.world.specs.WindowMaps.{WindowMap, Windows, is_missing}
 use Rattle.world.specs.PanelOrder.{Panels, panel_limit, is_in_panel, standard_screen, topmost, window_or_standard}
 use Rattle.world.specs.Effects.{Order, changes, adds, orders, carries, asks, with_entry, panels_after}

@@ -2,9 +2,9 @@
 -- X/Open Curses Issue 7: move, addch to scrl, setscrreg, scrollok, clearok, attrset, attron, attroff, color_set,
 -- bkgdset. `bkgdpair` is Curspan's own, and so is the order of the tests. Each call that clears does so to the
 -- background.
-use Rattle.world.specs.Names.{ℕ, zero, suc, ℤ, pos, negsuc, ◌-◌, Bool, true, false, not, ◌==◌, ◌&&◌, ◌||◌, nat_lt, nat_le, Option, Some, None, List, [], ◌∷◌}
-use Rattle.world.specs.Names.{list_any, option_map_or, bit_or, bits_of, valid_attributes, Glyph, is_printable, origin, first_of, LAST_PAIR, Refusal}
-use Rattle.world.specs.Names.{OutsideWindow, BadRegion, BadCharacter, BadPair, ScrollingOff}
+use Rattle.std.specs.Prelude.{◌-◌, ◌==◌, ◌&&◌, ◌||◌, ◌∷◌}
+use Rattle.world.specs.Names.{ℕ, zero, suc, ℤ, pos, negsuc, Bool, true, false, not, nat_lt, nat_le, Option, Some, None, List, [], list_any, option_map_or, bit_or, bits_of, valid_attributes, Glyph}
+use Rattle.world.specs.Names.{is_printable, origin, first_of, LAST_PAIR, Refusal, OutsideWindow, BadRegion, BadCharacter, BadPair, ScrollingOff}
 use Rattle.cell.specs.Attributes.{without}
 use Rattle.world.specs.WindowMaps.{Drawing, Window, WindowMap, Windows}
 use Rattle.world.specs.Settings.{with_cursor}

@@ -1,5 +1,6 @@
 -- The row has the columns of its window.
-use Rattle.capi.specs.{◌≡◌, ℕ, Option, sym, subst, ◌∙◌, WindowTable, windows, window_size, world}
+use Rattle.std.specs.Prelude.{◌≡◌}
+use Rattle.capi.specs.{ℕ, Option, sym, subst, ◌∙◌, WindowTable, windows, window_size, world}
 use Rattle.std.proofs.Common.{Some}
 use Rattle.capi.proofs.Rows.{line-width}
 use Rattle.capi.proofs.line.line_of_window.Goals as goal

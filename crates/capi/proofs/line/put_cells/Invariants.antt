@@ -1,4 +1,5 @@
-use Rattle.capi.specs.{◌≡◌, map, with_first}
+use Rattle.std.specs.Prelude.{◌≡◌}
+use Rattle.capi.specs.{map, with_first}
 use Rattle.capi.proofs.line.put_cells.Given as goal
 
 abbrev pub invariant-loop-k : goal.invariant-loop-k

@@ -1,4 +1,5 @@
-use Rattle.capi.specs.{◌≡◌, ℕ, ◌<◌, false, world, is_panel}
+use Rattle.std.specs.Prelude.{◌≡◌, ◌<◌}
+use Rattle.capi.specs.{ℕ, false, world, is_panel}
 use Rattle.capi.proofs.question.next_panel.Given as goal
 
 -- none of those that were looked at is there

@@ -1,4 +1,5 @@
-use Rattle.capi.specs.{◌≡◌, ℕ, ◌<◌, false, world, is_window}
+use Rattle.std.specs.Prelude.{◌≡◌, ◌<◌}
+use Rattle.capi.specs.{ℕ, false, world, is_window}
 use Rattle.capi.proofs.question.next_window.Given as goal
 
 -- none of those that were looked at is there

@@ -1,4 +1,5 @@
-use Rattle.cell.specs.{◌≡◌, length, map, take, AllByRecursion, IsShown, shown_in}
+use Rattle.std.specs.Prelude.{◌≡◌}
+use Rattle.cell.specs.{length, map, take, AllByRecursion, IsShown, shown_in}
 use Rattle.cell.specs.declared.lanes.TheConstants.{LANES}
 use Rattle.cell.proofs.colour.show_in.Given as goal
 

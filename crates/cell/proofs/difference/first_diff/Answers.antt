@@ -1,4 +1,5 @@
-use Rattle.cell.specs.{◌≡◌, ◌+◌, ◌-◌, take, subst, arith}
+use Rattle.std.specs.Prelude.{◌≡◌, ◌+◌, ◌-◌}
+use Rattle.cell.specs.{take, subst, arith}
 use Rattle.cell.proofs.Ranges.{differs_further, same_further}
 use Rattle.cell.proofs.difference.first_diff.Goals as goal
 

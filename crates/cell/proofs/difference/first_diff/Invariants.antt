@@ -1,4 +1,5 @@
-use Rattle.cell.specs.{◌≡◌, ◌≤◌, ◌-◌, length, take}
+use Rattle.std.specs.Prelude.{◌≡◌, ◌≤◌, ◌-◌}
+use Rattle.cell.specs.{length, take}
 use Rattle.cell.proofs.difference.first_diff.Given as goal
 
 abbrev pub invariant-loop-start : goal.invariant-loop-start

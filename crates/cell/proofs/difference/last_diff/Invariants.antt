@@ -1,4 +1,5 @@
-use Rattle.cell.specs.{◌≡◌, ◌≤◌, length, drop}
+use Rattle.std.specs.Prelude.{◌≡◌, ◌≤◌}
+use Rattle.cell.specs.{length, drop}
 use Rattle.cell.proofs.difference.last_diff.Given as goal
 
 abbrev pub invariant-loop-end : goal.invariant-loop-end

@@ -1,4 +1,5 @@
-use Rattle.cell.specs.{◌≡◌, ◌-◌, replicate, splice, vec_capacity}
+use Rattle.std.specs.Prelude.{◌≡◌, ◌-◌}
+use Rattle.cell.specs.{replicate, splice, vec_capacity}
 use Rattle.cell.proofs.grid.fill_piece.Given as goal
 
 -- the places before x are filled

@@ -1,5 +1,6 @@
 -- `reach`: the cells that a grid has, with the blanks that are missing after them (`Blanks`).
-use Rattle.cell.specs.{◌*◌, arith}
+use Rattle.std.specs.Prelude.{◌*◌}
+use Rattle.cell.specs.{arith}
 use Rattle.cell.proofs.GridLemmas.{line_end}
 use Rattle.cell.proofs.Blanks.{IsGrid-with_blanks, length-with_blanks, same_blanks}
 use Rattle.cell.proofs.grid.reach.Goals as goal

@@ -1,4 +1,5 @@
-use Rattle.cell.specs.{◌≡◌, ℕ, ◌<◌, get_or, length, map, take, IsCell, blank, glyph_bits}
+use Rattle.std.specs.Prelude.{◌≡◌, ◌<◌}
+use Rattle.cell.specs.{ℕ, get_or, length, map, take, IsCell, blank, glyph_bits}
 use Rattle.cell.specs.declared.lanes.TheConstants.{LANES}
 use Rattle.cell.proofs.lanes.cell_lanes.Given as goal
 

@@ -1,4 +1,5 @@
-use Rattle.cell.specs.{◌≡◌, take, nat_lt, list_all, same_rendition}
+use Rattle.std.specs.Prelude.{◌≡◌}
+use Rattle.cell.specs.{take, nat_lt, list_all, same_rendition}
 use Rattle.cell.proofs.lanes.have_rendition.Given as goal
 
 abbrev pub invariant-loop-cell : goal.invariant-loop-cell

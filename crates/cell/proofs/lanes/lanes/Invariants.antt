@@ -1,4 +1,5 @@
-use Rattle.cell.specs.{◌≡◌, length, map, take, shown_bits, shown_of}
+use Rattle.std.specs.Prelude.{◌≡◌}
+use Rattle.cell.specs.{length, map, take, shown_bits, shown_of}
 use Rattle.cell.specs.declared.lanes.TheConstants.{LANES}
 use Rattle.cell.proofs.lanes.lanes.Given as goal
 

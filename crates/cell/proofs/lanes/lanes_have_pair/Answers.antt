@@ -1,4 +1,5 @@
-use Rattle.cell.specs.{◌≡◌, ◌*◌, ◌/◌, ◌∙◌, length, ap, length-map, ◌==◌, list_all, glyph_bits}
+use Rattle.std.specs.Prelude.{◌≡◌, ◌*◌, ◌/◌, ◌==◌}
+use Rattle.cell.specs.{◌∙◌, length, ap, length-map, list_all, glyph_bits}
 use Rattle.cell.proofs.LaneLaws.{lanes_alike, pairs_of}
 use Rattle.cell.proofs.lanes.lanes_have_pair.Goals as goal
 

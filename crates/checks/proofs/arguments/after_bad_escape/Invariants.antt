@@ -1,4 +1,5 @@
-use Rattle.checks.specs.{◌≡◌, length, after_bad_escape}
+use Rattle.std.specs.Prelude.{◌≡◌}
+use Rattle.checks.specs.{length, after_bad_escape}
 use Rattle.checks.proofs.arguments.after_bad_escape.Given as goal
 
 abbrev pub invariant-loop-first : goal.invariant-loop-first

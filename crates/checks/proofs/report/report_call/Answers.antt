@@ -1,5 +1,6 @@
 -- `report_call`: what is reported of a call, wherever its text is (`CheckLemmas`).
-use Rattle.checks.specs.{◌∷◌, [], sym}
+use Rattle.std.specs.Prelude.{◌∷◌}
+use Rattle.checks.specs.{[], sym}
 use Rattle.checks.proofs.CheckLemmas.{call_found, none_more}
 use Rattle.checks.proofs.report.report_call.Goals as goal
 

@@ -1,5 +1,6 @@
 -- `report_fault`: the one line.
-use Rattle.checks.specs.{◌∷◌, [], sym}
+use Rattle.std.specs.Prelude.{◌∷◌}
+use Rattle.checks.specs.{[], sym}
 use Rattle.checks.proofs.report.report_fault.Goals as goal
 
 pub returns : goal.returns

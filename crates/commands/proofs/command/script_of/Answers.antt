@@ -1,6 +1,6 @@
 -- `script_of`: the first text of an argument (`JobLemmas`).
-use Rattle.commands.specs.{◌≡◌, Bool, List, None, Option, Some, ap, codes, cond, false, sym, true, ◌∙◌, option_and_then, bytes_eq, Row, Text, first_of}
-use Rattle.commands.specs.{found_of, rows_of, script_by, text_of}
+use Rattle.std.specs.Prelude.{◌≡◌}
+use Rattle.commands.specs.{Bool, List, None, Option, Some, ap, codes, cond, false, sym, true, ◌∙◌, option_and_then, bytes_eq, Row, Text, first_of, found_of, rows_of, script_by, text_of}
 use Rattle.commands.proofs.JobLemmas.{text_read}
 use Rattle.commands.proofs.command.script_of.Goals as goal
 

@@ -1,4 +1,5 @@
-use Rattle.commands.specs.{◌≡◌, ◌≤◌, ◌*◌, length, take, escaped_text}
+use Rattle.std.specs.Prelude.{◌≡◌, ◌≤◌, ◌*◌}
+use Rattle.commands.specs.{length, take, escaped_text}
 use Rattle.commands.proofs.escapes.escaped_text.Given as goal
 
 abbrev pub invariant-loop-byte : goal.invariant-loop-byte

@@ -1,5 +1,6 @@
 -- `log_unopened`: any fault but one has a line with the file's name.
-use Rattle.commands.specs.{◌≡◌, Bool, List, ℕ, false, inl, inr, refl, true, Seen, SaysUnopened, unopened_line, WritingEnds, TriesToLog}
+use Rattle.std.specs.Prelude.{◌≡◌}
+use Rattle.commands.specs.{Bool, List, ℕ, false, inl, inr, refl, true, Seen, SaysUnopened, unopened_line, WritingEnds, TriesToLog}
 use Rattle.commands.specs.declared.opening.OpenFault.{OpenFault}
 use Rattle.commands.specs.declared.opening.OpenFault.TheVariants.{Denied, Folder, InFile, IsRead, Missing, NoMemory, Refused}
 use Rattle.commands.proofs.opening.log_unopened.Goals as goal

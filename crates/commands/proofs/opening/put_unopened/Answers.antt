@@ -1,5 +1,6 @@
 -- `put_unopened`: one text after another (`PutLemmas`).
-use Rattle.commands.specs.{codes, ◌++◌, ◌∷◌, [], newline, escaped_text, reason}
+use Rattle.std.specs.Prelude.{◌++◌, ◌∷◌}
+use Rattle.commands.specs.{codes, [], newline, escaped_text, reason}
 use Rattle.commands.proofs.PutLemmas.{cut_before, put_after}
 use Rattle.commands.proofs.opening.put_unopened.Goals as goal
 

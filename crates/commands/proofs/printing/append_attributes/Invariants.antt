@@ -1,4 +1,5 @@
-use Rattle.commands.specs.{◌≡◌, ◌≤◌, ◌+◌, ◌*◌, ◌∷◌, ◌++◌, length, take, flat_map, hex_digits, Shown}
+use Rattle.std.specs.Prelude.{◌≡◌, ◌≤◌, ◌+◌, ◌*◌, ◌∷◌, ◌++◌}
+use Rattle.commands.specs.{length, take, flat_map, hex_digits, Shown}
 use Rattle.commands.proofs.printing.append_attributes.Given as goal
 
 abbrev pub invariant-loop-cell : goal.invariant-loop-cell

@@ -1,4 +1,5 @@
-use Rattle.commands.specs.{◌≡◌, ◌∷◌, ◌++◌, map, take, Shown}
+use Rattle.std.specs.Prelude.{◌≡◌, ◌∷◌, ◌++◌}
+use Rattle.commands.specs.{map, take, Shown}
 use Rattle.commands.proofs.printing.append_characters.Given as goal
 
 abbrev pub invariant-loop-cell : goal.invariant-loop-cell

@@ -1,4 +1,5 @@
-use Rattle.commands.specs.{◌≡◌, ◌≤◌, ◌+◌, ◌*◌, ◌∷◌, ◌++◌, length, take, flat_map, Shown, signs}
+use Rattle.std.specs.Prelude.{◌≡◌, ◌≤◌, ◌+◌, ◌*◌, ◌∷◌, ◌++◌}
+use Rattle.commands.specs.{length, take, flat_map, Shown, signs}
 use Rattle.commands.proofs.printing.append_colours.Given as goal
 
 abbrev pub invariant-loop-cell : goal.invariant-loop-cell

@@ -1,5 +1,6 @@
 -- `put_lines`: the text of a picture around one of its lines (`PictureTexts`); a text is written piece by piece (`PutLemmas`).
-use Rattle.commands.specs.{◌<◌, length, refl, arith, line_of, line_text}
+use Rattle.std.specs.Prelude.{◌<◌}
+use Rattle.commands.specs.{length, refl, arith, line_of, line_text}
 use Rattle.commands.proofs.PictureTexts.{lines_around, lines_through}
 use Rattle.commands.proofs.PutLemmas.{cut_before, nothing_put, put_after}
 use Rattle.commands.proofs.printing.put_lines.Goals as goal

@@ -1,5 +1,6 @@
 -- `usage`: what is said by the kind of the error (`RefusedLemmas`).
-use Rattle.commands.specs.{◌≡◌, false, inl, inr, refl, true, LacksMemory}
+use Rattle.std.specs.Prelude.{◌≡◌}
+use Rattle.commands.specs.{false, inl, inr, refl, true, LacksMemory}
 use Rattle.commands.specs.declared.status.Need.TheVariants.{Help, Usage}
 use Rattle.commands.proofs.RefusedLemmas.{help_told, mistake_told}
 use Rattle.commands.proofs.refused_words.usage.Goals as goal

@@ -1,4 +1,5 @@
-use Rattle.commands.specs.{◌≡◌, false}
+use Rattle.std.specs.Prelude.{◌≡◌}
+use Rattle.commands.specs.{false}
 use Rattle.commands.proofs.FeedingLemmas.{IsPartlyFed}
 use Rattle.commands.proofs.show.read_stream.Given as goal
 

@@ -1,5 +1,6 @@
 -- `command`: the subcommands are added in turn (`SubcommandLemmas`).
-use Rattle.commands.specs.{◌≡◌, ◌∷◌, ◌∙◌, [], arith, ap, map, IfOk-weaker, bare, check_mode, mode}
+use Rattle.std.specs.Prelude.{◌≡◌, ◌∷◌}
+use Rattle.commands.specs.{◌∙◌, [], arith, ap, map, IfOk-weaker, bare, check_mode, mode}
 use Rattle.commands.specs.declared.requests.Kind.TheVariants.{Run, Paint, Show}
 use Rattle.commands.proofs.SubcommandLemmas.{all_added, kind_made, one_more}
 use Rattle.commands.proofs.subcommands.command.Goals as goal

@@ -1,4 +1,5 @@
-use Rattle.commands.specs.{◌≡◌, map, take}
+use Rattle.std.specs.Prelude.{◌≡◌}
+use Rattle.commands.specs.{map, take}
 use Rattle.commands.proofs.SubcommandLemmas.{defined, made}
 use Rattle.commands.proofs.subcommands.command.Given as goal
 

@@ -1,4 +1,5 @@
-use Rattle.compose.specs.{◌+◌, ◌<◌, subst, arith, MatchOption, length, ⊤, IsFrameWithin}
+use Rattle.std.specs.Prelude.{◌+◌, ◌<◌}
+use Rattle.compose.specs.{subst, arith, MatchOption, length, ⊤, IsFrameWithin}
 use Rattle.picture.proofs.DamageLaws.{damages-rectangle}
 use Rattle.compose.proofs.damaging.damage_part.Goals as goal
 

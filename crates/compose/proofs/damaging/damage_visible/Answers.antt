@@ -1,5 +1,6 @@
 -- `damage_visible`: the damage of one window after another (`Visible`).
-use Rattle.compose.specs.{rules, ◌≡◌, ◌∷◌, Some, refl, subst, sym, ◌∙◌, reverse, filter_map, windows_from_top, windows, panels, affected_shows_at}
+use Rattle.std.specs.Prelude.{◌≡◌, ◌∷◌}
+use Rattle.compose.specs.{rules, Some, refl, subst, sym, ◌∙◌, reverse, filter_map, windows_from_top, windows, panels, affected_shows_at}
 use Rattle.compose.proofs.Visible.{DamagedBut, damaged-more, damaged-none}
 use Rattle.compose.proofs.damaging.damage_visible.Goals as goal
 

@@ -1,4 +1,5 @@
-use Rattle.compose.specs.{◌≡◌, length, filter_map, windows_from_top, windows, panels, affected_shows_at}
+use Rattle.std.specs.Prelude.{◌≡◌}
+use Rattle.compose.specs.{length, filter_map, windows_from_top, windows, panels, affected_shows_at}
 use Rattle.compose.proofs.Visible.{DamagedBut}
 use Rattle.compose.proofs.damaging.damage_visible.Given as goal
 

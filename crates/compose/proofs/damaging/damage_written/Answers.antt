@@ -1,5 +1,6 @@
 -- `damage_written`: where no panel is visible, the frame of a write in the standard screen is what is shown of it (`StandardWrites`).
-use Rattle.compose.specs.{rules, ◌≡◌, ℕ, sym, subst, ◌∙◌, standard_screen, HasPlace, frame_shows_at, Some, length, windows, panels, frame_holds, Damages}
+use Rattle.std.specs.Prelude.{◌≡◌}
+use Rattle.compose.specs.{rules, ℕ, sym, subst, ◌∙◌, standard_screen, HasPlace, frame_shows_at, Some, length, windows, panels, frame_holds, Damages}
 use Rattle.picture.proofs.DamageLaws.{damages-as, damages-rectangle}
 use Rattle.compose.proofs.StandardWrites.{standard-inside, standard-alone}
 use Rattle.compose.proofs.damaging.damage_written.Goals as goal

@@ -1,6 +1,7 @@
 -- `arrange_damaging`: a call on panels, made on a desk: the world after it, and what it damaged (`Arranging`); what a call on panels damages: the
 -- part of the panel that it names, as it was, and that of the panel that it changed or made, as it is (`Parting`).
-use Rattle.compose.specs.{◌≡◌, ℕ, true, false, ap, sym, ◌∙◌, arith, panels_after, stacking_order, windows, panels, part_holds, top_window, Rearranges}
+use Rattle.std.specs.Prelude.{◌≡◌}
+use Rattle.compose.specs.{ℕ, true, false, ap, sym, ◌∙◌, arith, panels_after, stacking_order, windows, panels, part_holds, top_window, Rearranges}
 use Rattle.picture.proofs.DamageLaws.{damages-as, damages-none, damages-then, part-right}
 use Rattle.compose.proofs.Arranging.{panels-ordered, size-ordered}
 use Rattle.compose.proofs.Parting.{order_stays, part-within, stacking-parts, stays-where-same, unseen-where-same}

@@ -1,6 +1,7 @@
 -- `unmark_composed`: windows are unmarked one after another (`Unmarking`).
-use Rattle.compose.specs.{rules, ◌≡◌, ◌||◌, arith, Bool, ℕ, List, [], ◌∷◌, Some, refl, ap, sym, ◌∙◌, reverse, filter_map, list_any, standard_screen}
-use Rattle.compose.specs.{windows_from_top, WindowMap, Windows, asks_for_clear, with_unmarked, panels}
+use Rattle.std.specs.Prelude.{◌≡◌, ◌||◌, ◌∷◌}
+use Rattle.compose.specs.{rules, arith, Bool, ℕ, List, [], Some, refl, ap, sym, ◌∙◌, reverse, filter_map, list_any, standard_screen, windows_from_top, WindowMap, Windows, asks_for_clear}
+use Rattle.compose.specs.{with_unmarked, panels}
 use Rattle.compose.proofs.Unmarking.{asked-first, one-unmarked, still-left}
 use Rattle.compose.proofs.marks.unmark_composed.Goals as goal
 

@@ -1,4 +1,5 @@
-use Rattle.compose.specs.{◌≡◌, ◌||◌, ◌∷◌, filter_map, list_any, standard_screen, windows_from_top, asks_for_clear, with_unmarked, panels}
+use Rattle.std.specs.Prelude.{◌≡◌, ◌||◌, ◌∷◌}
+use Rattle.compose.specs.{filter_map, list_any, standard_screen, windows_from_top, asks_for_clear, with_unmarked, panels}
 use Rattle.compose.proofs.marks.unmark_composed.Given as goal
 
 -- the windows of the panels that are left are still to be unmarked

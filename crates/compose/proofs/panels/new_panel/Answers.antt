@@ -1,5 +1,6 @@
 -- `new_panel`: the stack's call, after the tests of the window (`Arranging`).
-use Rattle.compose.specs.{rules, refl, sym, ◌≡◌, None, first_of, new_panel_tests, window_tests, windows, panels}
+use Rattle.std.specs.Prelude.{◌≡◌}
+use Rattle.compose.specs.{rules, refl, sym, None, first_of, new_panel_tests, window_tests, windows, panels}
 use Rattle.compose.proofs.Arranging.{first-after, ordered}
 use Rattle.compose.proofs.panels.new_panel.Goals as goal
 

@@ -1,6 +1,6 @@
 -- `replace_panel`: the stack's call, after the tests of the window (`Arranging`).
-use Rattle.compose.specs.{rules, ap, refl, sym, ◌≡◌, ◌∷◌, None, Some, if◌then◌else◌, [], is_none, first_of, InPanel, NoSuchPanel, is_in_panel, window_tests}
-use Rattle.compose.specs.{windows, panels}
+use Rattle.std.specs.Prelude.{◌≡◌, ◌∷◌, if◌then◌else◌}
+use Rattle.compose.specs.{rules, ap, refl, sym, None, Some, [], is_none, first_of, InPanel, NoSuchPanel, is_in_panel, window_tests, windows, panels}
 use Rattle.compose.proofs.Arranging.{first-after, ordered}
 use Rattle.compose.proofs.panels.replace_panel.Goals as goal
 

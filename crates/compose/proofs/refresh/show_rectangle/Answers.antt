@@ -1,6 +1,7 @@
 -- `show_rectangle`: a drawing is laid over a picture line by line (`Laying`); what noutrefresh and pnoutrefresh draw on each line of the screen
 -- (`RefreshedLines`).
-use Rattle.compose.specs.{◌≡◌, ◌+◌, ◌-◌, false, refl, arith, rules, subst, common_steps, Drawing, cell_at, copywin_drawing, windows}
+use Rattle.std.specs.Prelude.{◌≡◌, ◌+◌, ◌-◌}
+use Rattle.compose.specs.{false, refl, arith, rules, subst, common_steps, Drawing, cell_at, copywin_drawing, windows}
 use Rattle.extents.proofs.Changing.{changes-none, changes-then}
 use Rattle.compose.proofs.Laying.{LaidAbove, laid-all, laid-more}
 use Rattle.compose.proofs.RefreshedLines.{of-pad, pad-above, pad-below, pad-piece}

@@ -1,4 +1,5 @@
-use Rattle.compose.specs.{◌+◌, false, copywin_drawing, AddsChanges, windows}
+use Rattle.std.specs.Prelude.{◌+◌}
+use Rattle.compose.specs.{false, copywin_drawing, AddsChanges, windows}
 use Rattle.compose.proofs.Laying.{LaidAbove}
 use Rattle.compose.proofs.Touching.{DamagedAbove}
 use Rattle.compose.proofs.refresh.show_rectangle.Given as goal

@@ -1,6 +1,7 @@
 -- `show_touched`: a drawing is laid over a picture line by line (`Laying`), as noutrefresh draws on each line of the screen (`RefreshedLines`), and is
 -- damaged line by line (`Touching`).
-use Rattle.compose.specs.{◌≡◌, ◌+◌, ◌-◌, arith, refl, rules, subst, sym, ◌∙◌, common_steps, Rect, Drawing, cell_at, touched_cells, windows}
+use Rattle.std.specs.Prelude.{◌≡◌, ◌+◌, ◌-◌}
+use Rattle.compose.specs.{arith, refl, rules, subst, sym, ◌∙◌, common_steps, Rect, Drawing, cell_at, touched_cells, windows}
 use Rattle.extents.proofs.Changing.{changes-none, changes-then}
 use Rattle.picture.proofs.DamageLaws.{damages-rectangle}
 use Rattle.picture.proofs.Placement.{placed_at}

@@ -1,5 +1,6 @@
 -- `unmark_lines`: windows are unmarked one after another (`Unmarking`).
-use Rattle.compose.specs.{◌≡◌, ◌+◌, ◌<◌, ◌≤◌, Some, None, ap, false, ◌∙◌, Windows, after_writing, writing_refusal, Clearok, windows}
+use Rattle.std.specs.Prelude.{◌≡◌, ◌+◌, ◌<◌, ◌≤◌}
+use Rattle.compose.specs.{Some, None, ap, false, ◌∙◌, Windows, after_writing, writing_refusal, Clearok, windows}
 use Rattle.compose.proofs.Unmarking.{lines-unmarked, still-there}
 use Rattle.compose.proofs.refresh.unmark_lines.Goals as goal
 

@@ -1,5 +1,6 @@
 -- `paint_screen`: a picture that was written, or could not be, or none (`PrintedPictures`).
-use Rattle.curspan.specs.{◌≡◌, false, true, Some, ap, inl, inr, refl, subst, sym, ◌∙◌, is_some, World, no_rendition, printed_picture, IsNotWritten, IsWritten}
+use Rattle.std.specs.Prelude.{◌≡◌}
+use Rattle.curspan.specs.{false, true, Some, ap, inl, inr, refl, subst, sym, ◌∙◌, is_some, World, no_rendition, printed_picture, IsNotWritten, IsWritten}
 use Rattle.curspan.proofs.PrintedPictures.{of-some, without}
 use Rattle.curspan.proofs.serve.paint_screen.Goals as goal
 

@@ -1,5 +1,6 @@
 -- `erase_in_line`: lines of a picture, erased (`Erasing`).
-use Rattle.ecma.specs.{◌≡◌, ◌∙◌, ap, length, sym}
+use Rattle.std.specs.Prelude.{◌≡◌}
+use Rattle.ecma.specs.{◌∙◌, ap, length, sym}
 use Rattle.ecma.proofs.Erasing.{fill-erases, span}
 use Rattle.ecma.proofs.page.erase_in_line.Goals as goal
 use Rattle.ecma.proofs.page.erase_in_line.Goals.{in-ToEnd, in-FromStart, in-All}

@@ -1,4 +1,5 @@
-use Rattle.ecma.specs.{◌≡◌, length, HasSize}
+use Rattle.std.specs.Prelude.{◌≡◌}
+use Rattle.ecma.specs.{length, HasSize}
 use Rattle.ecma.proofs.Erasing.{lines_blanked}
 use Rattle.ecma.proofs.page.erase_lines.Given as goal
 

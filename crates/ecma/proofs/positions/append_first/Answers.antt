@@ -1,5 +1,6 @@
 -- `append_first`: of a piece that is written whole the first bytes count.
-use Rattle.ecma.specs.{◌≡◌, ℕ, ◌+◌, ◌-◌, ◌≤◌, ◌∙◌, List, ◌++◌, length, take, ap, sym, arith, take-append-add, length-take-le, take-take, take-put_mid}
+use Rattle.std.specs.Prelude.{◌≡◌, ◌+◌, ◌-◌, ◌≤◌, ◌++◌}
+use Rattle.ecma.specs.{ℕ, ◌∙◌, List, length, take, ap, sym, arith, take-append-add, length-take-le, take-take, take-put_mid}
 use borrow.Rule.Slice.PartMut.{put_mid}
 use Rattle.ecma.proofs.positions.append_first.Goals as goal
 

@@ -1,4 +1,5 @@
-use Rattle.ecma.specs.{◌≡◌, Some, take}
+use Rattle.std.specs.Prelude.{◌≡◌}
+use Rattle.ecma.specs.{Some, take}
 use Rattle.ecma.proofs.Selecting.{selected_by}
 use Rattle.ecma.proofs.selection.select_all.Given as goal
 

@@ -1,5 +1,6 @@
 -- `append_colour`: the code has two digits, of which the last is the number of the colour (`Lengths`).
-use Rattle.ecma.specs.{ℕ, List, ◌≡◌, ◌+◌, ◌++◌, ◌/◌, ◌∷◌, [], ◌∙◌, length, take, ap, code_of_colour, selection}
+use Rattle.std.specs.Prelude.{◌≡◌, ◌+◌, ◌++◌, ◌/◌, ◌∷◌}
+use Rattle.ecma.specs.{ℕ, List, [], ◌∙◌, length, take, ap, code_of_colour, selection}
 use Rattle.ecma.proofs.Lengths.{colour-code}
 use Rattle.ecma.proofs.spelling.append_colour.Goals as goal
 

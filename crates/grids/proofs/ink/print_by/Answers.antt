@@ -1,5 +1,6 @@
 -- The characters are printed some at a time, each time after those before, and last those that the text ends with.
-use Rattle.grids.specs.{◌≡◌, ◌+◌, ◌-◌, ◌≤◌, length, map, take, drop, arith, length-take, length-drop, ◌∙◌, slice_index_or, common_steps, blank, printed_cell}
+use Rattle.std.specs.Prelude.{◌≡◌, ◌+◌, ◌-◌, ◌≤◌}
+use Rattle.grids.specs.{length, map, take, drop, arith, length-take, length-drop, ◌∙◌, slice_index_or, common_steps, blank, printed_cell}
 use Rattle.cell.proofs.PictureLemmas.{length-line}
 use Rattle.grids.proofs.Prints.{filled-on, printed-part}
 use Rattle.grids.proofs.ink.print_by.Goals as goal

@@ -1,5 +1,5 @@
-use Rattle.grids.specs.{◌≡◌, ℕ, ◌+◌, ◌-◌, ◌≤◌, ◌==◌, ◌&&◌, nat_le, nat_lt, if◌then◌else◌, length, map, slice_index_or, IsCell, blank, EachCell, HasSize}
-use Rattle.grids.specs.{cell_or, printed_cell}
+use Rattle.std.specs.Prelude.{◌≡◌, ◌+◌, ◌-◌, ◌≤◌, ◌==◌, ◌&&◌, if◌then◌else◌}
+use Rattle.grids.specs.{ℕ, nat_le, nat_lt, length, map, slice_index_or, IsCell, blank, EachCell, HasSize, cell_or, printed_cell}
 use Rattle.grids.proofs.ink.print_by.Given as goal
 
 -- the first characters are printed

@@ -1,4 +1,5 @@
-use Rattle.grids.specs.{◌≡◌, length, map, take, AllByRecursion, IsCell, printed_cell}
+use Rattle.std.specs.Prelude.{◌≡◌}
+use Rattle.grids.specs.{length, map, take, AllByRecursion, IsCell, printed_cell}
 use Rattle.grids.specs.declared.ink.TheConstants.{PIECE}
 use Rattle.grids.proofs.ink.print_together.Given as goal
 

@@ -1,5 +1,6 @@
 -- The loop goes along the slots as the search along the numbers does.
-use Rattle.grids.specs.{◌≡◌, true, false, None, arith, sym, ap, ◌∙◌, length, is_none, common_steps, get_or_read, slot_at}
+use Rattle.std.specs.Prelude.{◌≡◌}
+use Rattle.grids.specs.{true, false, None, arith, sym, ap, ◌∙◌, length, is_none, common_steps, get_or_read, slot_at}
 use Rattle.grids.proofs.FreeNumbers.{search_from, search-more, search-here, search-past, search-end}
 use Rattle.grids.proofs.list.free_number.Goals as goal
 

@@ -1,4 +1,5 @@
-use Rattle.grids.specs.{◌≡◌, new_number, window_map}
+use Rattle.std.specs.Prelude.{◌≡◌}
+use Rattle.grids.specs.{new_number, window_map}
 use Rattle.grids.proofs.FreeNumbers.{search_from}
 use Rattle.grids.proofs.list.free_number.Given as goal
 

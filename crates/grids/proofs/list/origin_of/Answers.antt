@@ -1,5 +1,6 @@
 -- The origin of a window is where the walk from its first place ends.
-use Rattle.grids.specs.{◌≡◌, Some, arith, common_steps, slot_at}
+use Rattle.std.specs.Prelude.{◌≡◌}
+use Rattle.grids.specs.{Some, arith, common_steps, slot_at}
 use Rattle.grids.proofs.Origins.{origin-is}
 use Rattle.grids.proofs.list.origin_of.Goals as goal
 

@@ -1,4 +1,5 @@
-use Rattle.grids.specs.{◌≡◌, Some, arith, common_steps, slot_at}
+use Rattle.std.specs.Prelude.{◌≡◌}
+use Rattle.grids.specs.{Some, arith, common_steps, slot_at}
 use Rattle.grids.proofs.list.row_in.Goals as goal
 
 pub returns-clause-row : goal.returns-clause-row

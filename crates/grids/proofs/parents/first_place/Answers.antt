@@ -1,5 +1,6 @@
 -- The walk goes from parent to parent, and ends because each is nearer to the grid.
-use Rattle.grids.specs.{◌≡◌, Some, None, option_map, slot_at, part_in, in_parent}
+use Rattle.std.specs.Prelude.{◌≡◌}
+use Rattle.grids.specs.{Some, None, option_map, slot_at, part_in, in_parent}
 use Rattle.grids.proofs.Chain.{some_and, from_parent, no_parent, ComesTo-step, ComesTo-end}
 use Rattle.grids.proofs.parents.first_place.Goals as goal
 

@@ -1,5 +1,6 @@
 -- Each round sets the origin of one more slot, and those of its parents were set before.
-use Rattle.grids.specs.{◌≡◌, ◌<◌, None, length, arith, sym, ◌∙◌, get_or_read, slot_at}
+use Rattle.std.specs.Prelude.{◌≡◌, ◌<◌}
+use Rattle.grids.specs.{None, length, arith, sym, ◌∙◌, get_or_read, slot_at}
 use Rattle.grids.proofs.Settling.{empty-slot, settled-empty, settled-next}
 use Rattle.grids.proofs.parents.settle.Goals as goal
 use Rattle.grids.proofs.parents.settle.Goals.{then-is_some, else-is_some}

@@ -1,4 +1,5 @@
-use Rattle.grids.specs.{◌≡◌, ℕ, ◌&&◌, nat_le, nat_lt, if◌then◌else◌, None, length, slice_index_or}
+use Rattle.std.specs.Prelude.{◌≡◌, ◌&&◌, if◌then◌else◌}
+use Rattle.grids.specs.{ℕ, nat_le, nat_lt, None, length, slice_index_or}
 use Rattle.grids.proofs.touched_lines.set_lines.Given as goal
 
 -- the lines before y are set

@@ -1,4 +1,5 @@
-use Rattle.paint.specs.{◌≡◌, ◌≤◌, ℕ, shown_at, shown_blank}
+use Rattle.std.specs.Prelude.{◌≡◌, ◌≤◌}
+use Rattle.paint.specs.{ℕ, shown_at, shown_blank}
 use Rattle.paint.proofs.blanks.blank_lines.Given as goal
 
 abbrev pub invariant-loop-start : goal.invariant-loop-start

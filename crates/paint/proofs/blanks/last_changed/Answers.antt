@@ -1,5 +1,6 @@
 -- `last_changed`: lines are looked at from the last one on which may differ.
-use Rattle.paint.specs.{◌≡◌, ◌-◌, ◌<◌, ◌∙◌, inl, inr, refl, ap, subst, arith, cases_lt, line_of, shown_at}
+use Rattle.std.specs.Prelude.{◌≡◌, ◌-◌, ◌<◌}
+use Rattle.paint.specs.{◌∙◌, inl, inr, refl, ap, subst, arith, cases_lt, line_of, shown_at}
 use Rattle.cell.proofs.PictureLemmas.{length-line}
 use Rattle.paint.proofs.CellRuns.{part-differs}
 use Rattle.paint.proofs.FoundStrokes.{whole-line}

@@ -1,4 +1,5 @@
-use Rattle.paint.specs.{◌≡◌, ◌≤◌, ℕ, length, shown_at}
+use Rattle.std.specs.Prelude.{◌≡◌, ◌≤◌}
+use Rattle.paint.specs.{ℕ, length, shown_at}
 use Rattle.paint.proofs.blanks.last_changed.Given as goal
 
 abbrev pub invariant-loop-end : goal.invariant-loop-end

@@ -1,6 +1,6 @@
 -- `tail_start`: cells that are looked at together are blank after the last that isn't.
-use Rattle.paint.specs.{◌≡◌, ℕ, zero, suc, ◌+◌, ◌-◌, ◌<◌, ◌≤◌, ◌∙◌, List, drop, get_or, inl, inr, refl, sym, ap, arith, replicate, cases_lt, get_or-drop}
-use Rattle.paint.specs.{Shown, shown_blank, cells_between}
+use Rattle.std.specs.Prelude.{◌≡◌, ◌+◌, ◌-◌, ◌<◌, ◌≤◌}
+use Rattle.paint.specs.{ℕ, zero, suc, ◌∙◌, List, drop, get_or, inl, inr, refl, sym, ap, arith, replicate, cases_lt, get_or-drop, Shown, shown_blank, cells_between}
 use Rattle.paint.proofs.CellRuns.{part-of}
 use Rattle.paint.proofs.blanks.tail_start.Goals as goal
 

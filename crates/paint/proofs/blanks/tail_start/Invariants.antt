@@ -1,4 +1,5 @@
-use Rattle.paint.specs.{◌≡◌, ◌≤◌, ℕ, get_or, length, shown_blank}
+use Rattle.std.specs.Prelude.{◌≡◌, ◌≤◌}
+use Rattle.paint.specs.{ℕ, get_or, length, shown_blank}
 use Rattle.paint.proofs.blanks.tail_start.Given as goal
 
 abbrev pub invariant-loop-start : goal.invariant-loop-start

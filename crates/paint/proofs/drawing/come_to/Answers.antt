@@ -1,6 +1,6 @@
 -- `come_to`: the gap printed again before and after the selection, or after one of none, or a move (`PenSteps`).
-use Rattle.paint.specs.{◌≡◌, ◌+◌, ◌-◌, ◌<◌, ◌∙◌, get_or, length, drop, sym, ap, arith, get_or-drop, get_or-take, length-drop, length-take, line_of, Shown}
-use Rattle.paint.specs.{shown_blank}
+use Rattle.std.specs.Prelude.{◌≡◌, ◌+◌, ◌-◌, ◌<◌}
+use Rattle.paint.specs.{◌∙◌, get_or, length, drop, sym, ap, arith, get_or-drop, get_or-take, length-drop, length-take, line_of, Shown, shown_blank}
 use Rattle.paint.proofs.CellRuns.{all-at, gap-at, gap-within}
 use Rattle.paint.proofs.PenSteps.{DrawsWithin-more, DrawsWithin-then, move-within, plain-within, select-within}
 use Rattle.paint.proofs.drawing.come_to.Goals as goal

@@ -1,4 +1,5 @@
-use Rattle.paint.specs.{List, ◌++◌, take, filter, Seen, AreDrawn, is_of, SameTerminals}
+use Rattle.std.specs.Prelude.{◌++◌}
+use Rattle.paint.specs.{List, take, filter, Seen, AreDrawn, is_of, SameTerminals}
 use Rattle.paint.specs.declared.pen.Pen.{Pen}
 use Rattle.paint.specs.declared.strokes.Stroke.{Stroke}
 use Rattle.paint.proofs.drawing.draw_pass.Given as goal

@@ -1,5 +1,6 @@
 -- `draw_stroke`: its line is that of the frame.
-use Rattle.paint.specs.{◌≡◌, ◌∙◌, ap, subst, arith, line_of, HasInk, IsErasure}
+use Rattle.std.specs.Prelude.{◌≡◌}
+use Rattle.paint.specs.{◌∙◌, ap, subst, arith, line_of, HasInk, IsErasure}
 use Rattle.paint.specs.declared.pen.Pen.{Pen}
 use Rattle.paint.proofs.CellRuns.{gap-shown}
 use Rattle.paint.proofs.DrawnStrokes.{erased-line-drawn, erased-page-drawn, print-drawn}

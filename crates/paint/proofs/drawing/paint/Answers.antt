@@ -1,5 +1,6 @@
 -- `paint`: line after line is planned, and those between them are shown already.
-use Rattle.paint.specs.{◌≡◌, ℕ, ◌<◌, ◌≤◌, None, Option, List, length, refl, arith, Picture, Columns, columns_of, IsFrame, AreSameBetween}
+use Rattle.std.specs.Prelude.{◌≡◌, ◌<◌, ◌≤◌}
+use Rattle.paint.specs.{ℕ, None, Option, List, length, refl, arith, Picture, Columns, columns_of, IsFrame, AreSameBetween}
 use Rattle.paint.proofs.FoundStrokes.{planned-same, same-lines, way-none, way-planned, way-whole}
 use Rattle.paint.proofs.drawing.paint.Goals as goal
 

@@ -1,4 +1,5 @@
-use Rattle.paint.specs.{◌≤◌, ◌-◌, IsUnderWay, SameTerminals}
+use Rattle.std.specs.Prelude.{◌≤◌, ◌-◌}
+use Rattle.paint.specs.{IsUnderWay, SameTerminals}
 use Rattle.paint.proofs.drawing.paint.Given as goal
 
 abbrev pub invariant-loop-line : goal.invariant-loop-line

@@ -1,4 +1,5 @@
-use Rattle.paint.specs.{◌<◌, ◌≤◌, ◌^◌, ℕ, get_or, no_stroke}
+use Rattle.std.specs.Prelude.{◌<◌, ◌≤◌, ◌^◌}
+use Rattle.paint.specs.{ℕ, get_or, no_stroke}
 use Rattle.paint.proofs.drawing.passes_of.Given as goal
 
 abbrev pub invariant-loop-stroke : goal.invariant-loop-stroke

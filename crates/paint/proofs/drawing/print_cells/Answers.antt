@@ -1,7 +1,7 @@
 -- `print_cells`: runs of cells, printed one after another (`CellRuns`); the strokes of a pen (`PenSteps`).
-use Rattle.paint.specs.{◌≡◌, ℕ, ◌+◌, ◌-◌, ◌<◌, ◌≤◌, ◌∙◌, inl, inr, List, drop, get_or, length, take, sym, ap, subst, arith, cases_lt, get_or-drop}
-use Rattle.paint.specs.{get_or_default, get_or-take, length-drop, length-take-le, IsRendition, Rendition, Shown, shown_blank, line_of, spelling, Sgr}
-use Rattle.paint.specs.{DrawsWithin, most_approach, run_bytes, with_cells, HaveOneRendition, cells_between}
+use Rattle.std.specs.Prelude.{◌≡◌, ◌+◌, ◌-◌, ◌<◌, ◌≤◌}
+use Rattle.paint.specs.{ℕ, ◌∙◌, inl, inr, List, drop, get_or, length, take, sym, ap, subst, arith, cases_lt, get_or-drop, get_or_default, get_or-take, length-drop, length-take-le, IsRendition}
+use Rattle.paint.specs.{Rendition, Shown, shown_blank, line_of, spelling, Sgr, DrawsWithin, most_approach, run_bytes, with_cells, HaveOneRendition, cells_between}
 use Rattle.paint.proofs.CellRuns.{all-at, drawn-short, gap-and, gap-ends, gap-shown, length-between, part-of, run-after}
 use Rattle.paint.proofs.PenSteps.{DrawsWithin-more, DrawsWithin-then, cells-within, select-within}
 use Rattle.paint.proofs.drawing.print_cells.Goals as goal

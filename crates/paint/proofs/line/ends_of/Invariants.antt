@@ -1,4 +1,5 @@
-use Rattle.paint.specs.{◌≡◌, length, LANES, AreEnds}
+use Rattle.std.specs.Prelude.{◌≡◌}
+use Rattle.paint.specs.{length, LANES, AreEnds}
 use Rattle.paint.proofs.line.ends_of.Given as goal
 
 abbrev pub invariant-loop-x : goal.invariant-loop-x

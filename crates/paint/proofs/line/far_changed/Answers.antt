@@ -1,5 +1,6 @@
 -- What is looked at together is the same up to the first difference (`Listing`).
-use Rattle.paint.specs.{◌-◌, ◌≤◌, drop, take, ap, arith, length-take}
+use Rattle.std.specs.Prelude.{◌-◌, ◌≤◌}
+use Rattle.paint.specs.{drop, take, ap, arith, length-take}
 use Rattle.paint.proofs.CellRuns.{part-same}
 use Rattle.paint.proofs.line.far_changed.Goals as goal
 

@@ -1,4 +1,5 @@
-use Rattle.paint.specs.{◌≡◌, ◌<◌, ℕ, get_or, shown_blank}
+use Rattle.std.specs.Prelude.{◌≡◌, ◌<◌}
+use Rattle.paint.specs.{ℕ, get_or, shown_blank}
 use Rattle.paint.proofs.line.leading.Given as goal
 
 abbrev pub invariant-loop-k : goal.invariant-loop-k

@@ -1,4 +1,5 @@
-use Rattle.paint.specs.{◌≡◌, ℕ, ◌<◌, ◌≤◌, get_or, shown_blank}
+use Rattle.std.specs.Prelude.{◌≡◌, ◌<◌, ◌≤◌}
+use Rattle.paint.specs.{ℕ, get_or, shown_blank}
 use Rattle.paint.proofs.line.next_changed.Given as goal
 
 abbrev pub invariant-loop-x : goal.invariant-loop-x

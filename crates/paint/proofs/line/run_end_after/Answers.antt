@@ -1,5 +1,6 @@
 -- `run_end_after`: runs of cells: printed one after another, and drawn in a line (`CellRuns`).
-use Rattle.paint.specs.{◌≡◌, ◌+◌, ◌-◌, ◌∙◌, ap, arith, get_or_default, Shown, shown_blank}
+use Rattle.std.specs.Prelude.{◌≡◌, ◌+◌, ◌-◌}
+use Rattle.paint.specs.{◌∙◌, ap, arith, get_or_default, Shown, shown_blank}
 use Rattle.paint.proofs.CellRuns.{run-further}
 use Rattle.paint.proofs.line.run_end_after.Goals as goal
 

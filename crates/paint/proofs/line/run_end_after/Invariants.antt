@@ -1,4 +1,5 @@
-use Rattle.paint.specs.{◌-◌, IsRun}
+use Rattle.std.specs.Prelude.{◌-◌}
+use Rattle.paint.specs.{IsRun}
 use Rattle.paint.proofs.line.run_end_after.Given as goal
 
 abbrev pub invariant-loop-x : goal.invariant-loop-x

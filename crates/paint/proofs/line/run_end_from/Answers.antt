@@ -1,5 +1,6 @@
 -- `run_end_from`: runs of cells: printed one after another, and drawn in a line (`CellRuns`).
-use Rattle.paint.specs.{◌≡◌, ◌<◌, ◌∙◌, get_or, inl, inr, length, sym, ap, arith, cases_lt, get_or_default, Shown, shown_blank}
+use Rattle.std.specs.Prelude.{◌≡◌, ◌<◌}
+use Rattle.paint.specs.{◌∙◌, get_or, inl, inr, length, sym, ap, arith, cases_lt, get_or_default, Shown, shown_blank}
 use Rattle.ecma.proofs.Difference.{same_rendition-equal}
 use Rattle.paint.proofs.CellRuns.{same_shown-at, not-other}
 use Rattle.paint.proofs.line.run_end_from.Goals as goal

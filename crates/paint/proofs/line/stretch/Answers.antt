@@ -1,6 +1,6 @@
 -- `stretch`: a run, and each further changed cell after a few of its rendition (`Stretches`).
-use Rattle.paint.specs.{not, ◌≡◌, Bool, true, false, ℕ, ◌<◌, ◌≤◌, ◌∙◌, get_or, length, inl, inr, ap, subst, sym, arith, cases_lt, get_or_default, Shown}
-use Rattle.paint.specs.{shown_blank, same_shown-equal}
+use Rattle.std.specs.Prelude.{◌≡◌, ◌<◌, ◌≤◌}
+use Rattle.paint.specs.{not, Bool, true, false, ℕ, ◌∙◌, get_or, length, inl, inr, ap, subst, sym, arith, cases_lt, get_or_default, Shown, shown_blank, same_shown-equal}
 use Rattle.paint.proofs.CellRuns.{not-other}
 use Rattle.paint.proofs.Stretches.{run-stretch, stretch-further}
 use Rattle.paint.proofs.line.stretch.Goals as goal

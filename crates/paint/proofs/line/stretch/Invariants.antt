@@ -1,4 +1,5 @@
-use Rattle.paint.specs.{◌≡◌, ◌-◌, ◌<◌, ◌≤◌, ℕ, get_or, shown_blank, IsStretch}
+use Rattle.std.specs.Prelude.{◌≡◌, ◌-◌, ◌<◌, ◌≤◌}
+use Rattle.paint.specs.{ℕ, get_or, shown_blank, IsStretch}
 use Rattle.paint.proofs.line.stretch.Given as goal
 
 abbrev pub invariant-loop-rendition : goal.invariant-loop-rendition

@@ -1,5 +1,6 @@
 -- `append_characters`: piece by piece (`Narrowing`).
-use Rattle.paint.specs.{◌+◌, ◌++◌, ◌∙◌, ap, arith, length, take, ◌≡◌, ◌-◌, drop, length-drop, length-take-le, take-length, characters}
+use Rattle.std.specs.Prelude.{◌+◌, ◌++◌, ◌≡◌, ◌-◌}
+use Rattle.paint.specs.{◌∙◌, ap, arith, length, take, drop, length-drop, length-take-le, take-length, characters}
 use Rattle.paint.proofs.Narrowing.{characters-further, sound-further}
 use Rattle.paint.proofs.outbox.append_characters.Goals as goal
 

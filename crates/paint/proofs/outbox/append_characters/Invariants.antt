@@ -1,4 +1,5 @@
-use Rattle.paint.specs.{◌≡◌, ℕ, ◌-◌, ◌<◌, ◌≤◌, ◌++◌, get_or, length, take, IsShown, shown_blank, characters}
+use Rattle.std.specs.Prelude.{◌≡◌, ◌-◌, ◌<◌, ◌≤◌, ◌++◌}
+use Rattle.paint.specs.{ℕ, get_or, length, take, IsShown, shown_blank, characters}
 use Rattle.paint.proofs.outbox.append_characters.Given as goal
 
 abbrev pub invariant-loop-start : goal.invariant-loop-start

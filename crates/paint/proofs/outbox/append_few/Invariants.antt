@@ -1,4 +1,5 @@
-use Rattle.paint.specs.{◌≡◌, ℕ, ◌<◌, ◌++◌, get_or, take, IsShown, shown_blank, characters}
+use Rattle.std.specs.Prelude.{◌≡◌, ◌<◌, ◌++◌}
+use Rattle.paint.specs.{ℕ, get_or, take, IsShown, shown_blank, characters}
 use Rattle.paint.proofs.outbox.append_few.Given as goal
 
 abbrev pub invariant-loop-cell : goal.invariant-loop-cell

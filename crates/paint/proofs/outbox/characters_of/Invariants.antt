@@ -1,4 +1,5 @@
-use Rattle.paint.specs.{◌≡◌, ℕ, ◌<◌, get_or, length, take, IsShown, shown_blank, characters, LANES}
+use Rattle.std.specs.Prelude.{◌≡◌, ◌<◌}
+use Rattle.paint.specs.{ℕ, get_or, length, take, IsShown, shown_blank, characters, LANES}
 use Rattle.paint.proofs.outbox.characters_of.Given as goal
 
 abbrev pub invariant-loop-x : goal.invariant-loop-x

@@ -1,5 +1,6 @@
 -- `copy_changes`: the columns in which two pictures may differ are copied from one to the other (`Copying`).
-use Rattle.paint.specs.{◌≡◌, ◌+◌, ◌-◌, ◌<◌, take, drop, length, inl, inr, List, ap, ◌∙◌, arith, cases_lt, length-drop, length-take-le, line_of, Shown}
+use Rattle.std.specs.Prelude.{◌≡◌, ◌+◌, ◌-◌, ◌<◌}
+use Rattle.paint.specs.{take, drop, length, inl, inr, List, ap, ◌∙◌, arith, cases_lt, length-drop, length-take-le, line_of, Shown}
 use Rattle.cell.proofs.PictureLemmas.{length-line}
 use Rattle.paint.proofs.Copying.{all-copied, none-there, one-more, still-only}
 use Rattle.paint.proofs.painter.copy_changes.Goals as goal

@@ -1,4 +1,5 @@
-use Rattle.paint.specs.{◌≡◌, ℕ, ◌-◌, ◌<◌, length, HasSize, shown_at, DifferOnly}
+use Rattle.std.specs.Prelude.{◌≡◌, ◌-◌, ◌<◌}
+use Rattle.paint.specs.{ℕ, length, HasSize, shown_at, DifferOnly}
 use Rattle.paint.proofs.painter.copy_changes.Given as goal
 
 abbrev pub invariant-loop-y : goal.invariant-loop-y

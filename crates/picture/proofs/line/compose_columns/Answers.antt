@@ -1,5 +1,6 @@
 -- Each run of columns has one owner, whose cells are put into the line; so the line is that of the picture.
-use Rattle.picture.specs.{rules, ◌≡◌, ℕ, ◌+◌, ◌-◌, refl, ap, subst, ◌∙◌, arith, Shown, shown, Windows, found_from_top, panels, GrewBy, KnowsOwners}
+use Rattle.std.specs.Prelude.{◌≡◌, ◌+◌, ◌-◌}
+use Rattle.picture.specs.{rules, ℕ, refl, ap, subst, ◌∙◌, arith, Shown, shown, Windows, found_from_top, panels, GrewBy, KnowsOwners}
 use Rattle.picture.proofs.Lines.{LineShown}
 use Rattle.picture.proofs.PictureRuns.{IsRead, held_run, run-between, run-grew, run-line, run-no-pad, run-of, run-place}
 use Rattle.picture.proofs.line.compose_columns.Goals as goal

@@ -1,4 +1,5 @@
-use Rattle.picture.specs.{◌≡◌, ◌-◌, ◌≤◌, shown, found_from_top, panels, GrewBy, KnowsOwners}
+use Rattle.std.specs.Prelude.{◌≡◌, ◌-◌, ◌≤◌}
+use Rattle.picture.specs.{shown, found_from_top, panels, GrewBy, KnowsOwners}
 use Rattle.picture.proofs.Lines.{LineShown}
 use Rattle.picture.proofs.line.compose_columns.Given as goal
 

@@ -1,4 +1,5 @@
-use Rattle.picture.specs.{rules, ◌≡◌, None, panels}
+use Rattle.std.specs.Prelude.{◌≡◌}
+use Rattle.picture.specs.{rules, None, panels}
 use Rattle.picture.proofs.VisiblePanels.{absent-hidden}
 use Rattle.picture.proofs.parts.is_visible.Goals as goal
 

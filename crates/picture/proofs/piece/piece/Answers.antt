@@ -1,5 +1,6 @@
 -- The piece is cut out of the row of the window.
-use Rattle.picture.specs.{◌≡◌, ◌<◌, ◌+◌, ◌-◌, length, arith, windows}
+use Rattle.std.specs.Prelude.{◌≡◌, ◌<◌, ◌+◌, ◌-◌}
+use Rattle.picture.specs.{length, arith, windows}
 use Rattle.grids.proofs.Showing.{line-has}
 use Rattle.picture.proofs.RowPieces.{piece-of}
 use Rattle.picture.proofs.piece.piece.Goals as goal

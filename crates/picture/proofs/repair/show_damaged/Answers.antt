@@ -1,7 +1,7 @@
 -- Each round composes the damaged columns of one line more; the others were those of the picture before.
-use Rattle.picture.specs.{rules, ◌≡◌, ℕ, suc, ◌+◌, ◌<◌, ◌≤◌, ◌==◌, ◌&&◌, true, nat_le, nat_lt, if◌then◌else◌, None, Some, refl, subst, ap, sym, ◌∙◌, arith}
-use Rattle.picture.specs.{add_assoc, shown_at, Shown, shown, found_from_top, holds, standard_screen, AreColumnsWithin, Windows, panels, AddsChanges}
-use Rattle.picture.specs.{columns_of, cells_above, cells_of_line, HasPanelWindows, KnowsOwners, mod-add-mod, get_or_past}
+use Rattle.std.specs.Prelude.{◌≡◌, ◌+◌, ◌<◌, ◌≤◌, ◌==◌, ◌&&◌, if◌then◌else◌}
+use Rattle.picture.specs.{rules, ℕ, suc, true, nat_le, nat_lt, None, Some, refl, subst, ap, sym, ◌∙◌, arith, add_assoc, shown_at, Shown, shown, found_from_top, holds, standard_screen}
+use Rattle.picture.specs.{AreColumnsWithin, Windows, panels, AddsChanges, columns_of, cells_above, cells_of_line, HasPanelWindows, KnowsOwners, mod-add-mod, get_or_past}
 use Rattle.cell.proofs.PictureLemmas.{length-line}
 use Rattle.extents.proofs.Changing.{changes-more, changes-none}
 use Rattle.picture.proofs.DamageLaws.{AddedBefore, added-all, added-more, added-none, added-to}

@@ -1,4 +1,5 @@
-use Rattle.picture.specs.{◌≡◌, ◌-◌, ◌≤◌, shown, found_from_top, panels, GrewBy, AddsChanges, cells_above, KnowsOwners}
+use Rattle.std.specs.Prelude.{◌≡◌, ◌-◌, ◌≤◌}
+use Rattle.picture.specs.{shown, found_from_top, panels, GrewBy, AddsChanges, cells_above, KnowsOwners}
 use Rattle.picture.proofs.Composing.{ComposedAbove}
 use Rattle.picture.proofs.DamageLaws.{AddedBefore}
 use Rattle.picture.proofs.repair.show_damaged.Given as goal

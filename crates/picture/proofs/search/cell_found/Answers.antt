@@ -1,6 +1,6 @@
 -- The owner of a place shows there the cell that the search finds.
-use Rattle.picture.specs.{◌≡◌, ◌<◌, ◌-◌, ℕ, true, refl, sym, subst, arith, Windows, Panels, holds, owner, window_or_standard, AreSoundWindows, panel_number}
-use Rattle.picture.specs.{windows as windows_of, panels, HasPanelWindows, IsSpan}
+use Rattle.std.specs.Prelude.{◌≡◌, ◌<◌, ◌-◌}
+use Rattle.picture.specs.{ℕ, true, refl, sym, subst, arith, Windows, Panels, holds, owner, window_or_standard, AreSoundWindows, panel_number, windows as windows_of, panels, HasPanelWindows, IsSpan}
 use Rattle.picture.specs.declared.span.Span.{Span}
 use Rattle.picture.proofs.Held.{held-before, held-place}
 use Rattle.picture.proofs.Searching.{owner-held}

@@ -1,4 +1,5 @@
-use Rattle.script.specs.{◌≤◌, length, IfSome, pieces_of, no_arguments}
+use Rattle.std.specs.Prelude.{◌≤◌}
+use Rattle.script.specs.{length, IfSome, pieces_of, no_arguments}
 use Rattle.script.proofs.ArgumentLemmas.{Counted, Taken}
 use Rattle.script.specs.declared.limits.TheConstants.{LONGEST_LINE}
 use Rattle.script.proofs.line.take_all.Given as goal

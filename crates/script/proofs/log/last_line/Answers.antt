@@ -1,5 +1,6 @@
 -- The line after the others is the fault's, with the bytes that were sent.
-use Rattle.script.specs.{◌≡◌, ℕ, List, ◌++◌, append_assoc, refl, codes, decimal, [], ◌∷◌, newline}
+use Rattle.std.specs.Prelude.{◌≡◌, ◌++◌, ◌∷◌}
+use Rattle.script.specs.{ℕ, List, append_assoc, refl, codes, decimal, [], newline}
 use Rattle.script.proofs.log.last_line.Goals as goal
 
 -- a line, put together piece by piece

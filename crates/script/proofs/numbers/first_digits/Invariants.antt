@@ -1,4 +1,5 @@
-use Rattle.script.specs.{◌≤◌, DigitsSoFar}
+use Rattle.std.specs.Prelude.{◌≤◌}
+use Rattle.script.specs.{DigitsSoFar}
 use Rattle.script.specs.declared.limits.TheConstants.{MOST_DIGITS}
 use Rattle.script.proofs.numbers.first_digits.Given as goal
 

@@ -1,4 +1,5 @@
-use Rattle.script.specs.{◌≡◌, ◌≤◌, ◌+◌, ◌++◌, length, option_map, text_of}
+use Rattle.std.specs.Prelude.{◌≡◌, ◌≤◌, ◌+◌, ◌++◌}
+use Rattle.script.specs.{length, option_map, text_of}
 use Rattle.script.proofs.text.read_text.Given as goal
 
 abbrev pub invariant-loop-rest : goal.invariant-loop-rest

@@ -1,5 +1,6 @@
 -- All bytes were compared.
-use Rattle.script.specs.{◌≡◌, arith, sym, take_all, bytes_eq-Decides}
+use Rattle.std.specs.Prelude.{◌≡◌}
+use Rattle.script.specs.{arith, sym, take_all, bytes_eq-Decides}
 use Rattle.script.proofs.words.are_same.Goals as goal
 
 pub returns : goal.returns

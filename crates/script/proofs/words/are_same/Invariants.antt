@@ -1,4 +1,5 @@
-use Rattle.script.specs.{◌≡◌, take}
+use Rattle.std.specs.Prelude.{◌≡◌}
+use Rattle.script.specs.{take}
 use Rattle.script.proofs.words.are_same.Given as goal
 
 abbrev pub invariant-loop-at : goal.invariant-loop-at

@@ -1,4 +1,5 @@
-use Rattle.script.specs.{◌≡◌, drop, find_named}
+use Rattle.std.specs.Prelude.{◌≡◌}
+use Rattle.script.specs.{drop, find_named}
 use Rattle.script.proofs.words.find_named.Given as goal
 
 abbrev pub invariant-loop-word : goal.invariant-loop-word

@@ -1,4 +1,5 @@
-use Rattle.stack.specs.{◌≡◌, ℕ, ◌<◌, Some, window_at}
+use Rattle.std.specs.Prelude.{◌≡◌, ◌<◌}
+use Rattle.stack.specs.{ℕ, Some, window_at}
 use Rattle.stack.proofs.nodes.search.Given as goal
 
 -- no node so far has the window

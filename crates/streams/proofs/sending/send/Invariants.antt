@@ -1,4 +1,5 @@
-use Rattle.streams.specs.{◌≡◌, ◌<◌, length, WritesOnce}
+use Rattle.std.specs.Prelude.{◌≡◌, ◌<◌}
+use Rattle.streams.specs.{length, WritesOnce}
 use Rattle.streams.proofs.Sends.{IsPartlySent}
 use Rattle.streams.proofs.sending.send.Given as goal
 

@@ -1,4 +1,5 @@
-use Rattle.windows.specs.{◌≡◌, put, everywhere, windows, IsStateOf}
+use Rattle.std.specs.Prelude.{◌≡◌}
+use Rattle.windows.specs.{put, everywhere, windows, IsStateOf}
 use Rattle.windows.proofs.LineDrawings.{above}
 use Rattle.windows.proofs.drawing.clear_all.Given as goal
 

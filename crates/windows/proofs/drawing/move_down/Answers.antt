@@ -1,5 +1,6 @@
 -- Each round takes one line more from above, from the last on.
-use Rattle.windows.specs.{◌≡◌, ◌+◌, ◌-◌, arith}
+use Rattle.std.specs.Prelude.{◌≡◌, ◌+◌, ◌-◌}
+use Rattle.windows.specs.{arith}
 use Rattle.windows.proofs.LinesDown.{down_started, down_more, down_ended}
 use Rattle.windows.proofs.drawing.move_down.Goals as goal
 

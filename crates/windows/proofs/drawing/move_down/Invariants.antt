@@ -1,4 +1,5 @@
-use Rattle.windows.specs.{◌≡◌, ◌+◌, ◌-◌, put, lines_down, windows, IsStateOf}
+use Rattle.std.specs.Prelude.{◌≡◌, ◌+◌, ◌-◌}
+use Rattle.windows.specs.{put, lines_down, windows, IsStateOf}
 use Rattle.windows.proofs.LineDrawings.{from}
 use Rattle.windows.proofs.drawing.move_down.Given as goal
 

@@ -1,4 +1,5 @@
-use Rattle.windows.specs.{◌≡◌, put, lines_up, windows, IsStateOf}
+use Rattle.std.specs.Prelude.{◌≡◌}
+use Rattle.windows.specs.{put, lines_up, windows, IsStateOf}
 use Rattle.windows.proofs.LineDrawings.{above}
 use Rattle.windows.proofs.drawing.move_up.Given as goal
 

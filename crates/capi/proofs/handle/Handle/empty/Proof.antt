@@ -1,5 +1,6 @@
 -- `empty` puts the two fields together, and owns nothing at null.
-use Rattle.capi.specs.{◌≡◌, [], ◌∷◌, refl, proved_at, leaves}
+use Rattle.std.specs.Prelude.{◌≡◌, ◌∷◌}
+use Rattle.capi.specs.{[], refl, proved_at, leaves}
 use mir.Val.{Val}
 use base.Logic.{SProp, emp}
 use base.Fml.{ftrue}

@@ -1,5 +1,6 @@
 -- `into_loose` tests the pointer, and moves the box out where it is not null.
-use Rattle.capi.specs.{◌≡◌, List, [], ◌∷◌, ◌++◌, refl, sym, subst, lit<, proved_at, leaves, ghosts}
+use Rattle.std.specs.Prelude.{◌≡◌, ◌∷◌, ◌++◌}
+use Rattle.capi.specs.{List, [], refl, sym, subst, lit<, proved_at, leaves, ghosts}
 use mir.Val.{Val, vptr, vcons, vnil}
 use base.Logic.{SProp, ent, emp, id⊢}
 use base.Fml.{ftrue}

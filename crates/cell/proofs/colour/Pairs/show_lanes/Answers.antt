@@ -1,4 +1,5 @@
-use Rattle.cell.specs.{◌-◌, length, arith, common_steps, IsShown}
+use Rattle.std.specs.Prelude.{◌-◌}
+use Rattle.cell.specs.{length, arith, common_steps, IsShown}
 use Rattle.cell.proofs.ShownPieces.{shown_fewer, shown_more, shown_rest, sound_more, sound_rest}
 use Rattle.cell.proofs.colour.Pairs.show_lanes.Goals as goal
 

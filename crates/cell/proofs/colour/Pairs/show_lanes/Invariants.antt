@@ -1,4 +1,5 @@
-use Rattle.cell.specs.{◌≡◌, ◌≤◌, ◌-◌, length, map, take, AllByRecursion, IsShown, shown}
+use Rattle.std.specs.Prelude.{◌≡◌, ◌≤◌, ◌-◌}
+use Rattle.cell.specs.{length, map, take, AllByRecursion, IsShown, shown}
 use Rattle.cell.proofs.colour.Pairs.show_lanes.Given as goal
 
 abbrev pub invariant-loop-start : goal.invariant-loop-start

@@ -1,6 +1,7 @@
 -- `fill`: places that are filled with one cell (`Fills`); a piece of a line of a grid that is written at once (`PieceWrites`); the blanks
 -- that are missing after a grid's cells (`Blanks`).
-use Rattle.cell.specs.{◌-◌, ◌∙◌, replicate, arith, length-replicate}
+use Rattle.std.specs.Prelude.{◌-◌}
+use Rattle.cell.specs.{◌∙◌, replicate, arith, length-replicate}
 use Rattle.cell.proofs.GridLemmas.{EachCell-rows}
 use Rattle.cell.proofs.PictureLemmas.{each-replicate}
 use Rattle.cell.proofs.PieceWrites.{shown-piece, HasSize-same}

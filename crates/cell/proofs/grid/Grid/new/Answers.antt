@@ -1,6 +1,7 @@
 -- `new`: the lines of a grid whose cells are one after another: each line, a change of one cell, and equal sizes (`GridLemmas`); the blanks
 -- that are missing after them (`Blanks`).
-use Rattle.cell.specs.{◌*◌, arith}
+use Rattle.std.specs.Prelude.{◌*◌}
+use Rattle.cell.specs.{arith}
 use Rattle.cell.proofs.GridLemmas.{rows-all_of}
 use Rattle.cell.proofs.Blanks.{IsGrid-blank, blank_cells}
 use Rattle.cell.proofs.grid.Grid.new.Goals as goal

@@ -1,6 +1,7 @@
 -- `compose`: what it leaves is a desk, which reads no less than it changes, and no more than all of the damaged lines (`CellsRead`).
-use Rattle.compose.specs.{◌≡◌, ◌||◌, ◌+◌, ◌%◌, ◌^◌, ℕ, Ok, refl, sym, ap, subst, ◌∙◌, arith, picture_of, shown, cursor_of_topmost, found_from_top, Windows}
-use Rattle.compose.specs.{world_after, UpdatePanels, Composed, windows as windows_of, panels, cells_above, IsRepairable, Called, IsDesk, DeskTable, world}
+use Rattle.std.specs.Prelude.{◌≡◌, ◌||◌, ◌+◌, ◌%◌, ◌^◌}
+use Rattle.compose.specs.{ℕ, Ok, refl, sym, ap, subst, ◌∙◌, arith, picture_of, shown, cursor_of_topmost, found_from_top, Windows, world_after, UpdatePanels, Composed, windows as windows_of, panels}
+use Rattle.compose.specs.{cells_above, IsRepairable, Called, IsDesk, DeskTable, world}
 use Rattle.world.specs.declared.call.Call.TheVariants as calls
 use Rattle.compose.specs.contracts.desk.Desk.{the_view}
 use Rattle.compose.proofs.CellsRead.{update-made}

@@ -1,5 +1,6 @@
 -- `refresh_pad`: the rectangle that is damaged is what the copy draws (`Padding`), which covers what the call may change (`DamageCovers`).
-use Rattle.compose.specs.{rules, ◌≡◌, ◌||◌, Ok, None, refl, Rect, refresh_refusal, Refresh, Pnoutrefresh, Nothing, windows, Called, IsDesk, DeskTable, world}
+use Rattle.std.specs.Prelude.{◌≡◌, ◌||◌}
+use Rattle.compose.specs.{rules, Ok, None, refl, Rect, refresh_refusal, Refresh, Pnoutrefresh, Nothing, windows, Called, IsDesk, DeskTable, world}
 use Rattle.world.specs.declared.call.Call.TheVariants as calls
 use Rattle.compose.specs.contracts.desk.Desk.{the_view}
 use Rattle.compose.proofs.DamageCovers.{call-accepted}

@@ -1,5 +1,6 @@
 -- `refresh_window`: damage covers what the call may change (`DamageCovers`).
-use Rattle.compose.specs.{rules, ◌||◌, Ok, refl, Call, Noutrefresh, Nothing, Called, IsDesk, DeskTable, world}
+use Rattle.std.specs.Prelude.{◌||◌}
+use Rattle.compose.specs.{rules, Ok, refl, Call, Noutrefresh, Nothing, Called, IsDesk, DeskTable, world}
 use Rattle.world.specs.declared.call.Call.TheVariants as calls
 use Rattle.compose.specs.contracts.desk.Desk.{the_view}
 use Rattle.compose.proofs.DamageCovers.{call-accepted}

@@ -1,5 +1,6 @@
 -- `set_colours`: the whole screen is damaged, which covers what the call may change (`DamageCovers`).
-use Rattle.compose.specs.{rules, ◌<◌, true, Ok, refl, subst, ◌∙◌, Call, InitPair, Nothing, windows as windows_of, part_holds, Called, IsDesk, DeskTable}
+use Rattle.std.specs.Prelude.{◌<◌}
+use Rattle.compose.specs.{rules, true, Ok, refl, subst, ◌∙◌, Call, InitPair, Nothing, windows as windows_of, part_holds, Called, IsDesk, DeskTable}
 use Rattle.world.specs.declared.call.Call.TheVariants as calls
 use Rattle.picture.proofs.DamageLaws.{damages-as, part-right}
 use Rattle.picture.proofs.Standard.{standard-holds}

@@ -1,5 +1,6 @@
 -- `show_piece`: a piece of a line is written, and its columns are added.
-use Rattle.compose.specs.{◌+◌, ◌-◌, arith, shown, cell_at, windows}
+use Rattle.std.specs.Prelude.{◌+◌, ◌-◌}
+use Rattle.compose.specs.{arith, shown, cell_at, windows}
 use Rattle.extents.proofs.Changing.{changes-more, changes-none}
 use Rattle.picture.proofs.DamageLaws.{damages-widened}
 use Rattle.compose.proofs.virtual_picture.VirtualPicture.show_piece.Goals as goal

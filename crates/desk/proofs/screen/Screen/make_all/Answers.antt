@@ -1,5 +1,6 @@
 -- `make_all`: a history goes on by one call (`HistoryLemmas`).
-use Rattle.desk.specs.{◌≤◌, ◌+◌, ◌*◌, ◌^◌, arith, ◌∙◌}
+use Rattle.std.specs.Prelude.{◌≤◌, ◌+◌, ◌*◌, ◌^◌}
+use Rattle.desk.specs.{arith, ◌∙◌}
 use Rattle.desk.proofs.HistoryLemmas.{counted-once, one-more}
 use Rattle.desk.proofs.screen.Screen.make_all.Goals as goal
 

@@ -1,4 +1,5 @@
-use Rattle.desk.specs.{◌≡◌, ◌≤◌, ◌+◌, ◌*◌, ◌^◌, take, RunsAll}
+use Rattle.std.specs.Prelude.{◌≡◌, ◌≤◌, ◌+◌, ◌*◌, ◌^◌}
+use Rattle.desk.specs.{take, RunsAll}
 use Rattle.desk.proofs.screen.Screen.make_all.Given as goal
 
 abbrev pub invariant-loop-call : goal.invariant-loop-call

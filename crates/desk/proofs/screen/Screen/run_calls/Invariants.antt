@@ -1,4 +1,5 @@
-use Rattle.desk.specs.{◌≡◌, ◌≤◌, ◌+◌, ◌*◌, ◌^◌, take, None}
+use Rattle.std.specs.Prelude.{◌≡◌, ◌≤◌, ◌+◌, ◌*◌, ◌^◌}
+use Rattle.desk.specs.{take, None}
 use Rattle.desk.proofs.RunLemmas.{SoFar}
 use Rattle.desk.proofs.screen.Screen.run_calls.Given as goal
 

@@ -1,4 +1,5 @@
-use Rattle.desk.specs.{◌≡◌, ◌+◌, ◌*◌, length}
+use Rattle.std.specs.Prelude.{◌≡◌, ◌+◌, ◌*◌}
+use Rattle.desk.specs.{length}
 use Rattle.desk.proofs.ScriptLemmas.{SoFar}
 use Rattle.desk.proofs.screen.Screen.run_lines.Given as goal
 

@@ -1,6 +1,6 @@
 -- `run_word`: how a line that makes a call ends (`LineEndLemmas`).
-use Rattle.desk.specs.{◌≡◌, ℕ, [], None, Some, Ok, Err, Result, append-nil, is_some, refl, subst, sym, Appends, log_line, Log, Refusal, count_after, Reply}
-use Rattle.desk.specs.{cut_of, call_end}
+use Rattle.std.specs.Prelude.{◌≡◌}
+use Rattle.desk.specs.{ℕ, [], None, Some, Ok, Err, Result, append-nil, is_some, refl, subst, sym, Appends, log_line, Log, Refusal, count_after, Reply, cut_of, call_end}
 use Rattle.desk.specs.declared.screen.Fault.TheVariants.{Write}
 use Rattle.desk.proofs.AnswerLemmas.{placeless_ends}
 use Rattle.desk.proofs.LineEndLemmas.{line_is_cut, line_of_call}

@@ -1,6 +1,7 @@
 -- `call`: what it changes is among the changes (`StateLemmas`), and all that is known of a call follows from how it ended (`ShowingLemmas`,
 -- `WriterLemmas`).
-use Rattle.desk.specs.{◌≡◌, Ok, Err, false, rules, refl, err_from_is_err_and, is_doupdate}
+use Rattle.std.specs.Prelude.{◌≡◌}
+use Rattle.desk.specs.{Ok, Err, false, rules, refl, err_from_is_err_and, is_doupdate}
 use Rattle.compose.proofs.DeskLemmas.{sound-called}
 use Rattle.desk.specs.declared.screen.Fault.TheVariants.{Refused}
 use Rattle.desk.proofs.ShowingLemmas.{call-made}

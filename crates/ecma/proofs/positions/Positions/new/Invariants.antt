@@ -1,4 +1,5 @@
-use Rattle.ecma.specs.{◌≡◌, ℕ, ◌+◌, ◌<◌, [], get_or, length, IsNumber}
+use Rattle.std.specs.Prelude.{◌≡◌, ◌+◌, ◌<◌}
+use Rattle.ecma.specs.{ℕ, [], get_or, length, IsNumber}
 use Rattle.ecma.proofs.positions.Positions.new.Given as goal
 
 abbrev pub invariant-loop-number : goal.invariant-loop-number

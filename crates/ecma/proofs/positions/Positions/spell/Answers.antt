@@ -1,6 +1,7 @@
 -- `spell`: the pieces of a position, one after another.
-use Rattle.ecma.specs.{◌≡◌, ℕ, ◌+◌, ◌<◌, ◌∙◌, List, [], ◌∷◌, ◌++◌, get_or, length, take, ap, subst, sym, arith, append_assoc, decimal, get_or_read}
-use Rattle.ecma.specs.{take-append-le, take-take, take-length, introducer, separator, spelling, IsNumber}
+use Rattle.std.specs.Prelude.{◌≡◌, ◌+◌, ◌<◌, ◌∷◌, ◌++◌}
+use Rattle.ecma.specs.{ℕ, ◌∙◌, List, [], get_or, length, take, ap, subst, sym, arith, append_assoc, decimal, get_or_read, take-append-le, take-take, take-length, introducer, separator, spelling}
+use Rattle.ecma.specs.{IsNumber}
 use Rattle.ecma.specs.declared.token.Token.TheVariants.{Cup}
 use Rattle.ecma.proofs.positions.Positions.spell.Goals as goal
 

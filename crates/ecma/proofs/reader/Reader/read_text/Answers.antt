@@ -1,5 +1,6 @@
 -- `read_text`: what a reader has after one more byte (`Readers`).
-use Rattle.ecma.specs.{◌∙◌, None, ap, refl, take, if◌then◌else◌, is_printable, print}
+use Rattle.std.specs.Prelude.{if◌then◌else◌}
+use Rattle.ecma.specs.{◌∙◌, None, ap, refl, take, is_printable, print}
 use Rattle.ecma.specs.declared.reader.State.TheVariants.{Text, Failed}
 use Rattle.ecma.proofs.Readers.{reader_of, printed-follows, unprinted-follows, Follows-from, when-true, when-false}
 use Rattle.ecma.proofs.reader.Reader.read_text.Goals as goal

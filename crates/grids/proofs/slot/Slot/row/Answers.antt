@@ -1,5 +1,6 @@
 -- The row is the part of the grid's line from the slot's first column on.
-use Rattle.grids.specs.{◌≡◌, ◌+◌, ◌-◌, ◌≤◌, ◌<◌, length, arith, ap, line_of, Kept}
+use Rattle.std.specs.Prelude.{◌≡◌, ◌+◌, ◌-◌, ◌≤◌, ◌<◌}
+use Rattle.grids.specs.{length, arith, ap, line_of, Kept}
 use Rattle.cell.proofs.PictureLemmas.{length-line}
 use Rattle.grids.proofs.NewSlots.{piece-of_line, cells-of_line}
 use Rattle.grids.proofs.slot.Slot.row.Goals as goal

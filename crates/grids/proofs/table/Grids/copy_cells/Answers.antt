@@ -1,5 +1,6 @@
 -- The row that was read is one write in the other window, which touches the columns written.
-use Rattle.grids.specs.{ap, ◌∙◌, ◌+◌, ◌-◌, arith, rules, windows, listed_cells, with_drawing, common_steps}
+use Rattle.std.specs.Prelude.{◌+◌, ◌-◌}
+use Rattle.grids.specs.{ap, ◌∙◌, arith, rules, windows, listed_cells, with_drawing, common_steps}
 use Rattle.grids.specs.contracts.table.Grids.{the_view}
 use Rattle.grids.proofs.Showing.{piece-read, column_below}
 use Rattle.grids.proofs.Writes.{drawn_over, put-copied}

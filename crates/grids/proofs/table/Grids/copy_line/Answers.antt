@@ -1,5 +1,6 @@
 -- Each round lays a piece more over the line, in the direction in which none is read after it was written.
-use Rattle.grids.specs.{◌+◌, ◌-◌, refl, arith, rules, inl, inr, common_steps, windows}
+use Rattle.std.specs.Prelude.{◌+◌, ◌-◌}
+use Rattle.grids.specs.{refl, arith, rules, inl, inr, common_steps, windows}
 use Rattle.grids.proofs.Showing.{leads_shown}
 use Rattle.grids.proofs.Copies.{copied-none, copied-out, more-after, more-before, some-piece}
 use Rattle.grids.proofs.CopySteps.{Drawn-nothing, piece-there, row-copied}

@@ -1,4 +1,5 @@
-use Rattle.grids.specs.{◌+◌, ◌-◌, ◌≤◌, RowCopied, windows}
+use Rattle.std.specs.Prelude.{◌+◌, ◌-◌, ◌≤◌}
+use Rattle.grids.specs.{RowCopied, windows}
 use Rattle.grids.proofs.table.Grids.copy_line.Given as goal
 
 -- the first k cells are copied

@@ -1,5 +1,6 @@
 -- Each round copies one line more, upwards or downwards, so that no line is read after it was written.
-use Rattle.grids.specs.{◌+◌, ◌-◌, refl, arith, rules, inl, inr, windows}
+use Rattle.std.specs.Prelude.{◌+◌, ◌-◌}
+use Rattle.grids.specs.{refl, arith, rules, inl, inr, windows}
 use Rattle.grids.proofs.Showing.{leads_shown}
 use Rattle.grids.proofs.Copies.{rectangle-none, rectangle-out, line-after, line-before}
 use Rattle.grids.proofs.CopySteps.{Drawn-nothing, rows-there, row-copied}

@@ -1,4 +1,5 @@
-use Rattle.grids.specs.{◌+◌, ◌-◌, RectangleCopied, windows}
+use Rattle.std.specs.Prelude.{◌+◌, ◌-◌}
+use Rattle.grids.specs.{RectangleCopied, windows}
 use Rattle.grids.proofs.table.Grids.copy_lines.Given as goal
 
 -- the first k lines are copied

@@ -1,5 +1,6 @@
 -- No window derives from the one that is deleted, so the table without it is sound.
-use Rattle.grids.specs.{◌≡◌, false, rules, sym, ◌∙◌, has_derived, window_map}
+use Rattle.std.specs.Prelude.{◌≡◌}
+use Rattle.grids.specs.{false, rules, sym, ◌∙◌, has_derived, window_map}
 use Rattle.grids.specs.contracts.table.Grids.{the_view}
 use Rattle.grids.proofs.Deletion.{IsWindowTable-without}
 use Rattle.grids.proofs.table.Grids.delwin.Goals as goal

@@ -1,6 +1,7 @@
 -- The new slot names its parent, is inside it, and leads to its grid; so the table with it is sound.
-use Rattle.grids.specs.{unwrap_or, ◌≡◌, ◌+◌, Some, arith, ◌∙◌, ap, refl, sym, rules, option_map, part_of, next_window, place_from, under_number, new_window}
-use Rattle.grids.specs.{standard_screen, window_of, slot_at, window_map, windows}
+use Rattle.std.specs.Prelude.{◌≡◌, ◌+◌}
+use Rattle.grids.specs.{unwrap_or, Some, arith, ◌∙◌, ap, refl, sym, rules, option_map, part_of, next_window, place_from, under_number, new_window, standard_screen, window_of, slot_at, window_map}
+use Rattle.grids.specs.{windows}
 use Rattle.grids.specs.contracts.table.Grids.{the_view}
 use Rattle.grids.proofs.Chain.{depth_below}
 use Rattle.grids.proofs.NewWindows.{IsWindowTable-added, windows-added, derived_in, placed_derived, made_derived}

@@ -1,5 +1,6 @@
 -- The loop looks at each ancestor of a window once.
-use Rattle.grids.specs.{◌||◌, refl, sym, ap, ◌∙◌, derives, windows}
+use Rattle.std.specs.Prelude.{◌||◌}
+use Rattle.grids.specs.{refl, sym, ap, ◌∙◌, derives, windows}
 use Rattle.grids.proofs.Ancestors.{derives-next, derives-none, first-there}
 use Rattle.grids.proofs.table.Grids.derives.Goals as goal
 

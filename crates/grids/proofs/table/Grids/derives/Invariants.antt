@@ -1,4 +1,5 @@
-use Rattle.grids.specs.{◌≡◌, HasPlace, derives, windows, depth_at}
+use Rattle.std.specs.Prelude.{◌≡◌}
+use Rattle.grids.specs.{HasPlace, derives, windows, depth_at}
 use Rattle.grids.proofs.table.Grids.derives.Given as goal
 
 -- the windows that were met are others

@@ -1,5 +1,6 @@
 -- The filled line is one write, which touches the columns written.
-use Rattle.grids.specs.{ap, ◌∙◌, ◌+◌, rules, filled_cells, with_drawing}
+use Rattle.std.specs.Prelude.{◌+◌}
+use Rattle.grids.specs.{ap, ◌∙◌, rules, filled_cells, with_drawing}
 use Rattle.grids.proofs.Writes.{drawn_over, put-row}
 use Rattle.grids.proofs.table.Grids.fill.Goals as goal
 

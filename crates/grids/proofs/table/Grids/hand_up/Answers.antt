@@ -1,5 +1,6 @@
 -- Each round touches the next ancestor, and none that was touched before.
-use Rattle.grids.specs.{◌≢◌, ◌<◌, arith, ap, ◌∙◌, windows, depth_at}
+use Rattle.std.specs.Prelude.{◌≢◌, ◌<◌}
+use Rattle.grids.specs.{arith, ap, ◌∙◌, windows, depth_at}
 use Rattle.grids.specs.declared.place.Place.{Place}
 use Rattle.grids.proofs.Syncs.{handed-all, handed-none, handed-on, next-part, no-part, place-reached}
 use Rattle.grids.proofs.table.Grids.hand_up.Goals as goal

@@ -1,5 +1,6 @@
 -- A table of the standard screen alone is sound.
-use Rattle.grids.specs.{rules, ◌≡◌, Some, [], ◌∷◌}
+use Rattle.std.specs.Prelude.{◌≡◌, ◌∷◌}
+use Rattle.grids.specs.{rules, Some, []}
 use Rattle.grids.proofs.Origins.{origins-first}
 use Rattle.grids.proofs.table.Grids.new.Goals as goal
 

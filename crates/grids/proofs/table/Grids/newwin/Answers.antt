@@ -1,5 +1,6 @@
 -- The new slot has a grid of its own and lies on the screen; so the table with it is sound.
-use Rattle.grids.specs.{unwrap_or, ◌≡◌, ℕ, Some, ◌∙◌, sym, ap, rules, Window, blank_grid, new_window, extent, next_window, standard_screen, windows}
+use Rattle.std.specs.Prelude.{◌≡◌}
+use Rattle.grids.specs.{unwrap_or, ℕ, Some, ◌∙◌, sym, ap, rules, Window, blank_grid, new_window, extent, next_window, standard_screen, windows}
 use Rattle.grids.specs.contracts.table.Grids.{the_view}
 use Rattle.grids.proofs.NewWindows.{IsWindowTable-added, windows-added, alone_in, placed_new}
 use Rattle.grids.proofs.Origins.{origin-alone}

@@ -1,5 +1,6 @@
 -- `print`: a row written through a window is one put (`Writes`).
-use Rattle.grids.specs.{ap, ◌∙◌, ◌+◌, ◌-◌, arith, length, map, rules, common_steps, length-map, listed_cells, with_cursor, with_drawing, printed_cell}
+use Rattle.std.specs.Prelude.{◌+◌, ◌-◌}
+use Rattle.grids.specs.{ap, ◌∙◌, arith, length, map, rules, common_steps, length-map, listed_cells, with_cursor, with_drawing, printed_cell}
 use Rattle.grids.proofs.Sounds.{few_columns}
 use Rattle.grids.proofs.Writes.{drawn_over, put-listed, put-typed}
 use Rattle.grids.proofs.table.Grids.print.Goals as goal

@@ -1,6 +1,7 @@
 -- A window shows a part of itself where that is; windows of two grids share no cell; of one grid the shared lines and columns are the rectangle.
 -- Search and grind take seconds to fail at what says that the windows are sound, so those are answered by `each_sound`.
-use Rattle.grids.specs.{rules, ◌≡◌, ◌<◌, Some, ℕ, arith, subst, AreRectangle, SharesPart, windows}
+use Rattle.std.specs.Prelude.{◌≡◌, ◌<◌}
+use Rattle.grids.specs.{rules, Some, ℕ, arith, subst, AreRectangle, SharesPart, windows}
 use Rattle.grids.proofs.Sounds.{each_sound}
 use Rattle.grids.proofs.Showing.{leads_shown}
 use Rattle.grids.proofs.Seen.{seen-above, seen-apart, seen-beside, seen-itself, seen-there}

@@ -1,5 +1,6 @@
 -- Each round takes from the next ancestor what is touched of it.
-use Rattle.grids.specs.{◌≢◌, ◌<◌, arith, ap, ◌∙◌, windows, depth_at}
+use Rattle.std.specs.Prelude.{◌≢◌, ◌<◌}
+use Rattle.grids.specs.{arith, ap, ◌∙◌, windows, depth_at}
 use Rattle.grids.specs.declared.place.Place.{Place}
 use Rattle.grids.proofs.Syncs.{taken-all, taken-none, taken-on, next-part, no-part, place-reached}
 use Rattle.grids.proofs.table.Grids.take_down.Goals as goal

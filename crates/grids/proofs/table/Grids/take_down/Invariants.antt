@@ -1,4 +1,5 @@
-use Rattle.grids.specs.{◌≤◌, windows, depth_at}
+use Rattle.std.specs.Prelude.{◌≤◌}
+use Rattle.grids.specs.{windows, depth_at}
 use Rattle.grids.proofs.Syncs.{IsTakenFrom}
 use Rattle.grids.proofs.table.Grids.take_down.Given as goal
 

@@ -1,5 +1,6 @@
 -- One slot has other touched columns on one line.
-use Rattle.grids.specs.{◌≡◌, rules, with_touched}
+use Rattle.std.specs.Prelude.{◌≡◌}
+use Rattle.grids.specs.{rules, with_touched}
 use Rattle.grids.proofs.table.Grids.touch.Goals as goal
 
 pub returns-clause-touched : goal.returns-clause-touched

@@ -1,6 +1,6 @@
 -- Each round touches what one line more shows, and leaves the lines before as they are.
-use Rattle.grids.specs.{◌≡◌, ℕ, false, Option, arith, ap, refl, sym, ◌∙◌, option_map_or, Window, windows, depth_at, shows_touched, touched_shown}
-use Rattle.grids.specs.{common_steps}
+use Rattle.std.specs.Prelude.{◌≡◌}
+use Rattle.grids.specs.{ℕ, false, Option, arith, ap, refl, sym, ◌∙◌, option_map_or, Window, windows, depth_at, shows_touched, touched_shown, common_steps}
 use Rattle.grids.specs.declared.table.Grids.{Grids}
 use Rattle.grids.proofs.Touches.{none-before, all-before, at-line, next-none, next-some}
 use Rattle.grids.proofs.Chain.{some_and}

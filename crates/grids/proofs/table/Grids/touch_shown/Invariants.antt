@@ -1,4 +1,5 @@
-use Rattle.grids.specs.{◌≡◌, ℕ, windows, depth_at, touched_shown}
+use Rattle.std.specs.Prelude.{◌≡◌}
+use Rattle.grids.specs.{ℕ, windows, depth_at, touched_shown}
 use Rattle.grids.proofs.Touches.{touched_before}
 use Rattle.grids.proofs.table.Grids.touch_shown.Given as goal
 

@@ -1,5 +1,6 @@
 -- One slot has other touched columns on one line, and its cursor after them.
-use Rattle.grids.specs.{◌≡◌, ◌-◌, arith, common_steps, set_in, with_cursor, Window, with_touched}
+use Rattle.std.specs.Prelude.{◌≡◌, ◌-◌}
+use Rattle.grids.specs.{arith, common_steps, set_in, with_cursor, Window, with_touched}
 use Rattle.grids.proofs.table.Grids.touch_to.Goals as goal
 
 pub returns-clause-touched : goal.returns-clause-touched

@@ -1,5 +1,6 @@
 -- One cell is a line of one column, which is touched, and the cursor goes on.
-use Rattle.grids.specs.{ap, ◌≡◌, ◌∙◌, ◌+◌, ◌-◌, arith, rules, common_steps, filled_cells, with_cursor, with_drawing}
+use Rattle.std.specs.Prelude.{◌≡◌, ◌+◌, ◌-◌}
+use Rattle.grids.specs.{ap, ◌∙◌, arith, rules, common_steps, filled_cells, with_cursor, with_drawing}
 use Rattle.grids.proofs.Sounds.{few_columns}
 use Rattle.grids.proofs.Writes.{drawn_over, put-row, put-typed}
 use Rattle.grids.proofs.table.Grids.type_cell.Goals as goal

@@ -1,5 +1,6 @@
 -- `make_room`: what is handed on is a full outbox (`Gathering`).
-use Rattle.paint.specs.{◌≤◌, length, arith, full_outbox}
+use Rattle.std.specs.Prelude.{◌≤◌}
+use Rattle.paint.specs.{length, arith, full_outbox}
 use Rattle.paint.proofs.Gathering.{gathered-on}
 use Rattle.paint.proofs.outbox.Outbox.make_room.Goals as goal
 

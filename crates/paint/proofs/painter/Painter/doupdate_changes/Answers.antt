@@ -1,6 +1,7 @@
 -- `doupdate_changes`: it looks where the picture may differ from what is shown when the text begins.
-use Rattle.paint.specs.{◌≡◌, ℕ, ◌∙◌, Bool, true, false, List, length, Option, None, Some, ap, subst, sym, ⊤, IfNone, MatchOption, if◌then◌else◌}
-use Rattle.paint.specs.{option_map_or, unwrap_or, HasSize, Picture, Place, DifferOnly, Columns, ShownPicture, first_painter, start_from, last_shown}
+use Rattle.std.specs.Prelude.{◌≡◌, if◌then◌else◌}
+use Rattle.paint.specs.{ℕ, ◌∙◌, Bool, true, false, List, length, Option, None, Some, ap, subst, sym, ⊤, IfNone, MatchOption, option_map_or, unwrap_or, HasSize, Picture, Place, DifferOnly, Columns}
+use Rattle.paint.specs.{ShownPicture, first_painter, start_from, last_shown}
 use Rattle.paint.proofs.painter.Painter.doupdate_changes.Goals as goal
 
 -- what is known is what was shown last

@@ -1,5 +1,6 @@
 -- `add_last_line`: it erases the page only where a place of its end is changed.
-use Rattle.paint.specs.{◌≡◌, ℕ, ◌+◌, ◌<◌, ◌≤◌, false, [], ◌∷◌, ◌++◌, length, refl, sym, ap, ◌∙◌, subst, arith, min, nat_tests, line_of, ArePlanned, is_before}
+use Rattle.std.specs.Prelude.{◌≡◌, ◌+◌, ◌<◌, ◌≤◌, ◌∷◌, ◌++◌}
+use Rattle.paint.specs.{ℕ, false, [], length, refl, sym, ap, ◌∙◌, subst, arith, min, nat_tests, line_of, ArePlanned, is_before}
 use Rattle.cell.proofs.PictureLemmas.{length-line}
 use Rattle.paint.specs.declared.strokes.Ink.TheVariants.{ErasePage}
 use Rattle.paint.specs.declared.strokes.Stroke.{Stroke}

@@ -1,5 +1,6 @@
 -- `add_line`: it looks only where the line may be changed, and erases its end only where a cell of that is.
-use Rattle.paint.specs.{◌≡◌, ◌+◌, [], ◌∷◌, ◌++◌, length, inl, inr, refl, sym, ap, ◌∙◌, subst, arith, min, cases_lt, line_of, shown_at, ArePlanned}
+use Rattle.std.specs.Prelude.{◌≡◌, ◌+◌, ◌∷◌, ◌++◌}
+use Rattle.paint.specs.{[], length, inl, inr, refl, sym, ap, ◌∙◌, subst, arith, min, cases_lt, line_of, shown_at, ArePlanned}
 use Rattle.cell.proofs.PictureLemmas.{length-line}
 use Rattle.paint.specs.declared.strokes.Ink.TheVariants.{EraseLine}
 use Rattle.paint.specs.declared.strokes.Stroke.{Stroke}

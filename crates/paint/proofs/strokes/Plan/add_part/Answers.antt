@@ -1,5 +1,6 @@
 -- `add_part`: what it passes over is shown already, and each run of changed cells is a stroke.
-use Rattle.paint.specs.{◌≡◌, List, ◌∷◌, ◌++◌, [], length, inl, inr, ap, ◌∙◌, subst, sym, refl, arith, length-append, cases_lt, line_of, ArePlanned}
+use Rattle.std.specs.Prelude.{◌≡◌, ◌∷◌, ◌++◌}
+use Rattle.paint.specs.{List, [], length, inl, inr, ap, ◌∙◌, subst, sym, refl, arith, length-append, cases_lt, line_of, ArePlanned}
 use Rattle.paint.specs.declared.strokes.Ink.TheVariants.{Print}
 use Rattle.paint.specs.declared.strokes.Stroke.{Stroke}
 use Rattle.paint.proofs.FoundStrokes.{planned-run, planned-same, same-in_line}

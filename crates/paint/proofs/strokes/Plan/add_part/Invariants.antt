@@ -1,4 +1,5 @@
-use Rattle.paint.specs.{◌-◌, ◌≡◌, ◌+◌, ◌<◌, ◌≤◌, List, get_or, length, shown_blank, AreAlike, ArePlanned}
+use Rattle.std.specs.Prelude.{◌-◌, ◌≡◌, ◌+◌, ◌<◌, ◌≤◌}
+use Rattle.paint.specs.{List, get_or, length, shown_blank, AreAlike, ArePlanned}
 use Rattle.paint.specs.declared.strokes.Stroke.{Stroke}
 use Rattle.paint.proofs.strokes.Plan.add_part.Given as goal
 

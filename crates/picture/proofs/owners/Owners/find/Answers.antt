@@ -1,5 +1,6 @@
 -- Each panel from the bottom up takes over the columns that it holds.
-use Rattle.picture.specs.{◌≡◌, ◌∷◌, ℕ, List, [], true, sym, subst, refl, ◌∙◌, arith, MatchOption, ⊤, AllByRecursion, recursion_from_All, is_no_pad, panels}
+use Rattle.std.specs.Prelude.{◌≡◌, ◌∷◌}
+use Rattle.picture.specs.{ℕ, List, [], true, sym, subst, refl, ◌∙◌, arith, MatchOption, ⊤, AllByRecursion, recursion_from_All, is_no_pad, panels}
 use Rattle.picture.proofs.OwnerLaws.{AreLaid, laid-all, laid-first, laid-next}
 use Rattle.picture.proofs.Searching.{once-from}
 use Rattle.picture.proofs.owners.Owners.find.Goals as goal

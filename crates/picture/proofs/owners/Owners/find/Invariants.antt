@@ -1,4 +1,5 @@
-use Rattle.picture.specs.{◌≡◌, ◌≤◌, MatchOption, ⊤, true, AllByRecursion, is_no_pad, panels, AreInside}
+use Rattle.std.specs.Prelude.{◌≡◌, ◌≤◌}
+use Rattle.picture.specs.{MatchOption, ⊤, true, AllByRecursion, is_no_pad, panels, AreInside}
 use Rattle.picture.proofs.OwnerLaws.{AreLaid}
 use Rattle.picture.proofs.owners.Owners.find.Given as goal
 

@@ -1,5 +1,6 @@
 -- On a line that the rectangle has, it holds the columns between its sides.
-use Rattle.picture.specs.{◌≡◌, ◌≤◌, ◌&&◌, ℕ, Some, if◌then◌else◌, nat_le, ap, arith, nat_tests, common_steps, Rect, frame_holds}
+use Rattle.std.specs.Prelude.{◌≡◌, ◌≤◌, ◌&&◌, if◌then◌else◌}
+use Rattle.picture.specs.{ℕ, Some, nat_le, ap, arith, nat_tests, common_steps, Rect, frame_holds}
 use Rattle.picture.proofs.OwnerLaws.{spans-as}
 use Rattle.picture.proofs.owners.Owners.lay.Goals as goal
 

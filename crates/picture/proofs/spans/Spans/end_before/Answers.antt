@@ -1,5 +1,6 @@
 -- The number that is put there is the owner's.
-use Rattle.picture.specs.{◌≡◌, ◌-◌, slice_index, ap, ◌∙◌, arith}
+use Rattle.std.specs.Prelude.{◌≡◌, ◌-◌}
+use Rattle.picture.specs.{slice_index, ap, ◌∙◌, arith}
 use Rattle.picture.proofs.spans.Spans.end_before.Goals as goal
 
 pub returns-then-x-gt0-clause-owner : goal.returns-then-x-gt0-clause-owner

@@ -1,6 +1,6 @@
 -- A span ends before the panel, none within it, and one with it.
-use Rattle.picture.specs.{arith, ◌≡◌, ◌<◌, ◌≤◌, ◌==◌, ◌&&◌, ◌||◌, ℕ, Bool, true, false, Option, ◌≢◌, Some, List, slice_index, sym, ap, ◌∙◌, if◌then◌else◌}
-use Rattle.picture.specs.{nat_le, nat_lt, nat_tests, contains, numbered}
+use Rattle.std.specs.Prelude.{◌≡◌, ◌<◌, ◌≤◌, ◌==◌, ◌&&◌, ◌||◌, ◌≢◌, if◌then◌else◌}
+use Rattle.picture.specs.{arith, ℕ, Bool, true, false, Option, Some, List, slice_index, sym, ap, ◌∙◌, nat_le, nat_lt, nat_tests, contains, numbered}
 use Rattle.picture.proofs.SpanLaws.{IsLaid, laid-spans}
 use Rattle.picture.proofs.spans.Spans.lay.Goals as goal
 

@@ -1,4 +1,5 @@
-use Rattle.picture.specs.{◌≡◌, ◌-◌, ◌≤◌, ◌&&◌, ℕ, false, if◌then◌else◌, nat_le, nat_lt, contains, AreInside}
+use Rattle.std.specs.Prelude.{◌≡◌, ◌-◌, ◌≤◌, ◌&&◌, if◌then◌else◌}
+use Rattle.picture.specs.{ℕ, false, nat_le, nat_lt, contains, AreInside}
 use Rattle.picture.proofs.spans.Spans.remove_ends.Given as goal
 
 -- the ends before `from` are removed

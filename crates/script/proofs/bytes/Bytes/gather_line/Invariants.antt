@@ -1,4 +1,5 @@
-use Rattle.script.specs.{◌≤◌, length, work_left}
+use Rattle.std.specs.Prelude.{◌≤◌}
+use Rattle.script.specs.{length, work_left}
 use Rattle.script.specs.declared.limits.TheConstants.{LONGEST_LINE}
 use Rattle.script.proofs.ByteLemmas.{Gathered, ReadsOn}
 use Rattle.script.proofs.bytes.Bytes.gather_line.Given as goal

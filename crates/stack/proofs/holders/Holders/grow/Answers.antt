@@ -1,4 +1,5 @@
-use Rattle.stack.specs.{◌+◌, arith}
+use Rattle.std.specs.Prelude.{◌+◌}
+use Rattle.stack.specs.{arith}
 use Rattle.stack.proofs.Indexes.{holder-grown}
 use Rattle.stack.proofs.holders.Holders.grow.Goals as goal
 

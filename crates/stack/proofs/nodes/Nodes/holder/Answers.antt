@@ -1,5 +1,6 @@
 -- The search finds the only node that has the window.
-use Rattle.stack.specs.{◌≡◌, ℕ, List, Some, subst, window_at}
+use Rattle.std.specs.Prelude.{◌≡◌}
+use Rattle.stack.specs.{ℕ, List, Some, subst, window_at}
 use Rattle.stack.specs.declared.nodes.Node.{Node}
 use Rattle.stack.proofs.Indexes.{searched-one}
 use Rattle.stack.proofs.nodes.Nodes.holder.Goals as goal

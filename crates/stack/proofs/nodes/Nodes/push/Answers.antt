@@ -1,5 +1,6 @@
 -- A node that no panel has changes neither index.
-use Rattle.stack.specs.{◌∷◌, ◌≤◌, List, length, refl, sym, subst, MOST_PANELS}
+use Rattle.std.specs.Prelude.{◌∷◌, ◌≤◌}
+use Rattle.stack.specs.{List, length, refl, sym, subst, MOST_PANELS}
 use Rattle.stack.specs.declared.nodes.Node.{Node}
 use Rattle.stack.proofs.Indexes.{indexed-pushed, indexed-same}
 use Rattle.stack.proofs.nodes.Nodes.push.Goals as goal

@@ -1,5 +1,6 @@
 -- A node with the same window changes neither index.
-use Rattle.stack.specs.{◌∷◌, ◌<◌, List, sym, ap, subst, ◌∙◌, arith, length, IsIndexed, window_at}
+use Rattle.std.specs.Prelude.{◌∷◌, ◌<◌}
+use Rattle.stack.specs.{List, sym, ap, subst, ◌∙◌, arith, length, IsIndexed, window_at}
 use Rattle.stack.specs.declared.nodes.Node.{Node}
 use Rattle.stack.proofs.Indexes.{indexed-set, set-past}
 use Rattle.stack.proofs.nodes.Nodes.set.Goals as goal

@@ -1,6 +1,6 @@
 -- Both indexes follow the window that the node has now.
-use Rattle.stack.specs.{◌≡◌, ◌∷◌, ◌<◌, ◌==◌, if◌then◌else◌, Bool, List, sym, ap, subst, ◌∙◌, set, length, option_map, WinId, held_by, holder_at, IsIndexed}
-use Rattle.stack.specs.{node_at, window_in, Windowed, contains}
+use Rattle.std.specs.Prelude.{◌≡◌, ◌∷◌, ◌<◌, ◌==◌, if◌then◌else◌}
+use Rattle.stack.specs.{Bool, List, sym, ap, subst, ◌∙◌, set, length, option_map, WinId, held_by, holder_at, IsIndexed, node_at, window_in, Windowed, contains}
 use Rattle.stack.specs.declared.nodes.Node.{Node}
 use Rattle.stack.proofs.Indexes.{free-window, indexed-windowed, set-past, some-window, windowed-set}
 use Rattle.stack.proofs.nodes.Nodes.set_window.Goals as goal

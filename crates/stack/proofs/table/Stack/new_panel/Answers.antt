@@ -1,5 +1,6 @@
 -- The least free number is a panel's, with a window that no panel had, and on top.
-use Rattle.stack.specs.{◌≡◌, ap, arith, rules, sym, ◌∙◌, unwrap_or, new_panel_number, next_panel, with_panel, panels, PanelTable, IsFree}
+use Rattle.std.specs.Prelude.{◌≡◌}
+use Rattle.stack.specs.{ap, arith, rules, sym, ◌∙◌, unwrap_or, new_panel_number, next_panel, with_panel, panels, PanelTable, IsFree}
 use Rattle.stack.proofs.Searches.{none-has}
 use Rattle.stack.proofs.Tables.{made-panels, made-table, sound}
 use Rattle.stack.proofs.table.Stack.new_panel.Goals as goal

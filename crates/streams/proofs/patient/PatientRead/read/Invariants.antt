@@ -1,5 +1,6 @@
 -- `Patient::read`: an interrupted read consumes nothing.
-use Rattle.streams.specs.{◌≡◌, length, Keeps}
+use Rattle.std.specs.Prelude.{◌≡◌}
+use Rattle.streams.specs.{length, Keeps}
 use Rattle.streams.proofs.patient.PatientRead.read.Given as goal
 
 abbrev pub invariant-loop : goal.invariant-loop

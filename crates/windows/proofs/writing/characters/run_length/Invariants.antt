@@ -1,4 +1,5 @@
-use Rattle.windows.specs.{◌≡◌, ℕ, ◌<◌, get_or, true, is_printable}
+use Rattle.std.specs.Prelude.{◌≡◌, ◌<◌}
+use Rattle.windows.specs.{ℕ, get_or, true, is_printable}
 use Rattle.windows.proofs.writing.characters.run_length.Given as goal
 
 -- the characters so far are printed

@@ -1,5 +1,6 @@
 -- `to_next_line`: a character written at the cursor of a window of a known state (`Typing`).
-use Rattle.windows.specs.{◌≡◌, ◌==◌, ◌&&◌, false, arith, rules, nat_tests}
+use Rattle.std.specs.Prelude.{◌≡◌, ◌==◌, ◌&&◌}
+use Rattle.windows.specs.{false, arith, rules, nat_tests}
 use Rattle.windows.proofs.Typing.{not_scrolled_frame, scrolled, scrolled_frame}
 use Rattle.windows.proofs.writing.characters.to_next_line.Goals as goal
 

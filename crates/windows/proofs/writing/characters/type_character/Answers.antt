@@ -1,5 +1,6 @@
 -- `type_character`: what moves the cursor alone writes nothing, and so has no rectangle (`FrameLaws` of `world`).
-use Rattle.windows.specs.{◌≡◌, true, ap, arith, sym, ◌∙◌, nat_tests, is_printable, frame_of, windows, window_in_state}
+use Rattle.std.specs.Prelude.{◌≡◌}
+use Rattle.windows.specs.{true, ap, arith, sym, ◌∙◌, nat_tests, is_printable, frame_of, windows, window_in_state}
 use Rattle.world.proofs.FrameLaws.{frame_of-none}
 use Rattle.windows.proofs.CharacterRuns.{drawing-printed, typed-printed}
 use Rattle.windows.proofs.writing.characters.type_character.Goals as goal

@@ -1,5 +1,6 @@
 -- `type_text`: characters that are printed in one line, before its last column, are one write of that line (`CharacterRuns`).
-use Rattle.windows.specs.{◌≡◌, [], arith, nil_from_length, windows}
+use Rattle.std.specs.Prelude.{◌≡◌}
+use Rattle.windows.specs.{[], arith, nil_from_length, windows}
 use Rattle.windows.proofs.CharacterRuns.{text_goes_on, frame_goes_on, rest_accepted}
 use Rattle.windows.proofs.TextFrames.{frame-nothing}
 use Rattle.windows.proofs.Texts.{joined-none}

@@ -1,4 +1,5 @@
-use Rattle.windows.specs.{◌≡◌, IsSome, false, length, list_any, AreSoundWindows, frame_of_two, after_text, is_bad_character, windows}
+use Rattle.std.specs.Prelude.{◌≡◌}
+use Rattle.windows.specs.{IsSome, false, length, list_any, AreSoundWindows, frame_of_two, after_text, is_bad_character, windows}
 use Rattle.windows.proofs.TextFrames.{text_frame}
 use Rattle.windows.proofs.writing.characters.type_text.Given as goal
 
