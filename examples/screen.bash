@@ -1,6 +1,6 @@
 # shellcheck shell=bash
 # A terminal for scripts of bash: `curspan run` is a co-process that takes calls on a pipe, draws on the terminal, and
-# answers on another pipe. Another script takes this file in with `.`; docs/shell.md tells of its functions and variables.
+# answers on another pipe. Other scripts source this file; docs/shell.md tells of its functions and variables.
 #
 #   curspan_open [LINES COLUMNS]      curspan_close            curspan_resize
 #   curspan_call WORD..               curspan_text WINDOW TEXT
