@@ -20,8 +20,11 @@
    may be passed with a length of 0 is tested.
 
    Windows and pads are numbers, 0 the standard screen; panels are numbers from 1 on. A new one has the least that is free.
-   Lines and columns count from 0. A number past 65,535 is taken as 65,535, which no window, panel, line, column, size, pair or
-   colour has. A call that is refused changes nothing and sends nothing. Its refusals are listed in the order of its tests. */
+   Lines and columns count from 0. Colour pair 0 has the terminal's own colours. Lines and boxes are drawn in ASCII. In
+   a window that doesn't scroll, a text that goes past the end of the scroll region is CURSPAN_OK: each further
+   character overwrites the last cell there. A number past 65,535 is taken as 65,535, which no window, panel, line,
+   column, size, pair or colour has. A call that is refused changes nothing and sends nothing. Its refusals are listed
+   in the order of its tests. */
 #ifndef CURSPAN_H
 #define CURSPAN_H
 
@@ -73,8 +76,9 @@ enum curspan_status {
     CURSPAN_CLOSED = 22           /* the screen is closed */
 };
 
-/* What a call answers: a status, and where that is CURSPAN_OK one number, two, or none, which are 0 then; only with CURSPAN_WRITE_FAILED
-   is there a number too. On a closed screen the status of each but curspan_open is CURSPAN_CLOSED. */
+/* What a call answers: a status and two numbers. Numbers that a call doesn't answer are 0. So are both where it is
+   refused, but with CURSPAN_WRITE_FAILED `first` is how many bytes were sent. Look at the status: 0 is the standard
+   screen's number too. On a closed screen the status of each but curspan_open is CURSPAN_CLOSED. */
 typedef struct curspan_answer {
     uint32_t status, first, second;
 } curspan_answer;
@@ -110,8 +114,8 @@ const char *curspan_commit(void);
 /* ---- a screen: opening, closing, and its bytes */
 
 /* Opens a blank screen of 1 to 999 lines and columns. Answers the number of its standard screen, 0. One that the
-   handle had is closed, with its windows and the bytes that were not taken. Refused, and the handle is as before:
-   BAD_SIZE, NO_MEMORY. */
+   handle had is closed, with its windows and the bytes that were not taken. So a new size is opened anew, and windows,
+   panels and pairs are made again. Refused, and the handle is as before: BAD_SIZE, NO_MEMORY. */
 curspan_answer curspan_open(curspan *screen, uint32_t lines, uint32_t columns);
 
 /* Frees all that the screen has. The handle is closed, and can be opened again. Nothing happens to a closed one. */

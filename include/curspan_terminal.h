@@ -17,6 +17,7 @@
            curspan_update_panels(&screen);
            curspan_terminal_show(&terminal, &screen);
            curspan_terminal_key(&terminal, -1, &key);
+           if (key.modifiers) key.code = CURSPAN_KEY_UNKNOWN;
        }
        curspan_close(&screen);
        curspan_terminal_close(&terminal);
@@ -83,8 +84,8 @@ uint32_t curspan_terminal_close(curspan_terminal *terminal);
 /* The lines and columns of the terminal. One that doesn't know has 24 by 80, and more than 999 are taken as 999. */
 uint32_t curspan_terminal_size(const curspan_terminal *terminal, int *lines, int *columns);
 
-/* Has the screen make its next update, and writes it, also where the terminal was suspended or the program stopped
-   meanwhile: then all is drawn. Bytes that wait in the screen are written with it. */
+/* Calls curspan_doupdate, but not curspan_update_panels, and writes the bytes, also where the terminal was suspended or
+   the program stopped meanwhile: then all is drawn. Bytes that wait in the screen are written with it. */
 uint32_t curspan_terminal_show(curspan_terminal *terminal, curspan *screen);
 
 /* Writes bytes that were taken of a screen, with its colours. Where the terminal was given back meanwhile it is taken
@@ -112,7 +113,8 @@ void curspan_terminal_give_back(void);
 
 /* ---- keys */
 
-/* A key by its `code`: a character of Unicode, or one of the codes below. */
+/* A key by its `code`: a character of Unicode, or one of the codes below. Ctrl-A is the code 'a' with CURSPAN_CTRL: so
+   look at `modifiers` too. */
 typedef struct curspan_key {
     uint32_t code;
     uint32_t modifiers; /* where the terminal sends them */
@@ -165,8 +167,9 @@ size_t curspan_key_name(const curspan_key *key, char *out, size_t room);
 /* ---- texts */
 
 /* Puts a text of UTF-8 into `out`, which has room for as many bytes and may be the same, as a window can have it, and
-   answers its length: a letter of Latin script without its mark, and in place of another character a question mark,
-   with a blank where it is wide. */
+   answers its length. The characters from the space to the tilde stay, and so do newline, carriage return and
+   backspace. A letter of Latin script loses its mark. A character without width is left out. Of any other, as a control
+   character, there is a question mark, with a blank where it is wide. */
 size_t curspan_plain_text(const char *text, size_t length, char *out);
 
 #ifdef __cplusplus

@@ -21,8 +21,7 @@ static curspan screen = CURSPAN_INIT;
 static int compare(const void *left, const void *right) {
     const struct process *one = left, *other = right;
     if (order == 'p') return one->number - other->number;
-    if (order == 'n') return strcmp(one->name, other->name);
-    return (one->memory < other->memory) - (one->memory > other->memory);
+    return order == 'n' ? strcmp(one->name, other->name) : other->memory - one->memory;
 }
 
 static void look(void) {
@@ -30,15 +29,14 @@ static void look(void) {
     char path[64], line[200];
     count = 0;
     for (struct dirent *entry; folder && count < MOST && (entry = readdir(folder));) {
-        struct process *it = &processes[count];
         snprintf(path, sizeof path, "/proc/%.20s/status", entry->d_name);
         FILE *file = atoi(entry->d_name) > 0 ? fopen(path, "r") : NULL;
         if (!file) continue;
+        struct process *it = &processes[count++];
         *it = (struct process){.number = atoi(entry->d_name)};
         while (fgets(line, sizeof line, file))
             if (!sscanf(line, "Name: %63[^\n]", it->name)) sscanf(line, "VmRSS: %d", &it->memory);
         fclose(file);
-        count++;
     }
     if (folder) closedir(folder);
     qsort(processes, (size_t)count, sizeof processes[0], compare);
@@ -73,8 +71,9 @@ static void draw(void) {
 static void ask(void) {
     uint32_t height = lines < 3 ? 1 : 3, width = columns < 40 ? (uint32_t)columns : 40;
     uint32_t y = ((uint32_t)lines - height) / 2, x = ((uint32_t)columns - width) / 2;
-    uint32_t win = curspan_newwin(&screen, height, width, y, x).first;
-    uint32_t panel = curspan_new_panel(&screen, win).first;
+    curspan_answer made = curspan_newwin(&screen, height, width, y, x);
+    if (made.status != CURSPAN_OK) return;
+    uint32_t win = made.first, panel = curspan_new_panel(&screen, win).first;
     snprintf(text, sizeof text, " y or n: end %d, %.15s?", asked.number, asked.name);
     for (uint32_t i = 0; i < height; i++) put(win, (int)i, CHOSEN, i == height / 2 ? text : "");
     curspan_update_panels(&screen);
@@ -103,6 +102,7 @@ int main(void) {
         if (asked.number) ask();
         curspan_terminal_show(&terminal, &screen);
         curspan_terminal_key(&terminal, 1000, &key);
+        if (key.modifiers) key.code = CURSPAN_KEY_UNKNOWN;
         if (asked.number && key.code != CURSPAN_KEY_NONE && key.code != CURSPAN_KEY_RESIZE) {
             if (key.code == 'y') ended = asked.number;
             asked.number = 0;
