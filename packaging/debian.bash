@@ -105,7 +105,7 @@ make_python_deb() {
     chmod 644 "$extension"
     mkdir -p "$room/$name/usr/share/doc/$name/examples" "$room/$name/DEBIAN"
     cp "$root"/examples/python/*.* "$room/$name/usr/share/doc/$name/examples"
-    cp "$root/docs/python.md" "$room/$name/usr/share/doc/$name"
+    cp "$root"/docs/{python,DEFINITIONS,TERMINALS}.md "$room/$name/usr/share/doc/$name"
     for script in postinst prerm; do install -m 755 "$root/packaging/$name.$script" "$room/$name/DEBIAN/$script"; done
     record_extension "$(file_of "$name")" "$(record_of "$name")" "$extension"
     make_deb "$name" "$(needed_glibc "$extension")"

@@ -100,9 +100,9 @@ def sources():
 
 
 def documents():
-    """What goes to share/doc: the page, what is proved, and the examples."""
+    """What goes to share/doc: the pages, and the examples."""
     folder = f'curspan-{version()}.data/data/share/doc/python-curspan'
-    pages = {f'{folder}/{path.name}': path for path in (ROOT / 'docs/python.md', ROOT / 'docs/PROOFS.md')}
+    pages = {f'{folder}/{name}': ROOT / 'docs' / name for name in ('python.md', 'PROOFS.md', 'DEFINITIONS.md', 'TERMINALS.md')}
     examples = {f'{folder}/examples/{path.name}': path for path in sorted((ROOT / 'examples/python').iterdir()) if path.is_file()}
     return {name: path.read_bytes() for name, path in {**pages, **examples}.items()}
 

@@ -1,4 +1,4 @@
-"""What the examples share: the terminal with a screen in its colours, and dialogs."""
+"""What three of the examples share: the terminal with a screen in its colours, and dialogs."""
 import contextlib
 import sys
 from typing import Iterator, List, Optional
