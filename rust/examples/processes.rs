@@ -65,6 +65,7 @@ fn ask(screen: &mut Screen<Output>, it: &Process) -> Result<(), Refusal> {
     screen.mvwaddstr(window, height / 2, 0, plain(&text))?;
     let panel = screen.new_panel(window)?;
     screen.update_panels();
+    // The virtual screen has the question now, and the next doupdate shows that.
     screen.del_panel(panel)?;
     screen.delwin(window)
 }

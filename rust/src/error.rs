@@ -20,7 +20,6 @@ use std::{error, fmt, io};
 /// }
 /// # greet().unwrap();
 /// ```
-#[derive(Debug)]
 #[non_exhaustive]
 pub enum Error {
     /// A call was refused.
@@ -62,6 +61,13 @@ impl fmt::Display for Error {
             Error::Refused(refusal) => refusal.fmt(f),
             Error::Write(error) => error.fmt(f),
         }
+    }
+}
+
+/// The sentence too, which a `main` that answers the error tells.
+impl fmt::Debug for Error {
+    fn fmt(&self, f: &mut fmt::Formatter<'_>) -> fmt::Result {
+        fmt::Display::fmt(self, f)
     }
 }
 

@@ -242,11 +242,14 @@ impl Terminal {
         }
     }
 
-    pub(crate) fn open(path: &Path, options: u32) -> io::Result<Terminal> {
-        let path = CString::new(path.as_os_str().as_bytes())?;
+    /// Opens the terminal of a file, or without one that which controls the process.
+    pub(crate) fn open(path: Option<&Path>, options: u32) -> io::Result<Terminal> {
+        let path = path.map(|it| CString::new(it.as_os_str().as_bytes()));
+        let path = path.transpose()?;
+        let at = path.as_ref().map_or(ptr::null(), |it| it.as_ptr());
         let terminal = Terminal::closed();
-        // SAFETY: the terminal is closed, as `CURSPAN_TERMINAL_INIT` is, and the path ends.
-        check_terminal(unsafe { curspan_terminal_open(&terminal, path.as_ptr(), options) })?;
+        // SAFETY: the terminal is closed, as `CURSPAN_TERMINAL_INIT` is, and the path ends, or is NULL.
+        check_terminal(unsafe { curspan_terminal_open(&terminal, at, options) })?;
         Ok(terminal)
     }
 

@@ -95,7 +95,7 @@ impl Options {
     /// terminal, for `TERM=dumb`, for one that is open already, and where another one owns the
     /// signals.
     pub fn open(self, path: impl AsRef<Path>) -> io::Result<Terminal> {
-        sys::Terminal::open(path.as_ref(), self.0).map(Terminal::new)
+        sys::Terminal::open(Some(path.as_ref()), self.0).map(Terminal::new)
     }
 
     /// Opens the terminal over descriptors that are open already, and stay so as long as it is: of
@@ -142,7 +142,7 @@ impl Terminal {
     ///
     /// As [`Options::open`].
     pub fn open() -> io::Result<Terminal> {
-        Options::new().open("/dev/tty")
+        sys::Terminal::open(None, Options::new().0).map(Terminal::new)
     }
 
     /// The lines and columns. A terminal that doesn't know has 24 by 80.
@@ -187,7 +187,8 @@ impl Terminal {
     }
 
     /// The same screen, where the terminal's size is the same. Else a new one, whose standard
-    /// screen has what that one showed, popups too, until [`werase`](Screen::werase). Pairs stay.
+    /// screen has what that one showed: an old popup stays painted there until
+    /// [`werase`](Screen::werase), or until it is written over. Pairs stay.
     /// Windows and panels are gone, and so is what was set of the standard screen, as attributes
     /// and `scrollok`.
     ///
@@ -263,8 +264,14 @@ impl fmt::Debug for Terminal {
     }
 }
 
-/// A key: a character, or a name as `up`, `f1`, `ctrl+left`, `alt+x`, `resize` or `paste`. It is
-/// compared with a text, and shown as one.
+/// A key: a character, with `" "` for the space, or a name. It is compared with a text, and shown
+/// as one.
+///
+/// The names are `up`, `down`, `left`, `right`, `home`, `end`, `pageup`, `pagedown`, `insert`,
+/// `delete`, `enter`, `tab`, `escape`, `backspace`, `f1` to `f20`, and `begin`, `a1`, `a3`, `b2`,
+/// `c1` and `c3` of the keypad, with `ctrl+`, `alt+` and `shift+` before them in this order, as
+/// `ctrl+left` and `alt+x`; `resize` after a new size and after a stop; `paste` for a text that was
+/// pasted; and `unknown` for a sequence that no key has.
 #[derive(Clone, PartialEq, Eq, Debug)]
 pub struct Key {
     name: String,
