@@ -19,12 +19,12 @@
    buffer has the length that is passed with it, and isn't NULL; malloc, realloc and free are those of one allocator. That NULL
    may be passed with a length of 0 is tested.
 
-   Windows and pads are numbers, 0 the standard screen; panels are numbers from 1 on. A new one has the least that is free.
-   Lines and columns count from 0. Colour pair 0 has the terminal's own colours. Lines and boxes are drawn in ASCII. In
-   a window that doesn't scroll, a text that goes past the end of the scroll region is CURSPAN_OK: each further
-   character overwrites the last cell there. A number past 65,535 is taken as 65,535, which no window, panel, line,
-   column, size, pair or colour has. A call that is refused changes nothing and sends nothing. Its refusals are listed
-   in the order of its tests. */
+   Windows and pads are numbers, 0 the standard screen; panels are numbers from 1 on. A new one has the least that is
+   free. Lines and columns count from 0. Colour pair 0 has the terminal's own colours. There are no characters for lines
+   and boxes: they are drawn in ASCII. In a window that doesn't scroll, a text that goes past the end of the scroll
+   region is CURSPAN_OK: each further character overwrites the last cell there. A number past 65,535 is taken as 65,535,
+   which no window, panel, line, column, size, pair or colour has. A call that is refused changes nothing and sends
+   nothing. Its refusals are listed in the order of its tests. */
 #ifndef CURSPAN_H
 #define CURSPAN_H
 

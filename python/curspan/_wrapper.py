@@ -7,6 +7,6 @@ T = TypeVar('T')
 
 
 def wrapper(function: Callable[..., T], *arguments: Any, **names: Any) -> T:
-    """Opens the terminal, and calls the function with it and what else is given. The terminal is given back however that ends."""
+    """Calls the function with a terminal and what else is given, and returns what it returns. The terminal is given back however that ends."""
     with Terminal() as terminal:
         return function(terminal, *arguments, **names)

@@ -156,7 +156,8 @@ impl Terminal {
     ///
     /// # Errors
     ///
-    /// [`UnexpectedEof`](io::ErrorKind::UnexpectedEof) where the terminal is gone.
+    /// Those of the system; and [`UnexpectedEof`](io::ErrorKind::UnexpectedEof) where the terminal is
+    /// gone.
     pub fn key(&self, timeout: Option<Duration>) -> io::Result<Option<Key>> {
         let end = timeout.map(|time| Instant::now() + time);
         loop {
