@@ -16,7 +16,7 @@ pub mod FreeNumbers
 pub mod Derived
 -- that lines of which none is touched are found so, for TouchedLines
 pub mod Untouched
--- characters printed after others, for print_by
+-- characters printed after others, for print_in
 pub mod Prints
 -- one slot changed, for set_settings, mvwin, fill, mark and unmark
 pub mod Changes

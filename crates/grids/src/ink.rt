@@ -6,10 +6,8 @@ ghost use Rattle.grids.specs.{printed_cell};
 
 use cell::{Cell, Grid};
 
-/// How many characters of a text are printed together, and how many of a short text.
+/// How many characters of a text are printed together, at most.
 const PIECE: usize = 16;
-
-const SHORT_PIECE: usize = 8;
 
 /// Prints characters in line `y` of a grid, from column `x` on. All lines of the grid are of one width.
 pub(crate) fn print_in(grid: &mut Grid<Cell>, y: usize, x: usize, text: &[u8], pen: Cell)
@@ -24,40 +22,12 @@ pub(crate) fn print_in(grid: &mut Grid<Cell>, y: usize, x: usize, text: &[u8], p
     ensures size { (lines columns : ℕ) → HasSize lines columns grid.old → HasSize lines columns grid.new }
     ensures cells { EachCell IsCell grid.old → EachCell IsCell grid.new }
 {
-    if text.len() >= PIECE {
-        print_by(PIECE, grid, y, x, text, pen);
-    } else if text.len() >= SHORT_PIECE {
-        print_by(SHORT_PIECE, grid, y, x, text, pen);
-    } else {
-        print_together(grid, y, x, text, pen);
-    }
-}
-
-/// Prints characters in pieces of one size, the last of which ends with the text, so that where the size is known no
-/// character is printed alone.
-#[inline(always)]
-fn print_by(size: usize, grid: &mut Grid<Cell>, y: usize, x: usize, text: &[u8], pen: Cell)
-    requires some { 0 < size }
-    requires few { size ≤ PIECE }
-    requires room { size ≤ length text.now }
-    requires line { y < length grid.old }
-    requires even { HasSize (length grid.old) (length (line_of grid.old y)) grid.old }
-    requires columns { x + length text.now ≤ length (line_of grid.old y) }
-    requires short { x + length text.now ≤ LARGEST_PAD }
-    requires printable { EachIndex text.now (λ k. is_printable (slice_index text.now k) ≡ true) }
-    ensures shown { (v u : ℕ) → cell_or blank grid.new (v, u) ≡ (if (v == y) &&
-        (nat_le x u && nat_lt u (x + length text.now)) then slice_index_or (map (printed_cell pen) text.now) (u - x) blank else cell_or blank grid.old (v, u)) }
-    ensures height { length grid.new ≡ length grid.old }
-    ensures size { (lines columns : ℕ) → HasSize lines columns grid.old → HasSize lines columns grid.new }
-    ensures cells { EachCell IsCell grid.old → EachCell IsCell grid.new }
-{
-    let last = text.len() - size;
     let mut done = 0;
-    while done < last {
-        print_together(grid, y, x + done, &text[done..done + size], pen);
-        done += size;
+    while done < text.len() {
+        let end = (done + PIECE).min(text.len());
+        print_together(grid, y, x + done, &text[done..end], pen);
+        done = end;
     }
-    print_together(grid, y, x + last, &text[last..], pen);
 }
 
 /// Prints a few characters in line `y` of a grid, from column `x` on, at once.

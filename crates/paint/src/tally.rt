@@ -16,7 +16,7 @@ const PLAIN: usize = 4;
 const MOST: usize = 8;
 
 /// How many passes there are at most.
-pub const PASSES: u8 = 9;
+pub const PASSES: u8 = MOST as u8 + 1;
 
 /// A place on no screen.
 pub const NOWHERE: (u16, u16) = (u16::MAX, u16::MAX);

@@ -1,6 +1,6 @@
 use Rattle.std.specs.Prelude.{◌≡◌, ◌+◌, ◌-◌, ◌≤◌, ◌==◌, ◌&&◌, if◌then◌else◌}
 use Rattle.grids.specs.{ℕ, nat_le, nat_lt, length, map, slice_index_or, IsCell, blank, EachCell, HasSize, cell_or, printed_cell}
-use Rattle.grids.proofs.ink.print_by.Given as goal
+use Rattle.grids.proofs.ink.print_in.Given as goal
 
 -- the first characters are printed
 abbrev pub invariant-loop-done : goal.invariant-loop-done
