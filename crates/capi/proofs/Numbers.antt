@@ -1,7 +1,7 @@
 -- No window and no panel has a number past the last that there may be.
 use Rattle.std.specs.Prelude.{◌≡◌, ◌<◌, ◌≤◌}
-use Rattle.capi.specs.{ℕ, Bool, false, is_some, Option, refl, arith, ⊎_elim, cases_lt, MatchOption, ⊤, MOST_PANELS, MOST_WINDOWS, Panels, AreSoundPanels, AreSoundWindows, IsSoundPanel}
-use Rattle.capi.specs.{IsSoundWindow, Window, WindowMap, Windows}
+use Rattle.capi.specs.{ℕ, Bool, false, is_some, Option, refl, arith, ⊎_elim, cases_lt, MatchOption, ⊤, MOST_PANELS, MOST_WINDOWS, Panels, AreSoundPanels, AreSoundWindows, IsSoundPanel, IsSoundWindow}
+use Rattle.capi.specs.{Window, WindowMap, Windows}
 use Rattle.std.proofs.Common.{Some, None}
 
 no_window : (windows : Windows) (m : ℕ) (o : Option Window) → MatchOption o ⊤ (IsSoundWindow windows m) → MOST_WINDOWS < m → is_some o ≡ false

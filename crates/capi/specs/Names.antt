@@ -20,8 +20,8 @@ pub use Rattle.desk.specs.declared.screen.Fault.TheVariants.{Refused}
 pub use Rattle.grids.specs.Questions.{parent_answer}
 pub use Rattle.grids.specs.Tables.{WindowTable, windows}
 pub use Rattle.paint.specs.Doupdates.{first_painter}
-pub use Rattle.std.proofs.Common.{Bool, Err, IfOk, List, MatchOption, MatchResult, Ok, Option, Result, [], ap, arith, drop, false, inl, is_none, is_some, length, lit<, map, min, nat_lt, negsuc}
-pub use Rattle.std.proofs.Common.{ok_or, pos, refl, rules, slice_set, subst, sym, take, true, unwrap_or, ℕ, ℤ, ⊎_elim, ◌∙◌}
+pub use Rattle.std.proofs.Common.{Bool, Err, IfOk, List, MatchOption, MatchResult, Ok, Option, Result, [], ap, arith, drop, false, inl, is_none, is_some, length, lit<, map, min, nat_lt, negsuc, ok_or}
+pub use Rattle.std.proofs.Common.{pos, refl, rules, slice_set, subst, sym, take, true, unwrap_or, ℕ, ℤ, ⊎_elim, ◌∙◌}
 pub use Rattle.std.proofs.GlobalToken.{dealloc_token-Testable}
 pub use Rattle.std.proofs.lemmas.Bool.{cases_lt}
 pub use Rattle.std.proofs.lemmas.Int.{to_z-of_z}

@@ -1,8 +1,8 @@
 -- What a change damages, in terms of the windows before it.
 use Rattle.std.specs.Prelude.{◌≡◌, ◌≤◌}
 use Rattle.compose.specs.{ℕ, Ok, Option, Some, List, refl, sym, subst, ◌∙◌, arith, MatchOption, ⊤, option_map, Refusal, Rect, Panels, HasPlace, WindowMap, Windows, Change, after_change, after_edit}
-use Rattle.compose.specs.{asks, deletes, edit_frame, edit_window, edits, makes, marks, moves, shifts, change_shows_at, frame_shows_at, Columns, WindowTable, windows, Damages, IsPossible}
-use Rattle.compose.specs.{affected_by, any_shows_at, Affects, ChangedDamaging}
+use Rattle.compose.specs.{asks, deletes, edit_frame, edit_window, edits, makes, marks, moves, shifts, change_shows_at, frame_shows_at, Columns, WindowTable, windows, Damages, IsPossible, affected_by}
+use Rattle.compose.specs.{any_shows_at, Affects, ChangedDamaging}
 use Rattle.world.proofs.MoveLaws.{move_shows-moved}
 use Rattle.world.proofs.PictureLaws.{SameView, frame_shows-same}
 use Rattle.world.proofs.Sizes.{SameSize, size-change}

@@ -1,7 +1,7 @@
 -- A call on panels: what the stack of panels says of it, and the desk on which it is made.
 use Rattle.std.specs.Prelude.{◌≡◌, ◌∷◌, ◌++◌}
-use Rattle.compose.specs.{Bool, true, false, Option, None, [], refl, Result, Ok, Err, List, arith, first_of, Refusal, AreSoundPanels, windows_after, stacking_order, stacking_refusal, Reply}
-use Rattle.compose.specs.{Stacking, Columns, WindowTable, windows, Arranged, PanelTable, panels, Called, IsDesk, DeskTable, Ordered, OrderedDamaging}
+use Rattle.compose.specs.{Bool, true, false, Option, None, [], refl, Result, Ok, Err, List, arith, first_of, Refusal, AreSoundPanels, windows_after, stacking_order, stacking_refusal, Reply, Stacking}
+use Rattle.compose.specs.{Columns, WindowTable, windows, Arranged, PanelTable, panels, Called, IsDesk, DeskTable, Ordered, OrderedDamaging}
 use Rattle.world.specs.declared.call.Call.TheVariants as calls
 use Rattle.world.proofs.SoundOrders.{sound-stacking}
 use Rattle.world.proofs.Sizes.{SameSize, size-order}

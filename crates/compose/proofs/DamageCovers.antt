@@ -2,8 +2,8 @@
 -- damaged: so it leaves a desk, and was made.
 use Rattle.std.specs.Prelude.{◌≡◌, ◌<◌}
 use Rattle.compose.specs.{ℕ, zero, suc, Bool, true, false, Option, None, replicate, refl, sym, ap, ◌∙◌, Ok, arith, slice_index_or, length-replicate, blank_picture, shown_at, shown_blank, windows}
-use Rattle.compose.specs.{window_limit, World, first_world, picture, AreSoundWindows, is_update_panels, refusal, world_after, affects_place, Columns, Call, UpdatePanels, Reply, AddsChanges}
-use Rattle.compose.specs.{is_among, Damages, Called, CountsReads, DamagesFew, MayLeave, MayTell, IsDesk, DeskTable, is_damaged_line, world}
+use Rattle.compose.specs.{window_limit, World, first_world, picture, AreSoundWindows, is_update_panels, refusal, world_after, affects_place, Columns, Call, UpdatePanels, Reply, AddsChanges, is_among}
+use Rattle.compose.specs.{Damages, Called, CountsReads, DamagesFew, MayLeave, MayTell, IsDesk, DeskTable, is_damaged_line, world}
 use Rattle.world.specs.declared.call.Call.TheVariants as calls
 use Rattle.world.proofs.Sizes.{size-call}
 use Rattle.picture.proofs.DamageLaws.{damages-line}

@@ -2,8 +2,7 @@
 -- damaged lines.
 use Rattle.std.specs.Prelude.{◌≡◌, ◌+◌, ◌-◌, ◌*◌, ◌<◌, ◌≤◌, if◌then◌else◌, ◌∷◌}
 use Rattle.compose.specs.{ℕ, zero, suc, max, Bool, true, false, Option, Some, None, is_some, List, [], length, arith, nat_tests, slice_index_or, count_by, range_with_len, sum_by-cons, and_from}
-use Rattle.compose.specs.{eq-eqb, difference, line_difference, same_shown, Picture, line_of, Shown, shown_blank, AreColumnsWithin, among, Columns, columns_of, has_columns, cells_above}
-use Rattle.compose.specs.{cells_of_line}
+use Rattle.compose.specs.{eq-eqb, difference, line_difference, same_shown, Picture, line_of, Shown, shown_blank, AreColumnsWithin, among, Columns, columns_of, has_columns, cells_above, cells_of_line}
 
 -- ---- at most the columns of each damaged line
 

@@ -1,11 +1,11 @@
 -- The answer of each call is of the kind that Kinds has for it, and no update_panels is refused. These are proofs, but
 -- they stand here since a desk's methods cite them (`Calls for Desk`), and `desk/specs` does.
 use Rattle.std.specs.Prelude.{◌≡◌, ◌∷◌}
-use Rattle.compose.specs.Names.{ℕ, Bool, true, false, Option, Some, None, [], Ok, Err, inl, inr, refl, subst, sym, is_none, option_and_then, option_map, option_map_or, Glyph, Place, first_of}
-use Rattle.compose.specs.Names.{Refusal, IsPad, NoSuchWindow, NotDerived, World, Backing, own_grid, part_of, Window, Windows, Change, asks, edits, marks, makes, deletes, moves, shifts, Order}
-use Rattle.compose.specs.Names.{changes, adds, orders, carries, Effect, arranges, refreshes, composes, shows, colours, change_reply, effect_reply, order_reply, effect_of, is_doupdate, refusal}
-use Rattle.compose.specs.Names.{takes_memory, query_refusal, query_reply, offset_of, is_own, Call, Query, Getbegyx, Getparyx, Inch, UpdatePanels, Doupdate, Reply, Nothing, Number, TwoNumbers, Cell}
-use Rattle.compose.specs.Names.{Flag, Panel, Composed, Sent, IsAnswerTo, IsOfKind, kind_of, kind_of_change, kind_of_effect, kind_of_order, kind_of_query, kind_of_reply, numbers, cell}
+use Rattle.compose.specs.Names.{ℕ, Bool, true, false, Option, Some, None, [], Ok, Err, inl, inr, refl, subst, sym, is_none, option_and_then, option_map, option_map_or, Glyph, Place, first_of, Refusal}
+use Rattle.compose.specs.Names.{IsPad, NoSuchWindow, NotDerived, World, Backing, own_grid, part_of, Window, Windows, Change, asks, edits, marks, makes, deletes, moves, shifts, Order, changes, adds}
+use Rattle.compose.specs.Names.{orders, carries, Effect, arranges, refreshes, composes, shows, colours, change_reply, effect_reply, order_reply, effect_of, is_doupdate, refusal, takes_memory}
+use Rattle.compose.specs.Names.{query_refusal, query_reply, offset_of, is_own, Call, Query, Getbegyx, Getparyx, Inch, UpdatePanels, Doupdate, Reply, Nothing, Number, TwoNumbers, Cell, Flag, Panel}
+use Rattle.compose.specs.Names.{Composed, Sent, IsAnswerTo, IsOfKind, kind_of, kind_of_change, kind_of_effect, kind_of_order, kind_of_query, kind_of_reply, numbers, cell}
 use Rattle.world.specs.declared.call.Call.TheVariants as calls
 use Rattle.compose.specs.Calling.{Called, MayRefuse, MayTell}
 use Rattle.compose.specs.Desks.{DeskTable, is_damaged_line, world}

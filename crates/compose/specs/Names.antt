@@ -56,8 +56,7 @@ pub use Rattle.world.specs.calls.Making.{is_own, making_change, making_refusal, 
 pub use Rattle.world.specs.calls.Queries.{offset_of, place_on_screen, query_refusal, query_reply, touched_columns}
 pub use Rattle.world.specs.calls.Refresh.{among, colour_tests, pnoutrefresh_tests, refresh_refusal, touched_cells}
 pub use Rattle.world.specs.calls.RefusedCalls.{Refused}
-pub use Rattle.world.specs.calls.Stacking.{after_stacking, new_panel_number, new_panel_tests, next_panel, numbered_panel, panel_number, stacking_order, stacking_refusal, stacking_tests}
-pub use Rattle.world.specs.calls.Stacking.{window_tests}
+pub use Rattle.world.specs.calls.Stacking.{after_stacking, new_panel_number, new_panel_tests, next_panel, numbered_panel, panel_number, stacking_order, stacking_refusal, stacking_tests, window_tests}
 pub use Rattle.world.specs.calls.Writing.{after_writing, with_clear, writing_edit, writing_refusal}
 pub use Rattle.world.specs.declared.call.Call.{Call}
 pub use Rattle.world.specs.declared.call.Copying.TheVariants.{IsLinetouched, IsWintouched, Touchln}

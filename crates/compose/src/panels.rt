@@ -1,8 +1,8 @@
 //! The calls for which windows and panels have to be looked at together.
 
 ghost use Rattle.std.specs.Prelude.{◌≡◌};
-ghost use Rattle.compose.specs.{result_err, first_of, is_in_panel, its_panel, no_answer, AreSoundPanels, window_tests, making_change, making_refusal, Making, Stacking, Changed};
-ghost use Rattle.compose.specs.{windows as windows_of, panels, Ordered};
+ghost use Rattle.compose.specs.{result_err, first_of, is_in_panel, its_panel, no_answer, AreSoundPanels, window_tests, making_change, making_refusal, Making, Stacking, Changed, windows as windows_of};
+ghost use Rattle.compose.specs.{panels, Ordered};
 
 use cell::{Refusal, WinId};
 use grids::Grids;

@@ -1,9 +1,9 @@
 //! The calls that copy what is touched of a window, or a rectangle of a pad, to the virtual screen.
 
 ghost use Rattle.std.specs.Prelude.{◌≡◌, ◌<◌, ◌≤◌, ◌+◌, ◌-◌, ◌==◌, ◌&&◌, ◌^◌, if◌then◌else◌};
-ghost use Rattle.compose.specs.{ℕ, None, Some, IsSomeAnd, false, is_some, length, nat_le, nat_lt, result_err, HasSize, picture_of, shown_at, shown, AreSoundWindows, copywin_drawing};
-ghost use Rattle.compose.specs.{place_on_screen, first_of, touched_cells, pnoutrefresh_tests, asks_for_clear, shown_over, unmarked_lines, with_change, AddsChanges, windows as windows_of, Damages};
-ghost use Rattle.compose.specs.{Call, Refresh, Called};
+ghost use Rattle.compose.specs.{ℕ, None, Some, IsSomeAnd, false, is_some, length, nat_le, nat_lt, result_err, HasSize, picture_of, shown_at, shown, AreSoundWindows, copywin_drawing, place_on_screen};
+ghost use Rattle.compose.specs.{first_of, touched_cells, pnoutrefresh_tests, asks_for_clear, shown_over, unmarked_lines, with_change, AddsChanges, windows as windows_of, Damages, Call, Refresh};
+ghost use Rattle.compose.specs.{Called};
 ghost use Rattle.world.specs.Rows.{is_among};
 
 use crate::damaging::damage_part;

@@ -2,8 +2,8 @@
 use Rattle.std.specs.Prelude.{◌≡◌, ◌⊎◌, ◌<◌}
 use Rattle.curspan.specs.Names.{ℕ, Bool, List, Option, Some, None, false, true, is_some, MatchOption, Text, ErrorKind, no_rendition, picture_of, World, first_world, picture, topmost_cursor, Seen}
 use Rattle.curspan.specs.Names.{SourceSeen, count_after, last_line, ScriptEnd, Log, first_painter, world, ScriptEnds, read_failed, write_fault, ScreenOver, Checks, Asks, IsRefused, Sizes, text_of}
-use Rattle.curspan.specs.Names.{SaysUnopened, printed_picture, Shows, LacksMemory, SaysFault, status_of, Explains, Complains, IsNotWritten, IsWritten, Outputs, outputs, OpenFault, Invocation}
-use Rattle.curspan.specs.Names.{Screen, Job, Kind, Run, Paint, Show, Request, nothing_seen}
+use Rattle.curspan.specs.Names.{SaysUnopened, printed_picture, Shows, LacksMemory, SaysFault, status_of, Explains, Complains, IsNotWritten, IsWritten, Outputs, outputs, OpenFault, Invocation, Screen}
+use Rattle.curspan.specs.Names.{Job, Kind, Run, Paint, Show, Request, nothing_seen}
 use Rattle.clap.specs.declared.error.kind.ErrorKind.TheVariants.{OutOfMemory}
 use Rattle.curspan.specs.Files.{IsUnread, IsUnwritten}
 use Rattle.commands.specs.declared.requests.Request.TheVariants as requests

@@ -1,9 +1,9 @@
 //! Does what the command line asks for, over any reader and writers.
 
 ghost use Rattle.std.specs.Prelude.{◌≡◌, ◌<◌, ◌⊎◌};
-ghost use Rattle.curspan.specs.{IfOk, MatchResult, None, Some, map, RefusedBy, no_rendition, IsSize, sizes_of, text_of, printed_picture, HasSize, PaintsScreen, Does, IsCreated, IsOpened};
-ghost use Rattle.curspan.specs.{IsUnopened, Paints, Runs, RunsAndLogs, RunsBy, RunsQuietly, Serves, ServesInvocation, LacksMemory, Need, WritingEnds, outputs, world, first_painter, nothing_seen};
-ghost use Rattle.curspan.specs.{first_world, new_refusal, world_after, Call, Refresh};
+ghost use Rattle.curspan.specs.{IfOk, MatchResult, None, Some, map, RefusedBy, no_rendition, IsSize, sizes_of, text_of, printed_picture, HasSize, PaintsScreen, Does, IsCreated, IsOpened, IsUnopened};
+ghost use Rattle.curspan.specs.{Paints, Runs, RunsAndLogs, RunsBy, RunsQuietly, Serves, ServesInvocation, LacksMemory, Need, WritingEnds, outputs, world, first_painter, nothing_seen, first_world};
+ghost use Rattle.curspan.specs.{new_refusal, world_after, Call, Refresh};
 
 use crate::opening::{FileSink, FileSource};
 use cell::Rendition;

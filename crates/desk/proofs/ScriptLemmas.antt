@@ -1,12 +1,12 @@
 -- A script is run a line at a time.
 use Rattle.std.specs.Prelude.{◌≡◌, ◌≤◌, ◌<◌, ◌∷◌, ◌++◌, ◌||◌, if◌then◌else◌}
 use Rattle.desk.specs.{ℕ, List, [], length, Bool, true, false, take, Option, None, Some, Ok, Err, Result, refl, ap, subst, sym, ◌∙◌, append-nil, append_assoc, length-append, arith, nat_lt, is_some}
-use Rattle.desk.specs.{not, false_from_ne_true, or_parts, nat_tests, Refresh, Doupdate, LONGEST_LINE, ScriptFault, LineTooLong, Text, Reading as Reading_fault, Write, Log, flat_map-append}
-use Rattle.desk.specs.{map-append, list_any-append, list_any_at, All, list_any, onto_first, slice_split, Appends, Consumes, IsAtEnd, Appends-nil, Appends-trans, Consumes-nil, Consumes-trans}
-use Rattle.desk.specs.{length-slice_split, slice_split-cons_no, slice_split_at, slice_split_none, Seen, State, state_of, HasOneSize, KeepsSize, ScreenOver, SourceSeen, Outcome, Run, is_refused}
-use Rattle.desk.specs.{state_after, Makes, count_after, RunShows, before_others, ends_with, next_number, reading, reading_of, parse_line, is_newline, HasNoNewline, ReadsLine, end_failed, met_end}
-use Rattle.desk.specs.{LineEnd, FlushFails, FlushSucceeds, LineEnds, LineSays, LogCloses, Logs, MayFollow, RunsLines, ScriptEnds, ScriptSays, StopsAt, calls_of, log_failed, log_lines, log_text}
-use Rattle.desk.specs.{numbered_call, write_fault, Call, TextFault, ScriptEnd, Newline, ReadFailed}
+use Rattle.desk.specs.{not, false_from_ne_true, or_parts, nat_tests, Refresh, Doupdate, LONGEST_LINE, ScriptFault, LineTooLong, Text, Reading as Reading_fault, Write, Log, flat_map-append, map-append}
+use Rattle.desk.specs.{list_any-append, list_any_at, All, list_any, onto_first, slice_split, Appends, Consumes, IsAtEnd, Appends-nil, Appends-trans, Consumes-nil, Consumes-trans, length-slice_split}
+use Rattle.desk.specs.{slice_split-cons_no, slice_split_at, slice_split_none, Seen, State, state_of, HasOneSize, KeepsSize, ScreenOver, SourceSeen, Outcome, Run, is_refused, state_after, Makes}
+use Rattle.desk.specs.{count_after, RunShows, before_others, ends_with, next_number, reading, reading_of, parse_line, is_newline, HasNoNewline, ReadsLine, end_failed, met_end, LineEnd, FlushFails}
+use Rattle.desk.specs.{FlushSucceeds, LineEnds, LineSays, LogCloses, Logs, MayFollow, RunsLines, ScriptEnds, ScriptSays, StopsAt, calls_of, log_failed, log_lines, log_text, numbered_call, write_fault}
+use Rattle.desk.specs.{Call, TextFault, ScriptEnd, Newline, ReadFailed}
 use Rattle.desk.proofs.MakesLemmas.{Makes-append, Makes-nothing}
 use Rattle.desk.proofs.ShowingLemmas.{cut-keeps_size, makes-keep_size, shows-broken, shows-unbroken, then-keeps_size}
 use Rattle.script.specs.Readings.{Reading}

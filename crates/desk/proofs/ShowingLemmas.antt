@@ -3,8 +3,7 @@ use Rattle.std.specs.Prelude.{◌≡◌, ◌∷◌, ◌++◌}
 use Rattle.desk.specs.{arith, ℕ, List, [], take, Option, Some, None, Result, Ok, Err, is_some, refl, sym, ap, ◌∙◌, subst, append_assoc, append-nil, Appends-trans, ⊤, MatchOption, shown, shown_blank}
 use Rattle.desk.specs.{HasSize, IsSound, World, picture, world_after, composed_windows, Refusal, never-refused, Terminal, Leads, LeadsWithBreaks, showing, count_after, Seen, Agrees, PainterState}
 use Rattle.desk.specs.{ShownPicture, WriteFault, IsWithin, State, after, wanted, state_of, HasOneSize, KeepsSize, ScreenOver, Outcome, MayAnswer, Run, all_sent, state_after, state_at_end, DeskTable}
-use Rattle.desk.specs.{world, CallEnds, IsCut, Makes, RunEnds, Stops, cut_of, CallMade, EndsInDoupdate, EndsInUpdate, ShowsWorld, RunShows, Call, UpdatePanels, Doupdate, each-call, quiet-reply}
-use Rattle.desk.specs.{Reply}
+use Rattle.desk.specs.{world, CallEnds, IsCut, Makes, RunEnds, Stops, cut_of, CallMade, EndsInDoupdate, EndsInUpdate, ShowsWorld, RunShows, Call, UpdatePanels, Doupdate, each-call, quiet-reply, Reply}
 use Rattle.desk.proofs.WriterLemmas.{Writes-refused}
 use Rattle.cell.proofs.PictureLemmas.{HasSize-lines_from, cell_or-lines_from}
 use Rattle.world.proofs.RefreshLaws.{found-unmarked, cursor-unmarked}

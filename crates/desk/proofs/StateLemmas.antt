@@ -1,8 +1,8 @@
 -- States with more lines damaged: the outcomes that calls may have in one, they may have in the other.
 use Rattle.std.specs.Prelude.{◌≡◌, ◌≤◌, ◌||◌, if◌then◌else◌, ◌∷◌}
 use Rattle.desk.specs.{ℕ, Bool, true, false, cond, List, [], Result, Ok, Err, subst, sym, ◌∙◌, arith, mul-le-mul_right, sum_by-le-sum_by, count_by, MatchOption, None, Some, ⊤, Picture, Refusal}
-use Rattle.desk.specs.{PainterState, ShownPicture, IsSound, World, affected_after, is_doupdate, Called, MayRead, DifferOnly, DeskTable, world, HasOneSize, IsScreen, IsWithin, ScreenOver, State}
-use Rattle.desk.specs.{after, state_of, MayAnswer, Outcome, Run, state_after, state_at_end, Call, UpdatePanels, Reply}
+use Rattle.desk.specs.{PainterState, ShownPicture, IsSound, World, affected_after, is_doupdate, Called, MayRead, DifferOnly, DeskTable, world, HasOneSize, IsScreen, IsWithin, ScreenOver, State, after}
+use Rattle.desk.specs.{state_of, MayAnswer, Outcome, Run, state_after, state_at_end, Call, UpdatePanels, Reply}
 use Rattle.compose.proofs.DeskLemmas.{size-called, sound-called}
 use Rattle.world.specs.declared.call.Call.TheVariants as calls
 

@@ -26,8 +26,8 @@ pub use Rattle.script.specs.declared.fault.ScriptFault.TheVariants.{Log, Reading
 pub use Rattle.script.specs.declared.fault.TextFault.{TextFault}
 pub use Rattle.script.specs.declared.fault.TextFault.TheVariants.{LineTooLong}
 pub use Rattle.script.specs.declared.limits.TheConstants.{LONGEST_LINE}
-pub use Rattle.std.proofs.Common.{Bool, Err, IfOk, List, MatchOption, None, Ok, Option, Result, Some, [], add-zero, add_assoc, ap, append-nil, append_assoc, arith, cond, count_by, drop, false}
-pub use Rattle.std.proofs.Common.{get_or, is_err, is_ok, is_some, length, length-append, map, nat_lt, not, refl, rules, subst, sum_by, sym, take, take-append-drop, take_all, true, ℕ, ◌∙◌}
+pub use Rattle.std.proofs.Common.{Bool, Err, IfOk, List, MatchOption, None, Ok, Option, Result, Some, [], add-zero, add_assoc, ap, append-nil, append_assoc, arith, cond, count_by, drop, false, get_or}
+pub use Rattle.std.proofs.Common.{is_err, is_ok, is_some, length, length-append, map, nat_lt, not, refl, rules, subst, sum_by, sym, take, take-append-drop, take_all, true, ℕ, ◌∙◌}
 pub use Rattle.std.proofs.KnownBytes.{Appends-nil, Appends-trans, Consumes-nil, Consumes-trans}
 pub use Rattle.std.proofs.Math.Bool.{or-false}
 pub use Rattle.std.proofs.Math.Nat.{add-le-add, mod-add-mod, mod-mod, mul-le-mul_right}

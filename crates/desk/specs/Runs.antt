@@ -1,7 +1,7 @@
 -- A run of calls: one outcome after another.
 use Rattle.std.specs.Prelude.{◌≡◌, ◌≤◌, if◌then◌else◌, ◌∷◌}
-use Rattle.desk.specs.Names.{ℕ, List, [], Bool, length, None, Result, Ok, Err, ⊤, is_ok, not, flat_map, Refusal, IsUpdateText, most_bytes, count_after, MayRefuse, MayTell, cells_of_reply}
-use Rattle.desk.specs.Names.{is_doupdate, refusal, Call, Doupdate, Reply, Sent}
+use Rattle.desk.specs.Names.{ℕ, List, [], Bool, length, None, Result, Ok, Err, ⊤, is_ok, not, flat_map, Refusal, IsUpdateText, most_bytes, count_after, MayRefuse, MayTell, cells_of_reply, is_doupdate}
+use Rattle.desk.specs.Names.{refusal, Call, Doupdate, Reply, Sent}
 use Rattle.desk.specs.States.{State, after, wanted}
 use Rattle.world.specs.declared.call.Call.TheVariants as calls
 

@@ -1,8 +1,8 @@
 //! Runs scripts.
 
 ghost use Rattle.std.specs.Prelude.{◌≡◌, ◌≤◌, ◌||◌};
-ghost use Rattle.desk.specs.{Ok, Some, length, is_some, false, end_failed, met_end, parse_line, entry_of, IsSound, CallMade, call_end, count_after, world, LineEnds, LogCloses, RunsLines};
-ghost use Rattle.desk.specs.{ScriptEnds, log_failed, read_failed, write_fault, KeepsSize};
+ghost use Rattle.desk.specs.{Ok, Some, length, is_some, false, end_failed, met_end, parse_line, entry_of, IsSound, CallMade, call_end, count_after, world, LineEnds, LogCloses, RunsLines, ScriptEnds};
+ghost use Rattle.desk.specs.{log_failed, read_failed, write_fault, KeepsSize};
 
 use crate::screen::{Fault, Screen};
 use calls::Calls;

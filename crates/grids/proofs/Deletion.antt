@@ -1,7 +1,7 @@
 -- A window from which none derives is deleted.
 use Rattle.std.specs.Prelude.{◌≡◌, ◌+◌, ◌≤◌, ◌≢◌}
-use Rattle.grids.specs.{ℕ, false, Option, Some, None, List, length, arith, eq-eqb, MOST_WINDOWS, window_limit, has_derived, Kept, IsKept, WindowTable, IsWindowTable, slot_at, window_map}
-use Rattle.grids.specs.{HasParentIn, names_parent, SetAt}
+use Rattle.grids.specs.{ℕ, false, Option, Some, None, List, length, arith, eq-eqb, MOST_WINDOWS, window_limit, has_derived, Kept, IsKept, WindowTable, IsWindowTable, slot_at, window_map, HasParentIn}
+use Rattle.grids.specs.{names_parent, SetAt}
 use Rattle.world.proofs.Below.{any_below-some}
 use Rattle.grids.specs.declared.slot.Part.{Part}
 use Rattle.grids.specs.declared.slot.Cells.TheVariants.{Shared}

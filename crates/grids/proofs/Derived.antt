@@ -1,7 +1,7 @@
 -- A test of each slot over the list is the one over the numbers.
 use Rattle.std.specs.Prelude.{◌≡◌, ◌+◌, ◌≤◌, ◌||◌, ◌∷◌}
-use Rattle.grids.specs.{slice_index_or, ℕ, zero, suc, Bool, true, false, Option, None, List, [], length, ap, arith, refl, sym, ◌∙◌, list_any, MOST_WINDOWS, any_below, window_limit, has_derived}
-use Rattle.grids.specs.{Kept, window_map, names_parent}
+use Rattle.grids.specs.{slice_index_or, ℕ, zero, suc, Bool, true, false, Option, None, List, [], length, ap, arith, refl, sym, ◌∙◌, list_any, MOST_WINDOWS, any_below, window_limit, has_derived, Kept}
+use Rattle.grids.specs.{window_map, names_parent}
 use Rattle.grids.proofs.Chain.{limit-is}
 
 or_swap : (a b c : Bool) → (a || (b || c)) ≡ (b || (a || c))

@@ -1,7 +1,7 @@
 -- The search for the number of the next window, step by step.
 use Rattle.std.specs.Prelude.{◌≡◌, ◌+◌, ◌-◌, ◌<◌, ◌≤◌, if◌then◌else◌}
-use Rattle.grids.specs.{ℕ, suc, true, false, Option, Some, None, is_none, List, length, ap, arith, refl, ◌∙◌, option_map, get_or_past, MOST_WINDOWS, Window, WindowMap, window_limit, free_among}
-use Rattle.grids.specs.{Kept, window_of, slot_at, window_map}
+use Rattle.grids.specs.{ℕ, suc, true, false, Option, Some, None, is_none, List, length, ap, arith, refl, ◌∙◌, option_map, get_or_past, MOST_WINDOWS, Window, WindowMap, window_limit, free_among, Kept}
+use Rattle.grids.specs.{window_of, slot_at, window_map}
 use Rattle.grids.proofs.Chain.{limit-is}
 
 taken-step : (n k : ℕ) (window : WindowMap) (a : Option Window) → is_none a ≡ false → (if is_none a then Some k else free_among n (k + 1) window) ≡ free_among n (k + 1) window

@@ -1,9 +1,9 @@
 -- The cells of a slot, and the lines of a grid.
 use Rattle.std.specs.Prelude.{◌≡◌, ◌+◌, ◌<◌, ◌≤◌}
-use Rattle.grids.specs.{ℕ, [], length, take, drop, replicate, get_or, map, Option, None, arith, zero-add, lit≤, lit<, cases_lt, AllByRecursion, range_with_len, All-from_recursion}
-use Rattle.grids.specs.{recursion_from_All, All-get_or, All-take, All-drop, ext_get_or, get_or-take, get_or-drop, get_or-replicate, get_or_past, length-replicate, length-take-le, length-drop}
-use Rattle.grids.specs.{length-map-range_with_len, get_or-map-range_with_len, blank, IsCell, Sheet, Place, AreCells, HasSize, line_of, glyph_at, blank_sheet, LARGEST_PAD, own_grid, first_settings}
-use Rattle.grids.specs.{blank_grid, new_window, Kept, IsKept, IsGridOf, window_of, StaysInPlace, Columns}
+use Rattle.grids.specs.{ℕ, [], length, take, drop, replicate, get_or, map, Option, None, arith, zero-add, lit≤, lit<, cases_lt, AllByRecursion, range_with_len, All-from_recursion, recursion_from_All}
+use Rattle.grids.specs.{All-get_or, All-take, All-drop, ext_get_or, get_or-take, get_or-drop, get_or-replicate, get_or_past, length-replicate, length-take-le, length-drop, length-map-range_with_len}
+use Rattle.grids.specs.{get_or-map-range_with_len, blank, IsCell, Sheet, Place, AreCells, HasSize, line_of, glyph_at, blank_sheet, LARGEST_PAD, own_grid, first_settings, blank_grid, new_window, Kept}
+use Rattle.grids.specs.{IsKept, IsGridOf, window_of, StaysInPlace, Columns}
 use mathlib.Core.Path.{fun_ext}
 use Rattle.cell.proofs.PictureLemmas.{IsCell-blank, HasSize-all_of, EachCell-all_of}
 use Rattle.grids.specs.declared.slot.Cells.{Cells}

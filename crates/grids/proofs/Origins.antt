@@ -1,7 +1,7 @@
 -- Where the first place of each window leads: what the walk from parent to parent finds, and which changes keep it.
 use Rattle.std.specs.Prelude.{◌≡◌, ◌≢◌, ◌+◌, ◌≤◌, ◌∷◌}
-use Rattle.grids.specs.{ℕ, zero, suc, Option, Some, None, IsSome, MatchOption, List, [], length, ap, arith, refl, ⊤, option_map, cases_eq, MOST_WINDOWS, GridPlace, own, own_within, window_limit}
-use Rattle.grids.specs.{Kept, backing_of, window_of, AreOrigins, IsChained, IsRoot, grid_place, slot_at, window_map, part_in, SamePart, SetAt}
+use Rattle.grids.specs.{ℕ, zero, suc, Option, Some, None, IsSome, MatchOption, List, [], length, ap, arith, refl, ⊤, option_map, cases_eq, MOST_WINDOWS, GridPlace, own, own_within, window_limit, Kept}
+use Rattle.grids.specs.{backing_of, window_of, AreOrigins, IsChained, IsRoot, grid_place, slot_at, window_map, part_in, SamePart, SetAt}
 use Rattle.world.proofs.WindowLaws.{own-onward, own-own_grid}
 use Rattle.grids.specs.declared.slot.Cells.TheVariants.{Shared}
 use Rattle.grids.specs.declared.slot.Part.{Part}

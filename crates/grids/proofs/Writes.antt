@@ -1,9 +1,9 @@
 -- A row written through a window is one put.
 use Rattle.std.specs.Prelude.{◌≡◌, ◌+◌, ◌-◌, ◌<◌, ◌≤◌, if◌then◌else◌, ◌==◌, ◌&&◌}
-use Rattle.grids.specs.{ℕ, zero, suc, Bool, true, false, nat_le, nat_lt, Option, Some, None, is_some, IsSomeAnd, List, length, get_or, ap, ◌∙◌, subst, arith, refl, inl, inr, eq-eqb, ne_eqb}
-use Rattle.grids.specs.{add-zero, add-suc, option_map, cases_eq, cases_lt, eqb-true, nat_tests, Glyph, blank, GridPlace, Window, WindowMap, Windows, Drawing, within, grid_drawing, laid_over}
-use Rattle.grids.specs.{joined_columns, touched_below, touched_by, put_windows, put, HasPlace, own, cell_at, with_change, set, set_in, Settings, filled_cells, listed_cells, copied_cells, Columns}
-use Rattle.grids.specs.{with_touched, with_drawing}
+use Rattle.grids.specs.{ℕ, zero, suc, Bool, true, false, nat_le, nat_lt, Option, Some, None, is_some, IsSomeAnd, List, length, get_or, ap, ◌∙◌, subst, arith, refl, inl, inr, eq-eqb, ne_eqb, add-zero}
+use Rattle.grids.specs.{add-suc, option_map, cases_eq, cases_lt, eqb-true, nat_tests, Glyph, blank, GridPlace, Window, WindowMap, Windows, Drawing, within, grid_drawing, laid_over, joined_columns}
+use Rattle.grids.specs.{touched_below, touched_by, put_windows, put, HasPlace, own, cell_at, with_change, set, set_in, Settings, filled_cells, listed_cells, copied_cells, Columns, with_touched}
+use Rattle.grids.specs.{with_drawing}
 use mathlib.Core.Path.{fun_ext}
 
 -- touching column after column

@@ -2,8 +2,8 @@
 
 ghost use Rattle.std.specs.Prelude.{◌≡◌, ◌<◌, ◌≤◌, ◌+◌, ◌-◌};
 ghost use Rattle.grids.specs.{Some, None, IsSome, IsSomeAnd, MatchOption, ⊤, length, OnOk, OnErr, map, AllByRecursion, list_any, range_with_len, IsCell, own, cell_of, has_derived, new_number};
-ghost use Rattle.grids.specs.{window_of, slot_at, window_map, grid_place, AreOrigins, IsChained, IsRoot, part_in, lines_at, columns_at, names_parent, FnOnceReturnsAtMut, FnOnceTakesAtMut};
-ghost use Rattle.grids.specs.{ChangedBy, SetAt, IsFree};
+ghost use Rattle.grids.specs.{window_of, slot_at, window_map, grid_place, AreOrigins, IsChained, IsRoot, part_in, lines_at, columns_at, names_parent, FnOnceReturnsAtMut, FnOnceTakesAtMut, ChangedBy};
+ghost use Rattle.grids.specs.{SetAt, IsFree};
 ghost use Rattle.std.specs.Option.{is_none};
 
 use crate::slot::{Origin, Slot};

@@ -1,8 +1,8 @@
 //! Reading a line of a window, and the writes of one line of which every write is made.
 
 ghost use Rattle.std.specs.Prelude.{◌≡◌, ◌<◌, ◌≤◌, ◌+◌, ◌-◌};
-ghost use Rattle.grids.specs.{is_some, length, map, slice_index, EachIndex, true, false, AllByRecursion, IsCell, is_printable, printed_cell, set, with_cursor, HasPlace, cell_at, put};
-ghost use Rattle.grids.specs.{AreSoundWindows, filled_cells, listed_cells, overlaid_cell, copied_cells, line_shown, AreRowsThere, AreThere, RowCopied, piece_of, windows};
+ghost use Rattle.grids.specs.{is_some, length, map, slice_index, EachIndex, true, false, AllByRecursion, IsCell, is_printable, printed_cell, set, with_cursor, HasPlace, cell_at, put, AreSoundWindows};
+ghost use Rattle.grids.specs.{filled_cells, listed_cells, overlaid_cell, copied_cells, line_shown, AreRowsThere, AreThere, RowCopied, piece_of, windows};
 ghost use Rattle.grids.specs.declared.rows.TheConstants.{PIECE};
 
 use crate::frame::{frame_of_two, place};

@@ -1,9 +1,9 @@
 -- Runs of cells: printed one after another, and drawn in a line.
 use Rattle.std.specs.Prelude.{◌≡◌, ◌+◌, ◌-◌, ◌<◌, ◌≤◌, ◌∷◌, ◌++◌}
 use Rattle.paint.specs.{Bool, ℕ, zero, suc, true, false, List, [], length, get_or, take, drop, Some, inl, inr, refl, sym, ap, ◌∙◌, subst, arith, length-append, length-set, not, and_parts, cases_lt}
-use Rattle.paint.specs.{lt-ltb, take-add, drop-drop, get_or_default, get_or_past, get_or-drop, get_or-set_same, get_or-take, length-drop, length-take, length-take-le, set-get_or, IsRendition}
-use Rattle.paint.specs.{IsShown, Rendition, Shown, shown_blank, Picture, line_of, with_shown, DiffersAt, same_rendition, same_shown, same_rendition-equal, Leads, Terminal, Print, Seen, Gathers}
-use Rattle.paint.specs.{cells_between, AreOfRun, IsRun, all_have, Draws, DrawsWithin, characters, line_bytes, most_approach, run_bytes, with_cells, within}
+use Rattle.paint.specs.{lt-ltb, take-add, drop-drop, get_or_default, get_or_past, get_or-drop, get_or-set_same, get_or-take, length-drop, length-take, length-take-le, set-get_or, IsRendition, IsShown}
+use Rattle.paint.specs.{Rendition, Shown, shown_blank, Picture, line_of, with_shown, DiffersAt, same_rendition, same_shown, same_rendition-equal, Leads, Terminal, Print, Seen, Gathers, cells_between}
+use Rattle.paint.specs.{AreOfRun, IsRun, all_have, Draws, DrawsWithin, characters, line_bytes, most_approach, run_bytes, with_cells, within}
 use Rattle.ecma.proofs.Joining.{Leads-append}
 use Rattle.ecma.proofs.Leading.{Leads-nothing, Leads-token}
 use Rattle.ecma.proofs.Lengths.{length-selection}

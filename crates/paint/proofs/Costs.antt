@@ -1,7 +1,7 @@
 -- What changed cells may cost.
 use Rattle.std.specs.Prelude.{◌≡◌, ◌+◌, ◌-◌, ◌<◌, ◌≤◌, ◌∷◌}
-use Rattle.paint.specs.{ℕ, zero, suc, false, List, [], length, get_or, drop, inl, inr, sym, ap, ◌∙◌, subst, arith, cases_Bool, cases_lt, nat_tests, drop_all, drop-drop, drop_more, get_or_past}
-use Rattle.paint.specs.{Shown, shown_blank, DiffersAt, same_shown, Picture, Place, line_of, bytes_from, is_before, cell_bytes, line_bytes, picture_bytes}
+use Rattle.paint.specs.{ℕ, zero, suc, false, List, [], length, get_or, drop, inl, inr, sym, ap, ◌∙◌, subst, arith, cases_Bool, cases_lt, nat_tests, drop_all, drop-drop, drop_more, get_or_past, Shown}
+use Rattle.paint.specs.{shown_blank, DiffersAt, same_shown, Picture, Place, line_of, bytes_from, is_before, cell_bytes, line_bytes, picture_bytes}
 use Rattle.ecma.proofs.Difference.{same_shown-equal}
 
 -- ---- of a line

@@ -1,10 +1,10 @@
 -- Strokes that are drawn in any order: what they write is what is wanted.
 use Rattle.std.specs.Prelude.{◌≡◌, ◌+◌, ◌-◌, ◌<◌, ◌≤◌, ◌∷◌, ◌++◌, ◌==◌, ◌&&◌, if◌then◌else◌}
-use Rattle.paint.specs.{ℕ, zero, suc, Bool, true, false, List, [], length, get_or, set, map, take, drop, inl, inr, refl, sym, ap, ◌∙◌, subst, arith, length-set, not, nat_le, get_or-append}
-use Rattle.paint.specs.{get_or-map, cases_Bool, cases_eq, cases_lt, eq-eqb, le-leb, lt-leb, ne_eqb, nat_tests, ext_get_or, get_or-append_right, get_or-set_other, get_or-set_same, get_or-take}
-use Rattle.paint.specs.{get_or_past, length-take-le, set_past, sum_by_push, Shown, shown_blank, HasSize, Picture, Place, line_of, shown_at, with_shown, spelling, blank_line, erased_at, erased_line}
-use Rattle.paint.specs.{erased_page, ToEnd, Token, Ed, El, Seen, AreDrawn, HasInk, IsErasure, IsStroke, ink_bytes, is_before, layers, stroke_bytes, writes, HaveOneRendition, cells_between, Draws}
-use Rattle.paint.specs.{DrawsWithin, run_bytes, under, with_cells}
+use Rattle.paint.specs.{ℕ, zero, suc, Bool, true, false, List, [], length, get_or, set, map, take, drop, inl, inr, refl, sym, ap, ◌∙◌, subst, arith, length-set, not, nat_le, get_or-append, get_or-map}
+use Rattle.paint.specs.{cases_Bool, cases_eq, cases_lt, eq-eqb, le-leb, lt-leb, ne_eqb, nat_tests, ext_get_or, get_or-append_right, get_or-set_other, get_or-set_same, get_or-take, get_or_past}
+use Rattle.paint.specs.{length-take-le, set_past, sum_by_push, Shown, shown_blank, HasSize, Picture, Place, line_of, shown_at, with_shown, spelling, blank_line, erased_at, erased_line, erased_page}
+use Rattle.paint.specs.{ToEnd, Token, Ed, El, Seen, AreDrawn, HasInk, IsErasure, IsStroke, ink_bytes, is_before, layers, stroke_bytes, writes, HaveOneRendition, cells_between, Draws, DrawsWithin}
+use Rattle.paint.specs.{run_bytes, under, with_cells}
 use Rattle.cell.proofs.PictureLemmas.{length-line}
 use Rattle.ecma.proofs.Lengths.{length-spelling}
 use Rattle.ecma.proofs.PictureSizes.{size-effects}

@@ -2,8 +2,8 @@
 use Rattle.std.specs.Prelude.{◌≡◌, ◌+◌, ◌-◌, ◌<◌, ◌≤◌, ◌∷◌, ◌++◌, ◌&&◌, if◌then◌else◌}
 use Rattle.paint.specs.{ℕ, true, false, List, [], length, get_or, drop, take, inl, inr, refl, sym, ap, ◌∙◌, subst, arith, append_assoc, append-nil, Option, not, cases_Bool, cases_lt, nat_tests}
 use Rattle.paint.specs.{get_or_past, All-push, sum_by_push, shown_blank, HasSize, Picture, Place, line_of, shown_at, Seen, IsWithin, columns_of, Columns, IsFrame, AreAlike, AreDrawn, AreFound}
-use Rattle.paint.specs.{ArePlanned, AreSameBetween, HasInk, IsStroke, IsUnderWay, bytes_from, ink_bytes, is_before, is_before_end, layers, stroke_bytes, strokes_bytes, writes, DrawsWithin}
-use Rattle.paint.specs.{cell_bytes, picture_bytes, IsStretch, cells_between}
+use Rattle.paint.specs.{ArePlanned, AreSameBetween, HasInk, IsStroke, IsUnderWay, bytes_from, ink_bytes, is_before, is_before_end, layers, stroke_bytes, strokes_bytes, writes, DrawsWithin, cell_bytes}
+use Rattle.paint.specs.{picture_bytes, IsStretch, cells_between}
 use Rattle.cell.proofs.PictureLemmas.{length-line, same_pictures}
 use Rattle.paint.specs.declared.pen.Pen.{Pen}
 use Rattle.paint.specs.declared.strokes.Ink.TheVariants.{EraseLine, ErasePage, Print}

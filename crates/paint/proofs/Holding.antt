@@ -2,8 +2,8 @@
 use Rattle.std.specs.Prelude.{◌≡◌, ◌*◌, ◌<◌, ◌≤◌, ◌∷◌, ◌++◌}
 use Rattle.paint.specs.{Bool, ℕ, List, [], length, Option, Some, None, refl, sym, ap, ◌∙◌, subst, arith, append_assoc, length-append, AllByRecursion, nil_from_length, Shown, no_rendition, Picture}
 use Rattle.paint.specs.{Place, HasSize, line_of, line_difference, difference, line_colour_difference, colour_difference, Leads, Shows, showing, Terminal, Seen, PainterState, ShownPicture}
-use Rattle.paint.specs.{IsUpdateText, MayRead, known_picture, move, opening, opening_from, start_from, start_of_update, IsGathered, IsFrame, CanDraw, HoldsUpdate, IsStart, Columns, change}
-use Rattle.paint.specs.{move_from, under, Draws, IsPlainAt, DrawsWithin, picture_bytes, LARGEST_SCREEN}
+use Rattle.paint.specs.{IsUpdateText, MayRead, known_picture, move, opening, opening_from, start_from, start_of_update, IsGathered, IsFrame, CanDraw, HoldsUpdate, IsStart, Columns, change, move_from}
+use Rattle.paint.specs.{under, Draws, IsPlainAt, DrawsWithin, picture_bytes, LARGEST_SCREEN}
 use Rattle.cell.proofs.PictureLemmas.{length-line}
 use Rattle.ecma.proofs.Joining.{Leads-append, Leads-in_profile, Reaches-in_profile}
 use Rattle.ecma.proofs.Leading.{Leads-nothing}

@@ -1,8 +1,8 @@
 -- The strokes of a pen, one after another, and what each shows.
 use Rattle.std.specs.Prelude.{◌≡◌, ◌+◌, ◌<◌, ◌≤◌, ◌∷◌, ◌++◌}
-use Rattle.paint.specs.{ℕ, true, false, List, [], length, Option, Some, refl, sym, ap, ◌∙◌, subst, arith, append_assoc, append-nil, length-append, and_parts, cases_Bool, eqb-true, lt-ltb}
-use Rattle.paint.specs.{length-map, no_rendition, Shown, Rendition, IsRendition, Picture, Place, line_of, same_rendition, Token, Print, Cup, Sgr, digits, spelling, codes_of_attributes, token_effect}
-use Rattle.paint.specs.{IsToken, LARGEST_SCREEN, Seen, Gathers, Outbox, change, characters, is_at, most_approach, move_from, under, Draws, IsPlainAt, DrawsWithin}
+use Rattle.paint.specs.{ℕ, true, false, List, [], length, Option, Some, refl, sym, ap, ◌∙◌, subst, arith, append_assoc, append-nil, length-append, and_parts, cases_Bool, eqb-true, lt-ltb, length-map}
+use Rattle.paint.specs.{no_rendition, Shown, Rendition, IsRendition, Picture, Place, line_of, same_rendition, Token, Print, Cup, Sgr, digits, spelling, codes_of_attributes, token_effect, IsToken}
+use Rattle.paint.specs.{LARGEST_SCREEN, Seen, Gathers, Outbox, change, characters, is_at, most_approach, move_from, under, Draws, IsPlainAt, DrawsWithin}
 use Rattle.ecma.proofs.Joining.{Leads-append}
 use Rattle.ecma.proofs.Leading.{Leads-nothing, Leads-token}
 use Rattle.ecma.proofs.Lengths.{length-spelling}

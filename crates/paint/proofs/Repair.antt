@@ -1,7 +1,7 @@
 -- The text of a doupdate after a stream that agrees with the painter: where it clears, it doesn't matter what was sent before.
 use Rattle.std.specs.Prelude.{◌≡◌, ◌<◌, ◌≤◌, ◌++◌}
-use Rattle.paint.specs.{Bool, ℕ, List, [], length, take, Option, Some, None, refl, arith, ⊤, MatchOption, MatchOption-from_none, HasSize, EndsOrEscapes, Terminal, IsInProfile, LeadsWithBreaks}
-use Rattle.paint.specs.{Shows, showing, PainterState, ShownPicture, IsUpdateText, MayRead, Agrees, known_picture, opening, opening_from}
+use Rattle.paint.specs.{Bool, ℕ, List, [], length, take, Option, Some, None, refl, arith, ⊤, MatchOption, MatchOption-from_none, HasSize, EndsOrEscapes, Terminal, IsInProfile, LeadsWithBreaks, Shows}
+use Rattle.paint.specs.{showing, PainterState, ShownPicture, IsUpdateText, MayRead, Agrees, known_picture, opening, opening_from}
 use Rattle.ecma.proofs.PictureSizes.{size-effects}
 use Rattle.ecma.proofs.Joining.{Leads-repairs, Leads-take, InProfile-append, LeadsWithBreaks-append, LeadsWithBreaks-in_profile, LeadsWithBreaks-in_profile_then}
 

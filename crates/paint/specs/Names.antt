@@ -18,9 +18,9 @@ pub use Rattle.ecma.specs.declared.token.Erase.TheVariants.{ToEnd}
 pub use Rattle.ecma.specs.declared.token.Token.{Token}
 pub use Rattle.ecma.specs.declared.token.Token.TheVariants.{Cup, Ed, El, Print, Sgr}
 pub use Rattle.extents.specs.Extents.{DifferOnly, IsWithin, columns_of}
-pub use Rattle.std.proofs.Common.{Bool, Err, IfErr, IfNone, IfOk, IsErrOf, IsTrue, List, MatchOption, MatchResult, None, Ok, Option, Result, Some, [], add-one, add_assoc, ap, append-nil}
-pub use Rattle.std.proofs.Common.{append_assoc, arith, codes, cond, count_by, drop, eq-eqb, eqb, false, filter, get_or, inl, inr, is_ok, length, length-append, length-drop, length-set}
-pub use Rattle.std.proofs.Common.{length-take-le, map, min, nat_le, nat_lt, ne_eqb, not, refl, replicate, rules, set, slice_index_or, subst, suc, sum_by, sym, take, true, w32, zero, ℕ, ◌∙◌}
+pub use Rattle.std.proofs.Common.{Bool, Err, IfErr, IfNone, IfOk, IsErrOf, IsTrue, List, MatchOption, MatchResult, None, Ok, Option, Result, Some, [], add-one, add_assoc, ap, append-nil, append_assoc}
+pub use Rattle.std.proofs.Common.{arith, codes, cond, count_by, drop, eq-eqb, eqb, false, filter, get_or, inl, inr, is_ok, length, length-append, length-drop, length-set, length-take-le, map, min}
+pub use Rattle.std.proofs.Common.{nat_le, nat_lt, ne_eqb, not, refl, replicate, rules, set, slice_index_or, subst, suc, sum_by, sym, take, true, w32, zero, ℕ, ◌∙◌}
 pub use Rattle.std.proofs.Math.ListN.{get_or-append, get_or-map}
 pub use Rattle.std.proofs.Math.Nat.{mod-add-mod}
 pub use Rattle.std.proofs.Math.Seq.{take-add, take-length}

@@ -1,8 +1,8 @@
 //! Gathers a text in a buffer of fixed size, from which it goes out in pieces.
 
 ghost use Rattle.std.specs.Prelude.{◌≡◌, ◌≤◌, ◌<◌, ◌+◌, ◌++◌, ◌^◌};
-ghost use Rattle.paint.specs.{ℕ, IfOk, List, [], length, slice_index_or, array_vec_len, IsShown, shown_blank, LANES, LARGEST_SCREEN, Sends, WritesOnce, Seen, WritesFew, Gathers, GoesOut};
-ghost use Rattle.paint.specs.{IsGathered, empty_outbox, characters};
+ghost use Rattle.paint.specs.{ℕ, IfOk, List, [], length, slice_index_or, array_vec_len, IsShown, shown_blank, LANES, LARGEST_SCREEN, Sends, WritesOnce, Seen, WritesFew, Gathers, GoesOut, IsGathered};
+ghost use Rattle.paint.specs.{empty_outbox, characters};
 ghost use Rattle.paint.specs.declared.outbox.TheConstants.{ROOM};
 
 use arrayvec::ArrayVec;

@@ -2,8 +2,8 @@
 
 ghost use Rattle.std.specs.Prelude.{◌≡◌, ◌<◌, ◌≤◌, ◌↔◌, ◌⊎◌, ◌||◌, if◌then◌else◌};
 ghost use Rattle.paint.specs.{ℕ, ⊤, MatchOption, length, Bool, IfNone, IfOk, IfErr, IsErrOf, IsTrue, None, option_map_or, HasSize, Picture, Place, blank_picture, origin, is_no_size, LARGEST_SCREEN};
-ghost use Rattle.paint.specs.{Seen, DifferOnly, CanShow, PainterState, ShownPicture, UpdateEnds, UpdateMade, first_painter, known_picture, opening_from, start_from, IsGathered, CanDraw};
-ghost use Rattle.paint.specs.{HoldsUpdate, IsStart, last_shown, SameTerminals};
+ghost use Rattle.paint.specs.{Seen, DifferOnly, CanShow, PainterState, ShownPicture, UpdateEnds, UpdateMade, first_painter, known_picture, opening_from, start_from, IsGathered, CanDraw, HoldsUpdate};
+ghost use Rattle.paint.specs.{IsStart, last_shown, SameTerminals};
 
 use crate::changes::Frame;
 use crate::drawing::paint;

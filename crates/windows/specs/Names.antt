@@ -9,8 +9,8 @@ pub use Rattle.cell.specs.declared.window.Rect.{Rect}
 pub use Rattle.grids.specs.Calls.{Asked}
 pub use Rattle.grids.specs.Inks.{printed_cell}
 pub use Rattle.grids.specs.Tables.{WindowTable, windows}
-pub use Rattle.std.proofs.Common.{Bool, EachIndex, IfOk, IsSome, IsSomeAnd, List, MatchResult, None, Ok, OnErr, OnOk, Option, Result, Some, [], ap, arith, codes, drop, eq-eqb, false, get_or, inl}
-pub use Rattle.std.proofs.Common.{inr, is_some, length, map, max, min, nat_le, nat_lt, negsuc, option_and_then, pos, refl, rules, slice_index, suc, sym, take, true, zero, ℕ, ℤ, ◌∙◌}
+pub use Rattle.std.proofs.Common.{Bool, EachIndex, IfOk, IsSome, IsSomeAnd, List, MatchResult, None, Ok, OnErr, OnOk, Option, Result, Some, [], ap, arith, codes, drop, eq-eqb, false, get_or, inl, inr}
+pub use Rattle.std.proofs.Common.{is_some, length, map, max, min, nat_le, nat_lt, negsuc, option_and_then, pos, refl, rules, slice_index, suc, sym, take, true, zero, ℕ, ℤ, ◌∙◌}
 pub use Rattle.std.proofs.lemmas.Bool.{and_parts, cases_eq, cases_lt, eqb-true, ne_eqb}
 pub use Rattle.std.proofs.lemmas.Bool.Decides.{nat_tests}
 pub use Rattle.std.proofs.lemmas.Int.{to_z-of_z}

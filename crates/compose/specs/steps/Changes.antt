@@ -1,8 +1,7 @@
 -- What a call affects of what windows show, and where one of them shows something of it.
 use Rattle.std.specs.Prelude.{◌≤◌}
-use Rattle.compose.specs.Names.{ℕ, Bool, false, Option, Some, None, ⊤, option_map, Panels, Windows, HasPlace, WindowMap, Change, edits, shifts, edit_frame, edit_window, frame_shows_at}
-use Rattle.compose.specs.Names.{move_shows_at, follows_at, shows_at, window_if_topmost, Stacking, NewPanel, DelPanel, ShowPanel, HidePanel, TopPanel, BottomPanel, MovePanel, ReplacePanel, Reply}
-use Rattle.compose.specs.Names.{Panel, panel_number}
+use Rattle.compose.specs.Names.{ℕ, Bool, false, Option, Some, None, ⊤, option_map, Panels, Windows, HasPlace, WindowMap, Change, edits, shifts, edit_frame, edit_window, frame_shows_at, move_shows_at}
+use Rattle.compose.specs.Names.{follows_at, shows_at, window_if_topmost, Stacking, NewPanel, DelPanel, ShowPanel, HidePanel, TopPanel, BottomPanel, MovePanel, ReplacePanel, Reply, Panel, panel_number}
 use Rattle.compose.specs.declared.damaging.Affected.{Affected}
 use Rattle.compose.specs.declared.damaging.Affected.TheVariants.{Written, Moved}
 

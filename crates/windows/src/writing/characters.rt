@@ -2,8 +2,8 @@
 
 ghost use Rattle.std.specs.Prelude.{◌≡◌, ◌+◌, ◌<◌, ◌≤◌, ◌==◌, if◌then◌else◌, ◌&&◌};
 ghost use Rattle.windows.specs.{ℕ, length, slice_index, take, EachIndex, IsSome, Some, false, nat_lt, true, list_all, list_any, bits_of, written_glyph, AreSoundWindows, is_bad_character, frame_of};
-ghost use Rattle.windows.specs.{to_next_line, next_line_drawing, line_ended, line_ended_drawing, typed_in, typed_drawing, Writing, is_printable, windows, Wrote, its_frame, IsStateOf};
-ghost use Rattle.windows.specs.{window_in_state, CharacterPrinted, HasStateAndPlace, StepWrote, TextTyped};
+ghost use Rattle.windows.specs.{to_next_line, next_line_drawing, line_ended, line_ended_drawing, typed_in, typed_drawing, Writing, is_printable, windows, Wrote, its_frame, IsStateOf, window_in_state};
+ghost use Rattle.windows.specs.{CharacterPrinted, HasStateAndPlace, StepWrote, TextTyped};
 
 use crate::drawing::{clear_rest, delete_cell, insert_cell, move_up, set_cell};
 use crate::frame::lines_from;

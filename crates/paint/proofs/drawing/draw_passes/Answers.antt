@@ -1,7 +1,7 @@
 -- `draw_passes`: it draws each stroke in its pass, and the order doesn't matter.
 use Rattle.std.specs.Prelude.{◌≡◌, ◌≢◌, ◌+◌, ◌<◌, ◌≤◌, ◌∷◌, ◌++◌, if◌then◌else◌}
-use Rattle.paint.specs.{ℕ, zero, suc, List, [], length, get_or, inl, inr, sym, ap, ◌∙◌, subst, arith, add-one, append_assoc, nat_lt, filter, sum_by, cases_eq, cases_lt, eq-eqb, ne_eqb, lt-ltb}
-use Rattle.paint.specs.{le-ltb, sum_by-append, sum_by-cons, Seen, Picture, AreDrawn, in_passes, is_of, no_stroke, stroke_bytes, writes}
+use Rattle.paint.specs.{ℕ, zero, suc, List, [], length, get_or, inl, inr, sym, ap, ◌∙◌, subst, arith, add-one, append_assoc, nat_lt, filter, sum_by, cases_eq, cases_lt, eq-eqb, ne_eqb, lt-ltb, le-ltb}
+use Rattle.paint.specs.{sum_by-append, sum_by-cons, Seen, Picture, AreDrawn, in_passes, is_of, no_stroke, stroke_bytes, writes}
 use Rattle.paint.specs.declared.pen.Pen.{Pen}
 use Rattle.paint.specs.declared.strokes.Stroke.{Stroke}
 use Rattle.paint.proofs.PenSteps.{DrawsWithin-more}
