@@ -4,7 +4,7 @@ pub mod Owned
 pub mod Held
 pub mod Answers
 pub mod Numbers
-pub mod Called
+pub mod CalledFromC
 pub mod Lives
 pub mod Questions
 pub mod Lines
@@ -14,7 +14,7 @@ unfoldable pub use Owned.*
 unfoldable pub use Held.*
 unfoldable pub use Answers.*
 unfoldable pub use Numbers.*
-unfoldable pub use Called.*
+unfoldable pub use CalledFromC.*
 unfoldable pub use Lives.*
 unfoldable pub use Questions.*
 unfoldable pub use Lines.*

@@ -2,8 +2,8 @@
 //! list of its updates.
 #![tactic(auto)]
 
-use desk::{Attr, Calls, Counted, Fault, Refusal, Screen, Sink, WinId};
 use calls::Methods;
+use desk::{Attr, Calls, Counted, Fault, Refusal, Screen, Sink, WinId};
 use std::alloc::{AllocError, Global};
 
 /// The lines and the columns of the screen.
