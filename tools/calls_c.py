@@ -30,7 +30,7 @@ def exports(group, what, calls):
         fill(f'{said_first(what)}. Written by tools/calls from calls.table.', '//! '), '',
         'ghost use Rattle.world.specs.declared.call.Call.{Call};',
         f'ghost use Rattle.world.specs.declared.call.{group}.{{{group}}};',
-        f'ghost use Rattle.capi.specs.CalledFromC.{{{", ".join(said)}}};',
+        f'ghost use Rattle.capi.specs.Called.{{{", ".join(said)}}};',
         f'ghost use Rattle.capi.specs.Numbers.{{{", ".join(numbers)}}};',
         *(['ghost use Rattle.capi.specs.Answers.{attrs_of};'] if attrs else []), '',
         'use crate::answer::{Answer, attrs_of};' if attrs else 'use crate::answer::Answer;',

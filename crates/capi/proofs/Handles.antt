@@ -1,6 +1,5 @@
 -- The machine values of a handle, and what it owns. Assumes `Logic`.
-use Rattle.std.specs.Prelude.{◌≡◌, ◌∷◌, ◌++◌}
-use Rattle.capi.specs.{ℕ, List, [], refl, subst, dealloc_token-Testable, Option, box_owns, owned, token}
+use Rattle.std.proofs.Common.{◌≡◌, ℕ, List, [], ◌∷◌, ◌++◌, refl, subst}
 use seplogic.Ra.Ura.{Ura}
 use mir.Raw.{raw as bare}
 use mir.Val.{Val, vstruct, vcons, vnil, of_list}
@@ -21,7 +20,11 @@ use denote.Struct.Owning.{shape}
 use Rattle.core.proofs.atomic.Steps.{Ptr-Good}
 use Rattle.core.proofs.cell.Inside.{Good}
 use Rattle.std.specs.contracts.alloc.Global as heap
+use Rattle.std.proofs.GlobalToken.{dealloc_token-Testable}
+use Rattle.std.specs.declared.option.Option.{Option}
 use Rattle.std.specs.declared.option.Option.TheVariants.{None, Some}
+use Rattle.std_alloc.specs.Box.Ownership.{box_owns}
+use Rattle.capi.specs.Owned.{owned, token}
 use Rattle.capi.specs.contracts.handle.Handle as handle
 pub use Rattle.capi.specs.contracts.surface.Surface.{the_row as R}
 

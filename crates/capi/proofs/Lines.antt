@@ -1,7 +1,9 @@
 -- A buffer into which numbers are put one by one.
-use Rattle.std.specs.Prelude.{◌≡◌, ◌+◌, ◌<◌, ◌++◌}
-use Rattle.capi.specs.{ℕ, List, drop, length, map, take, arith, sym, ◌∙◌, get_or-map, length-map, paste_more, with_first}
+use Rattle.std.proofs.Common.{◌≡◌, ℕ, ◌+◌, ◌<◌, List, ◌++◌, drop, length, map, take, arith, sym, ◌∙◌}
+use Rattle.std.proofs.lemmas.List.{get_or-map, length-map}
+use Rattle.std.proofs.lemmas.List.Edits.{paste_more}
 use lib.ListN.{get_or, set}
+use Rattle.capi.specs.Lines.{with_first}
 
 -- one more number is put
 pub with_first_more : {X : Type 0} (f : X → ℕ) (buffer : List ℕ) (xs : List X) (k : ℕ) (d : X) → k < length buffer → k < length xs

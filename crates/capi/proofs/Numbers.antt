@@ -1,8 +1,11 @@
 -- No window and no panel has a number past the last that there may be.
-use Rattle.std.specs.Prelude.{◌≡◌, ◌<◌, ◌≤◌}
-use Rattle.capi.specs.{ℕ, Bool, false, is_some, Option, refl, arith, ⊎_elim, cases_lt, MatchOption, ⊤, MOST_PANELS, MOST_WINDOWS, Panels, AreSoundPanels, AreSoundWindows, IsSoundPanel, IsSoundWindow}
-use Rattle.capi.specs.{Window, WindowMap, Windows}
-use Rattle.std.proofs.Common.{Some, None}
+use Rattle.std.proofs.Common.{◌≡◌, ℕ, ◌<◌, ◌≤◌, Bool, false, is_some, Option, Some, None, refl, arith, ⊎_elim}
+use Rattle.std.proofs.lemmas.Bool.{cases_lt}
+use Rattle.std.specs.Prelude.{MatchOption, ⊤}
+use Rattle.cell.specs.declared.limits.TheConstants.{MOST_PANELS, MOST_WINDOWS}
+use Rattle.world.specs.PanelOrder.{Panels}
+use Rattle.world.specs.Sound.{AreSoundPanels, AreSoundWindows, IsSoundPanel, IsSoundWindow}
+use Rattle.world.specs.WindowMaps.{Window, WindowMap, Windows}
 
 no_window : (windows : Windows) (m : ℕ) (o : Option Window) → MatchOption o ⊤ (IsSoundWindow windows m) → MOST_WINDOWS < m → is_some o ≡ false
 no_window windows m None sound past = refl

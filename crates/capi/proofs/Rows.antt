@@ -1,9 +1,14 @@
 -- A line of a window or of the screen has the columns that it says, and so no more than fit in 16 bits.
-use Rattle.std.specs.Prelude.{◌≡◌, ◌<◌}
-use Rattle.capi.specs.{ℕ, Option, List, length, refl, arith, ap, subst, sym, ◌∙◌, option_map, length-map-range_with_len, Glyph, HasSize, Picture, line_of, Shown, line_shown, Window, WindowMap}
-use Rattle.capi.specs.{window_size}
-use Rattle.std.proofs.Common.{Some, None}
+use Rattle.std.proofs.Common.{◌≡◌, ◌<◌, ℕ, Option, Some, None, List, length, refl, arith, ap, subst, sym, ◌∙◌}
+use Rattle.std.specs.Option.{option_map}
+use Rattle.std.proofs.lemmas.List.FromFn.{length-map-range_with_len}
+use Rattle.cell.specs.Glyphs.{Glyph}
+use Rattle.cell.specs.Pictures.{HasSize, Picture, line_of}
+use Rattle.cell.specs.ShownCells.{Shown}
 use Rattle.cell.proofs.PictureLemmas.{length-line}
+use Rattle.world.specs.Rows.{line_shown}
+use Rattle.world.specs.WindowMaps.{Window, WindowMap}
+use Rattle.world.specs.calls.Queries.{window_size}
 
 line_width : (window : WindowMap) (w y lines columns : ℕ) (o : Option Window) → window w ≡ o → ◌≡◌ {A = Option (ℕ × ℕ)} (option_map (λ a. (a.lines, a.columns)) o) (Some (lines, columns))
     → (cells : List Glyph) → cells ≡ line_shown window w y → length cells ≡ columns

@@ -1,8 +1,11 @@
 -- What C gets for an answer to a call.
-use Rattle.std.specs.Prelude.{if◌then◌else◌, ◌==◌, ◌+◌, ◌*◌}
-use Rattle.capi.specs.Names.{ℕ, ℤ, pos, negsuc, true, false, Some, None, Result, Ok, Err, Refusal, Attr, Reply, Fault}
+use Rattle.std.specs.Prelude.{if◌then◌else◌, ◌==◌, ◌+◌, ◌*◌, ℕ, ℤ, pos, negsuc, true, false, Some, None, Result, Ok, Err}
+use Rattle.cell.specs.declared.refusal.Refusal.{Refusal}
 use Rattle.cell.specs.declared.refusal.Refusal.TheVariants as refusals
+use Rattle.cell.specs.declared.attr.Attr.{Attr}
+use Rattle.world.specs.declared.call.Reply.{Reply}
 use Rattle.world.specs.declared.call.Reply.TheVariants as replies
+use Rattle.desk.specs.declared.screen.Fault.{Fault}
 use Rattle.desk.specs.declared.screen.Fault.TheVariants as faults
 use Rattle.capi.specs.declared.answer.Answer.{Answer}
 

@@ -1,6 +1,8 @@
 -- The screen of an open handle.
-use Rattle.std.specs.Prelude.{◌≡◌}
-use Rattle.capi.specs.Names.{ℕ, List, [], false, is_damaged_line, world, first_world, first_painter}
+use Rattle.std.specs.Prelude.{◌≡◌, ℕ, List, [], false}
+use Rattle.compose.specs.Desks.{is_damaged_line, world}
+use Rattle.world.specs.Worlds.{first_world}
+use Rattle.paint.specs.Doupdates.{first_painter}
 use Rattle.capi.specs.declared.surface.Surface.{Surface}
 
 -- the bytes that the screen sent and C has not taken yet

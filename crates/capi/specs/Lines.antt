@@ -1,8 +1,18 @@
 -- The cells of a line, as C gets them.
 -- ECMA-48, 5th edition, 8.3.117 SGR: the colours 0 to 7, and 9 for the default.
-use Rattle.std.specs.Prelude.{◌≡◌, ◌++◌, ◌+◌, ◌*◌, if◌then◌else◌}
-use Rattle.capi.specs.Names.{ℕ, List, drop, length, map, min, nat_lt, take, Option, Some, None, Result, Ok, Err, option_map_or, Glyph, glyph_bits, line_of, Shown, NoSuchWindow, OutsideWindow}
-use Rattle.capi.specs.Names.{line_shown, WindowMap, Refusal, World, world, Refused}
+use Rattle.std.specs.Prelude.{◌≡◌, ◌++◌, ◌+◌, ◌*◌, ℕ, List, drop, if◌then◌else◌, length, map, min, nat_lt, take, Option, Some, None, Result, Ok, Err}
+use Rattle.std.specs.Option.{option_map_or}
+use Rattle.cell.specs.Glyphs.{Glyph}
+use Rattle.cell.specs.Packing.{glyph_bits}
+use Rattle.cell.specs.Pictures.{line_of}
+use Rattle.cell.specs.ShownCells.{Shown}
+use Rattle.cell.specs.declared.refusal.Refusal.TheVariants.{NoSuchWindow, OutsideWindow}
+use Rattle.world.specs.Rows.{line_shown}
+use Rattle.world.specs.WindowMaps.{WindowMap}
+use Rattle.cell.specs.declared.refusal.Refusal.{Refusal}
+use Rattle.world.specs.Worlds.{World}
+use Rattle.compose.specs.Desks.{world}
+use Rattle.desk.specs.declared.screen.Fault.TheVariants.{Refused}
 use Rattle.capi.specs.declared.answer.Answer.{Answer}
 use Rattle.capi.specs.declared.surface.Surface.{Surface}
 use Rattle.capi.specs.Answers.{closed, of_end, ok}

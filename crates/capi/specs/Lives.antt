@@ -1,6 +1,9 @@
 -- Opening a screen, taking its bytes, and forgetting what its terminal shows.
-use Rattle.std.specs.Prelude.{◌≡◌, ◌≤◌, ◌<◌, ◌++◌, ◌⊎◌}
-use Rattle.capi.specs.Names.{ℕ, List, [], drop, length, Option, Some, None, Err, Refusal, NoMemory, new_refusal, Refused}
+use Rattle.std.specs.Prelude.{◌≡◌, ◌≤◌, ◌<◌, ◌++◌, ◌⊎◌, ℕ, List, [], drop, length, Option, Some, None, Err}
+use Rattle.cell.specs.declared.refusal.Refusal.{Refusal}
+use Rattle.cell.specs.declared.refusal.Refusal.TheVariants.{NoMemory}
+use Rattle.world.specs.calls.Making.{new_refusal}
+use Rattle.desk.specs.declared.screen.Fault.TheVariants.{Refused}
 use Rattle.capi.specs.declared.answer.Answer.{Answer}
 use Rattle.capi.specs.declared.surface.Surface.{Surface}
 use Rattle.capi.specs.Answers.{of_end, ok}

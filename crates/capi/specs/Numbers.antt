@@ -1,8 +1,9 @@
 -- Numbers of 32 bits, as C passes them, for calls that take fewer bits. The greatest number of 16 bits stands for all
 -- that are greater. No window, panel, line, column, size, colour pair or colour has it; and no call takes the character
 -- 255, which stands for all past it.
-use Rattle.std.specs.Prelude.{if◌then◌else◌, ◌==◌}
-use Rattle.capi.specs.Names.{ℕ, ℤ, pos, negsuc, min, Option, Some, None, WinId, PanelId}
+use Rattle.std.specs.Prelude.{ℕ, ℤ, pos, negsuc, min, if◌then◌else◌, ◌==◌, Option, Some, None}
+use Rattle.cell.specs.declared.window.WinId.{WinId}
+use Rattle.world.specs.declared.panel.PanelId.{PanelId}
 
 abbrev pub saturated : ℕ → ℕ
 saturated n = min n 65535

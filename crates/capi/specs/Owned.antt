@@ -1,8 +1,10 @@
 -- What a handle owns: nothing where its pointer is null, and else a box with a surface.
-use Rattle.capi.specs.Names.{Option, Some, None, ghosts, box_owns}
+use Rattle.std.specs.Prelude.{Option, Some, None}
 use base.Fml.{Fml, ftrue, fex}
 use mir.Syntax.{Ty}
 use denote.RawPtr.{Ptr, block_ptr, null_ptr}
+use Rattle.std.specs.contracts.impls.GlobalAllocator.TheImpl.{ghosts}
+use Rattle.std_alloc.specs.Box.Ownership.{box_owns}
 use Rattle.capi.specs.contracts.surface.Surface.{the_row}
 
 -- the right to free a block of the C library's heap

@@ -1,9 +1,26 @@
 -- What C asks of a screen beside the calls, and what it gets.
 -- X/Open Curses Issue 7: wattr_get, getbkgd. ncurses, curs_opaque(3X): is_cleared, is_pad, is_scrollok, wgetscrreg.
-use Rattle.std.specs.Prelude.{◌≡◌, ◌<◌, ◌∷◌}
-use Rattle.capi.specs.Names.{ℕ, [], true, false, is_none, is_some, Bool, IfOk, MatchOption, Option, Some, None, Result, Ok, Err, ok_or, unwrap_or, option_map, result_err, bits_of, first_of, Refusal}
-use Rattle.capi.specs.Names.{NoSuchWindow, STANDARD, WinId, Panels, is_in_panel, WindowMap, World, missing_window, Reply, Number, TwoNumbers, Cell, Flag, Panel, PanelId, Settings, as_reply}
-use Rattle.capi.specs.Names.{parent_answer, world, Refused}
+use Rattle.std.specs.Prelude.{◌≡◌, ◌<◌, ℕ, ◌∷◌, [], true, false, is_none, is_some, Bool, IfOk, MatchOption, Option, Some, None, Result, Ok, Err, ok_or, unwrap_or}
+use Rattle.std.specs.Option.{option_map}
+use Rattle.std.specs.Result.{result_err}
+use Rattle.cell.specs.Attributes.{bits_of}
+use Rattle.cell.specs.Refusals.{first_of}
+use Rattle.cell.specs.declared.refusal.Refusal.{Refusal}
+use Rattle.cell.specs.declared.refusal.Refusal.TheVariants.{NoSuchWindow}
+use Rattle.cell.specs.declared.window.TheConstants.WinId.{STANDARD}
+use Rattle.cell.specs.declared.window.WinId.{WinId}
+use Rattle.world.specs.PanelOrder.{Panels, is_in_panel}
+use Rattle.world.specs.WindowMaps.{WindowMap}
+use Rattle.world.specs.Worlds.{World}
+use Rattle.world.specs.calls.Rules.{missing_window}
+use Rattle.world.specs.declared.call.Reply.{Reply}
+use Rattle.world.specs.declared.call.Reply.TheVariants.{Number, TwoNumbers, Cell, Flag, Panel}
+use Rattle.world.specs.declared.panel.PanelId.{PanelId}
+use Rattle.world.specs.declared.settings.Settings.{Settings}
+use Rattle.calls.specs.Methods.{as_reply}
+use Rattle.grids.specs.Questions.{parent_answer}
+use Rattle.compose.specs.Desks.{world}
+use Rattle.desk.specs.declared.screen.Fault.TheVariants.{Refused}
 use Rattle.capi.specs.declared.answer.Answer.{Answer}
 use Rattle.capi.specs.declared.question.Question.{Question}
 use Rattle.capi.specs.declared.question.Question.TheVariants as questions

@@ -1,8 +1,15 @@
 //! A handle for C: the pointer of a box with a surface, or null.
 
-ghost use Rattle.std.specs.Prelude.{◌≡◌};
-ghost use Rattle.capi.specs.{IfOk, None, Option, Some, true, MatchOption, RefusedBy, new_refusal, is_query, Asked, Called, Ended, IsBlank, LineTold, screen_line, window_line, Forgotten, Opened};
-ghost use Rattle.capi.specs.{Taken, Told};
+ghost use Rattle.std.specs.Prelude.{◌≡◌, IfOk, None, Option, Some, true};
+ghost use Rattle.std.specs.Option.{MatchOption};
+ghost use Rattle.cell.specs.Refusals.{RefusedBy};
+ghost use Rattle.world.specs.calls.Making.{new_refusal};
+ghost use Rattle.calls.specs.Queries.{is_query};
+ghost use Rattle.capi.specs.Called.{Asked, Called, Ended};
+ghost use Rattle.capi.specs.Held.{IsBlank};
+ghost use Rattle.capi.specs.Lines.{LineTold, screen_line, window_line};
+ghost use Rattle.capi.specs.Lives.{Forgotten, Opened, Taken};
+ghost use Rattle.capi.specs.Questions.{Told};
 ghost use Rattle.capi.specs.declared.surface.Surface.{Surface as TheSurface};
 
 use crate::answer::{Answer, refusal_answer};

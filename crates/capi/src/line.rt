@@ -1,7 +1,10 @@
 //! The cells of a line, as C gets them: a number each.
 
-ghost use Rattle.std.specs.Prelude.{◌≡◌, ◌<◌, ◌^◌};
-ghost use Rattle.capi.specs.{ℕ, Err, IfOk, MatchResult, Ok, length, map, glyph_bits, world, ok, colour_number, line_answer, put_into, shown_answer, shown_number};
+ghost use Rattle.std.specs.Prelude.{◌≡◌, ◌<◌, ◌^◌, ℕ, Err, IfOk, MatchResult, Ok, length, map};
+ghost use Rattle.cell.specs.Packing.{glyph_bits};
+ghost use Rattle.compose.specs.Desks.{world};
+ghost use Rattle.capi.specs.Answers.{ok};
+ghost use Rattle.capi.specs.Lines.{colour_number, line_answer, put_into, shown_answer, shown_number};
 
 use crate::answer::Answer;
 use bitflags::Flags;

@@ -2,7 +2,7 @@
 //! greatest, which each call refuses.
 
 ghost use Rattle.std.specs.Prelude.{◌≡◌};
-ghost use Rattle.capi.specs.{panel_of, panel_or_none_of, saturated, saturated_character, saturated_signed, window_of};
+ghost use Rattle.capi.specs.Numbers.{panel_of, panel_or_none_of, saturated, saturated_character, saturated_signed, window_of};
 
 use desk::{PanelId, WinId};
 

@@ -1,7 +1,13 @@
 //! What C asks of a screen beside the calls, and gets in one or two numbers.
 
-ghost use Rattle.std.specs.Prelude.{◌≡◌, ◌∷◌};
-ghost use Rattle.capi.specs.{[], IfOk, option_map, result_err, as_reply, first_of, missing_window, world, IsAnswered, IsNext, IsPanelOf, is_panel, is_window, pad_answer, setting_reply, settings_of};
+ghost use Rattle.std.specs.Prelude.{◌≡◌, ◌∷◌, [], IfOk};
+ghost use Rattle.std.specs.Option.{option_map};
+ghost use Rattle.std.specs.Result.{result_err};
+ghost use Rattle.calls.specs.Methods.{as_reply};
+ghost use Rattle.cell.specs.Refusals.{first_of};
+ghost use Rattle.world.specs.calls.Rules.{missing_window};
+ghost use Rattle.compose.specs.Desks.{world};
+ghost use Rattle.capi.specs.Questions.{IsAnswered, IsNext, IsPanelOf, is_panel, is_window, pad_answer, setting_reply, settings_of};
 
 use bitflags::Flags;
 use cell::{MOST_PANELS, MOST_WINDOWS};

@@ -1,7 +1,14 @@
 //! A screen whose bytes are kept until C takes them.
 
-ghost use Rattle.std.specs.Prelude.{◌≡◌, ◌≤◌, ◌<◌, ◌++◌};
-ghost use Rattle.capi.specs.{[], drop, length, IfOk, None, Some, true, RefusedBy, new_refusal, CallMade, is_query, Makes, IsBlank, pending, LineTold, screen_line, window_line, Told};
+ghost use Rattle.std.specs.Prelude.{◌≡◌, ◌≤◌, ◌<◌, ◌++◌, [], drop, length, IfOk, None, Some, true};
+ghost use Rattle.cell.specs.Refusals.{RefusedBy};
+ghost use Rattle.world.specs.calls.Making.{new_refusal};
+ghost use Rattle.desk.specs.Methods.{CallMade};
+ghost use Rattle.calls.specs.Queries.{is_query};
+ghost use Rattle.capi.specs.Called.{Makes};
+ghost use Rattle.capi.specs.Held.{IsBlank, pending};
+ghost use Rattle.capi.specs.Lines.{LineTold, screen_line, window_line};
+ghost use Rattle.capi.specs.Questions.{Told};
 
 use crate::answer::{Answer, refusal_answer};
 use crate::line::{line_of_screen, line_of_window, tell_line};

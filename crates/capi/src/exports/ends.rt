@@ -1,7 +1,9 @@
 //! The two calls that C programs make most, with X/Open's answer in place of a status: 0 where it is done, and else -1.
 //! They take the screen last, so that the arguments of X/Open's calls stay in their registers.
 
-ghost use Rattle.capi.specs.{Call, Writing, Ended};
+ghost use Rattle.world.specs.declared.call.Call.{Call};
+ghost use Rattle.world.specs.declared.call.Writing.{Writing};
+ghost use Rattle.capi.specs.Called.{Ended};
 
 use crate::handle::Handle;
 use crate::surface::Outlet;

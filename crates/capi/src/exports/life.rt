@@ -1,7 +1,8 @@
 //! Opening a screen, taking its bytes, and closing it.
 
-ghost use Rattle.std.specs.Prelude.{◌≡◌};
-ghost use Rattle.capi.specs.{None, Forgotten, Opened, Taken, saturated};
+ghost use Rattle.std.specs.Prelude.{◌≡◌, None};
+ghost use Rattle.capi.specs.Lives.{Forgotten, Opened, Taken};
+ghost use Rattle.capi.specs.Numbers.{saturated};
 
 use crate::answer::Answer;
 use crate::handle::Handle;

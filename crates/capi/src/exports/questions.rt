@@ -1,7 +1,9 @@
 //! What is asked beside the calls.
 
 ghost use Rattle.std.specs.Prelude.{◌≡◌};
-ghost use Rattle.capi.specs.{LineTold, screen_line, window_line, panel_of, saturated, window_of, Told};
+ghost use Rattle.capi.specs.Lines.{LineTold, screen_line, window_line};
+ghost use Rattle.capi.specs.Numbers.{panel_of, saturated, window_of};
+ghost use Rattle.capi.specs.Questions.{Told};
 ghost use Rattle.capi.specs.declared.question.Question.TheVariants.{IsPad, NextPanel, NextWindow, PanelOf, Parent, Setting as SettingOf};
 ghost use Rattle.capi.specs.declared.question.Setting.TheVariants.{Attributes, Background, Clears, Region, Scrolls};
 

@@ -3,7 +3,7 @@
 
 ghost use Rattle.world.specs.declared.call.Call.{Call};
 ghost use Rattle.world.specs.declared.call.Copying.{Copying};
-ghost use Rattle.capi.specs.CalledFromC.{Asked, Called};
+ghost use Rattle.capi.specs.Called.{Asked, Called};
 ghost use Rattle.capi.specs.Numbers.{saturated, window_of};
 
 use crate::answer::Answer;

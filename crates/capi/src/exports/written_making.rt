@@ -2,7 +2,7 @@
 
 ghost use Rattle.world.specs.declared.call.Call.{Call};
 ghost use Rattle.world.specs.declared.call.Making.{Making};
-ghost use Rattle.capi.specs.CalledFromC.{Called};
+ghost use Rattle.capi.specs.Called.{Called};
 ghost use Rattle.capi.specs.Numbers.{saturated, window_of};
 
 use crate::answer::Answer;

@@ -3,7 +3,7 @@
 
 ghost use Rattle.world.specs.declared.call.Call.{Call};
 ghost use Rattle.world.specs.declared.call.Stacking.{Stacking};
-ghost use Rattle.capi.specs.CalledFromC.{Asked, Called};
+ghost use Rattle.capi.specs.Called.{Asked, Called};
 ghost use Rattle.capi.specs.Numbers.{panel_of, panel_or_none_of, saturated, window_of};
 
 use crate::answer::Answer;

@@ -2,7 +2,7 @@
 
 ghost use Rattle.world.specs.declared.call.Call.{Call};
 ghost use Rattle.world.specs.declared.call.Query.{Query};
-ghost use Rattle.capi.specs.CalledFromC.{Asked};
+ghost use Rattle.capi.specs.Called.{Asked};
 ghost use Rattle.capi.specs.Numbers.{window_of};
 
 use crate::answer::Answer;

@@ -2,7 +2,7 @@
 
 ghost use Rattle.world.specs.declared.call.Call.{Call};
 ghost use Rattle.world.specs.declared.call.Writing.{Writing};
-ghost use Rattle.capi.specs.CalledFromC.{Called};
+ghost use Rattle.capi.specs.Called.{Called};
 ghost use Rattle.capi.specs.Numbers.{saturated, saturated_character, saturated_signed, window_of};
 ghost use Rattle.capi.specs.Answers.{attrs_of};
 

@@ -1,5 +1,5 @@
 -- The row has the columns of the screen.
-use Rattle.capi.specs.{arith}
+use Rattle.std.proofs.Common.{arith}
 use Rattle.capi.proofs.Rows.{screen-width}
 use Rattle.capi.proofs.line.line_of_screen.Goals as goal
 

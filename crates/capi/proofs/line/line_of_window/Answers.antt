@@ -1,7 +1,8 @@
 -- The row has the columns of its window.
-use Rattle.std.specs.Prelude.{◌≡◌}
-use Rattle.capi.specs.{ℕ, Option, sym, subst, ◌∙◌, WindowTable, windows, window_size, world}
-use Rattle.std.proofs.Common.{Some}
+use Rattle.std.proofs.Common.{◌≡◌, ℕ, Option, Some, sym, subst, ◌∙◌}
+use Rattle.grids.specs.Tables.{WindowTable, windows}
+use Rattle.world.specs.calls.Queries.{window_size}
+use Rattle.compose.specs.Desks.{world}
 use Rattle.capi.proofs.Rows.{line-width}
 use Rattle.capi.proofs.line.line_of_window.Goals as goal
 

@@ -1,5 +1,4 @@
-use Rattle.std.specs.Prelude.{◌<◌}
-use Rattle.capi.specs.{arith, ap, ◌∙◌, length, slice_set}
+use Rattle.std.proofs.Common.{arith, ap, ◌∙◌, ◌<◌, length, slice_set}
 use Rattle.capi.proofs.Lines.{with_first_more}
 use Rattle.capi.proofs.line.put_cells.Goals as goal
 

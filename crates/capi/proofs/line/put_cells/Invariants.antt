@@ -1,5 +1,5 @@
-use Rattle.std.specs.Prelude.{◌≡◌}
-use Rattle.capi.specs.{map, with_first}
+use Rattle.std.proofs.Common.{◌≡◌, map}
+use Rattle.capi.specs.Lines.{with_first}
 use Rattle.capi.proofs.line.put_cells.Given as goal
 
 abbrev pub invariant-loop-k : goal.invariant-loop-k

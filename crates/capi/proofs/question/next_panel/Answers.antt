@@ -1,5 +1,8 @@
 -- All numbers that a panel can have were looked at.
-use Rattle.capi.specs.{arith, MOST_PANELS, world, is_panel}
+use Rattle.std.proofs.Common.{arith}
+use Rattle.cell.specs.declared.limits.TheConstants.{MOST_PANELS}
+use Rattle.compose.specs.Desks.{world}
+use Rattle.capi.specs.Questions.{is_panel}
 use Rattle.capi.proofs.Numbers.{no-panel, none-after}
 use Rattle.capi.proofs.question.next_panel.Goals as goal
 

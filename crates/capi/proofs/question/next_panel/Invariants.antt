@@ -1,5 +1,6 @@
-use Rattle.std.specs.Prelude.{◌≡◌, ◌<◌}
-use Rattle.capi.specs.{ℕ, false, world, is_panel}
+use Rattle.std.proofs.Common.{◌≡◌, ℕ, ◌<◌, false}
+use Rattle.compose.specs.Desks.{world}
+use Rattle.capi.specs.Questions.{is_panel}
 use Rattle.capi.proofs.question.next_panel.Given as goal
 
 -- none of those that were looked at is there

@@ -1,5 +1,8 @@
 -- All numbers that a window can have were looked at.
-use Rattle.capi.specs.{arith, MOST_WINDOWS, world, is_window}
+use Rattle.std.proofs.Common.{arith}
+use Rattle.cell.specs.declared.limits.TheConstants.{MOST_WINDOWS}
+use Rattle.compose.specs.Desks.{world}
+use Rattle.capi.specs.Questions.{is_window}
 use Rattle.capi.proofs.Numbers.{no-window, none-after}
 use Rattle.capi.proofs.question.next_window.Goals as goal
 

@@ -1,6 +1,5 @@
 -- The same box is put back.
-use Rattle.capi.specs.{sym, ap, ◌∙◌}
-use Rattle.std.proofs.Common.{Some}
+use Rattle.std.proofs.Common.{Some, sym, ap, ◌∙◌}
 use Rattle.capi.proofs.handle.Handle.ask.Goals as goal
 
 pub returns-in-Some : goal.returns-in-Some

@@ -1,5 +1,4 @@
-use Rattle.capi.specs.{sym, ap, ◌∙◌}
-use Rattle.std.proofs.Common.{Some}
+use Rattle.std.proofs.Common.{Some, sym, ap, ◌∙◌}
 use Rattle.capi.proofs.handle.Handle.call.Goals as goal
 
 pub returns-in-Some : goal.returns-in-Some

@@ -1,6 +1,5 @@
 -- `empty` puts the two fields together, and owns nothing at null.
-use Rattle.std.specs.Prelude.{◌≡◌, ◌∷◌}
-use Rattle.capi.specs.{[], refl, proved_at, leaves}
+use Rattle.std.proofs.Common.{◌≡◌, [], ◌∷◌, refl}
 use mir.Val.{Val}
 use base.Logic.{SProp, emp}
 use base.Fml.{ftrue}
@@ -13,6 +12,7 @@ use contract.Running.{tables}
 use denote.RawPtr.{null_ptr, ptr_val}
 use denote.Steps.{nothing}
 use denote.Triple.Walked.{Stays, walk_of}
+use Rattle.std.proofs.raw_atomic.Walks.{proved_at, leaves}
 use Rattle.std.specs.declared.option.Option.TheVariants.{None}
 use Rattle.capi.proofs.Handles.{one, handle_good, handle_in}
 use Rattle.capi.specs.contracts.handle.Handle.empty as f

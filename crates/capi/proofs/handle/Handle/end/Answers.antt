@@ -1,6 +1,7 @@
 use mir.Syntax.{w32}
 use mir.Val.{SFits}
-use Rattle.capi.specs.{◌∙◌, rules, to_z-of_z}
+use Rattle.std.proofs.Common.{◌∙◌, rules}
+use Rattle.std.proofs.lemmas.Int.{to_z-of_z}
 use Rattle.capi.proofs.handle.Handle.end.Goals as goal
 
 pub returns : goal.returns

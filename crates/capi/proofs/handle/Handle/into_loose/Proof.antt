@@ -1,6 +1,5 @@
 -- `into_loose` tests the pointer, and moves the box out where it is not null.
-use Rattle.std.specs.Prelude.{◌≡◌, ◌∷◌, ◌++◌}
-use Rattle.capi.specs.{List, [], refl, sym, subst, lit<, proved_at, leaves, ghosts}
+use Rattle.std.proofs.Common.{◌≡◌, List, [], ◌∷◌, ◌++◌, refl, sym, subst, lit<}
 use mir.Val.{Val, vptr, vcons, vnil}
 use base.Logic.{SProp, ent, emp, id⊢}
 use base.Fml.{ftrue}
@@ -25,6 +24,8 @@ use Rattle.core.proofs.atomic.Steps.{Ptr-Good}
 use Rattle.core.proofs.cell.Inside.{Good, one}
 use Rattle.core.proofs.option.Made.{Some-of, none_of}
 use Rattle.std.proofs.alloc.Global.TheLaws as heap_laws
+use Rattle.std.proofs.raw_atomic.Walks.{proved_at, leaves}
+use Rattle.std.specs.contracts.impls.GlobalAllocator.TheImpl.{ghosts}
 use Rattle.std_alloc.proofs.ResultValues.{and_tt}
 use Rattle.loose.proofs.Values.{both, Loose, loose_good, loose_in}
 use Rattle.capi.proofs.Handles.{R, Z, Row, one as only_field, handle_good, handle_out, either}

@@ -1,4 +1,4 @@
-use Rattle.capi.specs.{inl}
+use Rattle.std.proofs.Common.{inl}
 use Rattle.capi.proofs.handle.Handle.open.Goals as goal
 
 pub returns-in-Ok : goal.returns-in-Ok

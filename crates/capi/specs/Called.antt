@@ -1,6 +1,10 @@
 -- What a call from C does to a handle. This file has the one relation of a call, for all calls.
-use Rattle.std.specs.Prelude.{◌≡◌}
-use Rattle.capi.specs.Names.{ℤ, Option, Some, None, Result, Call, Reply, Fault, CallMade, Ghosts}
+use Rattle.std.specs.Prelude.{◌≡◌, ℤ, Option, Some, None, Result}
+use Rattle.world.specs.declared.call.Call.{Call}
+use Rattle.world.specs.declared.call.Reply.{Reply}
+use Rattle.desk.specs.declared.screen.Fault.{Fault}
+use Rattle.desk.specs.Methods.{CallMade}
+use Rattle.streams.specs.declared.sink.Sink.{Ghosts}
 use Rattle.capi.specs.Outlets.{Outlet}
 use Rattle.capi.specs.declared.answer.Answer.{Answer}
 use Rattle.capi.specs.declared.surface.Surface.{Surface}
