@@ -5,26 +5,29 @@ pub use Rattle.cell.specs.Refusals.{refusal_text}
 pub use Rattle.cell.specs.declared.attr.Attr.{Attr}
 pub use Rattle.cell.specs.declared.refusal.Refusal.{Refusal}
 pub use Rattle.cell.specs.declared.window.WinId.{WinId}
-pub use Rattle.std.proofs.Common.{Bool, Err, IfErr, IfSome, IsOk, List, None, Ok, OnOk, Option, Result, Some, [], add-one, ap, append-nil, append_assoc, arith, codes, decimal, drop, drop-cons}
-pub use Rattle.std.proofs.Common.{false, find, get_or, is_err, is_some, length, length-append, length-drop, length-take, map, min, nat_le, nat_lt, not, option_and_then, option_map, pos, position}
-pub use Rattle.std.proofs.Common.{pow-suc, refl, rules, slice_get, slice_index, slice_index_or, suc, sym, take, true, zero, ℕ, ℤ, ◌∙◌}
+pub use Rattle.std.proofs.Common.{Bool, Err, IfErr, IfSome, IsOk, List, None, Ok, OnOk, Option, Result, Some, [], add-one, ap, append-nil, append_assoc, arith, below_more, codes, decimal, drop}
+pub use Rattle.std.proofs.Common.{drop-cons, eq-eqb, eqb, false, find, get_or, is_err, is_some, length, length-append, length-drop, length-take, map, min, nat_le, nat_lt, not, option_and_then}
+pub use Rattle.std.proofs.Common.{option_map, pos, position, pow-suc, refl, rules, slice_get, slice_index, slice_index_or, suc, sym, take, take-take, true, w8, zero, ℕ, ℤ, ◌∙◌}
 pub use Rattle.std.proofs.KnownBytes.{Consumes-nil, Consumes-trans}
-pub use Rattle.std.proofs.lemmas.Bool.{eqb-true}
+pub use Rattle.std.proofs.Math.Seq.{take-add}
+pub use Rattle.std.proofs.lemmas.Bool.{cases_lt, eqb-true}
 pub use Rattle.std.proofs.lemmas.Bool.Decides.{nat_tests}
 pub use Rattle.std.proofs.lemmas.Grind.{common_steps}
 pub use Rattle.std.proofs.lemmas.Int.Digits.{digits_value_more}
-pub use Rattle.std.proofs.lemmas.List.{drop-drop, drop-take, drop_all, get_or-map, take-append-drop, take_all}
-pub use Rattle.std.proofs.lemmas.List.Folds.{list_all_more, list_any-append}
+pub use Rattle.std.proofs.lemmas.List.{drop-drop, drop-take, drop_all, get_or-drop, get_or-map, get_or-take, take-append-drop, take_all, take_rest}
+pub use Rattle.std.proofs.lemmas.List.Folds.{list_all-append, list_all_at, list_all_more, list_any-append}
 pub use Rattle.std.proofs.lemmas.List.Quantifiers.{position-Some}
 pub use Rattle.std.proofs.lemmas.List.Splits.{join_with_byte-slice_split, length-slice_split, slice_split_first, slice_split_none}
-pub use Rattle.std.proofs.lemmas.List.Sums.{fails_before_first, position_or_len_is, prefix_len-le-length}
+pub use Rattle.std.proofs.lemmas.List.Sums.{AllPass-from_list_all, fails_before_first, passes_at_first, position_or_len_is, prefix_len-le-length}
+pub use Rattle.std.proofs.lemmas.Simd.{bitmask_splat, length-chunk, none_from_empty_mask, run_in_chunk_fails, run_in_chunk_le, run_in_chunk_stops, trailing_mask_l}
 pub use Rattle.std.proofs.lemmas.Slice.Eq.{bytes_eq-Decides}
 pub use Rattle.std.specs.Bool.{OnTrue}
 pub use Rattle.std.specs.Borrow.{Bor}
 pub use Rattle.std.specs.Char.{is_ascii_digit}
 pub use Rattle.std.specs.Io.KnownBytes.{Appends, Consumes, IsAtEnd}
-pub use Rattle.std.specs.List.{flat_map, join_with_byte, list_all, list_any, position_or_len, slice_split}
+pub use Rattle.std.specs.List.{after_first, before_first, flat_map, join_with_byte, list_all, list_any, position_or_len, prefix_len, slice_split}
 pub use Rattle.std.specs.Option.{option_map_or}
+pub use Rattle.std.specs.Simd.Lanes.{chunk, mask_l}
 pub use Rattle.std.specs.Str.{bytes_eq}
 pub use Rattle.std.specs.Str.Parse.{digits_value}
 pub use Rattle.streams.specs.Counts.{count_after}

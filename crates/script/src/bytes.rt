@@ -7,6 +7,7 @@ ghost use Rattle.script.specs.{line_failed, met_end, position_or_len, MovesBytes
 use crate::limits::LONGEST_LINE;
 use arrayvec::ArrayVec;
 use std::marker::Model;
+use std::simd::prelude::*;
 use streams::{Source, append};
 
 /// How many bytes are read at once, at most. No line among them is too long.
@@ -30,11 +31,49 @@ pub enum LineEnd {
     ReadFailed,
 }
 
+/// How many bytes are looked through at once.
+const LANES: usize = 16;
+
+/// How many of the bytes that are looked through at once come before a newline: all, where none is one.
+fn before_newline(text: &[u8], from: usize) -> usize
+    requires { from + LANES ≤ length text.now }
+    ensures within { result ≤ LANES }
+    ensures none { (k : ℕ) → from ≤ k → k < from + result → is_newline (slice_index text.now k) ≡ false }
+    ensures found { result < LANES → is_newline (slice_index text.now (from + result)) ≡ true }
+{
+    let newlines = u8x16::from_slice(&text[from..])
+        .simd_eq(u8x16::splat(b'\n'))
+        .to_bitmask();
+    if newlines == 0 {
+        LANES
+    } else {
+        newlines.trailing_zeros() as usize
+    }
+}
+
+/// Where the first newline is of a few bytes.
+fn newline_of_few(text: &[u8]) -> Option<usize>
+    ensures { result ≡ position is_newline text.now }
+{
+    text.iter().position(|b| *b == b'\n')
+}
+
 /// Where the first newline is.
 fn first_newline(text: &[u8]) -> Option<usize>
     ensures { result ≡ position is_newline text.now }
 {
-    text.iter().position(|b| *b == b'\n')
+    let mut from = 0;
+    while text.len() - from >= LANES {
+        let before = before_newline(text, from);
+        if before < LANES {
+            return Some(from + before);
+        }
+        from += LANES;
+    }
+    match newline_of_few(&text[from..]) {
+        Some(at) => Some(from + at),
+        None => None,
+    }
 }
 
 /// How many bytes come before the first newline: all, where there is none.

@@ -1,8 +1,8 @@
 //! Numbers, attributes and flags as a script has them.
 
 ghost use Rattle.std.specs.Prelude.{◌≡◌, ◌≤◌, ◌<◌, ◌∷◌};
-ghost use Rattle.script.specs.{length, take, slice_index, IfSome, None, true, false, is_ascii_digit, list_all, slice_split, is_space, pieces_of, DigitsSoFar, attributes_of, flag_of, hex_byte};
-ghost use Rattle.script.specs.{hex_value, negative, number_or_none, number_up_to, signed_number};
+ghost use Rattle.script.specs.{length, take, slice_index, IfSome, None, true, false, is_ascii_digit, list_all, slice_split, is_space, pieces_of, DigitsSoFar, NextNumber, attributes_of, flag_of};
+ghost use Rattle.script.specs.{hex_byte, hex_value, negative, number_or_none, number_up_to, signed_number};
 
 use crate::limits::{ALL_ATTRIBUTES, GREATEST_NUMBER, GREATEST_SIGNED, MOST_DIGITS};
 
@@ -56,6 +56,66 @@ pub fn number_up_to(most: u16, piece: &[u8]) -> Option<u16>
         return None;
     }
     plain_number(most, piece, value, count)
+}
+
+/// What is after the digits at the beginning of a text: a space and more of it, or nothing.
+fn after_digits(text: &[u8], count: usize) -> Option<Option<&[u8]>>
+    requires digits { list_all is_ascii_digit (take count text.now) ≡ true }
+    requires within { count ≤ length text.now }
+    ensures split { IfSome result (λ after. slice_split is_space text.now ≡ take count text.now ∷ pieces_of after) }
+    ensures short { IfSome result (λ after. IfSome after (λ rest. length rest.now ≤ length text.now)) }
+    ensures other { result ≡ None → (count < length text.now) × (is_space (slice_index text.now count) ≡ false) }
+{
+    if count == text.len() {
+        Some(None)
+    } else if text[count] == b' ' {
+        Some(Some(&text[count + 1..]))
+    } else {
+        None
+    }
+}
+
+/// What the digit says that a text begins with, if a space or nothing follows it.
+fn single_digit(text: &[u8]) -> Option<u32>
+    ensures { IfSome result (λ value. DigitsSoFar text.now 1 value × (1 ≤ length text.now)
+        × (1 < length text.now → is_ascii_digit (slice_index text.now 1) ≡ false)) }
+{
+    let first = *text.first()?;
+    if !first.is_ascii_digit() || (text.len() > 1 && text[1] != b' ') {
+        return None;
+    }
+    Some(u32::from(first - b'0'))
+}
+
+/// The number of the first digits of a text, if it is one and a space or nothing follows, and what is after the space.
+#[inline(always)]
+fn number_before(text: &[u8], value: u32, count: usize) -> Option<(u16, Option<&[u8]>)>
+    requires digits { DigitsSoFar text.now count value }
+    requires within { count ≤ length text.now }
+    requires few { count ≤ MOST_DIGITS }
+    requires stops { count < length text.now → count < MOST_DIGITS → is_ascii_digit (slice_index text.now count) ≡ false }
+    ensures number { NextNumber text.now result }
+    ensures short { IfSome result (λ r. IfSome r.1 (λ rest. length rest.now ≤ length text.now)) }
+{
+    let Some(after) = after_digits(text, count) else {
+        return None;
+    };
+    let number = plain_number(GREATEST_NUMBER, text, value, count)?;
+    Some((number, after))
+}
+
+/// The number before the first space of a text, and what is after the space if there is one. A single digit, as most
+/// numbers are, is looked for first.
+#[inline(always)]
+pub fn next_number(text: &[u8]) -> Option<(u16, Option<&[u8]>)>
+    ensures number { NextNumber text.now result }
+    ensures short { IfSome result (λ r. IfSome r.1 (λ rest. length rest.now ≤ length text.now)) }
+{
+    if let Some(value) = single_digit(text) {
+        return number_before(text, value, 1);
+    }
+    let (value, count) = first_digits(text);
+    number_before(text, value, count)
 }
 
 /// A number, or `none` for none.
