@@ -2,11 +2,11 @@
 
 ghost use Rattle.std.specs.Prelude.{◌≡◌, ◌==◌, ◌&&◌, ◌≤◌, if◌then◌else◌};
 ghost use Rattle.cell.specs.{is_none, nat_le, length, map, slice_set, true, AllByRecursion, list_all, ArePairs, default_pair, IsColour, IsShown, first_pairs, pair_at, shown, shown_in};
-ghost use Rattle.cell.specs.declared.lanes.TheConstants.{LANES};
+ghost use Rattle.cell.specs.declared.lanes.TheConstants.{BLOCK, LANES};
 
 use crate::cell::Cell;
 use crate::colour_bits::ColourBits;
-use crate::lanes::{LANES, lanes_have_pair};
+use crate::lanes::{BLOCK, LANES, have_pair, lanes_have_pair};
 use crate::limits::{LAST_COLOUR, LAST_PAIR};
 use crate::shown::Shown;
 use std::marker::Model;
@@ -210,6 +210,45 @@ impl Pairs {
     {
         if cells.len() < LANES {
             self.show_each(cells, places);
+        } else if cells.len() < BLOCK {
+            self.show_lanes(cells, places);
+        } else {
+            self.show_blocks(cells, places);
+        }
+    }
+
+    /// The same, a block after another: a frame of long lines in one rendition takes four fifths of the instructions by
+    /// it. Some cells before the rest may be shown twice.
+    #[inline(never)]
+    fn show_blocks(&self, cells: &[Cell], places: &mut [Shown])
+        requires many { BLOCK ≤ length cells.now }
+        requires places { length places.old ≡ length cells.now }
+        ensures shown { places.new ≡ map (shown self.now) cells.now }
+        ensures cells { AllByRecursion IsShown places.new }
+    {
+        let mut start = 0;
+        while cells.len() - start >= BLOCK {
+            let end = start + BLOCK;
+            self.show_block(&cells[start..end], &mut places[start..end]);
+            start = end;
+        }
+        if start < cells.len() {
+            let rest = start.min(cells.len() - LANES);
+            self.show_lanes(&cells[rest..], &mut places[rest..]);
+        }
+    }
+
+    /// The same of a block, most of which have one pair.
+    #[inline(always)]
+    fn show_block(&self, cells: &[Cell], places: &mut [Shown])
+        requires cells { length cells.now ≡ BLOCK }
+        requires places { length places.old ≡ BLOCK }
+        ensures shown { places.new ≡ map (shown self.now) cells.now }
+        ensures cells { AllByRecursion IsShown places.new }
+    {
+        let pair = cells[0].pair();
+        if have_pair(cells, pair) {
+            show_alike(self.colours_of(pair), cells, places);
         } else {
             self.show_lanes(cells, places);
         }
@@ -265,6 +304,21 @@ impl Pairs {
             prove!(shown.ch() >= b' ');
             places[x] = shown;
         }
+    }
+}
+
+/// Writes the cells of a block in colours into as many places, whatever their pairs are.
+fn show_alike(colours: ColourBits, cells: &[Cell], places: &mut [Shown])
+    requires cells { length cells.now ≡ BLOCK }
+    requires places { length places.old ≡ BLOCK }
+    ensures shown { places.new ≡ map (shown_in colours) cells.now }
+    ensures cells { AllByRecursion IsShown places.new }
+{
+    let mut start = 0;
+    while start < BLOCK {
+        let end = start + LANES;
+        places[start..end].copy_from_slice(&show_in(colours, &cells[start..end]));
+        start = end;
     }
 }
 

@@ -12,6 +12,9 @@ use std::simd::prelude::*;
 /// How many cells are looked at together.
 pub const LANES: usize = 16;
 
+/// How many cells of a long line are shown together.
+pub(crate) const BLOCK: usize = 4 * LANES;
+
 /// Whether so many cells are the same.
 pub(crate) fn same_lanes(old: &[Shown], new: &[Shown]) -> bool
     requires old { length old.now ≡ LANES }
@@ -47,6 +50,18 @@ pub fn have_rendition(cells: &[Shown], rendition: Rendition) -> bool
         different |= cell.bits() ^ wanted;
     }
     different < 256
+}
+
+/// Whether some cells of windows all have a pair, by a loop of the same form.
+pub(crate) fn have_pair(cells: &[Cell], pair: PairId) -> bool
+    ensures { result ≡ list_all (λ cell. cell.pair == pair) cells.now }
+{
+    let wanted = u32::from(pair.number()) * 65_536;
+    let mut different = 0;
+    for cell in cells {
+        different |= cell.bits() ^ wanted;
+    }
+    different < 65_536
 }
 
 /// So many cells as numbers, one in each lane.
