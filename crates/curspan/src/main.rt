@@ -14,7 +14,7 @@ use desk::Counted;
 use environment::variable;
 use files::{Log, Script};
 use opening::FileSink;
-use serve::serve;
+use serve::Streams;
 use std::io::{BufWriter, ErrorKind};
 use std::process::ExitCode;
 use std::{env, io};
@@ -23,63 +23,57 @@ use streams::Patient;
 /// How many bytes wait before they are written to standard output. A painter's piece of more goes out as it is.
 const WRITTEN_AT_ONCE: usize = 1024;
 
-/// Why nothing that the command line asks for is begun.
-#[derive(Clone, Copy)]
-enum Obstacle {
-    NoMemory(Need),
-    /// A word of the command line is not in UTF-8.
-    BadWord,
+/// The words of the command line, and the variables that have a screen's size.
+struct Asked {
+    words: Vec<String>,
+    lines: Option<String>,
+    columns: Option<String>,
 }
 
 fn main(rt: HostRuntime) -> ExitCode {
     let mut log = Log::new(&rt, rt.stderr());
-    let status = match run(&rt, &mut log) {
-        Ok(status) => status,
-        Err(Obstacle::NoMemory(need)) => no_memory(&mut log, need),
-        Err(Obstacle::BadWord) => {
-            write_log(&mut log, b"a word of the command line is not in UTF-8\n");
-            BAD_TEXT
-        }
+    let status = match read_asked(&rt) {
+        Ok(asked) => run(&rt, &asked, log),
+        Err(error) => match error.kind() {
+            ErrorKind::OutOfMemory => no_memory(&mut log, Need::CommandLine),
+            _ => {
+                write_log(&mut log, b"a word of the command line is not in UTF-8\n");
+                BAD_TEXT
+            }
+        },
     };
     ExitCode::from(status)
 }
 
-/// The words of the command line.
-fn words(rt: &HostRuntime) -> io::Result<Vec<String>> {
-    Ok(env::args(rt)?.collect(rt.alloc())?)
+/// The words and the variables that this process was begun with.
+fn read_asked(rt: &HostRuntime) -> io::Result<Asked> {
+    Ok(Asked {
+        words: env::args(rt)?.collect(rt.alloc())?,
+        lines: variable(rt, "LINES")?,
+        columns: variable(rt, "COLUMNS")?,
+    })
 }
 
 /// Does what words ask for, on the standard streams or files, and answers the status.
-fn begin<L: FileSink>(
-    rt: &HostRuntime,
-    words: &[String],
-    variables: &Variables<'_>,
-    log: &mut L,
-) -> Result<u8, Obstacle> {
-    let lacks_streams = |_| Obstacle::NoMemory(Need::Streams);
-    let mut input = Script::new(rt, rt.stdin()).map_err(lacks_streams)?;
+fn run<L: FileSink>(rt: &HostRuntime, asked: &Asked, mut log: L) -> u8 {
+    let Ok(input) = Script::new(rt, rt.stdin()) else {
+        return no_memory(&mut log, Need::Streams);
+    };
     let stdout = Patient {
         stream: rt.stdout(),
     };
-    let buffered = BufWriter::with_capacity(rt.alloc(), WRITTEN_AT_ONCE, stdout).map_err(
-        lacks_streams,
-    )?;
-    let mut out = Output::new(Counted::new(buffered));
-    Ok(serve(rt.alloc(), words, variables, &mut input, &mut out, log))
-}
-
-/// The same of what the command line asks for.
-fn run<L: FileSink>(rt: &HostRuntime, log: &mut L) -> Result<u8, Obstacle> {
-    let words = words(rt).map_err(|error| match error.kind() {
-        ErrorKind::OutOfMemory => Obstacle::NoMemory(Need::CommandLine),
-        _ => Obstacle::BadWord,
-    })?;
-    let lacks_variable = |_| Obstacle::NoMemory(Need::CommandLine);
-    let lines = variable(rt, "LINES").map_err(lacks_variable)?;
-    let columns = variable(rt, "COLUMNS").map_err(lacks_variable)?;
-    let variables = Variables {
-        lines: lines.as_ref().map(|text| text.as_str()),
-        columns: columns.as_ref().map(|text| text.as_str()),
+    let Ok(buffered) = BufWriter::with_capacity(rt.alloc(), WRITTEN_AT_ONCE, stdout) else {
+        return no_memory(&mut log, Need::Streams);
     };
-    begin(rt, words.as_slice(), &variables, log)
+    let variables = Variables {
+        lines: asked.lines.as_ref().map(|text| text.as_str()),
+        columns: asked.columns.as_ref().map(|text| text.as_str()),
+    };
+    let mut streams = Streams {
+        alloc: rt.alloc(),
+        input,
+        out: Output::new(Counted::new(buffered)),
+        log,
+    };
+    streams.serve(asked.words.as_slice(), &variables)
 }

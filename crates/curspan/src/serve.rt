@@ -2,7 +2,7 @@
 
 ghost use Rattle.std.specs.Prelude.{◌≡◌, ◌<◌, ◌⊎◌};
 ghost use Rattle.curspan.specs.{IfOk, MatchResult, None, Some, map, RefusedBy, no_rendition, IsSize, sizes_of, text_of, printed_picture, HasSize, PaintsScreen, Does, IsCreated, IsOpened, IsUnopened};
-ghost use Rattle.curspan.specs.{Paints, Runs, RunsAndLogs, RunsBy, RunsQuietly, Serves, ServesInvocation, LacksMemory, Need, WritingEnds, outputs, world, first_painter, nothing_seen, first_world};
+ghost use Rattle.curspan.specs.{Paints, Runs, RunsBy, Serves, ServesInvocation, LacksMemory, Need, WritingEnds, outputs, world, first_painter, nothing_seen, first_world};
 ghost use Rattle.curspan.specs.{new_refusal, world_after, Call, Refresh};
 
 use crate::opening::{FileSink, FileSource};
@@ -28,37 +28,6 @@ fn blank_screen(alloc: Global, job: Job) -> Result<Screen<Discard>, Refusal>
     Screen::new(alloc, job.lines, job.cols, Discard::new())
 }
 
-/// Runs a script on a screen, and writes to the log the fault that ended it.
-fn run_and_log<W: Closable, R: Source, L: Sink>(
-    screen: &mut Screen<W>,
-    input: &mut R,
-    log: &mut L,
-) -> ScriptEnd
-    ensures ran { RunsAndLogs W.seen W.closed screen.old screen.new (R.seen input.old) (R.seen input.new) (L.seen log.old) (L.seen log.new) result }
-    ensures log { result.fault ≡ None → (L.seen log.new).failures ≡ (L.seen log.old).failures }
-    ensures same { W.name screen.new.writer ≡ W.name screen.old.writer }
-{
-    let end = screen.run_script(input, log);
-    log_fault(screen.writer(), log, end.fault);
-    end
-}
-
-/// The same, but for what the calls answer: that is thrown away.
-fn run_quietly<W: Closable, R: Source, L: Sink>(
-    screen: &mut Screen<W>,
-    input: &mut R,
-    log: &mut L,
-) -> ScriptEnd
-    ensures ran { RunsQuietly W.seen W.closed screen.old screen.new (R.seen input.old) (R.seen input.new) (L.seen log.old) (L.seen log.new) result }
-    ensures log { result.fault ≡ None → (L.seen log.new).failures ≡ (L.seen log.old).failures }
-    ensures same { W.name screen.new.writer ≡ W.name screen.old.writer }
-{
-    let mut answers = Discard::new();
-    let end = screen.run_script(input, &mut answers);
-    log_fault(screen.writer(), log, end.fault);
-    end
-}
-
 /// Runs a script on a screen, and writes to the log what the calls answer, unless it is to be quiet, and the fault that
 /// ended the script.
 fn run_script<W: Closable, R: Source, L: Sink>(
@@ -71,11 +40,14 @@ fn run_script<W: Closable, R: Source, L: Sink>(
     ensures log { result.fault ≡ None → (L.seen log.new).failures ≡ (L.seen log.old).failures }
     ensures same { W.name screen.new.writer ≡ W.name screen.old.writer }
 {
-    if is_quiet {
-        run_quietly(screen, input, log)
+    let end = if is_quiet {
+        let mut answers = Discard::new();
+        screen.run_script(input, &mut answers)
     } else {
-        run_and_log(screen, input, log)
-    }
+        screen.run_script(input, log)
+    };
+    log_fault(screen.writer(), log, end.fault);
+    end
 }
 
 /// Runs a script on a screen of the job's size over the output, and answers the status.
@@ -120,80 +92,6 @@ fn print_desk<O: Sink>(out: &mut O, desk: &Desk) -> bool
     print(out, desk.virtual_screen(), lines, cursor, Rendition::NONE)
 }
 
-/// Runs a script on a screen, prints the picture that it leaves, and answers the status.
-fn paint_screen<R: Source, O: Closable, L: Sink>(
-    is_quiet: bool,
-    screen: &mut Screen<Discard>,
-    input: &mut R,
-    out: &mut O,
-    log: &mut L,
-) -> u8
-    ensures painted { PaintsScreen ⟦<Discard as Sink>⟧.seen ⟦<Discard as Closable>⟧.closed is_quiet screen.old (R.seen input.old) (R.seen input.new)
-        (outputs (O.seen out.old) (O.closed out.old) (L.seen log.old)) (outputs (O.seen out.new) (O.closed out.new) (L.seen log.new)) result }
-    ensures log { result < 2 → (L.seen log.new).failures ≡ (L.seen log.old).failures }
-{
-    let end = run_script(is_quiet, screen, input, log);
-    if end.fault.is_some() {
-        return status_of(end);
-    }
-    take_picture(screen);
-    if print_desk(out, screen.desk()) {
-        status_of(end)
-    } else {
-        complain(out, log)
-    }
-}
-
-/// Runs a script on a screen of the job's size, prints the picture that it leaves, and answers the status.
-fn paint<R: Source, O: Closable, L: Sink>(
-    alloc: Global,
-    is_quiet: bool,
-    job: Job,
-    input: &mut R,
-    out: &mut O,
-    log: &mut L,
-) -> u8
-    requires { IsSize job.lines × IsSize job.cols }
-    ensures painted { (LacksMemory Need.Screen (outputs (O.seen out.old) (O.closed out.old) (L.seen log.old)) (outputs (O.seen out.new) (O.closed out.new) (L.seen log.new)) result ×
-        (R.seen input.new ≡ R.seen input.old))
-        ⊎ Paints ⟦<Discard as Sink>⟧.seen ⟦<Discard as Closable>⟧.closed is_quiet job (R.seen input.old) (R.seen input.new) (outputs (O.seen out.old) (O.closed out.old) (L.seen log.old))
-        (outputs (O.seen out.new) (O.closed out.new) (L.seen log.new)) result }
-    ensures log { result < 2 → (L.seen log.new).failures ≡ (L.seen log.old).failures }
-{
-    let mut screen = match blank_screen(alloc, job) {
-        Ok(screen) => screen,
-        Err(_) => return no_memory(log, Need::Screen),
-    };
-    let status = paint_screen(is_quiet, &mut screen, input, out, log);
-    // Taken apart, since no clause says what a drop would do.
-    let _ = screen.into_writer();
-    status
-}
-
-/// Does what is asked for, and answers the status.
-fn perform<'a, R: Source, O: Closable, L: Sink>(
-    alloc: Global,
-    is_quiet: bool,
-    request: Request,
-    input: &mut R,
-    out: &'a mut O,
-    log: &mut L,
-) -> u8
-    requires { HasSize request }
-    ensures done { Does ⟦<&'a mut O as Sink>⟧.seen ⟦<&'a mut O as Closable>⟧.closed ⟦<Discard as Sink>⟧.seen ⟦<Discard as Closable>⟧.closed is_quiet request (R.seen input.old) (R.seen input.new)
-        (outputs (O.seen out.old) (O.closed out.old) (L.seen log.old)) (outputs (O.seen out.new) (O.closed out.new) (L.seen log.new)) result }
-    ensures log { result < 2 → (L.seen log.new).failures ≡ (L.seen log.old).failures }
-{
-    match request {
-        Request::Check => check_script(input, out, log),
-        Request::Job(job) => match job.kind {
-            Kind::Run => run(alloc, is_quiet, job, input, out, log),
-            Kind::Paint => paint(alloc, is_quiet, job, input, out, log),
-            Kind::Show => show_stream(alloc, job, input, out, log),
-        },
-    }
-}
-
 /// Goes on with the file that is named, if one is. Where it can't be opened, the log says so, and the status is
 /// answered.
 fn open_script<R: FileSource, L: Sink>(
@@ -230,55 +128,115 @@ fn open_log<L: FileSink>(name: Option<&str>, read: Option<&str>, log: &mut L) ->
     }
 }
 
-/// Opens the log that is named, reads the script, does with it what is asked for, and answers the status.
-fn perform_invocation<'a, R: FileSource, O: Closable, L: FileSink>(
-    alloc: Global,
-    invocation: &Invocation<'_>,
-    input: &mut R,
-    out: &'a mut O,
-    log: &mut L,
-) -> u8
-    requires { HasSize invocation.now.request }
-    ensures { ServesInvocation ⟦<&'a mut O as Sink>⟧.seen ⟦<&'a mut O as Closable>⟧.closed ⟦<Discard as Sink>⟧.seen ⟦<Discard as Closable>⟧.closed (R.opens input.old) (R.unopened input.old) (L.creates log.old) (L.uncreated log.old) invocation.now
-        (R.seen input.old) (R.seen input.new)
-        (outputs (O.seen out.old) (O.closed out.old) (L.seen log.old)) (outputs (O.seen out.new) (O.closed out.new) (L.seen log.new)) result }
-{
-    match open_log(invocation.log, invocation.script, log) {
-        Ok(()) => match open_script(invocation.script, input, log) {
-            Ok(()) => perform(
-                alloc,
-                invocation.is_quiet,
-                invocation.request,
-                input,
-                out,
-                log,
-            ),
-            Err(status) => status,
-        },
-        Err(status) => status,
+/// What the program reads and writes, and the memory that it takes.
+#[derive(Drop)]
+pub struct Streams<R, O, L> {
+    pub alloc: Global,
+    pub input: R,
+    pub out: O,
+    pub log: L,
+}
+
+impl<R: Source, O: Closable, L: Sink> Streams<R, O, L> {
+    /// Runs a script on a screen, prints the picture that it leaves, and answers the status.
+    fn paint_screen(&mut self, is_quiet: bool, screen: &mut Screen<Discard>) -> u8
+        ensures painted { PaintsScreen ⟦<Discard as Sink>⟧.seen ⟦<Discard as Closable>⟧.closed is_quiet screen.old (R.seen self.old.input) (R.seen self.new.input)
+            (outputs (O.seen self.old.out) (O.closed self.old.out) (L.seen self.old.log)) (outputs (O.seen self.new.out) (O.closed self.new.out) (L.seen self.new.log)) result }
+        ensures log { result < 2 → (L.seen self.new.log).failures ≡ (L.seen self.old.log).failures }
+    {
+        let end = run_script(is_quiet, screen, &mut self.input, &mut self.log);
+        if end.fault.is_some() {
+            return status_of(end);
+        }
+        take_picture(screen);
+        if print_desk(&mut self.out, screen.desk()) {
+            status_of(end)
+        } else {
+            complain(&mut self.out, &mut self.log)
+        }
+    }
+
+    /// Runs a script on a screen of the job's size, prints the picture that it leaves, and answers the status.
+    fn paint(&mut self, is_quiet: bool, job: Job) -> u8
+        requires { IsSize job.lines × IsSize job.cols }
+        ensures painted { (LacksMemory Need.Screen (outputs (O.seen self.old.out) (O.closed self.old.out) (L.seen self.old.log)) (outputs (O.seen self.new.out) (O.closed self.new.out) (L.seen self.new.log)) result ×
+            (R.seen self.new.input ≡ R.seen self.old.input))
+            ⊎ Paints ⟦<Discard as Sink>⟧.seen ⟦<Discard as Closable>⟧.closed is_quiet job (R.seen self.old.input) (R.seen self.new.input) (outputs (O.seen self.old.out) (O.closed self.old.out) (L.seen self.old.log))
+            (outputs (O.seen self.new.out) (O.closed self.new.out) (L.seen self.new.log)) result }
+        ensures log { result < 2 → (L.seen self.new.log).failures ≡ (L.seen self.old.log).failures }
+    {
+        let mut screen = match blank_screen(self.alloc, job) {
+            Ok(screen) => screen,
+            Err(_) => return no_memory(&mut self.log, Need::Screen),
+        };
+        let status = self.paint_screen(is_quiet, &mut screen);
+        // Taken apart, since no clause says what a drop would do.
+        let _ = screen.into_writer();
+        status
+    }
+
+    /// Does what is asked for, and answers the status.
+    fn perform<'a>(&'a mut self, is_quiet: bool, request: Request) -> u8
+        requires { HasSize request }
+        ensures done { Does ⟦<&'a mut O as Sink>⟧.seen ⟦<&'a mut O as Closable>⟧.closed ⟦<Discard as Sink>⟧.seen ⟦<Discard as Closable>⟧.closed is_quiet request (R.seen self.old.input) (R.seen self.new.input)
+            (outputs (O.seen self.old.out) (O.closed self.old.out) (L.seen self.old.log)) (outputs (O.seen self.new.out) (O.closed self.new.out) (L.seen self.new.log)) result }
+        ensures log { result < 2 → (L.seen self.new.log).failures ≡ (L.seen self.old.log).failures }
+    {
+        match request {
+            Request::Check => check_script(&mut self.input, &mut self.out, &mut self.log),
+            Request::Job(job) => match job.kind {
+                Kind::Run => run(
+                    self.alloc,
+                    is_quiet,
+                    job,
+                    &mut self.input,
+                    &mut self.out,
+                    &mut self.log,
+                ),
+                Kind::Paint => self.paint(is_quiet, job),
+                Kind::Show => show_stream(
+                    self.alloc,
+                    job,
+                    &mut self.input,
+                    &mut self.out,
+                    &mut self.log,
+                ),
+            },
+        }
     }
 }
 
-/// Does what the words ask for, and answers the status. Where they are refused, nothing is read, and help is on the
-/// output, with status 0, or a usage fault on the log, with status 2. Else the log and the script that are named are
-/// opened, in that order; where one can't be, the log says so, nothing is read or drawn, and the status is 3, or 4 for
-/// want of memory. Else the status is that of how the script ended, 3 where its picture can't be written, or 4 where
-/// there is no memory. The first word is the program's name. A status below 2 means that no write or flush of the log
-/// failed.
-pub fn serve<'a, S: AsStr, R: FileSource, O: Closable, L: FileSink>(
-    alloc: Global,
-    words: &[S],
-    variables: &Variables<'_>,
-    input: &mut R,
-    out: &'a mut O,
-    log: &mut L,
-) -> u8
-    ensures served { Serves ⟦<&'a mut O as Sink>⟧.seen ⟦<&'a mut O as Closable>⟧.closed ⟦<Discard as Sink>⟧.seen ⟦<Discard as Closable>⟧.closed (R.opens input.old) (R.unopened input.old) (L.creates log.old) (L.uncreated log.old)
-        (sizes_of variables.now) (map S.text words.now) (R.seen input.old) (R.seen input.new)
-        (outputs (O.seen out.old) (O.closed out.old) (L.seen log.old)) (outputs (O.seen out.new) (O.closed out.new) (L.seen log.new)) result }
-{
-    match job(alloc, words, variables) {
-        Ok(invocation) => perform_invocation(alloc, &invocation, input, out, log),
-        Err(error) => usage(alloc, &error, out, log),
+impl<R: FileSource, O: Closable, L: FileSink> Streams<R, O, L> {
+    /// Opens the log that is named, reads the script, does with it what is asked for, and answers the status.
+    fn perform_on_files<'a>(&'a mut self, invocation: &Invocation<'_>) -> u8
+        requires { HasSize invocation.now.request }
+        ensures { ServesInvocation ⟦<&'a mut O as Sink>⟧.seen ⟦<&'a mut O as Closable>⟧.closed ⟦<Discard as Sink>⟧.seen ⟦<Discard as Closable>⟧.closed (R.opens self.old.input) (R.unopened self.old.input) (L.creates self.old.log) (L.uncreated self.old.log) invocation.now
+            (R.seen self.old.input) (R.seen self.new.input)
+            (outputs (O.seen self.old.out) (O.closed self.old.out) (L.seen self.old.log)) (outputs (O.seen self.new.out) (O.closed self.new.out) (L.seen self.new.log)) result }
+    {
+        match open_log(invocation.log, invocation.script, &mut self.log) {
+            Ok(()) => match open_script(invocation.script, &mut self.input, &mut self.log) {
+                Ok(()) => self.perform(invocation.is_quiet, invocation.request),
+                Err(status) => status,
+            },
+            Err(status) => status,
+        }
+    }
+
+    /// Does what the words ask for, and answers the status. Where they are refused, nothing is read, and help is on the
+    /// output, with status 0, or a usage fault on the log, with status 2. Else the log and the script that are named
+    /// are opened, in that order; where one can't be, the log says so, nothing is read or drawn, and the status is 3,
+    /// or 4 for want of memory. Else the status is that of how the script ended, 3 where its picture can't be written,
+    /// or 4 where there is no memory. The first word is the program's name. A status below 2 means that no write or
+    /// flush of the log failed.
+    pub fn serve<'a, S: AsStr>(&'a mut self, words: &[S], variables: &Variables<'_>) -> u8
+        ensures served { Serves ⟦<&'a mut O as Sink>⟧.seen ⟦<&'a mut O as Closable>⟧.closed ⟦<Discard as Sink>⟧.seen ⟦<Discard as Closable>⟧.closed (R.opens self.old.input) (R.unopened self.old.input) (L.creates self.old.log) (L.uncreated self.old.log)
+            (sizes_of variables.now) (map S.text words.now) (R.seen self.old.input) (R.seen self.new.input)
+            (outputs (O.seen self.old.out) (O.closed self.old.out) (L.seen self.old.log)) (outputs (O.seen self.new.out) (O.closed self.new.out) (L.seen self.new.log)) result }
+    {
+        match job(self.alloc, words, variables) {
+            Ok(invocation) => self.perform_on_files(&invocation),
+            Err(error) => usage(self.alloc, &error, &mut self.out, &mut self.log),
+        }
     }
 }

@@ -1,7 +1,7 @@
 //! What a terminal shows, and what characters and control functions do to it.
 
 ghost use Rattle.std.specs.Prelude.{◌≡◌, ◌≤◌, ◌<◌, if◌then◌else◌, ◌∷◌, ◌++◌, ◌-◌};
-ghost use Rattle.ecma.specs.{ℕ, All, false, IfOk, List, [], length, map, take, drop, option_and_then, is_printable, HasSize, is_place, line_of, shown_at, is_empty, LARGEST_SCREEN, Control, SGR};
+ghost use Rattle.ecma.specs.{ℕ, All, false, IfOk, List, [], length, map, take, drop, option_and_then, is_printable, HasSize, is_empty, LARGEST_SCREEN, Control, SGR};
 ghost use Rattle.ecma.specs.{parameter_of, function_of, blank_terminal, blank_line, effect, erase_line, erase_page, erased_at, move_to, print};
 
 use crate::cells::Cells;
@@ -9,7 +9,7 @@ use crate::parameter::{Parameter, erasure, position};
 use crate::selection::select_all;
 use crate::token::Erase;
 use bitflags::Flags;
-use cell::{Attr, Grid, Rendition, Shown};
+use cell::{Attr, Rendition, Shown};
 use std::alloc::{AllocError, Global};
 use std::marker::Model;
 
@@ -17,11 +17,11 @@ use std::marker::Model;
 /// effect in the profile, and changed nothing.
 #[derive(Drop)]
 pub struct Page {
-    lines: u16,
-    columns: u16,
-    picture: Cells,
-    cursor: Option<(u16, u16)>,
-    rendition: Rendition,
+    pub lines: u16,
+    pub columns: u16,
+    pub picture: Cells,
+    pub cursor: Option<(u16, u16)>,
+    pub rendition: Rendition,
 }
 
 impl Model for Page {
@@ -51,54 +51,6 @@ impl Page {
             cursor: Some((0, 0)),
             rendition: Rendition::NONE,
         })
-    }
-
-    /// How many lines there are.
-    pub fn lines(&self) -> u16
-        ensures { result ≡ length self.now.picture }
-    {
-        self.lines
-    }
-
-    /// The picture.
-    pub fn picture(&self) -> &Grid<Shown>
-        ensures picture { result.now ≡ self.now.picture }
-        ensures narrow { All (λ line. length line ≤ LARGEST_SCREEN) result.now }
-    {
-        self.picture.picture()
-    }
-
-    /// The cells of line `y`, from left to right.
-    pub fn row(&self, y: u16) -> &[Shown]
-        requires { y < length self.now.picture }
-        ensures { result.now ≡ line_of self.now.picture y }
-    {
-        self.picture().row(usize::from(y))
-    }
-
-    /// The cell at line `y` and column `x`, and none off the page.
-    pub fn cell(&self, y: u16, x: u16) -> Option<Shown>
-        ensures { result ≡ (if is_place self.now.picture (y, x) then Some (shown_at self.now.picture (y, x)) else None) }
-    {
-        if y < self.lines && x < self.columns {
-            Some(self.row(y)[usize::from(x)])
-        } else {
-            None
-        }
-    }
-
-    /// The line and the column of the cursor, and none where it is unknown.
-    pub fn cursor(&self) -> Option<(u16, u16)>
-        ensures { result ≡ self.now.cursor }
-    {
-        self.cursor
-    }
-
-    /// The rendition of what is printed next.
-    pub fn rendition(&self) -> Rendition
-        ensures { result ≡ self.now.rendition }
-    {
-        self.rendition
     }
 
     /// Prints a byte at the cursor.

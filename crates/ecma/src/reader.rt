@@ -44,7 +44,7 @@ const MOST_ENDED: usize = 15;
 /// The page that a stream leaves, and what is kept of its end. It takes no memory once it is made.
 #[derive(Drop)]
 pub struct Reader {
-    page: Page,
+    pub page: Page,
     state: State,
     ended: [Parameter; MOST_ENDED],
     count: usize,
@@ -84,13 +84,6 @@ impl Reader {
             read: 0,
             start: 0,
         })
-    }
-
-    /// The page.
-    pub fn page(&self) -> &Page
-        ensures { result.now ≡ self.now.terminal }
-    {
-        &self.page
     }
 
     /// Where the stream that was read leaves the profile, and none where it is in the profile.

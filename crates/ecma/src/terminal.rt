@@ -76,7 +76,7 @@ impl Terminal {
     pub fn lines(&self) -> u16
         ensures { result ≡ length self.now.terminal.picture }
     {
-        self.reader.page().lines()
+        self.reader.page.lines
     }
 
     /// The picture.
@@ -84,7 +84,7 @@ impl Terminal {
         ensures picture { result.now ≡ self.now.terminal.picture }
         ensures narrow { All (λ line. length line ≤ LARGEST_SCREEN) result.now }
     {
-        self.reader.page().picture()
+        self.reader.page.picture.picture()
     }
 
     /// The cells of line `y`, from left to right.
@@ -92,27 +92,31 @@ impl Terminal {
         requires { y < length self.now.terminal.picture }
         ensures { result.now ≡ line_of self.now.terminal.picture y }
     {
-        self.reader.page().row(y)
+        self.picture().row(usize::from(y))
     }
 
     /// The cell at line `y` and column `x`, and none off the screen.
     pub fn cell(&self, y: u16, x: u16) -> Option<Shown>
         ensures { result ≡ (if is_place self.now.terminal.picture (y, x) then Some (shown_at self.now.terminal.picture (y, x)) else None) }
     {
-        self.reader.page().cell(y, x)
+        if y < self.reader.page.lines && x < self.reader.page.columns {
+            Some(self.row(y)[usize::from(x)])
+        } else {
+            None
+        }
     }
 
     /// The line and the column of the cursor, and none where it is unknown.
     pub fn cursor(&self) -> Option<(u16, u16)>
         ensures { result ≡ self.now.terminal.cursor }
     {
-        self.reader.page().cursor()
+        self.reader.page.cursor
     }
 
     /// The rendition of what is printed next.
     pub fn rendition(&self) -> Rendition
         ensures { result ≡ self.now.terminal.rendition }
     {
-        self.reader.page().rendition()
+        self.reader.page.rendition
     }
 }

@@ -16,26 +16,26 @@ const UPDATES: u64 = 9;
 
 /// Why the monitor ends early.
 #[derive(Debug, Drop)]
-enum Trouble {
+enum Error {
     Screen(Fault),
     Memory,
 }
 
-impl From<Fault> for Trouble {
-    fn from(fault: Fault) -> Trouble {
-        Trouble::Screen(fault)
+impl From<Fault> for Error {
+    fn from(fault: Fault) -> Error {
+        Error::Screen(fault)
     }
 }
 
-impl From<Refusal> for Trouble {
-    fn from(refusal: Refusal) -> Trouble {
-        Trouble::Screen(Fault::Refused(refusal))
+impl From<Refusal> for Error {
+    fn from(refusal: Refusal) -> Error {
+        Error::Screen(Fault::Refused(refusal))
     }
 }
 
-impl From<AllocError> for Trouble {
-    fn from(_error: AllocError) -> Trouble {
-        Trouble::Memory
+impl From<AllocError> for Error {
+    fn from(_error: AllocError) -> Error {
+        Error::Memory
     }
 }
 
@@ -119,7 +119,7 @@ impl<'a, W: Sink> Monitor<'a, W> {
     }
 
     /// Writes what was counted so far, lists the update, and shows both.
-    fn update(&mut self, alloc: Global, number: u64) -> Result<(), Trouble> {
+    fn update(&mut self, alloc: Global, number: u64) -> Result<(), Error> {
         let Counters {
             calls,
             cells,
@@ -136,7 +136,7 @@ impl<'a, W: Sink> Monitor<'a, W> {
 }
 
 /// Shows a monitor on a screen until its last update.
-fn run<W: Sink>(alloc: Global, screen: &mut Screen<W>) -> Result<(), Trouble> {
+fn run<W: Sink>(alloc: Global, screen: &mut Screen<W>) -> Result<(), Error> {
     let mut monitor = Monitor::new(screen)?;
     for number in 1..=UPDATES {
         monitor.update(alloc, number)?;
@@ -144,7 +144,7 @@ fn run<W: Sink>(alloc: Global, screen: &mut Screen<W>) -> Result<(), Trouble> {
     Ok(())
 }
 
-fn main(rt: HostRuntime) -> Result<(), Trouble> {
+fn main(rt: HostRuntime) -> Result<(), Error> {
     let mut screen = Screen::new(rt.alloc(), LINES, COLUMNS, Counted::new(rt.stdout()))?;
     let ended = run(rt.alloc(), &mut screen);
     drop(screen);

@@ -1,7 +1,7 @@
 -- Strokes are found line by line: they write all that isn't shown as wanted, within what that may cost.
 use Rattle.std.specs.Prelude.{◌≡◌, ◌+◌, ◌-◌, ◌<◌, ◌≤◌, ◌∷◌, ◌++◌, ◌&&◌, if◌then◌else◌}
 use Rattle.paint.specs.{ℕ, true, false, List, [], length, get_or, drop, take, inl, inr, refl, sym, ap, ◌∙◌, subst, arith, append_assoc, append-nil, Option, not, cases_Bool, cases_lt, nat_tests}
-use Rattle.paint.specs.{get_or_past, All-push, sum_by_push, shown_blank, HasSize, Picture, Place, line_of, shown_at, Seen, IsWithin, columns_of, Columns, IsFrame, AreAlike, AreDrawn, AreFound}
+use Rattle.paint.specs.{get_or_past, All-push, sum_by_push, shown_blank, HasSize, Picture, Place, line_of, shown_at, Seen, IsWithin, columns_of, Columns, IsUpdate, AreAlike, AreDrawn, AreFound}
 use Rattle.paint.specs.{ArePlanned, AreSameBetween, HasInk, IsStroke, IsUnderWay, bytes_from, ink_bytes, is_before, is_before_end, layers, stroke_bytes, strokes_bytes, writes, DrawsWithin, cell_bytes}
 use Rattle.paint.specs.{picture_bytes, IsStretch, cells_between}
 use Rattle.cell.proofs.PictureLemmas.{length-line, same_pictures}
@@ -47,11 +47,11 @@ same-lines shown wanted y z ordered same = record {
 }
 
 -- what is not in the part of a line in which alone two pictures differ
-pub before-part : (y x : ℕ) {lines columns : ℕ} {changes : List (Option Columns)} {shown wanted : Picture} {part : ℕ × ℕ} → IsFrame lines columns changes shown wanted
+pub before-part : (y x : ℕ) {lines columns : ℕ} {changes : List (Option Columns)} {shown wanted : Picture} {part : ℕ × ℕ} → IsUpdate lines columns changes shown wanted
     → IsWithin columns (columns_of changes y) part → x < part.0 → shown_at shown (y, x) ≡ shown_at wanted (y, x)
 before-part y x f within before = f.changes.others y x (within.before x before)
 
-pub after-part : (y x : ℕ) {lines columns : ℕ} {changes : List (Option Columns)} {shown wanted : Picture} {part : ℕ × ℕ} → IsFrame lines columns changes shown wanted
+pub after-part : (y x : ℕ) {lines columns : ℕ} {changes : List (Option Columns)} {shown wanted : Picture} {part : ℕ × ℕ} → IsUpdate lines columns changes shown wanted
     → IsWithin columns (columns_of changes y) part → y < lines → part.1 ≤ x → shown_at shown (y, x) ≡ shown_at wanted (y, x)
 after-part y x {columns = columns} {shown = shown} {wanted = wanted} f within below after = elim (cases_lt x columns) [
   | inl left ↦ f.changes.others y x (within.after x after left)
@@ -61,7 +61,7 @@ after-part y x {columns = columns} {shown = shown} {wanted = wanted} f within be
 ]
 
 -- a line whose part doesn't differ
-pub whole-line : (y x : ℕ) {lines columns : ℕ} {changes : List (Option Columns)} {shown wanted : Picture} {part : ℕ × ℕ} → IsFrame lines columns changes shown wanted
+pub whole-line : (y x : ℕ) {lines columns : ℕ} {changes : List (Option Columns)} {shown wanted : Picture} {part : ℕ × ℕ} → IsUpdate lines columns changes shown wanted
     → IsWithin columns (columns_of changes y) part → y < lines → cells_between part.0 part.1 (line_of shown y) ≡ cells_between part.0 part.1 (line_of wanted y)
     → shown_at shown (y, x) ≡ shown_at wanted (y, x)
 whole-line y x {shown = shown} {wanted = wanted} {part = part} f within below none = elim (cases_lt x part.0) [

@@ -2,7 +2,7 @@
 use Rattle.std.specs.Prelude.{◌≡◌, ◌*◌, ◌<◌, ◌≤◌, ◌∷◌, ◌++◌}
 use Rattle.paint.specs.{Bool, ℕ, List, [], length, Option, Some, None, refl, sym, ap, ◌∙◌, subst, arith, append_assoc, length-append, AllByRecursion, nil_from_length, Shown, no_rendition, Picture}
 use Rattle.paint.specs.{Place, HasSize, line_of, line_difference, difference, line_colour_difference, colour_difference, Leads, Shows, showing, Terminal, Seen, PainterState, ShownPicture}
-use Rattle.paint.specs.{IsUpdateText, MayRead, known_picture, move, opening, opening_from, start_from, start_of_update, IsGathered, IsFrame, CanDraw, HoldsUpdate, IsStart, Columns, change, move_from}
+use Rattle.paint.specs.{IsUpdateText, MayRead, known_picture, move, opening, opening_from, start_from, start_of_update, IsGathered, IsUpdate, CanDraw, HoldsUpdate, IsStart, Columns, change, move_from}
 use Rattle.paint.specs.{under, Draws, IsPlainAt, DrawsWithin, picture_bytes, LARGEST_SCREEN}
 use Rattle.cell.proofs.PictureLemmas.{length-line}
 use Rattle.ecma.proofs.Joining.{Leads-append, Leads-in_profile, Reaches-in_profile}
@@ -125,17 +125,17 @@ module _ (painter : PainterState) (clear : Bool) (wanted : ShownPicture) {a b c 
         );
       }
 
-  -- of a frame, from where the text begins
+  -- of an update, from where the text begins
   pub holds-start : {lines columns : ℕ} {changes : List (Option Columns)} {shown : Picture} → painter.lines ≡ lines → painter.columns ≡ columns
-      → IsFrame lines columns changes shown wanted.picture → CanDraw first lines columns wanted.cursor
+      → IsUpdate lines columns changes shown wanted.picture → CanDraw first lines columns wanted.cursor
       → {seen : Seen} → IsGathered seen a first.outbox (opening_from (known_picture painter clear)) → IsStart painter (known_picture painter clear) first shown
       → DrawsWithin (picture_bytes shown wanted.picture) a b first drawn shown wanted.picture
       → ((picture : Picture) → wanted.cursor.1 < length (line_of picture wanted.cursor.0) → Draws (change drawn.rendition no_rendition ++ move_from drawn.cursor wanted.cursor) b c drawn last
       picture picture)
       → IsPlainAt last wanted.cursor
       → HoldsUpdate painter clear wanted seen c last.outbox
-  holds-start is_lines is_columns frame can gathered begun strokes ending end =
-      holds (omega (arith, is_lines, frame.few_lines)) (omega (arith, is_columns, frame.few_columns)) (omega (arith, is_lines, can.line)) (omega (arith, is_columns, can.column))
-      (omega (arith, frame.few_lines, can.line)) (omega (arith, frame.few_columns, can.column)) (subst (HasSize painter.lines painter.columns) begun.picture begun.size) gathered begun.plain
+  holds-start is_lines is_columns update can gathered begun strokes ending end =
+      holds (omega (arith, is_lines, update.few_lines)) (omega (arith, is_columns, update.few_columns)) (omega (arith, is_lines, can.line)) (omega (arith, is_columns, can.column))
+      (omega (arith, update.few_lines, can.line)) (omega (arith, update.few_columns, can.column)) (subst (HasSize painter.lines painter.columns) begun.picture begun.size) gathered begun.plain
       (subst (λ picture. DrawsWithin (picture_bytes picture wanted.picture) a b first drawn picture wanted.picture) begun.picture strokes)
-      (ending wanted.picture (omega (arith, length-line wanted.cursor.0 frame.wanted can.line, can.column))) end
+      (ending wanted.picture (omega (arith, length-line wanted.cursor.0 update.wanted can.line, can.column))) end

@@ -3,7 +3,7 @@
 ghost use Rattle.std.specs.Prelude.{◌≡◌, ◌<◌, ◌≤◌};
 ghost use Rattle.paint.specs.{ℕ, ⊤, MatchOption, length, slice_index_or, shown_at, shown_blank, IsLastChange, IsPageEnd};
 
-use crate::changes::Frame;
+use crate::changes::Update;
 use cell::{Grid, LANES, Shown, last_diff};
 
 /// The blank end of a page, with a changed cell in it.
@@ -82,15 +82,15 @@ fn blank_lines(picture: &Grid<Shown>, from: u16) -> u16
 }
 
 /// The blank end of the page, if the last changed place is in it, and a line before that.
-pub fn page_end(frame: &Frame<'_>, line: u16, column: u16) -> Option<PageEnd>
-    requires { IsLastChange frame.now.shown.now frame.now.wanted.now (line, column) }
-    ensures { MatchOption result ⊤ (λ end. IsPageEnd frame.now.shown.now frame.now.wanted.now end) }
+pub fn page_end(update: &Update<'_>, line: u16, column: u16) -> Option<PageEnd>
+    requires { IsLastChange update.now.shown.now update.now.wanted.now (line, column) }
+    ensures { MatchOption result ⊤ (λ end. IsPageEnd update.now.shown.now update.now.wanted.now end) }
 {
-    let row = frame.wanted.row(usize::from(line));
+    let row = update.wanted.row(usize::from(line));
     if row[usize::from(column)] != Shown::BLANK || tail_start(row) > 0 {
         return None;
     }
-    let blank = blank_lines(frame.wanted, frame.lines);
+    let blank = blank_lines(update.wanted, update.lines);
     if blank > line {
         return None;
     }
@@ -105,19 +105,19 @@ pub fn page_end(frame: &Frame<'_>, line: u16, column: u16) -> Option<PageEnd>
     })
 }
 
-/// The last changed place of a frame.
-pub fn last_changed(frame: &Frame<'_>) -> Option<(u16, u16)>
-    ensures { MatchOption result ((y x : ℕ) → shown_at frame.now.shown.now (y, x) ≡ shown_at frame.now.wanted.now (y, x))
-        (λ place. IsLastChange frame.now.shown.now frame.now.wanted.now place) }
+/// The last changed place of an update.
+pub fn last_changed(update: &Update<'_>) -> Option<(u16, u16)>
+    ensures { MatchOption result ((y x : ℕ) → shown_at update.now.shown.now (y, x) ≡ shown_at update.now.wanted.now (y, x))
+        (λ place. IsLastChange update.now.shown.now update.now.wanted.now place) }
 {
-    let mut end = frame.changes.end();
+    let mut end = update.changes.end();
     while end > 0 {
         let line = end - 1;
         let at = usize::from(line);
-        let (from, to) = frame.changes.within(line, usize::from(frame.columns));
+        let (from, to) = update.changes.within(line, usize::from(update.columns));
         if let Some(skipped) = last_diff(
-            &frame.shown.row(at)[from..to],
-            &frame.wanted.row(at)[from..to],
+            &update.shown.row(at)[from..to],
+            &update.wanted.row(at)[from..to],
         ) {
             return Some((line, (from + skipped) as u16));
         }

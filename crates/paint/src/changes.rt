@@ -1,7 +1,7 @@
 //! A picture that is wanted over the one that is shown, and where they may differ.
 
 ghost use Rattle.std.specs.Prelude.{◌≤◌};
-ghost use Rattle.paint.specs.{props, LARGEST_SCREEN, IsFrame};
+ghost use Rattle.paint.specs.{props, LARGEST_SCREEN, IsUpdate};
 
 use cell::{Grid, Shown};
 use ecma::Positions;
@@ -10,14 +10,14 @@ use extents::Extents;
 /// A wanted picture over the one that is shown, with the columns in which alone it may differ from that, and the
 /// positions of its lines and columns.
 #[derive(Drop)]
-pub struct Frame<'a> {
+pub struct Update<'a> {
     pub lines: u16,
     pub columns: u16,
     pub shown: &'a Grid<Shown>,
     pub wanted: &'a Grid<Shown>,
     pub changes: &'a Extents,
     pub positions: &'a Positions,
-    pub ghost sound: { IsFrame lines columns changes.now shown.now wanted.now } by { Prim.hlevel props },
+    pub ghost sound: { IsUpdate lines columns changes.now shown.now wanted.now } by { Prim.hlevel props },
     pub ghost lines_spelled: { lines ≤ positions.now },
     pub ghost columns_spelled: { columns ≤ positions.now },
     pub ghost few_spelled: { positions.now ≤ LARGEST_SCREEN },

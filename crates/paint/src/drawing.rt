@@ -9,7 +9,7 @@ ghost use Rattle.paint.specs.declared.strokes.TheConstants.{ROOM};
 ghost use Rattle.paint.specs.declared.strokes.Stroke.{Stroke as AnyStroke};
 
 use crate::blanks::{PageEnd, last_changed, page_end};
-use crate::changes::Frame;
+use crate::changes::Update;
 use crate::line::leading;
 use crate::pen::Pen;
 use crate::strokes::{Ink, Plan, Stroke};
@@ -35,24 +35,24 @@ pub enum Way {
     Moved,
 }
 
-/// Draws the wanted picture of a frame over the one that is shown.
-pub fn paint<W: Sink>(pen: &mut Pen, plan: &mut Plan, sink: &mut W, frame: &Frame<'_>)
-    requires { pen.old.columns ≡ frame.now.columns }
-    ensures draws { DrawsWithin (picture_bytes frame.now.shown.now frame.now.wanted.now) (W.seen sink.old) (W.seen sink.new) pen.old pen.new
-        frame.now.shown.now frame.now.wanted.now }
+/// Draws the wanted picture of an update over the one that is shown.
+pub fn paint<W: Sink>(pen: &mut Pen, plan: &mut Plan, sink: &mut W, update: &Update<'_>)
+    requires { pen.old.columns ≡ update.now.columns }
+    ensures draws { DrawsWithin (picture_bytes update.now.shown.now update.now.wanted.now) (W.seen sink.old) (W.seen sink.new) pen.old pen.new
+        update.now.shown.now update.now.wanted.now }
     ensures same { SameTerminals (W.name sink.old) (W.name sink.new) pen.old pen.new }
 {
-    let Some((last, column)) = last_changed(frame) else {
+    let Some((last, column)) = last_changed(update) else {
         return;
     };
-    let end = page_end(frame, last, column);
+    let end = page_end(update, last, column);
     begin_plan(pen, plan);
-    let mut line = next_line(plan, frame, 0, end);
+    let mut line = next_line(plan, update, 0, end);
     while line <= last {
-        let after = plan_line(pen, plan, sink, frame, line, end);
-        line = next_line(plan, frame, after, end);
+        let after = plan_line(pen, plan, sink, update, line, end);
+        line = next_line(plan, update, after, end);
     }
-    draw_plan(pen, plan, sink, frame);
+    draw_plan(pen, plan, sink, update);
 }
 
 /// Plans no strokes, from where the pen is.
@@ -64,12 +64,12 @@ fn begin_plan(pen: &Pen, plan: &mut Plan)
 
 /// The next line to look at, from one on: the first that may differ, or that of the cursor, where it comes before and is
 /// in the blank end of the page.
-fn next_line(plan: &Plan, frame: &Frame<'_>, from: u16, end: Option<PageEnd>) -> u16
+fn next_line(plan: &Plan, update: &Update<'_>, from: u16, end: Option<PageEnd>) -> u16
     ensures from { from ≤ result }
-    ensures inside { from ≤ length frame.now.changes.now → result ≤ length frame.now.changes.now }
-    ensures none { (y : ℕ) → from ≤ y → y < result → columns_of frame.now.changes.now y ≡ None }
+    ensures inside { from ≤ length update.now.changes.now → result ≤ length update.now.changes.now }
+    ensures none { (y : ℕ) → from ≤ y → y < result → columns_of update.now.changes.now y ≡ None }
 {
-    let next = frame.changes.next(from);
+    let next = update.changes.next(from);
     let line = plan.line();
     match end {
         Some(end) if from <= line && end.first <= line => next.min(line),
@@ -82,97 +82,97 @@ fn plan_line<W: Sink>(
     pen: &mut Pen,
     plan: &mut Plan,
     sink: &mut W,
-    frame: &Frame<'_>,
+    update: &Update<'_>,
     line: u16,
     end: Option<PageEnd>,
 ) -> u16
-    requires width { pen.old.columns ≡ frame.now.columns }
-    requires line { line < frame.now.lines }
-    requires end { MatchOption end ⊤ (λ end. IsPageEnd frame.now.shown.now frame.now.wanted.now end) }
-    requires are { All (IsStroke frame.now.shown.now frame.now.wanted.now) plan.old }
+    requires width { pen.old.columns ≡ update.now.columns }
+    requires line { line < update.now.lines }
+    requires end { MatchOption end ⊤ (λ end. IsPageEnd update.now.shown.now update.now.wanted.now end) }
+    requires are { All (IsStroke update.now.shown.now update.now.wanted.now) plan.old }
     ensures under_way { (before : Seen) (begun : AnyPen)
-        → IsUnderWay before (W.seen sink.old) begun pen.old frame.now.shown.now frame.now.wanted.now (line, 0) plan.old
-        → IsUnderWay before (W.seen sink.new) begun pen.new frame.now.shown.now frame.now.wanted.now (result, 0) plan.new }
+        → IsUnderWay before (W.seen sink.old) begun pen.old update.now.shown.now update.now.wanted.now (line, 0) plan.old
+        → IsUnderWay before (W.seen sink.new) begun pen.new update.now.shown.now update.now.wanted.now (result, 0) plan.new }
     ensures after { line < result }
-    ensures within { result ≤ frame.now.lines }
+    ensures within { result ≤ update.now.lines }
     ensures same { SameTerminals (W.name sink.old) (W.name sink.new) pen.old pen.new }
 {
-    make_room(pen, plan, sink, frame);
+    make_room(pen, plan, sink, update);
     match end {
         Some(end) if end.first <= line && line < end.line => {
-            if plan.add_last_line(frame, line, end) {
-                frame.lines
+            if plan.add_last_line(update, line, end) {
+                update.lines
             } else {
                 line + 1
             }
         }
         _ => {
-            plan.add_line(frame, line);
+            plan.add_line(update, line);
             line + 1
         }
     }
 }
 
 /// Draws the strokes that were planned, where there is no room for those of one more line.
-fn make_room<W: Sink>(pen: &mut Pen, plan: &mut Plan, sink: &mut W, frame: &Frame<'_>)
-    requires width { pen.old.columns ≡ frame.now.columns }
-    requires are { All (IsStroke frame.now.shown.now frame.now.wanted.now) plan.old }
+fn make_room<W: Sink>(pen: &mut Pen, plan: &mut Plan, sink: &mut W, update: &Update<'_>)
+    requires width { pen.old.columns ≡ update.now.columns }
+    requires are { All (IsStroke update.now.shown.now update.now.wanted.now) plan.old }
     ensures under_way { (before : Seen) (begun : AnyPen) (to : Place)
-        → IsUnderWay before (W.seen sink.old) begun pen.old frame.now.shown.now frame.now.wanted.now to plan.old
-        → IsUnderWay before (W.seen sink.new) begun pen.new frame.now.shown.now frame.now.wanted.now to plan.new }
-    ensures room { length plan.new + frame.now.columns < ROOM }
+        → IsUnderWay before (W.seen sink.old) begun pen.old update.now.shown.now update.now.wanted.now to plan.old
+        → IsUnderWay before (W.seen sink.new) begun pen.new update.now.shown.now update.now.wanted.now to plan.new }
+    ensures room { length plan.new + update.now.columns < ROOM }
     ensures same { SameTerminals (W.name sink.old) (W.name sink.new) pen.old pen.new }
 {
-    if plan.room() <= usize::from(frame.columns) {
-        draw_plan(pen, plan, sink, frame);
+    if plan.room() <= usize::from(update.columns) {
+        draw_plan(pen, plan, sink, update);
         begin_plan(pen, plan);
     }
 }
 
 /// Draws the strokes that were planned, in the order that takes fewer bytes, and leaves none.
-fn draw_plan<W: Sink>(pen: &mut Pen, plan: &mut Plan, sink: &mut W, frame: &Frame<'_>)
-    requires width { pen.old.columns ≡ frame.now.columns }
-    requires are { All (IsStroke frame.now.shown.now frame.now.wanted.now) plan.old }
+fn draw_plan<W: Sink>(pen: &mut Pen, plan: &mut Plan, sink: &mut W, update: &Update<'_>)
+    requires width { pen.old.columns ≡ update.now.columns }
+    requires are { All (IsStroke update.now.shown.now update.now.wanted.now) plan.old }
     ensures under_way { (before : Seen) (begun : AnyPen) (to : Place)
-        → IsUnderWay before (W.seen sink.old) begun pen.old frame.now.shown.now frame.now.wanted.now to plan.old
-        → IsUnderWay before (W.seen sink.new) begun pen.new frame.now.shown.now frame.now.wanted.now to plan.new }
+        → IsUnderWay before (W.seen sink.old) begun pen.old update.now.shown.now update.now.wanted.now to plan.old
+        → IsUnderWay before (W.seen sink.new) begun pen.new update.now.shown.now update.now.wanted.now to plan.new }
     ensures none { plan.new ≡ [] }
     ensures same { SameTerminals (W.name sink.old) (W.name sink.new) pen.old pen.new }
 {
     if plan.is_less_by_pass() {
-        draw_passes(pen, sink, frame, plan.strokes());
+        draw_passes(pen, sink, update, plan.strokes());
         plan.clear((0, 0), Rendition::NONE);
         return;
     }
-    draw_strokes(pen, sink, frame, plan.strokes());
+    draw_strokes(pen, sink, update, plan.strokes());
     plan.clear((0, 0), Rendition::NONE);
 }
 
-/// Draws strokes of a frame one after another, after others.
-fn draw_strokes<W: Sink>(pen: &mut Pen, sink: &mut W, frame: &Frame<'_>, strokes: &[Stroke])
-    requires width { pen.old.columns ≡ frame.now.columns }
-    requires are { All (IsStroke frame.now.shown.now frame.now.wanted.now) strokes.now }
+/// Draws strokes of an update one after another, after others.
+fn draw_strokes<W: Sink>(pen: &mut Pen, sink: &mut W, update: &Update<'_>, strokes: &[Stroke])
+    requires width { pen.old.columns ≡ update.now.columns }
+    requires are { All (IsStroke update.now.shown.now update.now.wanted.now) strokes.now }
     ensures drawn { (before : Seen) (begun : AnyPen) (others : List AnyStroke)
-        → AreDrawn before (W.seen sink.old) begun pen.old frame.now.shown.now frame.now.wanted.now others
-        → AreDrawn before (W.seen sink.new) begun pen.new frame.now.shown.now frame.now.wanted.now (others ++ strokes.now) }
+        → AreDrawn before (W.seen sink.old) begun pen.old update.now.shown.now update.now.wanted.now others
+        → AreDrawn before (W.seen sink.new) begun pen.new update.now.shown.now update.now.wanted.now (others ++ strokes.now) }
     ensures same { SameTerminals (W.name sink.old) (W.name sink.new) pen.old pen.new }
 {
     for stroke in strokes {
-        draw_stroke(pen, sink, frame, *stroke);
+        draw_stroke(pen, sink, update, *stroke);
     }
 }
 
 /// Draws them pass by pass.
-fn draw_passes<W: Sink>(pen: &mut Pen, sink: &mut W, frame: &Frame<'_>, strokes: &[Stroke])
-    requires width { pen.old.columns ≡ frame.now.columns }
-    requires are { All (IsStroke frame.now.shown.now frame.now.wanted.now) strokes.now }
+fn draw_passes<W: Sink>(pen: &mut Pen, sink: &mut W, update: &Update<'_>, strokes: &[Stroke])
+    requires width { pen.old.columns ≡ update.now.columns }
+    requires are { All (IsStroke update.now.shown.now update.now.wanted.now) strokes.now }
     ensures drawn { (before : Seen) (begun : AnyPen) (others : List AnyStroke)
-        → AreDrawn before (W.seen sink.old) begun pen.old frame.now.shown.now frame.now.wanted.now others
-        → AreDrawn before (W.seen sink.new) begun pen.new frame.now.shown.now frame.now.wanted.now (others ++ strokes.now) }
+        → AreDrawn before (W.seen sink.old) begun pen.old update.now.shown.now update.now.wanted.now others
+        → AreDrawn before (W.seen sink.new) begun pen.new update.now.shown.now update.now.wanted.now (others ++ strokes.now) }
     ensures same { SameTerminals (W.name sink.old) (W.name sink.new) pen.old pen.new }
 {
     for pass in 0..passes_of(strokes) {
-        draw_pass(pen, sink, frame, strokes, pass);
+        draw_pass(pen, sink, update, strokes, pass);
     }
 }
 
@@ -191,35 +191,35 @@ fn passes_of(strokes: &[Stroke]) -> usize
 fn draw_pass<W: Sink>(
     pen: &mut Pen,
     sink: &mut W,
-    frame: &Frame<'_>,
+    update: &Update<'_>,
     strokes: &[Stroke],
     pass: usize,
 )
-    requires width { pen.old.columns ≡ frame.now.columns }
-    requires are { All (IsStroke frame.now.shown.now frame.now.wanted.now) strokes.now }
+    requires width { pen.old.columns ≡ update.now.columns }
+    requires are { All (IsStroke update.now.shown.now update.now.wanted.now) strokes.now }
     ensures drawn { (before : Seen) (begun : AnyPen) (others : List AnyStroke)
-        → AreDrawn before (W.seen sink.old) begun pen.old frame.now.shown.now frame.now.wanted.now others
-        → AreDrawn before (W.seen sink.new) begun pen.new frame.now.shown.now frame.now.wanted.now (others ++ filter (is_of pass) strokes.now) }
+        → AreDrawn before (W.seen sink.old) begun pen.old update.now.shown.now update.now.wanted.now others
+        → AreDrawn before (W.seen sink.new) begun pen.new update.now.shown.now update.now.wanted.now (others ++ filter (is_of pass) strokes.now) }
     ensures same { SameTerminals (W.name sink.old) (W.name sink.new) pen.old pen.new }
 {
     for stroke in strokes {
         if usize::from(stroke.pass) == pass {
-            draw_stroke(pen, sink, frame, *stroke);
+            draw_stroke(pen, sink, update, *stroke);
         }
     }
 }
 
-/// Draws a stroke of a frame, after others.
-fn draw_stroke<W: Sink>(pen: &mut Pen, sink: &mut W, frame: &Frame<'_>, stroke: Stroke)
-    requires width { pen.old.columns ≡ frame.now.columns }
-    requires is { IsStroke frame.now.shown.now frame.now.wanted.now stroke }
+/// Draws a stroke of an update, after others.
+fn draw_stroke<W: Sink>(pen: &mut Pen, sink: &mut W, update: &Update<'_>, stroke: Stroke)
+    requires width { pen.old.columns ≡ update.now.columns }
+    requires is { IsStroke update.now.shown.now update.now.wanted.now stroke }
     ensures drawn { (before : Seen) (begun : AnyPen) (strokes : List AnyStroke)
-        → AreDrawn before (W.seen sink.old) begun pen.old frame.now.shown.now frame.now.wanted.now strokes
-        → AreDrawn before (W.seen sink.new) begun pen.new frame.now.shown.now frame.now.wanted.now (strokes ++ stroke ∷ []) }
+        → AreDrawn before (W.seen sink.old) begun pen.old update.now.shown.now update.now.wanted.now strokes
+        → AreDrawn before (W.seen sink.new) begun pen.new update.now.shown.now update.now.wanted.now (strokes ++ stroke ∷ []) }
     ensures same { SameTerminals (W.name sink.old) (W.name sink.new) pen.old pen.new }
 {
-    let wanted = frame.wanted.row(usize::from(stroke.line));
-    let positions = frame.positions;
+    let wanted = update.wanted.row(usize::from(stroke.line));
+    let positions = update.positions;
     let (line, gap, start) = (
         stroke.line,
         usize::from(stroke.gap),

@@ -8,7 +8,7 @@
 //! - `outbox`: the bytes that are gathered on their way to the sink
 //! - `painter`: the `Painter`
 //! - `pen`: move, select, print, erase
-//! - `strokes`: the strokes of a frame, found line by line
+//! - `strokes`: the strokes of an update, found line by line
 //! - `tally`: how many bytes strokes take, in either order
 #![tactic(auto)]
 

@@ -5,7 +5,7 @@ ghost use Rattle.paint.specs.{ℕ, ⊤, MatchOption, length, Bool, IfNone, IfOk,
 ghost use Rattle.paint.specs.{Seen, DifferOnly, CanShow, PainterState, ShownPicture, UpdateEnds, UpdateMade, first_painter, known_picture, opening_from, start_from, IsGathered, CanDraw, HoldsUpdate};
 ghost use Rattle.paint.specs.{IsStart, last_shown, SameTerminals};
 
-use crate::changes::Frame;
+use crate::changes::Update;
 use crate::drawing::paint;
 use crate::pen::Pen;
 use crate::strokes::Plan;
@@ -124,7 +124,7 @@ impl Painter {
         fill_unless(&mut self.changes, given, size.1);
         begin(&mut self.pen, sink, &mut self.picture, known);
         let changes = given.unwrap_or(&self.changes);
-        let frame = Frame {
+        let update = Update {
             lines: size.0,
             columns: size.1,
             shown: &self.picture,
@@ -132,7 +132,7 @@ impl Painter {
             changes,
             positions: &self.positions,
         };
-        let sent = send_frame(&mut self.pen, &mut self.plan, sink, &frame, cursor)?;
+        let sent = send_update(&mut self.pen, &mut self.plan, sink, &update, cursor)?;
         copy_changes(&mut self.picture, picture, size.1, changes);
         self.cursor = Some(cursor);
         Ok(sent)
@@ -180,23 +180,23 @@ fn begin<W: Sink>(pen: &mut Pen, sink: &mut W, shown: &mut Grid<Shown>, known: O
     }
 }
 
-/// Sends what differs in a frame, after what begins the text, then the cursor, and flushes.
-fn send_frame<W: Sink>(
+/// Sends what differs in an update, after what begins the text, then the cursor, and flushes.
+fn send_update<W: Sink>(
     pen: &mut Pen,
     plan: &mut Plan,
     sink: &mut W,
-    frame: &Frame<'_>,
+    update: &Update<'_>,
     cursor: (u16, u16),
 ) -> Result<Sent, WriteFault>
-    requires { CanDraw pen.old frame.now.lines frame.now.columns cursor }
-    ensures text { (painter : PainterState) (clear : Bool) (start : Seen) → painter.lines ≡ frame.now.lines → painter.columns ≡ frame.now.columns
+    requires { CanDraw pen.old update.now.lines update.now.columns cursor }
+    ensures text { (painter : PainterState) (clear : Bool) (start : Seen) → painter.lines ≡ update.now.lines → painter.columns ≡ update.now.columns
         → IsGathered start (W.seen sink.old) pen.old.outbox (opening_from (known_picture painter clear))
-        → IsStart painter (known_picture painter clear) pen.old frame.now.shown.now
-        → UpdateEnds painter clear start (W.seen sink.new) (record { picture = frame.now.wanted.now; cursor = cursor }) result }
+        → IsStart painter (known_picture painter clear) pen.old update.now.shown.now
+        → UpdateEnds painter clear start (W.seen sink.new) (record { picture = update.now.wanted.now; cursor = cursor }) result }
     ensures same { SameTerminals (W.name sink.old) (W.name sink.new) pen.old pen.new }
 {
-    paint(pen, plan, sink, frame);
-    pen.end(sink, frame.positions, cursor);
+    paint(pen, plan, sink, update);
+    pen.end(sink, update.positions, cursor);
     send_text(pen, sink)
 }
 

@@ -7,7 +7,7 @@ ghost use Rattle.paint.specs.declared.strokes.Stroke.{Stroke as AnyStroke};
 ghost use Rattle.paint.specs.declared.strokes.TheConstants.{ROOM};
 
 use crate::blanks::{PageEnd, tail_over, tail_start};
-use crate::changes::Frame;
+use crate::changes::Update;
 use crate::line::{next_changed, stretch};
 use crate::tally::Tally;
 use arrayvec::ArrayVec;
@@ -61,7 +61,7 @@ impl Default for Stroke {
     }
 }
 
-/// Strokes of a frame, in a box, so that a plan is moved in a few words.
+/// Strokes of an update, in a box, so that a plan is moved in a few words.
 #[derive(Drop)]
 pub struct Plan {
     strokes: Box<ArrayVec<Stroke, ROOM>>,
@@ -140,60 +140,60 @@ impl Plan {
     }
 
     /// Adds those of a line. Its blank end is erased where that takes fewer bytes.
-    pub fn add_line(&mut self, frame: &Frame<'_>, line: u16)
-        requires line { line < frame.now.lines }
-        requires room { length self.old + frame.now.columns < ROOM }
-        ensures planned { (others : List AnyStroke) → ArePlanned frame.now.shown.now frame.now.wanted.now (line, 0) others self.old
-            → ArePlanned frame.now.shown.now frame.now.wanted.now (line + 1, 0) others self.new }
-        ensures room { length self.new ≤ length self.old + frame.now.columns }
+    pub fn add_line(&mut self, update: &Update<'_>, line: u16)
+        requires line { line < update.now.lines }
+        requires room { length self.old + update.now.columns < ROOM }
+        ensures planned { (others : List AnyStroke) → ArePlanned update.now.shown.now update.now.wanted.now (line, 0) others self.old
+            → ArePlanned update.now.shown.now update.now.wanted.now (line + 1, 0) others self.new }
+        ensures room { length self.new ≤ length self.old + update.now.columns }
     {
         let at = usize::from(line);
-        let (shown, wanted) = (frame.shown.row(at), frame.wanted.row(at));
-        let (start, end) = frame.changes.within(line, usize::from(frame.columns));
+        let (shown, wanted) = (update.shown.row(at), update.wanted.row(at));
+        let (start, end) = update.changes.within(line, usize::from(update.columns));
         let Some(skipped) = last_diff(&shown[start..end], &wanted[start..end]) else {
             return;
         };
         let last = start + skipped;
         let tail = tail_over(wanted, last);
         if tail > last {
-            self.add_part(frame, line, start, start, last + 1);
+            self.add_part(update, line, start, start, last + 1);
             return;
         }
         let column = next_changed(shown, wanted, tail.max(start), last);
-        let gap = self.add_part(frame, line, start, start, column);
+        let gap = self.add_part(update, line, start, start, column);
         let from = self.erased_from(line, wanted, gap, tail, column);
         if self.is_erased(line, wanted, gap, from, column, last) {
             self.add_erasure(Ink::EraseLine, line, wanted, gap, from);
         } else {
-            self.add_part(frame, line, gap, column, last + 1);
+            self.add_part(update, line, gap, column, last + 1);
         }
     }
 
     /// Adds those of a line in the blank end of a page, and answers whether the last of them erases all of that: where a
     /// blank end of the line is changed, or where the cursor is in it anyway.
-    pub fn add_last_line(&mut self, frame: &Frame<'_>, line: u16, end: PageEnd) -> bool
+    pub fn add_last_line(&mut self, update: &Update<'_>, line: u16, end: PageEnd) -> bool
         requires first { end.first ≤ line }
         requires line { line < end.line }
-        requires end { IsPageEnd frame.now.shown.now frame.now.wanted.now end }
-        requires room { length self.old + frame.now.columns < ROOM }
-        ensures { (others : List AnyStroke) → ArePlanned frame.now.shown.now frame.now.wanted.now (line, 0) others self.old
-            → ArePlanned frame.now.shown.now frame.now.wanted.now (if result then frame.now.lines else line + 1, 0) others self.new }
+        requires end { IsPageEnd update.now.shown.now update.now.wanted.now end }
+        requires room { length self.old + update.now.columns < ROOM }
+        ensures { (others : List AnyStroke) → ArePlanned update.now.shown.now update.now.wanted.now (line, 0) others self.old
+            → ArePlanned update.now.shown.now update.now.wanted.now (if result then update.now.lines else line + 1, 0) others self.new }
     {
         let at = usize::from(line);
-        let (shown, wanted) = (frame.shown.row(at), frame.wanted.row(at));
-        let (start, stop) = frame.changes.within(line, usize::from(frame.columns));
+        let (shown, wanted) = (update.shown.row(at), update.wanted.row(at));
+        let (start, stop) = update.changes.within(line, usize::from(update.columns));
         let tail = tail_start(wanted);
         let column = next_changed(shown, wanted, tail.max(start).min(stop), stop);
         if column < stop {
-            let gap = self.add_part(frame, line, start, start, column);
+            let gap = self.add_part(update, line, start, start, column);
             let from = self.erased_from(line, wanted, gap, tail.min(column), column);
             self.add_erasure(Ink::ErasePage, line, wanted, gap, from);
             return true;
         }
-        self.add_line(frame, line);
+        self.add_line(update, line);
         let (y, x) = self.tally.at();
         let from = usize::from(x);
-        if y != line || from < tail || x >= frame.columns {
+        if y != line || from < tail || x >= update.columns {
             return false;
         }
         self.add_erasure(Ink::ErasePage, line, wanted, from, from);
@@ -204,26 +204,26 @@ impl Plan {
     /// the next gap begins.
     fn add_part(
         &mut self,
-        frame: &Frame<'_>,
+        update: &Update<'_>,
         line: u16,
         from: usize,
         start: usize,
         end: usize,
     ) -> usize
-        requires line { line < frame.now.lines }
+        requires line { line < update.now.lines }
         requires gap { from ≤ start }
         requires ordered { start ≤ end }
-        requires inside { end ≤ frame.now.columns }
+        requires inside { end ≤ update.now.columns }
         requires room { length self.old + (end - start) ≤ ROOM }
-        requires alike { AreAlike frame.now.shown.now frame.now.wanted.now line from start }
-        ensures planned { (others : List AnyStroke) → ArePlanned frame.now.shown.now frame.now.wanted.now (line, start) others self.old
-            → ArePlanned frame.now.shown.now frame.now.wanted.now (line, end) others self.new }
+        requires alike { AreAlike update.now.shown.now update.now.wanted.now line from start }
+        ensures planned { (others : List AnyStroke) → ArePlanned update.now.shown.now update.now.wanted.now (line, start) others self.old
+            → ArePlanned update.now.shown.now update.now.wanted.now (line, end) others self.new }
         ensures room { length self.new ≤ length self.old + (end - start) }
         ensures gap { result ≤ end }
-        ensures alike { AreAlike frame.now.shown.now frame.now.wanted.now line result end }
+        ensures alike { AreAlike update.now.shown.now update.now.wanted.now line result end }
     {
         let at = usize::from(line);
-        let (shown, wanted) = (frame.shown.row(at), frame.wanted.row(at));
+        let (shown, wanted) = (update.shown.row(at), update.wanted.row(at));
         let mut x = next_changed(shown, wanted, start, end);
         let mut gap = first_gap(from, start, x);
         while x < end {

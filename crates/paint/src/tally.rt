@@ -1,4 +1,4 @@
-//! How many bytes the strokes of a frame take, drawn as they were found or rendition by rendition. It is counted while
+//! How many bytes the strokes of an update take, drawn as they were found or rendition by rendition. It is counted while
 //! they are found, and only where another rendition comes: elsewhere both take the same. What it answers is a choice.
 
 ghost use Rattle.std.specs.Prelude.{◌+◌, ◌≤◌, ◌<◌};

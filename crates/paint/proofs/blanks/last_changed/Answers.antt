@@ -9,38 +9,38 @@ use Rattle.paint.proofs.blanks.last_changed.Goals as goal
 pub loop-end-init : goal.loop-end-init
 loop-end-init c = record {
   within = c.end-end.ensures.inside;
-  later = λ y x from. c.args.frame.now.sound.changes.others y x (rw (c.end-end.ensures.none y from) refl);
+  later = λ y x from. c.args.update.now.sound.changes.others y x (rw (c.end-end.ensures.none y from) refl);
 }
 
 pub loop-end-preserved : goal.loop-end-preserved
 loop-end-preserved c =
-    let f = c.args.frame.now.sound in
+    let f = c.args.update.now.sound in
     let line = c.loop-end.end - 1 in
-    let old : c.row.result.now ≡ line_of c.args.frame.now.shown.now line = c.row.ensures.row ∙ ap (line_of c.args.frame.now.shown.now) c.from-at.ensures in
-    let new : c.row-in-loop-end.result.now ≡ line_of c.args.frame.now.wanted.now line = c.row-in-loop-end.ensures.row ∙ ap (line_of c.args.frame.now.wanted.now) c.from-at.ensures in
+    let old : c.row.result.now ≡ line_of c.args.update.now.shown.now line = c.row.ensures.row ∙ ap (line_of c.args.update.now.shown.now) c.from-at.ensures in
+    let new : c.row-in-loop-end.result.now ≡ line_of c.args.update.now.wanted.now line = c.row-in-loop-end.ensures.row ∙ ap (line_of c.args.update.now.wanted.now) c.from-at.ensures in
     let part = rw c.from.ensures at c.within-from.ensures in
     let none = rw (c.in_default.is, old, new) at c.last_diff.ensures in
-    let below : line < c.args.frame.now.lines = omega (arith, f.height, c.loop-end.invariant.within, c.loop-end-test.true) in
+    let below : line < c.args.update.now.lines = omega (arith, f.height, c.loop-end.invariant.within, c.loop-end-test.true) in
     record {
       within = omega (arith, c.loop-end.invariant.within);
       later = λ y x from. elim (cases_lt line y) [
         | inl after ↦ c.loop-end.invariant.later y x (omega (arith, after))
         | inr here ↦
             let same : line ≡ y = omega (arith, from, here) in
-            subst (λ n. shown_at c.args.frame.now.shown.now (n, x) ≡ shown_at c.args.frame.now.wanted.now (n, x)) same (whole-line line x f part below none)
+            subst (λ n. shown_at c.args.update.now.shown.now (n, x) ≡ shown_at c.args.update.now.wanted.now (n, x)) same (whole-line line x f part below none)
       ];
     }
 
 pub returns-in-Some : goal.returns-in-Some
 returns-in-Some c =
-    let f = c.args.frame.now.sound in
+    let f = c.args.update.now.sound in
     let line = c.loop-end.end - 1 in
-    let old : c.row.result.now ≡ line_of c.args.frame.now.shown.now line = c.row.ensures.row ∙ ap (line_of c.args.frame.now.shown.now) c.from-at.ensures in
-    let new : c.row-in-loop-end.result.now ≡ line_of c.args.frame.now.wanted.now line = c.row-in-loop-end.ensures.row ∙ ap (line_of c.args.frame.now.wanted.now) c.from-at.ensures in
+    let old : c.row.result.now ≡ line_of c.args.update.now.shown.now line = c.row.ensures.row ∙ ap (line_of c.args.update.now.shown.now) c.from-at.ensures in
+    let new : c.row-in-loop-end.result.now ≡ line_of c.args.update.now.wanted.now line = c.row-in-loop-end.ensures.row ∙ ap (line_of c.args.update.now.wanted.now) c.from-at.ensures in
     let part = rw c.from.ensures at c.within-from.ensures in
     let last = rw (c.in-Some.is, old, new) at c.last_diff.ensures in
-    let below : line < c.args.frame.now.lines = omega (arith, f.height, c.loop-end.invariant.within, c.loop-end-test.true) in
-    let differs = part-differs c.within-from.result.0 c.within-from.result.1 c.in-Some.skipped (line_of c.args.frame.now.shown.now line) (line_of c.args.frame.now.wanted.now line) last.0
+    let below : line < c.args.update.now.lines = omega (arith, f.height, c.loop-end.invariant.within, c.loop-end-test.true) in
+    let differs = part-differs c.within-from.result.0 c.within-from.result.1 c.in-Some.skipped (line_of c.args.update.now.shown.now line) (line_of c.args.update.now.wanted.now line) last.0
     (omega (arith, part.inside, length-line line f.shown below)) in
     record {
       line = omega (arith, below, f.wanted.height);

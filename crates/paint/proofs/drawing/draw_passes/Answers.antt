@@ -76,7 +76,7 @@ loop-pass-preserved g c = record {
       let pass = c.loop-pass.pass in
       let more : (others ++ in_passes pass strokes) ++ filter (is_of pass) strokes ≡ others ++ in_passes (pass + 1) strokes =
       append_assoc others (in_passes pass strokes) (filter (is_of pass) strokes) ∙ ap (λ n. others ++ in_passes n strokes) (sym (add-one pass)) in
-      subst (AreDrawn before (g.W.Sink.seen c.draw_pass.new.sink) begun c.draw_pass.new.pen c.args.frame.now.shown.now c.args.frame.now.wanted.now) more
+      subst (AreDrawn before (g.W.Sink.seen c.draw_pass.new.sink) begun c.draw_pass.new.pen c.args.update.now.shown.now c.args.update.now.wanted.now) more
       (c.draw_pass.ensures.drawn before begun (others ++ in_passes pass strokes) (c.loop-pass.invariant.drawn before begun others h));
   same = grind arith;
 }

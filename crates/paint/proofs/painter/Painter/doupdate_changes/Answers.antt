@@ -35,8 +35,8 @@ taken now lines columns (Some place) (Some c) own picture {picked = picked} {sho
     let given_is : picked ≡ c = p ∙ ap (λ g. unwrap_or g own) e in
     (ap (λ x. length (now x)) given_is ∙ height, subst (λ x. DifferOnly (now x) shown wanted) (sym given_is) (subst (λ q. DifferOnly (now c) q wanted) (sym is) only))
 
-pub invariant_of-frame : goal.invariant_of-frame
-invariant_of-frame g c =
+pub invariant_of-update : goal.invariant_of-update
+invariant_of-update g c =
     let is = c.self.view_is in
     let lines = c.self.inside.lines in
     let columns = c.self.inside.columns in

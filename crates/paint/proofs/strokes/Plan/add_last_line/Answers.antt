@@ -15,13 +15,13 @@ not-later y z x u later = grind (arith, nat_tests)
 
 pub returns-then-column-stop : goal.returns-then-column-stop
 returns-then-column-stop c = λ others h.
-    let f = c.args.frame.now.sound in
+    let f = c.args.update.now.sound in
     let y = c.args.line in
-    let same : length c.args.frame.now.shown.now ≡ length c.args.frame.now.wanted.now = omega (arith, f.shown.height, f.wanted.height) in
-    let old : c.row-shown.result.now ≡ line_of c.args.frame.now.shown.now y = c.row-shown.ensures.row ∙ ap (line_of c.args.frame.now.shown.now) c.from-at.ensures in
-    let new : c.row-wanted.result.now ≡ line_of c.args.frame.now.wanted.now y = c.row-wanted.ensures.row ∙ ap (line_of c.args.frame.now.wanted.now) c.from-at.ensures in
+    let same : length c.args.update.now.shown.now ≡ length c.args.update.now.wanted.now = omega (arith, f.shown.height, f.wanted.height) in
+    let old : c.row-shown.result.now ≡ line_of c.args.update.now.shown.now y = c.row-shown.ensures.row ∙ ap (line_of c.args.update.now.shown.now) c.from-at.ensures in
+    let new : c.row-wanted.result.now ≡ line_of c.args.update.now.wanted.now y = c.row-wanted.ensures.row ∙ ap (line_of c.args.update.now.wanted.now) c.from-at.ensures in
     let part = rw c.from.ensures at c.within-start.ensures in
-    let below : y < c.args.frame.now.lines = omega (arith, f.wanted.height, c.requires.end.line, c.requires.line) in
+    let below : y < c.args.update.now.lines = omega (arith, f.wanted.height, c.requires.end.line, c.requires.line) in
     let before = planned-same same h (same-in_line _ _ y 0 c.within-start.result.0 (omega arith) (λ x from to. before-part y x f part to)) in
     let column = c.next_changed-column in
     let e = c.add_erasure.ensures in
@@ -31,8 +31,8 @@ returns-then-column-stop c = λ others h.
     let is : r ≡ stroke = λ i. record { ink = e.ink i; line = e.line i; gap = e.gap i; start = e.start i; end = r.end; pass = r.pass } in
     let changed = (rw (old, new) at column.ensures.changed) c.if-column-stop.true in
     let blank = rw new at c.tail_start-tail.ensures.blank in
-    let inside : column.result < c.args.frame.now.columns = omega (arith, c.if-column-stop.true, part.inside) in
-    subst (ArePlanned c.args.frame.now.shown.now c.args.frame.now.wanted.now (c.args.frame.now.lines, 0) others) (sym (e.added ∙ ap (λ s. c.add_part-gap.new.self ++ s ∷ []) is))
+    let inside : column.result < c.args.update.now.columns = omega (arith, c.if-column-stop.true, part.inside) in
+    subst (ArePlanned c.args.update.now.shown.now c.args.update.now.wanted.now (c.args.update.now.lines, 0) others) (sym (e.added ∙ ap (λ s. c.add_part-gap.new.self ++ s ∷ []) is))
     (planned-page {from = (y, column.result)} {changed = (y, column.result)} stroke refl f.shown f.wanted below (omega (arith, inside, c.erased_from-from.ensures.to))
     (not-before y column.result c.erased_from-from.result c.erased_from-from.ensures.to) (not-before y column.result column.result (omega arith)) below inside changed
     (λ x from. blank x (omega (arith, from, c.erased_from-from.ensures.from, c.if-column-stop.true, column.ensures.ordered)))
@@ -42,18 +42,18 @@ returns-then-column-stop c = λ others h.
 
 pub returns : goal.returns
 returns c = λ others h.
-    let f = c.args.frame.now.sound in
+    let f = c.args.update.now.sound in
     let y = c.args.line in
-    let new : c.row-wanted.result.now ≡ line_of c.args.frame.now.wanted.now y = c.row-wanted.ensures.row ∙ ap (line_of c.args.frame.now.wanted.now) c.from-at.ensures in
-    let high : c.args.end.line < c.args.frame.now.lines = omega (arith, f.wanted.height, c.requires.end.line) in
+    let new : c.row-wanted.result.now ≡ line_of c.args.update.now.wanted.now y = c.row-wanted.ensures.row ∙ ap (line_of c.args.update.now.wanted.now) c.from-at.ensures in
+    let high : c.args.end.line < c.args.update.now.lines = omega (arith, f.wanted.height, c.requires.end.line) in
     let e = c.add_erasure-2.ensures in
     let r = c.add_erasure-2.result in
     let start = c.from-from.result in
     let stroke : Stroke = record { ink = ErasePage; line = y; gap = min start start; start = start; end = r.end; pass = r.pass } in
     let is : r ≡ stroke = λ i. record { ink = e.ink i; line = e.line i; gap = e.gap i; start = e.start i; end = r.end; pass = r.pass } in
     let blank = rw new at c.tail_start-tail.ensures.blank in
-    subst (ArePlanned c.args.frame.now.shown.now c.args.frame.now.wanted.now (c.args.frame.now.lines, 0) others) (sym (e.added ∙ ap (λ s. c.add_line.new.self ++ s ∷ []) is))
-    (planned-page {from = (y + 1, 0)} {changed = (c.args.end.line, c.args.end.column)} stroke refl f.shown f.wanted (omega (arith, high, c.requires.line)) (omega (arith, c.from-from.ensures, c.if-x-frame.false))
+    subst (ArePlanned c.args.update.now.shown.now c.args.update.now.wanted.now (c.args.update.now.lines, 0) others) (sym (e.added ∙ ap (λ s. c.add_line.new.self ++ s ∷ []) is))
+    (planned-page {from = (y + 1, 0)} {changed = (c.args.end.line, c.args.end.column)} stroke refl f.shown f.wanted (omega (arith, high, c.requires.line)) (omega (arith, c.from-from.ensures, c.if-x-update.false))
     (not-later (y + 1) y 0 start (omega arith)) (grind (arith, nat_tests)) high (omega (arith, c.requires.end.column, length-line c.args.end.line f.wanted high)) c.requires.end.changed
     (λ x from. blank x (omega (arith, from, c.if-from-tail.false)))
     (λ v x later. c.requires.end.blank v x (omega (arith, later, c.requires.first))) (omega arith)

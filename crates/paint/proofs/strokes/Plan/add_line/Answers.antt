@@ -10,73 +10,73 @@ use Rattle.paint.proofs.strokes.Plan.add_line.Goals as goal
 
 pub returns-in_default-clause-planned : goal.returns-in_default-clause-planned
 returns-in_default-clause-planned c = λ others h.
-    let f = c.args.frame.now.sound in
+    let f = c.args.update.now.sound in
     let y = c.args.line in
-    let same : length c.args.frame.now.shown.now ≡ length c.args.frame.now.wanted.now = omega (arith, f.shown.height, f.wanted.height) in
-    let old : c.row-shown.result.now ≡ line_of c.args.frame.now.shown.now y = c.row-shown.ensures.row ∙ ap (line_of c.args.frame.now.shown.now) c.from-at.ensures in
-    let new : c.row-wanted.result.now ≡ line_of c.args.frame.now.wanted.now y = c.row-wanted.ensures.row ∙ ap (line_of c.args.frame.now.wanted.now) c.from-at.ensures in
+    let same : length c.args.update.now.shown.now ≡ length c.args.update.now.wanted.now = omega (arith, f.shown.height, f.wanted.height) in
+    let old : c.row-shown.result.now ≡ line_of c.args.update.now.shown.now y = c.row-shown.ensures.row ∙ ap (line_of c.args.update.now.shown.now) c.from-at.ensures in
+    let new : c.row-wanted.result.now ≡ line_of c.args.update.now.wanted.now y = c.row-wanted.ensures.row ∙ ap (line_of c.args.update.now.wanted.now) c.from-at.ensures in
     let part = rw c.from.ensures at c.within-start.ensures in
     let none = rw (c.in_default.is, old, new) at c.last_diff.ensures in
     planned-same same h (same-to_end _ _ y 0 (λ x from. whole-line y x f part c.requires.line none))
 
 pub returns-then-tail-last-clause-planned : goal.returns-then-tail-last-clause-planned
 returns-then-tail-last-clause-planned c = λ others h.
-    let f = c.args.frame.now.sound in
+    let f = c.args.update.now.sound in
     let y = c.args.line in
-    let same : length c.args.frame.now.shown.now ≡ length c.args.frame.now.wanted.now = omega (arith, f.shown.height, f.wanted.height) in
-    let old : c.row-shown.result.now ≡ line_of c.args.frame.now.shown.now y = c.row-shown.ensures.row ∙ ap (line_of c.args.frame.now.shown.now) c.from-at.ensures in
-    let new : c.row-wanted.result.now ≡ line_of c.args.frame.now.wanted.now y = c.row-wanted.ensures.row ∙ ap (line_of c.args.frame.now.wanted.now) c.from-at.ensures in
+    let same : length c.args.update.now.shown.now ≡ length c.args.update.now.wanted.now = omega (arith, f.shown.height, f.wanted.height) in
+    let old : c.row-shown.result.now ≡ line_of c.args.update.now.shown.now y = c.row-shown.ensures.row ∙ ap (line_of c.args.update.now.shown.now) c.from-at.ensures in
+    let new : c.row-wanted.result.now ≡ line_of c.args.update.now.wanted.now y = c.row-wanted.ensures.row ∙ ap (line_of c.args.update.now.wanted.now) c.from-at.ensures in
     let part = rw c.from.ensures at c.within-start.ensures in
     let last = rw (c.in-Some.is, old, new) at c.last_diff.ensures in
     let before = planned-same same h (same-in_line _ _ y 0 c.within-start.result.0 (omega arith) (λ x from to. before-part y x f part to)) in
     planned-same same (c.add_part.ensures.planned others before) (same-to_end _ _ y (c.within-start.result.0 + c.in-Some.skipped + 1) (λ x from. elim (cases_lt x c.within-start.result.1) [
-      | inl inside ↦ part-later c.within-start.result.0 c.within-start.result.1 c.in-Some.skipped x (line_of c.args.frame.now.shown.now y) (line_of c.args.frame.now.wanted.now y) last.1 (omega arith) inside
+      | inl inside ↦ part-later c.within-start.result.0 c.within-start.result.1 c.in-Some.skipped x (line_of c.args.update.now.shown.now y) (line_of c.args.update.now.wanted.now y) last.1 (omega arith) inside
       | inr past ↦ after-part y x f part c.requires.line past
     ]))
 
 pub returns-else-is_erased-clause-planned : goal.returns-else-is_erased-clause-planned
 returns-else-is_erased-clause-planned c = λ others h.
-    let f = c.args.frame.now.sound in
+    let f = c.args.update.now.sound in
     let y = c.args.line in
-    let same : length c.args.frame.now.shown.now ≡ length c.args.frame.now.wanted.now = omega (arith, f.shown.height, f.wanted.height) in
-    let old : c.row-shown.result.now ≡ line_of c.args.frame.now.shown.now y = c.row-shown.ensures.row ∙ ap (line_of c.args.frame.now.shown.now) c.from-at.ensures in
-    let new : c.row-wanted.result.now ≡ line_of c.args.frame.now.wanted.now y = c.row-wanted.ensures.row ∙ ap (line_of c.args.frame.now.wanted.now) c.from-at.ensures in
+    let same : length c.args.update.now.shown.now ≡ length c.args.update.now.wanted.now = omega (arith, f.shown.height, f.wanted.height) in
+    let old : c.row-shown.result.now ≡ line_of c.args.update.now.shown.now y = c.row-shown.ensures.row ∙ ap (line_of c.args.update.now.shown.now) c.from-at.ensures in
+    let new : c.row-wanted.result.now ≡ line_of c.args.update.now.wanted.now y = c.row-wanted.ensures.row ∙ ap (line_of c.args.update.now.wanted.now) c.from-at.ensures in
     let part = rw c.from.ensures at c.within-start.ensures in
     let last = rw (c.in-Some.is, old, new) at c.last_diff.ensures in
     let before = planned-same same h (same-in_line _ _ y 0 c.within-start.result.0 (omega arith) (λ x from to. before-part y x f part to)) in
     planned-same same (c.add_part-else-is_erased.ensures.planned others (c.add_part-gap.ensures.planned others before))
     (same-to_end _ _ y (c.within-start.result.0 + c.in-Some.skipped + 1) (λ x from. elim (cases_lt x c.within-start.result.1) [
-      | inl inside ↦ part-later c.within-start.result.0 c.within-start.result.1 c.in-Some.skipped x (line_of c.args.frame.now.shown.now y) (line_of c.args.frame.now.wanted.now y) last.1 (omega arith) inside
+      | inl inside ↦ part-later c.within-start.result.0 c.within-start.result.1 c.in-Some.skipped x (line_of c.args.update.now.shown.now y) (line_of c.args.update.now.wanted.now y) last.1 (omega arith) inside
       | inr past ↦ after-part y x f part c.requires.line past
     ]))
 
 pub returns-then-is_erased-clause-planned : goal.returns-then-is_erased-clause-planned
 returns-then-is_erased-clause-planned c = λ others h.
-    let f = c.args.frame.now.sound in
+    let f = c.args.update.now.sound in
     let y = c.args.line in
-    let same : length c.args.frame.now.shown.now ≡ length c.args.frame.now.wanted.now = omega (arith, f.shown.height, f.wanted.height) in
-    let old : c.row-shown.result.now ≡ line_of c.args.frame.now.shown.now y = c.row-shown.ensures.row ∙ ap (line_of c.args.frame.now.shown.now) c.from-at.ensures in
-    let new : c.row-wanted.result.now ≡ line_of c.args.frame.now.wanted.now y = c.row-wanted.ensures.row ∙ ap (line_of c.args.frame.now.wanted.now) c.from-at.ensures in
+    let same : length c.args.update.now.shown.now ≡ length c.args.update.now.wanted.now = omega (arith, f.shown.height, f.wanted.height) in
+    let old : c.row-shown.result.now ≡ line_of c.args.update.now.shown.now y = c.row-shown.ensures.row ∙ ap (line_of c.args.update.now.shown.now) c.from-at.ensures in
+    let new : c.row-wanted.result.now ≡ line_of c.args.update.now.wanted.now y = c.row-wanted.ensures.row ∙ ap (line_of c.args.update.now.wanted.now) c.from-at.ensures in
     let part = rw c.from.ensures at c.within-start.ensures in
     let last = rw (c.in-Some.is, old, new) at c.last_diff.ensures in
     let before = planned-same same h (same-in_line _ _ y 0 c.within-start.result.0 (omega arith) (λ x from to. before-part y x f part to)) in
     let column = c.next_changed-column in
-    let differs = part-differs c.within-start.result.0 c.within-start.result.1 c.in-Some.skipped (line_of c.args.frame.now.shown.now y) (line_of c.args.frame.now.wanted.now y) last.0
+    let differs = part-differs c.within-start.result.0 c.within-start.result.1 c.in-Some.skipped (line_of c.args.update.now.shown.now y) (line_of c.args.update.now.wanted.now y) last.0
     (omega (arith, part.inside, length-line y f.shown c.requires.line)) in
     let e = c.add_erasure.ensures in
     let r = c.add_erasure.result in
     let gap = min c.add_part-gap.result c.erased_from-from.result in
     let stroke : Stroke = record { ink = EraseLine; line = y; gap = gap; start = c.erased_from-from.result; end = r.end; pass = r.pass } in
     let is : r ≡ stroke = λ i. record { ink = e.ink i; line = e.line i; gap = e.gap i; start = e.start i; end = r.end; pass = r.pass } in
-    let changed : shown_at c.args.frame.now.shown.now (y, column.result) ≡ shown_at c.args.frame.now.wanted.now (y, column.result) → ⊥ =
+    let changed : shown_at c.args.update.now.shown.now (y, column.result) ≡ shown_at c.args.update.now.wanted.now (y, column.result) → ⊥ =
     elim (cases_lt column.result (c.within-start.result.0 + c.in-Some.skipped)) [
       | inl early ↦ (rw (old, new) at column.ensures.changed) early
       | inr late ↦
           let here : c.within-start.result.0 + c.in-Some.skipped ≡ column.result = omega (arith, late, column.ensures.within) in
-          subst (λ n. shown_at c.args.frame.now.shown.now (y, n) ≡ shown_at c.args.frame.now.wanted.now (y, n) → ⊥) here differs.1
+          subst (λ n. shown_at c.args.update.now.shown.now (y, n) ≡ shown_at c.args.update.now.wanted.now (y, n) → ⊥) here differs.1
     ] in
     let blank = rw new at c.tail_over-tail.ensures.blank in
-    subst (ArePlanned c.args.frame.now.shown.now c.args.frame.now.wanted.now (y + 1, 0) others) (sym (e.added ∙ ap (λ s. c.add_part-gap.new.self ++ s ∷ []) is))
+    subst (ArePlanned c.args.update.now.shown.now c.args.update.now.wanted.now (y + 1, 0) others) (sym (e.added ∙ ap (λ s. c.add_part-gap.new.self ++ s ∷ []) is))
     (planned-line stroke refl f.shown f.wanted c.requires.line c.erased_from-from.ensures.to (omega arith) (omega (arith, differs.0, column.ensures.within, part.inside)) changed
     (λ x from. blank x (omega (arith, from, c.erased_from-from.ensures.from))) (omega arith)
     (λ x from to. c.add_part-gap.ensures.alike x (omega (arith, from, to)) (omega (arith, to, c.erased_from-from.ensures.to)))

@@ -8,10 +8,10 @@ use Rattle.paint.proofs.strokes.Plan.add_part.Goals as goal
 
 pub loop-x-init : goal.loop-x-init
 loop-x-init c =
-    let f = c.args.frame.now.sound in
+    let f = c.args.update.now.sound in
     let x = c.next_changed-x.ensures in
-    let old = c.row-shown.ensures.row ∙ ap (line_of c.args.frame.now.shown.now) c.from-at.ensures in
-    let new = c.row-wanted.ensures.row ∙ ap (line_of c.args.frame.now.wanted.now) c.from-at.ensures in
+    let old = c.row-shown.ensures.row ∙ ap (line_of c.args.update.now.shown.now) c.from-at.ensures in
+    let new = c.row-wanted.ensures.row ∙ ap (line_of c.args.update.now.wanted.now) c.from-at.ensures in
     let alike = rw (old, new) at x.alike in
     record {
       gap = c.first_gap-gap.ensures.to;
@@ -28,10 +28,10 @@ loop-x-init c =
 
 pub loop-x-preserved : goal.loop-x-preserved
 loop-x-preserved c =
-    let f = c.args.frame.now.sound in
+    let f = c.args.update.now.sound in
     let part = c.stretch-stop in
-    let old = c.row-shown.ensures.row ∙ ap (line_of c.args.frame.now.shown.now) c.from-at.ensures in
-    let new = c.row-wanted.ensures.row ∙ ap (line_of c.args.frame.now.wanted.now) c.from-at.ensures in
+    let old = c.row-shown.ensures.row ∙ ap (line_of c.args.update.now.shown.now) c.from-at.ensures in
+    let new = c.row-wanted.ensures.row ∙ ap (line_of c.args.update.now.wanted.now) c.from-at.ensures in
     let run = rw (old, new) at part.ensures.cells in
     let alike = rw (old, new) at part.ensures.alike in
     let stroke : Stroke = record { ink = Print; line = c.args.line; gap = c.loop-x.gap; start = c.loop-x.x; end = part.result.0; pass = c.note-pass.result } in
@@ -44,6 +44,6 @@ loop-x-preserved c =
       changed = part.ensures.changed;
       planned = λ others h.
           let planned = planned-run stroke refl f.shown f.wanted c.requires.line run c.requires.inside c.loop-x.invariant.gap c.loop-x.invariant.alike (c.loop-x.invariant.planned others h) in
-          subst (ArePlanned c.args.frame.now.shown.now c.args.frame.now.wanted.now (c.args.line, part.result.1) others) (sym added)
+          subst (ArePlanned c.args.update.now.shown.now c.args.update.now.wanted.now (c.args.line, part.result.1) others) (sym added)
           (planned-same (omega (arith, f.shown.height, f.wanted.height)) planned (same-in_line _ _ c.args.line part.result.0 part.result.1 part.ensures.ordered alike));
     }

@@ -8,10 +8,10 @@ invariant-loop-x l = record {
   gap : l.gap ≤ l.x;
   within : l.x ≤ l.end;
   room : length l.self + (l.end - l.x) ≤ length l.fn.self + (l.end - l.start);
-  alike : AreAlike l.frame.shown.now l.frame.wanted.now l.line l.gap l.x;
+  alike : AreAlike l.update.shown.now l.update.wanted.now l.line l.gap l.x;
   changed : l.x < l.end → get_or l.shown l.x shown_blank ≡ get_or l.wanted l.x shown_blank → ⊥;
-  planned : (others : List Stroke) → ArePlanned l.frame.shown.now l.frame.wanted.now (l.line, l.start) others l.fn.self
-      → ArePlanned l.frame.shown.now l.frame.wanted.now (l.line, l.x) others l.self;
+  planned : (others : List Stroke) → ArePlanned l.update.shown.now l.update.wanted.now (l.line, l.start) others l.fn.self
+      → ArePlanned l.update.shown.now l.update.wanted.now (l.line, l.x) others l.self;
 }
 
 abbrev pub decreases-loop-x : goal.decreases-loop-x

@@ -1,6 +1,6 @@
 -- `paint`: what it does on the screen that it makes.
 use Rattle.curspan.specs.{inr}
-use Rattle.curspan.proofs.serve.paint.Goals as goal
+use Rattle.curspan.proofs.serve.Streams.paint.Goals as goal
 
 pub returns-clause-painted : goal.returns-clause-painted
 returns-clause-painted g c =

@@ -2,13 +2,13 @@
 use Rattle.std.specs.Prelude.{◌≡◌}
 use Rattle.curspan.specs.{false, true, Some, ap, inl, inr, refl, subst, sym, ◌∙◌, is_some, World, no_rendition, printed_picture, IsNotWritten, IsWritten}
 use Rattle.curspan.proofs.PrintedPictures.{of-some, without}
-use Rattle.curspan.proofs.serve.paint_screen.Goals as goal
+use Rattle.curspan.proofs.serve.Streams.paint_screen.Goals as goal
 
 pub returns-else-print_desk-clause-painted : goal.returns-else-print_desk-clause-painted
 returns-else-print_desk-clause-painted g c =
     let fault : is_some c.run_script-end.result.fault ≡ false = sym c.is_some.ensures ∙ c.if-is_some.false in
     let text = ap (λ (w : World). printed_picture w.virtual.picture (Some w.virtual.cursor) no_rendition) c.take_picture.ensures in
-    let not_written = subst (IsNotWritten (g.O.Sink.seen c.args.out.now) (g.O.Sink.seen c.print_desk.new.out)) text (rw (c.desk.ensures, c.if-print_desk.false) at c.print_desk.ensures) in
+    let not_written = subst (IsNotWritten (g.O.Sink.seen c.args.self.now.out) (g.O.Sink.seen c.print_desk.new.out)) text (rw (c.desk.ensures, c.if-print_desk.false) at c.print_desk.ensures) in
     record {
       last = c.run_script-end.new.screen;
       end = c.run_script-end.result;
@@ -21,7 +21,7 @@ pub returns-then-print_desk-clause-painted : goal.returns-then-print_desk-clause
 returns-then-print_desk-clause-painted g c =
     let fault : is_some c.run_script-end.result.fault ≡ false = sym c.is_some.ensures ∙ c.if-is_some.false in
     let text = ap (λ (w : World). printed_picture w.virtual.picture (Some w.virtual.cursor) no_rendition) c.take_picture.ensures in
-    let written = subst (IsWritten (g.O.Sink.seen c.args.out.now) (g.O.Sink.seen c.print_desk.new.out)) text (rw (c.desk.ensures, c.if-print_desk.true) at c.print_desk.ensures) in
+    let written = subst (IsWritten (g.O.Sink.seen c.args.self.now.out) (g.O.Sink.seen c.print_desk.new.out)) text (rw (c.desk.ensures, c.if-print_desk.true) at c.print_desk.ensures) in
     record {
       last = c.run_script-end.new.screen;
       end = c.run_script-end.result;

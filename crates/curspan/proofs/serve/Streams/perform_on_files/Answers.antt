@@ -1,6 +1,6 @@
--- `perform_invocation`: where the script was opened, the log is as it was made.
+-- `perform_on_files`: where the script was opened, the log is as it was made.
 use Rattle.curspan.specs.{inr}
-use Rattle.curspan.proofs.serve.perform_invocation.Goals as goal
+use Rattle.curspan.proofs.serve.Streams.perform_on_files.Goals as goal
 
 pub returns-in-Ok-open_script : goal.returns-in-Ok-open_script
 returns-in-Ok-open_script g c =

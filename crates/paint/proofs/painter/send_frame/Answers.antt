@@ -1,9 +1,0 @@
--- `send_frame`: the strokes of a frame make a text of a doupdate (`Holding`).
-use Rattle.paint.specs.{ShownPicture}
-use Rattle.paint.proofs.Holding.{holds-start}
-use Rattle.paint.proofs.painter.send_frame.Goals as goal
-
-pub returns-clause-text : goal.returns-clause-text
-returns-clause-text g c = λ painter clear start lines columns gathered begun.
-    let wanted : ShownPicture = record { picture = c.args.frame.now.wanted.now; cursor = c.args.cursor } in
-    c.send_text.ensures.text painter clear wanted start (holds-start painter clear wanted lines columns c.args.frame.now.sound c.requires gathered begun c.paint.ensures.draws c.end.ensures.draws c.end.ensures.plain)
