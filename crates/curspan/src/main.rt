@@ -24,6 +24,7 @@ use streams::Patient;
 const WRITTEN_AT_ONCE: usize = 1024;
 
 /// The words of the command line, and the variables that have a screen's size.
+#[derive(Drop)]
 struct Asked {
     words: Vec<String>,
     lines: Option<String>,
@@ -55,7 +56,7 @@ fn read_asked(rt: &HostRuntime) -> io::Result<Asked> {
 }
 
 /// Does what words ask for, on the standard streams or files, and answers the status.
-fn run<L: FileSink>(rt: &HostRuntime, asked: &Asked, mut log: L) -> u8 {
+fn run<L: FileSink + Drop>(rt: &HostRuntime, asked: &Asked, mut log: L) -> u8 {
     let Ok(input) = Script::new(rt, rt.stdin()) else {
         return no_memory(&mut log, Need::Streams);
     };
