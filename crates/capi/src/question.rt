@@ -77,12 +77,8 @@ impl Setting {
 fn settings(desk: &Desk, win: WinId) -> Result<Settings, Refusal>
     ensures { result ≡ settings_of (world desk.now).windows.window win.0 }
 {
-    let table = &desk.windows().table;
-    if table.has_window(win) {
-        Ok(table.settings(win))
-    } else {
-        Err(Refusal::NoSuchWindow)
-    }
+    let (_, _, settings) = desk.windows().table.state(win)?;
+    Ok(settings)
 }
 
 /// Whether it is a pad.

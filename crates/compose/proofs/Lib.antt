@@ -4,7 +4,7 @@ pub mod DeskLemmas
 pub mod Laying
 -- What noutrefresh and pnoutrefresh draw on each line of the screen; for `show_touched`, `refresh_pad`, `show_rectangle` and others
 pub mod RefreshedLines
--- Windows are unmarked one after another; for `unmark_composed`, `unmark_lines`
+-- Windows are unmarked one after another; for `unmark_composed`
 pub mod Unmarking
 -- Where damage covers what an accepted call may change, the damage of a desk still covers all that differs after it, and few lines are damaged: so it
 -- leaves a desk, and was made; for `refresh_window`, `refresh_pad`, `set_colours`, `new` and others

@@ -24,11 +24,11 @@ pub use Rattle.std.specs.List.{AllByRecursion, list_any, range_with_len}
 pub use Rattle.std.specs.Option.{option_map_or}
 pub use Rattle.std.specs.Prelude.{⊤}
 pub use Rattle.std.specs.Result.{result_err}
-pub use Rattle.world.specs.Effects.{Change, after_change, asks_for_clear, change_reply, change_takes_memory, drawing_frame, makes, under_number, with_part, with_place, without_marks}
+pub use Rattle.world.specs.Effects.{Change, after_change, asks_for_clear, change_reply, change_takes_memory, drawing_frame, makes, under_number, unmarked_lines, with_part, with_place, without_marks}
 pub use Rattle.world.specs.Frames.{AreRectangle, Covers, frame_at, frame_of, frame_of_two}
 pub use Rattle.world.specs.PanelOrder.{standard_screen}
 pub use Rattle.world.specs.Replies.{its_flag, its_number, no_answer}
-pub use Rattle.world.specs.Rows.{copied_cells, filled_cells, line_shown, listed_cells, overlaid_cell}
+pub use Rattle.world.specs.Rows.{copied_cells, filled_cells, is_among, line_shown, listed_cells, overlaid_cell}
 pub use Rattle.world.specs.Settings.{after_set_settings, set, set_in, with_cursor, with_settings}
 pub use Rattle.world.specs.Sharing.{SharesPart, is_same_place, shows_part_of}
 pub use Rattle.world.specs.Sound.{AreColumnsWithin, AreSettingsWithin, AreSoundWindows, HasCells, IsOnScreen, IsPartOf, IsSoundWindow, IsStandardScreen}
@@ -39,7 +39,7 @@ unfoldable pub use Rattle.world.specs.WindowMaps.{window_limit}
 pub use Rattle.world.specs.Worlds.{blank_grid, first_settings, first_world, new_window}
 pub use Rattle.world.specs.calls.Copying.{after_copying, copying_change, copying_refusal, in_line, lines_marked, rectangle_copied, shows_touched_of, with_touches}
 pub use Rattle.world.specs.calls.Making.{derived_from, derived_window, extent, free_among, has_derived, is_inside, is_part_of, making_change, making_refusal, new_number, new_refusal, next_window}
-pub use Rattle.world.specs.calls.Making.{part_tests, place_from}
+pub use Rattle.world.specs.calls.Making.{is_full, part_tests, place_from}
 pub use Rattle.world.specs.calls.Queries.{cursor_of, offset_in_parent, place_on_screen, query_refusal, touched_columns, window_size}
 pub use Rattle.world.specs.calls.Refresh.{among}
 pub use Rattle.world.specs.calls.RefusedCalls.{Refused}

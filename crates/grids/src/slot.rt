@@ -1,7 +1,7 @@
 //! What the table keeps of one window.
 
 ghost use Rattle.std.specs.Prelude.{◌≡◌, ◌<◌, ◌≤◌, ◌+◌, ◌^◌, ◌&&◌};
-ghost use Rattle.grids.specs.{EachIndex, IfOk, IsSome, is_some, Some, None, length, map, slice_index, true, AllByRecursion, range_with_len, IsCell, is_printable, lines_marked, without_marks};
+ghost use Rattle.grids.specs.{EachIndex, IfOk, IsSome, is_some, Some, None, length, map, slice_index, true, AllByRecursion, range_with_len, IsCell, is_among, is_printable, lines_marked, unmarked_lines, without_marks};
 ghost use Rattle.grids.specs.{with_place, with_part, filled_cells, listed_cells, set_in, with_cursor, with_settings, new_window, first_settings, blank_grid, any_below, cell_of, part_of, window_of};
 ghost use Rattle.grids.specs.{IsKept, Kept, HasShape, printed_cell, part_in, names_parent, with_touched, with_drawing, SameShape, with_new_offset, StaysInPlace};
 
@@ -313,8 +313,19 @@ impl Slot {
         ensures window { window_of self.new ≡ without_marks (window_of self.old) }
         ensures place { StaysInPlace self.old self.new }
     {
-        let asked = self.settings.clear;
         self.touched.clear();
+        self.unmark_lines(0, 0)
+    }
+
+    /// Untouches lines from one on, and asks for a clear screen no more. It answers whether it asked for one.
+    pub fn unmark_lines(&mut self, first: u16, n: u16) -> bool
+        requires { first + n ≤ self.old.lines }
+        ensures asked { result ≡ self.old.settings.clear }
+        ensures window { window_of self.new ≡ unmarked_lines (is_among first n) (window_of self.old) }
+        ensures place { StaysInPlace self.old self.new }
+    {
+        let asked = self.settings.clear;
+        self.touched.set(first, n, Touched::none());
         self.settings.clear = false;
         asked
     }

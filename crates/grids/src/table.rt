@@ -1,7 +1,7 @@
 //! The windows and pads of a screen.
 
 ghost use Rattle.std.specs.Prelude.{◌≡◌, ◌<◌, ◌≤◌, ◌-◌};
-ghost use Rattle.grids.specs.{ℕ, None, IsSome, IsSomeAnd, MatchResult, IfOk, Some, option_map, RefusedBy, after_set_settings, set, set_in, with_cursor, AreSoundWindows, HasPlace, first_world};
+ghost use Rattle.grids.specs.{ℕ, None, IsSomeAnd, MatchResult, IfOk, Some, RefusedBy, after_set_settings, set, set_in, with_cursor, AreSoundWindows, HasPlace, first_world};
 ghost use Rattle.grids.specs.{new_refusal, windows, WindowTable, IsWindowTable, slot_at, depth_at, grid_place, HasLine, Kept, window_of, ChangedBy, StaysInPlace, with_touched, FnOnceReturnsAtMut};
 ghost use Rattle.grids.specs.{FnOnceTakesAtMut, Window, with_change};
 
@@ -133,18 +133,6 @@ impl Grids {
         Ok((slot.lines(), slot.columns(), slot.settings()))
     }
 
-    /// The settings of a window, which must exist.
-    pub fn settings(&self, win: WinId) -> Settings
-        requires { IsSome ((windows self.now).window win.0) }
-        ensures value { option_map (λ a. a.settings) ((windows self.now).window win.0) ≡ Some result }
-        ensures sound { AreSoundWindows (windows self.now) }
-    {
-        match self.slot(win) {
-            Ok(slot) => slot.settings(),
-            Err(_) => unreachable!(),
-        }
-    }
-
     /// Gives a window other settings. The window must exist and hold the cursor and the region, whose first line isn't
     /// after its last. Bits beyond the six attributes are dropped.
     pub fn set_settings(&mut self, win: WinId, settings: Settings)
@@ -156,6 +144,7 @@ impl Grids {
     {
         self.change(win, |slot| slot.set_settings(settings));
     }
+
     /// Moves the cursor of a window, which must hold the place.
     pub fn set_cursor(&mut self, win: WinId, y: u16, x: u16)
         requires { HasPlace (windows self.old).window win.0 y x }

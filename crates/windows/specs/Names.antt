@@ -22,7 +22,7 @@ pub use Rattle.std.specs.List.{list_all, list_any}
 pub use Rattle.std.specs.Option.{option_map}
 pub use Rattle.std.specs.Result.{result_err}
 pub use Rattle.world.specs.Drawings.{at_place, character_deleted, character_inserted, everywhere, lines_down, lines_up, to_bottom, to_end_of_line, written_glyph}
-pub use Rattle.world.specs.Effects.{Change, after_change, after_edit, change_frame, drawing_frame, draws, edit_frame, edits, types}
+pub use Rattle.world.specs.Effects.{Change, Edit, after_change, after_edit, change_frame, drawing_frame, draws, edit_frame, edits, sets, types}
 pub use Rattle.world.specs.Frames.{frame_of, frame_of_two}
 pub use Rattle.world.specs.Rows.{copied_cells, filled_cells, line_shown, listed_cells}
 pub use Rattle.world.specs.Settings.{after_set_settings, set, set_in, with_cursor}

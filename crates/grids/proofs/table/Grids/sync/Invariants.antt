@@ -1,11 +1,11 @@
 use Rattle.std.specs.Prelude.{◌≤◌}
 use Rattle.grids.specs.{windows, depth_at}
-use Rattle.grids.proofs.Syncs.{IsHandedTo}
-use Rattle.grids.proofs.table.Grids.hand_up.Given as goal
+use Rattle.grids.proofs.Syncs.{IsSynced}
+use Rattle.grids.proofs.table.Grids.sync.Given as goal
 
 abbrev pub invariant-loop-next : goal.invariant-loop-next
 invariant-loop-next l = record {
-  so_far : IsHandedTo (windows l.fn.self) (windows l.self) l.win l.at.win.0 l.at.line l.at.column;
+  so_far : IsSynced l.down (windows l.fn.self) (windows l.self) l.win l.at;
   depth : depth_at l.self.slots l.at.win.0 ≤ depth_at l.self.slots l.win;
 }
 
