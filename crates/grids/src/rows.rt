@@ -116,12 +116,7 @@ impl Grids {
         ensures written { windows self.new ≡ put (windows self.old) dst.0 (copied_cells (windows self.old).window src.0 sy sx dy dx n overlay) }
         ensures sound { AreSoundWindows (windows self.new) }
     {
-        let from = Place::new(src, sy, sx);
-        let to = Place::new(dst, dy, dx);
-        if n > 0 {
-            self.copy_line(from, to, n, overlay);
-        }
-        prove!(self.has_window(WinId::STANDARD));
+        self.copy_rectangle(src, sy, sx, dst, dy, dx, 1, n, overlay);
     }
 
     /// Copies some cells of a line, and answers the smallest rectangle of the destination that holds what it wrote. It

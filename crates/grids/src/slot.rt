@@ -3,7 +3,7 @@
 ghost use Rattle.std.specs.Prelude.{◌≡◌, ◌<◌, ◌≤◌, ◌+◌, ◌^◌, ◌&&◌};
 ghost use Rattle.grids.specs.{EachIndex, IfOk, IsSome, is_some, Some, None, length, map, slice_index, true, AllByRecursion, range_with_len, IsCell, is_printable, lines_marked, without_marks};
 ghost use Rattle.grids.specs.{with_place, with_part, filled_cells, listed_cells, set_in, with_cursor, with_settings, new_window, first_settings, blank_grid, any_below, cell_of, part_of, window_of};
-ghost use Rattle.grids.specs.{IsKept, Kept, HasShape, printed_cell, part_in, names_parent, with_touched, with_drawing, SameShape, with_new_offset, StaysInPlace};
+ghost use Rattle.grids.specs.{IsKept, Kept, HasShape, printed_cell, part_in, names_parent, with_touched, with_drawing, SameShape, with_new_offset, StaysInPlace, with_block_copied, with_lines_touched};
 
 use crate::ink::print_in;
 use crate::touched::Touched;
@@ -355,6 +355,49 @@ impl Slot {
         if let Cells::Own(grid) = &mut self.cells {
             grid.put_cells(usize::from(line), usize::from(left), row);
         }
+    }
+
+    /// Copies so many lines and columns of the grid from line `sy` and column `sx` on to line `dy` and column `dx` on,
+    /// as if all were read before any is written.
+    pub fn copy_block(&mut self, sy: u16, sx: u16, dy: u16, dx: u16, lines: u16, columns: u16)
+        requires own { part_in self.old.cells ≡ None }
+        requires some { 0 < lines }
+        requires source_lines { sy + lines ≤ self.old.lines }
+        requires target_lines { dy + lines ≤ self.old.lines }
+        requires source_columns { sx + columns ≤ self.old.columns }
+        requires target_columns { dx + columns ≤ self.old.columns }
+        ensures window { window_of self.new ≡ with_block_copied sy sx dy dx lines columns (window_of self.old) }
+        ensures place { StaysInPlace self.old self.new }
+    {
+        if let Cells::Own(grid) = &mut self.cells {
+            grid.copy_block(
+                usize::from(sy),
+                usize::from(sx),
+                usize::from(dy),
+                usize::from(dx),
+                usize::from(lines),
+                usize::from(columns),
+            );
+        }
+    }
+
+    /// Touches the columns from `left` to `right` of `n` lines from one on. It answers where the window's first place is
+    /// in a grid.
+    pub fn touch_lines(&mut self, first: u16, n: u16, left: u16, right: u16) -> Origin
+        requires lines { first + n ≤ self.old.lines }
+        requires ordered { left ≤ right }
+        requires right_in { right < self.old.columns }
+        ensures origin { result ≡ self.old.origin }
+        ensures window { window_of self.new ≡ with_lines_touched first n left right (window_of self.old) }
+        ensures place { StaysInPlace self.old self.new }
+    {
+        let origin = self.origin;
+        if right - left + 1 == self.columns {
+            self.mark(first, n, true);
+            return origin;
+        }
+        self.touched.touch_lines(first, n, left, right);
+        origin
     }
 
     /// Prints characters in a line of the grid, from column `left` on, with a pen.

@@ -1,6 +1,6 @@
 //! The touched columns of the lines of a window.
 
-ghost use Rattle.std.specs.Prelude.{◌≡◌, ◌+◌, ◌<◌, ◌≤◌, ◌==◌, ◌&&◌, if◌then◌else◌};
+ghost use Rattle.std.specs.Prelude.{◌≡◌, ◌+◌, ◌^◌, ◌<◌, ◌≤◌, ◌==◌, ◌&&◌, if◌then◌else◌};
 ghost use Rattle.grids.specs.{ℕ, nat_le, nat_lt, IfOk, None, is_some, length, replicate, list_any, joined_columns, touched_in};
 
 use crate::touched::Touched;
@@ -76,6 +76,20 @@ impl TouchedLines {
         let start = usize::from(first);
         set_lines(&mut self.lines, start, start + usize::from(n), columns);
         self.some = self.some || columns.columns().is_some();
+    }
+
+    /// Touches the columns from `left` to `right` of `n` lines from one on.
+    pub(crate) fn touch_lines(&mut self, first: u16, n: u16, left: u16, right: u16)
+        requires there { first + n ≤ length self.old }
+        requires few { first + n < 2 ^ 16 }
+        requires ordered { left ≤ right }
+        ensures length { length self.new ≡ length self.old }
+        ensures each { (y : ℕ) → touched_in self.new y ≡
+            (if nat_le first y && nat_lt y (first + n) then joined_columns (touched_in self.old y) left right else touched_in self.old y) }
+    {
+        for y in first..first + n {
+            self.touch(y, left, right);
+        }
     }
 
     /// Untouches all lines.
