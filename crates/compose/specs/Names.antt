@@ -45,13 +45,14 @@ pub use Rattle.world.specs.Rows.{line_shown}
 pub use Rattle.world.specs.Settings.{set_in}
 pub use Rattle.world.specs.Sharing.{SharesPart}
 pub use Rattle.world.specs.Sound.{AreColumnsWithin, AreSoundPanels, AreSoundWindows, IsSound, IsStandardScreen}
-pub use Rattle.world.specs.WindowMaps.{Backing, Drawing, GridPlace, HasPlace, Window, WindowMap, Windows, cell_at, own, own_grid, part_of, with_change}
+pub use Rattle.world.specs.WindowMaps.{Backing, Drawing, GridPlace, HasPlace, Window, WindowMap, Windows, any_below, cell_at, own, own_grid, part_of, with_change}
 unfoldable pub use Rattle.world.specs.WindowMaps.{window_limit}
 pub use Rattle.world.specs.Worlds.{World, first_world, picture}
-pub use Rattle.world.specs.calls.Affected.{affected_after, affects_place, change_shows_at, effect_shows_at, follows_at, frame_shows_at, most_cells, move_shows_at, order_shows_at, panel_shows_at}
+pub use Rattle.world.specs.calls.Affected.{affected_after, affects_place, change_shows_at, edit_shows_at, effect_shows_at, follows_at, frame_shows_at, most_cells, move_shows_at, order_shows_at, panel_shows_at}
 pub use Rattle.world.specs.calls.Affected.{shows_at, stays_on_top, window_if_topmost}
 pub use Rattle.world.specs.calls.Copying.{after_copying, copying_change, copying_refusal, copywin_drawing, lines_marked}
 pub use Rattle.world.specs.calls.Dispatch.{effect_of, is_doupdate, is_update_panels, refusal, reply_of, takes_memory, world_after}
+pub use Rattle.world.specs.calls.Given.{fill_edit, fill_tests, put_edit, put_tests, world_edited}
 pub use Rattle.world.specs.calls.Making.{is_own, making_change, making_refusal, new_refusal}
 pub use Rattle.world.specs.calls.Queries.{offset_of, place_on_screen, query_refusal, query_reply, touched_columns}
 pub use Rattle.world.specs.calls.Refresh.{among, colour_tests, pnoutrefresh_tests, refresh_refusal, touched_cells}

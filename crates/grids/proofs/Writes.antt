@@ -1,9 +1,9 @@
--- A row written through a window is one put.
+-- A row written through a window is one put, and so is a rectangle.
 use Rattle.std.specs.Prelude.{◌≡◌, ◌+◌, ◌-◌, ◌<◌, ◌≤◌, if◌then◌else◌, ◌==◌, ◌&&◌}
 use Rattle.grids.specs.{ℕ, zero, suc, Bool, true, false, nat_le, nat_lt, Option, Some, None, is_some, IsSomeAnd, List, length, get_or, ap, ◌∙◌, subst, arith, refl, inl, inr, eq-eqb, ne_eqb, add-zero}
 use Rattle.grids.specs.{add-suc, option_map, cases_eq, cases_lt, eqb-true, nat_tests, Glyph, blank, GridPlace, Window, WindowMap, Windows, Drawing, within, grid_drawing, laid_over, joined_columns}
 use Rattle.grids.specs.{touched_below, touched_by, put_windows, put, HasPlace, own, cell_at, with_change, set, set_in, Settings, filled_cells, listed_cells, copied_cells, Columns, with_touched}
-use Rattle.grids.specs.{with_drawing}
+use Rattle.grids.specs.{with_drawing, with_touched_lines, rectangle_filled, Rect}
 use mathlib.Core.Path.{fun_ext}
 
 -- touching column after column
@@ -23,17 +23,19 @@ pub touched-past : (left right : ℕ) (test : ℕ → Bool) (r : Option Columns)
 touched-past left right test r h l zero = rw add-zero (touched-span left right test r h right l (omega arith))
 touched-past left right test r h l (suc d) = rw add-suc (grind (arith, nat_tests, h (suc right + d), touched-past left right test r h l d))
 
--- what is written in one line, from left to right, touches its columns
-touched-line : (a : Window) (f : Drawing) (y left right : ℕ) → left ≤ right → right < a.columns → ((z x : ℕ) → is_some (within a f z x) ≡ ((z == y) && (nat_le left x && nat_le x right)))
-    → (z : ℕ) → touched_by f a z ≡ (if z == y then joined_columns (a.touched z) left right else a.touched z)
-touched-line a f y left right l in_cols test z = elim (cases_eq z y) [
-  | inl same ↦
-      let here = touched-past left right (λ x. is_some (within a f z x)) (a.touched z) (λ x. grind (arith, test z x, eq-eqb)) l (a.columns - suc right) in
-      grind (arith, eq-eqb)
-  | inr other ↦ grind (arith, touched-none, ne_eqb)
-]
+-- what is written in a line that passes a test, from left to right, touches its columns
+touched-tested : (a : Window) (f : Drawing) (here : Bool) (left right z : ℕ) → left ≤ right → right < a.columns → ((x : ℕ) → is_some (within a f z x) ≡ (here && (nat_le left x && nat_le x right)))
+    → touched_by f a z ≡ (if here then joined_columns (a.touched z) left right else a.touched z)
+touched-tested a f true left right z l in_cols is =
+    let past = touched-past left right (λ x. is_some (within a f z x)) (a.touched z) is l (a.columns - suc right) in
+    grind arith
+touched-tested a f false left right z l in_cols is = grind (arith, touched-none)
 
--- ---- what is written in a line through a window, which touches its columns from left to right, is one put
+touched-lines : (a : Window) (f : Drawing) (test : ℕ → Bool) (left right : ℕ) → left ≤ right → right < a.columns → ((z x : ℕ) → is_some (within a f z x) ≡ (test z && (nat_le left x && nat_le x right)))
+    → (z : ℕ) → touched_by f a z ≡ (if test z then joined_columns (a.touched z) left right else a.touched z)
+touched-lines a f test left right l in_cols is z = touched-tested a f (test z) left right z l in_cols (is z)
+
+-- ---- what is written in some lines through a window, which touches their columns from left to right, is one put
 
 -- one window changed and then another
 changed-both : (o : Option Window) (p q : Bool) (g h : Window → Window) → (if p then option_map g (if q then option_map h o else o) else (if q then option_map h o else o))
@@ -42,24 +44,24 @@ changed-both None p q g h = grind arith
 changed-both (Some b) p q g h = grind arith
 
 -- the marks and the grid, by whether they are this window's
-merged_by : (p q : Bool) (b : Window) (f1 f2 : Drawing) (touched : ℕ → Option Columns) (y left right : ℕ) → f2 ≡ f1
-    → (q ≡ true → touched ≡ (λ z. if z == y then joined_columns (b.touched z) left right else b.touched z)) →
-    (if p then with_drawing f1 (if q then with_touched y left right b else b) else (if q then with_touched y left right b else b))
+merged_by : (p q : Bool) (b : Window) (f1 f2 : Drawing) (touched : ℕ → Option Columns) (test : ℕ → Bool) (left right : ℕ) → f2 ≡ f1
+    → (q ≡ true → touched ≡ (λ z. if test z then joined_columns (b.touched z) left right else b.touched z)) →
+    (if p then with_drawing f1 (if q then with_touched_lines test left right b else b) else (if q then with_touched_lines test left right b else b))
     ≡ record b { backing = (if p then laid_over f2 b.backing else b.backing); touched = (if q then touched else b.touched) }
-merged_by p q b f1 f2 touched y left right e h = grind arith
+merged_by p q b f1 f2 touched test left right e h = grind arith
 
-module _ (window : WindowMap) (win : ℕ) (place : GridPlace) (a : Window) (f g : Drawing) (y left right : ℕ) (there : window win ≡ Some a) (leads : own window win 0 0 ≡ Some place)
-    (moved : grid_drawing place (within a f) ≡ g) (touched : (z : ℕ) → touched_by f a z ≡ (if z == y then joined_columns (a.touched z) left right else a.touched z)) where
-  marks : touched_by f a ≡ (λ z. if z == y then joined_columns (a.touched z) left right else a.touched z)
+module _ (window : WindowMap) (win : ℕ) (place : GridPlace) (a : Window) (f g : Drawing) (test : ℕ → Bool) (left right : ℕ) (there : window win ≡ Some a) (leads : own window win 0 0 ≡ Some place)
+    (moved : grid_drawing place (within a f) ≡ g) (touched : (z : ℕ) → touched_by f a z ≡ (if test z then joined_columns (a.touched z) left right else a.touched z)) where
+  marks : touched_by f a ≡ (λ z. if test z then joined_columns (a.touched z) left right else a.touched z)
   marks = fun_ext touched
 
-  put-any : with_change (with_change window win (with_touched y left right)) place.grid (with_drawing g) ≡ put_windows window win f
+  put-any : with_change (with_change window win (with_touched_lines test left right)) place.grid (with_drawing g) ≡ put_windows window win f
   put-any = fun_ext (λ u. grind (
     arith,
     eqb-true,
     marks,
-    changed-both (window u) (u == place.grid) (u == win) (with_drawing g) (with_touched y left right),
-    (λ (b : Window). merged_by (u == place.grid) (u == win) b g (grid_drawing place (within a f)) (touched_by f b) y left right),
+    changed-both (window u) (u == place.grid) (u == win) (with_drawing g) (with_touched_lines test left right),
+    (λ (b : Window). merged_by (u == place.grid) (u == win) b g (grid_drawing place (within a f)) (touched_by f b) test left right),
   ))
 
 set-at : (o : Option Window) (p q : Bool) (change : Settings → Settings) (f : Window → Window) (g : Drawing)
@@ -88,9 +90,24 @@ pub put-row : (old : Windows) (win : ℕ) (place : GridPlace) (y left right : �
     → touched_and_drawn old win place.grid y left right (filled_cells (place.line + y) (place.column + left) (place.column + right) c) ≡ put old win (filled_cells y left right c)
 put-row old win place y left right c there l leads =
     let a = some_and (old.window win) y right there in
-    let touched = touched-line a.0 (filled_cells y left right c) y left right l a.3 (λ z x. grind (arith, nat_tests)) in
-    rw (put-any old.window win place a.0 (filled_cells y left right c) (filled_cells (place.line + y) (place.column + left) (place.column + right) c) y left right a.1 leads
+    let touched = touched-lines a.0 (filled_cells y left right c) (λ z. z == y) left right l a.3 (λ z x. grind (arith, nat_tests)) in
+    rw (put-any old.window win place a.0 (filled_cells y left right c) (filled_cells (place.line + y) (place.column + left) (place.column + right) c) (λ z. z == y) left right a.1 leads
     (grind (arith, nat_tests)) touched) refl
+
+-- a rectangle
+
+abbrev pub moved_by : GridPlace → Rect → Rect
+moved_by place r = record { top = place.line + r.top; left = place.column + r.left; bottom = place.line + r.bottom; right = place.column + r.right }
+
+abbrev pub in_lines : Rect → ℕ → Bool
+in_lines r y = nat_le r.top y && nat_le y r.bottom
+
+pub put-rectangle : (old : Windows) (win : ℕ) (place : GridPlace) (r : Rect) (c : Glyph) → HasPlace old.window win r.bottom r.right → r.left ≤ r.right → own old.window win 0 0 ≡ Some place
+    → drawn_over place.grid (rectangle_filled (moved_by place r) c) (record old { window = with_change old.window win (with_touched_lines (in_lines r) r.left r.right) }) ≡ put old win (rectangle_filled r c)
+put-rectangle old win place r c there l leads =
+    let a = some_and (old.window win) r.bottom r.right there in
+    let touched = touched-lines a.0 (rectangle_filled r c) (in_lines r) r.left r.right l a.3 (λ z x. grind (arith, nat_tests)) in
+    rw (put-any old.window win place a.0 (rectangle_filled r c) (rectangle_filled (moved_by place r) c) (in_lines r) r.left r.right a.1 leads (grind (arith, nat_tests)) touched) refl
 
 -- cells of a line, in columns side by side
 
@@ -106,8 +123,8 @@ put-beside : (old : Windows) (dst : ℕ) (place : GridPlace) (dy dx n : ℕ) (sh
     touched_and_drawn old dst place.grid dy dx (dx + n - 1) (listed_cells (place.line + dy) (place.column + dx) cells) ≡ put old dst (side_by_side dy dx n shown)
 put-beside old dst place dy dx n shown cells there some leads all read =
     let a = some_and (old.window dst) dy (dx + n - 1) there in
-    let touched = touched-line a.0 (side_by_side dy dx n shown) dy dx (dx + n - 1) (omega arith) a.3 (λ z x. grind (arith, nat_tests)) in
-    rw (put-any old.window dst place a.0 (side_by_side dy dx n shown) (listed_cells (place.line + dy) (place.column + dx) cells) dy dx (dx + n - 1) a.1 leads
+    let touched = touched-lines a.0 (side_by_side dy dx n shown) (λ z. z == dy) dx (dx + n - 1) (omega arith) a.3 (λ z x. grind (arith, nat_tests)) in
+    rw (put-any old.window dst place a.0 (side_by_side dy dx n shown) (listed_cells (place.line + dy) (place.column + dx) cells) (λ z. z == dy) dx (dx + n - 1) a.1 leads
     (moved-beside place a.0 dy dx n shown cells a.2 (omega (arith, a.3)) all read) touched) refl
 
 -- copied cells

@@ -25,6 +25,7 @@ pub use Rattle.std.specs.Option.{option_map_or}
 pub use Rattle.std.specs.Prelude.{⊤}
 pub use Rattle.std.specs.Result.{result_err}
 pub use Rattle.world.specs.Effects.{Change, after_change, asks_for_clear, change_reply, change_takes_memory, drawing_frame, makes, under_number, with_part, with_place, without_marks}
+pub use Rattle.world.specs.Drawings.{rectangle_filled}
 pub use Rattle.world.specs.Frames.{AreRectangle, Covers, frame_at, frame_of, frame_of_two}
 pub use Rattle.world.specs.PanelOrder.{standard_screen}
 pub use Rattle.world.specs.Replies.{its_flag, its_number, no_answer}

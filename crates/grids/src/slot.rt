@@ -2,13 +2,13 @@
 
 ghost use Rattle.std.specs.Prelude.{◌≡◌, ◌<◌, ◌≤◌, ◌+◌, ◌^◌, ◌&&◌};
 ghost use Rattle.grids.specs.{EachIndex, IfOk, IsSome, is_some, Some, None, length, map, slice_index, true, AllByRecursion, range_with_len, IsCell, is_printable, lines_marked, without_marks};
-ghost use Rattle.grids.specs.{with_place, with_part, filled_cells, listed_cells, set_in, with_cursor, with_settings, new_window, first_settings, blank_grid, any_below, cell_of, part_of, window_of};
-ghost use Rattle.grids.specs.{IsKept, Kept, HasShape, printed_cell, part_in, names_parent, with_touched, with_drawing, SameShape, with_new_offset, StaysInPlace};
+ghost use Rattle.grids.specs.{with_place, with_part, filled_cells, listed_cells, rectangle_filled, nat_le, set_in, with_cursor, with_settings, new_window, first_settings, blank_grid, any_below, cell_of, part_of, window_of};
+ghost use Rattle.grids.specs.{IsKept, Kept, HasShape, printed_cell, part_in, names_parent, with_touched, with_touched_lines, with_drawing, SameShape, with_new_offset, StaysInPlace};
 
-use crate::ink::print_in;
+use crate::ink::{fill_in, print_in};
 use crate::touched::Touched;
 use crate::touched_lines::TouchedLines;
-use cell::{Attr, Cell, Grid, LARGEST_PAD, LAST_PAIR, PairId};
+use cell::{Attr, Cell, Grid, LARGEST_PAD, LAST_PAIR, PairId, Rect};
 use std::alloc::{AllocError, Global};
 use std::marker::Model;
 use world::{Columns, Settings};
@@ -307,6 +307,21 @@ impl Slot {
         }
     }
 
+    /// Sets the cells of a rectangle of the grid to one cell.
+    pub fn fill_rectangle(&mut self, rect: Rect, cell: Cell)
+        requires own { part_in self.old.cells ≡ None }
+        requires lines { rect.top ≤ rect.bottom }
+        requires bottom_in { rect.bottom < self.old.lines }
+        requires columns { rect.left ≤ rect.right }
+        requires right_in { rect.right < self.old.columns }
+        ensures window { window_of self.new ≡ with_drawing (rectangle_filled rect cell) (window_of self.old) }
+        ensures place { StaysInPlace self.old self.new }
+    {
+        if let Cells::Own(grid) = &mut self.cells {
+            fill_in(grid, rect, cell);
+        }
+    }
+
     /// Untouches all lines, and asks for a clear screen no more. It answers whether it asked for one.
     pub fn unmark(&mut self) -> bool
         ensures asked { result ≡ self.old.settings.clear }
@@ -383,6 +398,23 @@ impl Slot {
     {
         let origin = self.origin;
         self.touched.touch(line, left, right);
+        origin
+    }
+
+    /// Touches the columns of a rectangle in each of its lines. It answers where the window's first place is in a grid.
+    pub fn touch_rectangle(&mut self, rect: Rect) -> Origin
+        requires lines { rect.top ≤ rect.bottom }
+        requires bottom_in { rect.bottom < self.old.lines }
+        requires columns { rect.left ≤ rect.right }
+        requires right_in { rect.right < self.old.columns }
+        ensures origin { result ≡ self.old.origin }
+        ensures window { window_of self.new ≡
+            with_touched_lines (λ y. nat_le rect.top y && nat_le y rect.bottom) rect.left rect.right (window_of self.old) }
+        ensures place { StaysInPlace self.old self.new }
+    {
+        let origin = self.origin;
+        self.touched
+            .touch_lines(rect.top, rect.bottom, rect.left, rect.right);
         origin
     }
 }
