@@ -5,7 +5,7 @@ ghost use Rattle.std.specs.Option.{MatchOption};
 ghost use Rattle.cell.specs.Refusals.{RefusedBy};
 ghost use Rattle.world.specs.calls.Making.{new_refusal};
 ghost use Rattle.calls.specs.Queries.{is_query};
-ghost use Rattle.capi.specs.Called.{Asked, Called, Ended};
+ghost use Rattle.capi.specs.Called.{Asked, Called};
 ghost use Rattle.capi.specs.Giving.{GivenTo, IsFill, IsRow};
 ghost use Rattle.capi.specs.Held.{IsBlank};
 ghost use Rattle.capi.specs.Lines.{LineTold, screen_line, window_line};
@@ -236,14 +236,6 @@ impl Handle {
             }
             None => Answer::of_closed_handle(),
         }
-    }
-
-    /// Makes a call on the screen, and answers whether it is done.
-    #[inline(always)]
-    pub fn end(&mut self, alloc: Global, call: &Call<'_>) -> i32
-        ensures { Ended ⟦<Outlet as Sink>⟧ self.old.value call.now result self.new.value }
-    {
-        self.call(alloc, call).end()
     }
 
     /// Moves the bytes that were sent into a buffer, and says how many they are. If it is too short, they stay.

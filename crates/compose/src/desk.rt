@@ -386,6 +386,7 @@ impl Calls for Desk {
         }
     }
 
+    #[inline(always)]
     fn ask(&self, query: &Call<'_>) -> Result<Reply, Refusal> {
         answer(&self.windows, &self.stack, query)
     }

@@ -249,6 +249,7 @@ impl<W: Sink> Calls for Screen<W> {
     }
 
     /// Makes a call that only asks: the desk answers it.
+    #[inline(always)]
     fn ask(&self, query: &Call<'_>) -> Result<Reply, Fault> {
         Ok(self.desk.ask(query)?)
     }
