@@ -10,17 +10,16 @@ bool is_idcok(const WINDOW *win) { return win && has(win, !win->no_idcok); }
 bool is_idlok(const WINDOW *win) { return win && has(win, win->idlok); }
 bool is_immedok(const WINDOW *win) { return win && has(win, win->is_immediate); }
 bool is_leaveok(const WINDOW *win) { return win && has(win, win->leaveok); }
-bool is_pad(const WINDOW *win) { return is_so(curspan_is_pad(SCREEN_AND(win))) && !win->outlies; }
-bool is_scrollok(const WINDOW *win) { return is_so(curspan_is_scrollok(SCREEN_AND(win))); }
+bool is_pad(const WINDOW *win) { return win && has(win, win->is_pad); }
+bool is_scrollok(const WINDOW *win) { return win && has(win, win->scrolls); }
 bool is_subwin(const WINDOW *win) { return wgetparent(win) != NULL; }
 bool is_syncok(const WINDOW *win) { return win && has(win, win->synchronizes); }
-WINDOW *wgetparent(const WINDOW *win) { return curspan_window_of(curspan_wgetparent(SCREEN_AND(win))); }
+WINDOW *wgetparent(const WINDOW *win) { return is_there(win) == ERR ? NULL : win->parent; }
 
 int wgetscrreg(const WINDOW *win, int *top, int *bottom) {
-    curspan_answer region = curspan_wgetscrreg(SCREEN_AND(win));
-    if (done(region) == ERR || !top || !bottom) return ERR;
-    *top = (int)region.first;
-    *bottom = (int)region.second;
+    if (is_there(win) == ERR || !top || !bottom) return ERR;
+    *top = win->top;
+    *bottom = win->bottom;
     return OK;
 }
 

@@ -1,27 +1,26 @@
 /* Attributes and backgrounds. Nothing here is proved. */
 #include "inside.h"
 
-int wattrset(WINDOW *win, int attrs) {
-    attr_t wanted = (attr_t)attrs & A_ATTRIBUTES;
-    if (!curspan_has_alternates) wanted &= ~A_ALTCHARSET;
-    if (is_there(win) == ERR || PAIR_NUMBER(wanted) > LAST_PAIR) return ERR;
-    win->attrs = wanted;
-    curspan_set_limit(win);
+static inline int set(WINDOW *win, attr_t attrs) {
+    win->attrs = attrs & (curspan_has_alternates ? A_ATTRIBUTES : A_ATTRIBUTES & ~A_ALTCHARSET);
+    win->is_plain = false;
     return OK;
 }
 
-static attr_t without(attr_t attrs, attr_t less) {
-    if (less & A_COLOR) attrs &= ~A_COLOR;
-    return attrs & ~less;
-}
+static inline attr_t without(attr_t attrs, attr_t less) { return attrs & ~(less & A_COLOR ? less | A_COLOR : less); }
+
+int wattrset(WINDOW *win, int attrs) { return is_there(win) == ERR ? ERR : set(win, (attr_t)attrs); }
 
 int wattron(WINDOW *win, int attrs) {
-    return is_there(win) == ERR ? ERR : wattrset(win, (int)curspan_with(win->attrs, (attr_t)attrs));
+    return is_there(win) == ERR ? ERR : set(win, curspan_with(win->attrs, (attr_t)attrs));
 }
 
 int wattroff(WINDOW *win, int attrs) {
-    return is_there(win) == ERR ? ERR : wattrset(win, (int)without(win->attrs, (attr_t)attrs));
+    return is_there(win) == ERR ? ERR : set(win, without(win->attrs, (attr_t)attrs));
 }
+
+int wstandout(WINDOW *win) { return wattron(win, (int)A_STANDOUT); }
+int wstandend(WINDOW *win) { return wattrset(win, (int)A_NORMAL); }
 
 int wattr_set(WINDOW *win, attr_t attrs, short pair, void *none) {
     if (none || pair < 0 || pair > LAST_PAIR) return ERR;
@@ -39,47 +38,44 @@ int wcolor_set(WINDOW *win, short pair, void *none) {
     return is_there(win) == ERR ? ERR : wattr_set(win, win->attrs, pair, none);
 }
 
-/* Sets the pair of some attributes. An alternate character has one of its own where it takes that of the background. */
-static int set_pair(WINDOW *win, attr_t attrs) {
-    if (attrs & A_ALTCHARSET && !(attrs & A_COLOR)) attrs |= win->background & A_COLOR;
-    return done(curspan_wcolor_set(SCREEN_AND(win), (uint16_t)curspan_use_pair(attrs)));
+/* ---- how characters are written */
+
+uint32_t curspan_own(chtype cell) {
+    return (cell & ~(A_COLOR | A_ALTCHARSET)) | (uint32_t)curspan_use_pair(cell) << 16;
 }
 
-int curspan_tell_other(WINDOW *win, attr_t attrs) {
-    attr_t changed = win->given ^ attrs;
-    uint8_t bits = CURSPAN_ATTRIBUTES(attrs);
-    if (CURSPAN_ATTRIBUTES(changed) && done(curspan_wattrset(SCREEN_AND(win), bits)) == ERR) return ERR;
-    if (changed & (A_COLOR | A_ALTCHARSET) && set_pair(win, attrs) == ERR) return ERR;
-    win->given = attrs;
-    curspan_set_limit(win);
-    return OK;
+uint32_t curspan_rendered(const WINDOW *win, chtype ch) {
+    bool is_blank = ch == ' ';
+    ch = curspan_as_drawn(ch | (win->attrs & A_ALTCHARSET));
+    chtype text = (is_blank ? win->background : ch) & A_CHARTEXT;
+    chtype pair = ch & A_COLOR ? ch : win->attrs & A_COLOR ? win->attrs : win->background;
+    attr_t attrs = (ch | (win->attrs & ~A_ALTCHARSET) | win->background) & A_ATTRIBUTES & ~A_COLOR;
+    return curspan_own(text | (pair & A_COLOR) | attrs);
 }
 
 /* ---- backgrounds */
 
-int curspan_set_background(WINDOW *win, chtype ch) {
-    if (done(curspan_wbkgdset(SCREEN_AND(win), CURSPAN_ATTRIBUTES(ch), CURSPAN_CHARACTER(ch))) == ERR) return ERR;
-    if (done(curspan_wbkgdpair(SCREEN_AND(win), (uint16_t)curspan_use_pair(ch))) == ERR) return ERR;
-    return win->given & A_ALTCHARSET ? set_pair(win, win->given) : OK;
+uint16_t curspan_with_background(WINDOW *win) {
+    chtype ch = win && win->told != win->background ? win->background : 0;
+    if (ch == 0) return curspan_number(win);
+    curspan_wbkgdset(DRAWN_AND(win), CURSPAN_ATTRIBUTES(ch), CURSPAN_CHARACTER(ch));
+    curspan_wbkgdpair(DRAWN_AND(win), (uint16_t)curspan_use_pair(ch));
+    win->told = ch;
+    return win->number;
 }
 
 static chtype with_character(chtype ch) { return ch & A_CHARTEXT ? ch : ch | ' '; }
 
-int curspan_change_background(WINDOW *win, chtype ch) {
+/* The window's attributes have those of the background. One whose character is none in ASCII is refused. */
+static int change_background(WINDOW *win, chtype ch) {
     ch = curspan_as_drawn(ch);
-    chtype old = win ? win->background : ' ', background = with_character(ch);
-    if (is_there(win) == ERR || PAIR_NUMBER(ch) > LAST_PAIR) return ERR;
-    win->background = background;
-    if (curspan_set_background(win, background) == ERR) {
-        win->background = old;
-        return ERR;
-    }
-    win->attrs = curspan_with(without(win->attrs, old & A_ATTRIBUTES), ch & A_ATTRIBUTES);
-    curspan_set_limit(win);
-    return OK;
+    if (is_there(win) == ERR || !is_printable(with_character(ch) & A_CHARTEXT)) return ERR;
+    attr_t attrs = curspan_with(without(win->attrs, win->background & A_ATTRIBUTES), ch & A_ATTRIBUTES);
+    win->background = with_character(ch);
+    return set(win, attrs);
 }
 
-void wbkgdset(WINDOW *win, chtype ch) { (void)curspan_change_background(win, ch); }
+void wbkgdset(WINDOW *win, chtype ch) { (void)change_background(win, ch); }
 chtype getbkgd(WINDOW *win) { return is_there(win) == ERR ? (chtype)ERR : win->background; }
 
 /* A cell under another background: what was background gets the other character, and a pair of its own is kept. */
@@ -95,7 +91,7 @@ int wbkgd(WINDOW *win, chtype ch) {
     chtype old = win->background;
     ch = curspan_as_drawn(ch);
     if (with_character(ch) == old) return OK;
-    if (curspan_change_background(win, ch) == ERR || wattrset(win, (int)(ch & A_ATTRIBUTES)) == ERR) return ERR;
+    if (change_background(win, ch) == ERR || set(win, ch) == ERR) return ERR;
     for (int y = 0; y < (int)win->lines; y++) {
         int count = curspan_read_cells(win, y, 0, cells, -1);
         for (int i = 0; i < count; i++) cells[i] = on_other(cells[i], old, win->background);

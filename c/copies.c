@@ -12,12 +12,9 @@ static int lay_line(WINDOW *from, int from_y, int from_x, WINDOW *to, int to_y, 
     chtype over[LONGEST], under[LONGEST];
     curspan_read_cells(from, from_y, from_x, over, n);
     curspan_read_cells(to, to_y, to_x, under, n);
-    for (int i = 0; i < n; i++) {
-        chtype cell = laid_over(over[i], to->background);
-        if ((over[i] & A_CHARTEXT) == ' ' || over[i] == under[i]) continue;
-        if (curspan_put_cells(to, to_y, to_x + i, &cell, 1) == ERR) return ERR;
-    }
-    return OK;
+    for (int i = 0; i < n; i++)
+        if ((over[i] & A_CHARTEXT) != ' ' && over[i] != under[i]) under[i] = laid_over(over[i], to->background);
+    return curspan_put_cells(to, to_y, to_x, under, n);
 }
 
 /* Whether a window has a rectangle that begins at a place, of so many more lines and columns. */
@@ -34,8 +31,7 @@ static int lay(WINDOW *from, int from_y, int from_x, WINDOW *to, int top, int le
 }
 
 static int copy(const WINDOW *from, WINDOW *to, int y, int x, int top, int left, int bottom, int right, bool overlays) {
-    if (overlays && to->background & A_ATTRIBUTES)
-        return lay((WINDOW *)from, y, x, to, top, left, bottom - top, right - left);
+    if (overlays) return lay((WINDOW *)from, y, x, to, top, left, bottom - top, right - left);
     return done(curspan_copywin(SCREEN_AND(from), to->number, (uint16_t)y, (uint16_t)x, (uint16_t)top, (uint16_t)left,
                                 (uint16_t)bottom, (uint16_t)right, overlays));
 }

@@ -3,42 +3,42 @@
 
 /* ---- inserted characters */
 
-/* Characters on their way into a line, from the cursor's column on and no further than the line goes. */
+/* Cells on their way into a line, from the cursor's column on and no further than the line goes. */
 typedef struct {
-    char text[LONGEST];
+    uint32_t cells[LONGEST];
     int from, to, columns;
 } row;
 
-static void append(row *row, const char *text, int count) {
-    for (int i = 0; i < count && row->to < row->columns; i++) row->text[row->to++] = text[i];
+static void append(const WINDOW *win, row *row, const char *text, int count, attr_t attrs) {
+    for (int i = 0; i < count && row->to < row->columns; i++)
+        row->cells[row->to++] = curspan_rendered(win, (uint8_t)text[i] | attrs);
 }
 
 /* Appends a byte as it is spelled: a tab as spaces, another control character as ^ and a letter. */
-static void append_byte(row *row, curspan_unfinished *begun, uint8_t byte) {
+static void append_byte(WINDOW *win, row *row, uint8_t byte, attr_t attrs) {
     const char control[2] = {'^', (char)(byte ^ 64)};
-    if (begun->count > 0 || byte > 127) {
-        curspan_spelling spelling = curspan_spell_part(begun, byte);
-        if (byte < ' ' || byte > 126) append(row, spelling.text, spelling.count);
+    if (win->begun.count > 0 || byte > 127) {
+        curspan_spelling spelling = curspan_spell_part(&win->begun, byte);
+        if (byte < ' ' || byte > 126) append(win, row, spelling.text, spelling.count, attrs);
     } else if (byte == '\t') {
-        for (int count = TABSIZE - row->to % TABSIZE; count > 0; count--) append(row, " ", 1);
+        for (int count = TABSIZE - row->to % TABSIZE; count > 0; count--) append(win, row, " ", 1, attrs);
     } else if (byte >= ' ' && byte != 127) {
-        append(row, (const char *)&byte, 1);
+        append(win, row, (const char *)&byte, 1, attrs);
     } else {
-        append(row, control, sizeof control);
+        append(win, row, control, sizeof control, attrs);
     }
 }
 
 /* Inserts a row at the cursor, and leaves the cursor behind it, or in the last column. */
-static int insert_row(WINDOW *win, row *row, bool has_attributes) {
-    bool is_other = has_attributes && (win->background & A_CHARTEXT) != ' ';
-    int answer = OK;
-    if (is_other) curspan_set_background(win, (win->background & A_ATTRIBUTES) | ' ');
-    for (int at = row->to; at > row->from && answer == OK;)
-        answer = done(curspan_winsch(SCREEN_AND(win), (uint8_t)row->text[--at]));
-    if (is_other) curspan_set_background(win, win->background);
-    if (answer == ERR || row->to == row->from) return answer;
-    win->reach = UNKNOWN;
-    return curspan_put_cursor(win, getcury(win), least(row->to, row->columns - 1));
+static int insert_row(WINDOW *win, row *row) {
+    uint32_t line[LONGEST], y = (uint32_t)getcury(win), from = (uint32_t)row->from;
+    size_t columns = (size_t)row->columns, kept = columns - (size_t)row->to;
+    if (row->to == row->from) return OK;
+    curspan_row(DRAWN_AND(win), y, line, columns);
+    memcpy(row->cells + row->to, line + from, kept * sizeof *line);
+    if (done(curspan_put(DRAWN_AND(win), y, from, row->cells + from, columns - from)) == ERR) return ERR;
+    curspan_wait_at(win, (int)y, least(row->to, row->columns - 1));
+    return OK;
 }
 
 static bool moves_cursor(uint8_t byte) { return byte == '\n' || byte == '\r' || byte == '\b'; }
@@ -46,80 +46,85 @@ static bool moves_cursor(uint8_t byte) { return byte == '\n' || byte == '\r' || 
 /* Moves the cursor as a written text does, and answers whether it is still behind a line that the row has filled. */
 static bool stays_behind(WINDOW *win, const row *row, uint8_t byte) {
     bool is_behind = row->to == row->columns;
-    if (is_behind) win->reach = byte == '\b' ? UNKNOWN : ENDED;
+    win->has_ended = is_behind && byte != '\b';
     if (is_behind && byte == '\b') return false;
-    return curspan_add_any(win, byte) == ERR && is_behind;
+    return curspan_add(win, byte) == ERR && is_behind;
 }
 
-/* Inserts a text with the attributes that Curspan got last, as far as lines go. The cursor comes back in the end. */
-static int insert(WINDOW *win, const uint8_t *text, size_t length, bool has_attributes) {
-    int y = getcury(win), x = getcurx(win), reach = win->reach, columns = getmaxx(win), answer = OK;
-    bool is_behind = false;
+/* Inserts a text, as far as lines go. The cursor comes back in the end. */
+static int insert(WINDOW *win, const uint8_t *text, size_t length, attr_t attrs) {
+    int y = getcury(win), x = getcurx(win), columns = getmaxx(win), answer = OK;
+    bool is_behind = false, has_ended = win->has_ended;
     for (size_t i = 0; i < length && answer == OK;) {
         int from = is_behind ? columns : getcurx(win);
         row row = {.from = from, .to = from, .columns = columns};
-        for (; i < length && (win->begun.count > 0 || !moves_cursor(text[i])); i++)
-            append_byte(&row, &win->begun, text[i]);
-        answer = insert_row(win, &row, has_attributes);
+        for (; i < length && (win->begun.count > 0 || !moves_cursor(text[i])); i++) append_byte(win, &row, text[i], attrs);
+        answer = insert_row(win, &row);
         if (i == length) break;
         is_behind = stays_behind(win, &row, text[i++]);
-        if (win->reach != ENDED) reach = UNKNOWN;
+        has_ended = has_ended && win->has_ended;
     }
-    win->reach = reach;
+    curspan_wait_at(win, y, x);
+    win->has_ended = has_ended;
     curspan_keep_begun(win, y, x);
-    return curspan_put_cursor(win, y, x) == ERR ? ERR : answer;
+    return answer;
 }
 
 int winsch(WINDOW *win, chtype ch) {
-    if (is_there(win) == ERR || PAIR_NUMBER(ch) > LAST_PAIR) return ERR;
-    bool has_attributes = (ch & A_ATTRIBUTES) != 0;
-    ch = curspan_as_drawn(ch | (win->attrs & A_ALTCHARSET));
     uint8_t text = ch & A_CHARTEXT;
-    if (curspan_tell(win, curspan_with(win->attrs & ~A_ALTCHARSET, ch)) == ERR) return ERR;
-    curspan_check_begun(win);
-    return curspan_changed(win, insert(win, &text, 1, has_attributes));
+    if (is_there(win) == ERR) return ERR;
+    if (win->begun.count > 0) curspan_check_begun(win);
+    return curspan_changed(win, insert(win, &text, 1, ch & A_ATTRIBUTES));
 }
 
 int winsnstr(WINDOW *win, const char *text, int n) {
-    if (!text || is_there(win) == ERR || curspan_tell(win, win->attrs) == ERR) return ERR;
+    if (!text || is_there(win) == ERR) return ERR;
     size_t length = n <= 0 ? strlen(text) : strnlen(text, (size_t)n);
     win->begun.count = 0;
-    int answer = insert(win, (const uint8_t *)text, length, false);
+    int answer = insert(win, (const uint8_t *)text, length, A_NORMAL);
     win->begun.count = 0;
-    curspan_set_limit(win);
     return curspan_changed(win, answer);
 }
 
 /* ---- deleted and inserted lines, and what is cleared */
 
-int wdelch(WINDOW *win) { return curspan_changed(win, done(curspan_wdelch(SCREEN_AND(win)))); }
-int winsertln(WINDOW *win) { return curspan_changed(win, done(curspan_winsertln(SCREEN_AND(win)))); }
-int wdeleteln(WINDOW *win) { return curspan_changed(win, done(curspan_wdeleteln(SCREEN_AND(win)))); }
+/* The screen, and a window of it with its background, as arguments. */
+#define BLANKS_OF(win) &curspan_the_screen, curspan_with_background(win)
 
-int winsdelln(WINDOW *win, int n) {
-    int lines = getmaxy(win), answer = is_there(win);
-    int times = n < -lines || n > lines ? lines : n < 0 ? -n : n;
-    while (times-- > 0 && answer == OK) answer = n > 0 ? winsertln(win) : wdeleteln(win);
-    return answer;
+int wdelch(WINDOW *win) { return curspan_changed(win, done(curspan_wdelch(BLANKS_OF(win)))); }
+
+int curspan_scroll_lines(WINDOW *win, int top, int bottom, int n) {
+    int lines = getmaxy(win), most = n < -lines ? -lines : n > lines ? lines : n;
+    if (done(curspan_wsetscrreg(DRAWN_AND(win), (uint16_t)top, (uint16_t)bottom)) == ERR) return ERR;
+    curspan_scrollok(DRAWN_AND(win), true);
+    return done(curspan_wscrl(curspan_drawn_screen(), curspan_with_background(win), (int16_t)most));
 }
 
+int wscrl(WINDOW *win, int n) {
+    if (!is_scrollok(win)) return ERR;
+    return curspan_changed(win, curspan_scroll_lines(win, win->top, win->bottom, n));
+}
+
+int winsdelln(WINDOW *win, int n) {
+    if (is_there(win) == ERR) return ERR;
+    return curspan_changed(win, curspan_scroll_lines(win, getcury(win), (int)win->lines - 1, -n));
+}
+
+int winsertln(WINDOW *win) { return winsdelln(win, 1); }
+int wdeleteln(WINDOW *win) { return winsdelln(win, -1); }
+
 int werase(WINDOW *win) {
-    if (win) win->reach = 0;
-    return curspan_changed(win, done(curspan_werase(SCREEN_AND(win))));
+    if (win) win->has_ended = false;
+    return curspan_changed(win, done(curspan_werase(BLANKS_OF(win))));
 }
 
 int wclear(WINDOW *win) {
-    if (win) win->reach = 0;
-    return curspan_changed(win, done(curspan_wclear(SCREEN_AND(win))));
+    if (win) win->has_ended = false;
+    return curspan_changed(win, done(curspan_wclear(BLANKS_OF(win))));
 }
 
 /* A character that was just written in the last place isn't to the right of the cursor, which stayed on it. */
 int wclrtoeol(WINDOW *win) {
-    return win && win->reach == ENDED ? ERR : curspan_changed(win, done(curspan_wclrtoeol(SCREEN_AND(win))));
+    return win && win->has_ended ? ERR : curspan_changed(win, done(curspan_wclrtoeol(BLANKS_OF(win))));
 }
-int wclrtobot(WINDOW *win) { return curspan_changed(win, done(curspan_wclrtobot(SCREEN_AND(win)))); }
-
-int wscrl(WINDOW *win, int n) {
-    int lines = getmaxy(win), most = n < -lines ? -lines : n > lines ? lines : n;
-    return curspan_changed(win, done(curspan_wscrl(SCREEN_AND(win), (int16_t)most)));
-}
+int wclrtobot(WINDOW *win) { return curspan_changed(win, done(curspan_wclrtobot(BLANKS_OF(win)))); }

@@ -1,7 +1,7 @@
 /* The forms of the calls of curses.h that mean the standard screen, or that move first. Nothing here is proved. */
 #include "inside.h"
 
-#define AT(win, y, x, call) (curspan_move(win, y, x) == ERR ? ERR : (call))
+#define AT(win, y, x, call) (wmove(win, y, x) == ERR ? ERR : (call))
 
 /* The other forms of a call for windows, by its count of arguments: for the standard screen, after a move, and both. */
 #define FORMS(name) \
@@ -33,8 +33,6 @@ int attr_off(attr_t attrs, void *none) { return wattr_off(stdscr, attrs, none); 
 int attr_set(attr_t attrs, short pair, void *none) { return wattr_set(stdscr, attrs, pair, none); }
 int attr_get(attr_t *attrs, short *pair, void *none) { return wattr_get(stdscr, attrs, pair, none); }
 int color_set(short pair, void *none) { return wcolor_set(stdscr, pair, none); }
-int wstandout(WINDOW *win) { return wattron(win, (int)A_STANDOUT); }
-int wstandend(WINDOW *win) { return wattrset(win, (int)A_NORMAL); }
 int standout(void) { return wstandout(stdscr); }
 int standend(void) { return wstandend(stdscr); }
 FORMS_4(chgat, int, attr_t, short, const void *)
@@ -85,7 +83,7 @@ FORMS_2(vline, chtype, int)
 /* ---- reading back */
 
 chtype inch(void) { return winch(stdscr); }
-chtype mvwinch(WINDOW *win, int y, int x) { return curspan_move(win, y, x) == ERR ? (chtype)ERR : winch(win); }
+chtype mvwinch(WINDOW *win, int y, int x) { return wmove(win, y, x) == ERR ? (chtype)ERR : winch(win); }
 chtype mvinch(int y, int x) { return mvwinch(stdscr, y, x); }
 FORMS_1(instr, char *)
 FORMS_2(innstr, char *, int)
@@ -117,11 +115,11 @@ int vwscanw(WINDOW *win, const char *format, va_list arguments) { return vw_scan
     int name(const char *format, ...) { PASS_ON(vw_##name, stdscr); } \
     int w##name(WINDOW *win, const char *format, ...) { PASS_ON(vw_##name, win); } \
     int mv##name(int y, int x, const char *format, ...) { \
-        if (curspan_move(stdscr, y, x) == ERR) return ERR; \
+        if (wmove(stdscr, y, x) == ERR) return ERR; \
         PASS_ON(vw_##name, stdscr); \
     } \
     int mvw##name(WINDOW *win, int y, int x, const char *format, ...) { \
-        if (curspan_move(win, y, x) == ERR) return ERR; \
+        if (wmove(win, y, x) == ERR) return ERR; \
         PASS_ON(vw_##name, win); \
     }
 

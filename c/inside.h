@@ -5,7 +5,6 @@
 #define _GNU_SOURCE
 #include "curses.h"
 
-#include <limits.h>
 #include <stdlib.h>
 #include <string.h>
 
@@ -17,72 +16,72 @@ enum {
     LONGEST = 1000   /* the longest line of a window or pad */
 };
 
-/* How far a window's cursor is known to be from its end; see `reach`. */
-enum {
-    NOT_READY = INT_MIN, /* a limit that nothing is under */
-    UNKNOWN = 1 << 28,
-    ENDLESS = 1 << 29,   /* the limit of a window that scrolls */
-    ENDED = 1 << 30      /* a character was written in the last place, and the cursor wasn't moved since */
-};
-
 /* The bytes of a character of which some are still to come, and where the cursor was. */
 typedef struct {
     uint8_t bytes[6];
     int count, y, x;
 } curspan_unfinished;
 
-/* What curspan.h doesn't tell of a window, and its size and `end`, so that moves and characters ask for nothing. */
+/* What curspan.h doesn't tell of a window, and what it tells of its lines, so that moves and characters ask for nothing. */
 struct curspan_window {
     uint16_t number;         /* NUMBER where it isn't there */
+    bool is_pad;
     bool outlies;            /* it isn't wholly on the screen: a pad of curspan.h stands for it */
     bool moved;              /* the cursor was moved since the last refresh, as getch wants to know */
     bool keypad, no_timeout; /* how getch reads */
     int delay;               /* for how many milliseconds it waits, without end where that is negative */
     attr_t attrs; /* the window's, with its pair: curspan.h has no pairs past LAST_OWN, and no A_ALTCHARSET */
-    attr_t given; /* those that Curspan got last */
     chtype background;       /* which has such pairs too */
+    chtype told;             /* the background that Curspan has */
+    WINDOW *parent;          /* from which it derives, or NULL */
     unsigned lines, columns; /* 0 where it isn't there */
-    /* While `reach` is under `limit`, what is written next has the window's attributes, and a line less one of
-       characters and `limit - reach` more fit before the last place of a window that doesn't scroll. A character adds
-       one to it, and a move sets it to the cursor's line. */
-    int reach, limit;
-    int end; /* the limit of a window that is ready: the last line of the scroll region, or ENDLESS */
+    int top, bottom;         /* its scroll region: Curspan gets that where it scrolls */
+    bool scrolls;
+    bool has_ended; /* a character was written in the last place, and the cursor wasn't moved since */
+    bool is_plain;  /* a letter is a cell of curspan.h as it is added to this one, and a blank is that one: */
+    uint32_t plain, blank;
+    attr_t other;   /* the attributes that a character had last, and what those with them are added to then */
+    uint32_t in_other;
     curspan_unfinished begun;
     bool idlok, no_idcok, leaveok;
     bool is_immediate, synchronizes; /* each change refreshes it, or touches its ancestors */
-    int begin_y, begin_x; /* of a pad where copies take it to be, of one that outlies its place, of curscr its cursor */
+    int begin_y, begin_x; /* its place; of a pad where copies take it to be, of curscr its cursor */
     int part[6];          /* of a pad, which part of it was refreshed last, and to where */
 };
 
-/* A move, and plain characters after it, which wait until Curspan is asked for something else, so that one call of it
-   writes many. None of them can be refused. */
+/* A window whose cursor C moves, and cells of its line that are before the cursor from a column on, which wait until
+   Curspan is asked for something else, so that one call of it writes many. None of them can be refused. */
 struct curspan_waiting {
-    WINDOW *win; /* where they are to be written, or NULL */
-    int y, x;    /* the place to which it moves first; ERR is where the cursor is */
-    unsigned count;
-    char text[LONGEST];
+    WINDOW *win; /* or NULL */
+    int y, x;    /* its cursor: before the last column, where a character waits */
+    int from, last;
+    uint32_t cells[LONGEST]; /* by their columns */
 };
 
 extern struct curspan_waiting curspan_waiting;
+void curspan_put_waiting(void);
 void curspan_write_waiting(void);
-/* Lets a move wait, where nothing else does. */
-static inline int curspan_wait_at(WINDOW *win, int y, int x) {
-    curspan_waiting.win = win;
-    curspan_waiting.y = y;
-    curspan_waiting.x = x;
-    return OK;
+void curspan_begin_to_wait(WINDOW *win);
+/* Lets a window wait, with the cursor at a place, or where it is. At the end of what waits nothing is left to be done. */
+static inline void curspan_wait_at(WINDOW *win, int y, int x) {
+    struct curspan_waiting *all = &curspan_waiting;
+    if (all->win != win) curspan_begin_to_wait(win);
+    else if (all->x > all->from && all->y == y && all->x == x) return;
+    else if (all->x > all->from) curspan_put_waiting();
+    all->y = y;
+    all->x = all->from = x;
 }
-/* Moves at once, for a call that is none of those which wait. */
-int curspan_move(WINDOW *win, int y, int x);
-/* Lets a move wait where characters do, or something of another window. */
-int curspan_move_on(WINDOW *win, int y, int x);
-/* Lets a character wait that begins at the cursor. */
-int curspan_wait_here(WINDOW *win, char ch);
+void curspan_wait_here(const WINDOW *win);
 
-/* The screen, in which nothing is left to be written. */
+/* The screen, in which nothing is left to be written; and one in which no cells are left, which serves what asks for no
+   cursor. */
 extern curspan curspan_kept_screen;
 static inline curspan *curspan_written_screen(void) {
     if (curspan_waiting.win) curspan_write_waiting();
+    return &curspan_kept_screen;
+}
+static inline curspan *curspan_drawn_screen(void) {
+    if (curspan_waiting.x > curspan_waiting.from) curspan_put_waiting();
     return &curspan_kept_screen;
 }
 #define curspan_the_screen (*curspan_written_screen())
@@ -101,22 +100,7 @@ void curspan_forget_all(void);
 
 /* The screen, and a window of it, as arguments. */
 #define SCREEN_AND(win) &curspan_the_screen, curspan_number(win)
-
-/* The two calls that programs make most, proved as those of curspan.h. Each answers OK or ERR, and costs less than the
-   call of its name with what turns an answer into that. */
-int32_t curspan_wmove_end(uint16_t win, uint16_t y, uint16_t x, curspan *screen);
-int32_t curspan_waddch_end(uint16_t win, uint8_t ch, curspan *screen);
-
-/* Says to Curspan with which attributes a window writes next, and where they are other ones. */
-int curspan_tell_other(WINDOW *win, attr_t attrs);
-static inline int curspan_tell(WINDOW *win, attr_t attrs) {
-    return win->given == attrs ? OK : curspan_tell_other(win, attrs);
-}
-
-/* Sets the limit, after what it comes from has changed. */
-void curspan_set_limit(WINDOW *win);
-/* The same where the size, the scroll region or whether the window scrolls has changed: `reach` is known no more. */
-void curspan_set_end(WINDOW *win);
+#define DRAWN_AND(win) curspan_drawn_screen(), curspan_number(win)
 
 /* Answers for a call that has changed a window: refreshes it, or touches its ancestors, where that is to be. */
 void curspan_follow(WINDOW *win);
@@ -155,26 +139,22 @@ extern bool curspan_has_alternates;
 /* A character as it is drawn: an alternate one where the terminal has none is another. */
 chtype curspan_as_drawn(chtype ch);
 
-/* Writes a character as waddch does, whatever it is, and wherever the window ends; and whether so many characters fit
-   before the last place of a window that is ready, whose `reach` is told then. These are functions of their own, so
-   that waddch and waddstr keep no registers for them. */
-int curspan_add_any(WINDOW *win, chtype ch);
-bool curspan_fits_at_end(WINDOW *win, size_t length);
+/* A cell of curspan.h, of a cell here, and of a character that a window writes: with the attributes of both and those of
+   the background, which a blank takes whole. */
+uint32_t curspan_own(chtype cell);
+uint32_t curspan_rendered(const WINDOW *win, chtype ch);
+/* Writes a character as waddch does, whatever it is, with no look at what is to follow. */
+int curspan_add(WINDOW *win, chtype ch);
 
-/* Sets the background, that of the window in `win` or another. */
-int curspan_set_background(WINDOW *win, chtype ch);
-/* Sets the background and what the window's attributes have of it. */
-int curspan_change_background(WINDOW *win, chtype ch);
+/* The number of a window whose background Curspan has then, for what sets cells to it. */
+uint16_t curspan_with_background(WINDOW *win);
+/* Scrolls lines of a window, whether it scrolls or not. */
+int curspan_scroll_lines(WINDOW *win, int top, int bottom, int n);
 
-/* Sets cells of a line or a column as they are: the cursor, the background and scrolling have no part in it. */
+/* Sets cells of a line as they are: the cursor, the background and scrolling have no part in it. */
 int curspan_put_cells(WINDOW *win, int y, int x, const chtype *cells, int n);
-int curspan_put_column(WINDOW *win, int y, int x, int n, chtype cell);
 /* Reads up to n cells from a place on, or all where n is negative, and answers how many they are. */
 int curspan_read_cells(WINDOW *win, int y, int x, chtype *cells, int n);
-/* Moves the cursor without a look at where it comes to. */
-static inline int curspan_put_cursor(const WINDOW *win, int y, int x) {
-    return curspan_wmove_end(win->number, (uint16_t)y, (uint16_t)x, &curspan_the_screen);
-}
 
 /* The size of the screen, which wresize may give the standard screen no more. */
 static inline int curspan_lines(void) { return (int)curspan_getmaxyx(&curspan_the_screen, 0).first; }

@@ -43,6 +43,7 @@ int curs_set(int visibility) {
     struct curspan_tty *tty = &curspan_the_tty;
     int before = visibility_now;
     if (!stdscr || visibility < 0 || visibility > 2) return ERR;
+    if (visibility == before) return before;
     bool changes = (visibility > 0) != (before > 0) && tty->page == PAGE_ENTERED;
     if (changes && !curspan_put_text(tty, visibility > 0 ? show : hide)) return ERR;
     snprintf(tty->enter, sizeof tty->enter, CURSPAN_ENTER "%s", visibility > 0 ? "" : hide);

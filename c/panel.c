@@ -110,11 +110,10 @@ void curspan_note_refreshed(const WINDOW *win) {
 }
 
 static void note_left(PANEL *panel) {
-    curspan_answer begin = curspan_getbegyx(SCREEN_AND(panel->win));
     panel->is_left = true;
     if (count == MOST_LEFT) return;
-    left[count].y = (int)begin.first;
-    left[count].x = (int)begin.second;
+    left[count].y = panel->win->begin_y;
+    left[count].x = panel->win->begin_x;
     left[count].lines = panel->win->lines;
     left[count++].columns = panel->win->columns;
 }
@@ -159,6 +158,8 @@ int move_panel(PANEL *panel, int y, int x) {
     if (!is_number(y) || !is_number(x)) return ERR;
     uncover(panel, NULL);
     if (done(curspan_move_panel(SCREEN_AND_PANEL(panel), (uint16_t)y, (uint16_t)x)) == ERR) return ERR;
+    panel->win->begin_y = y;
+    panel->win->begin_x = x;
     return curspan_is_mixed ? touchwin(panel->win) : OK;
 }
 

@@ -72,7 +72,7 @@ bool curspan_hand_on(const struct curspan_tty *tty, curspan *screen, struct curs
     size_t length;
     if (!take(screen, outgoing, &length)) return false;
     length = curspan_recolour(palette, outgoing->bytes + CURSPAN_RECOLOURED * outgoing->room, length, outgoing->bytes);
-    if (curspan_put(tty, outgoing->bytes, length)) return true;
+    if (curspan_write_all(tty, outgoing->bytes, length)) return true;
     for (int own = 0; own < OWN_PAIRS; own++) palette->is_alternate |= palette->are_alternate[own];
     curspan_invalidate(screen);
     return false;

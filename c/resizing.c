@@ -143,21 +143,6 @@ static void set_background(uint16_t to, chtype ch) {
     curspan_wbkgdpair(remake.to, to, (uint16_t)curspan_use_pair(ch));
 }
 
-/* Puts cells of a line into a window of the other screen, from its first column on. */
-static void put_line(uint16_t to, uint16_t y, const uint32_t *cells, int n) {
-    char text[LONGEST];
-    for (int x = 0; x < n; x++) text[x] = (char)CURSPAN_CHARACTER(cells[x]);
-    curspan_wmove(remake.to, to, y, 0);
-    for (int start = 0, end; start < n; start = end) {
-        for (end = start; end < n && cells[end] >> 8 == cells[start] >> 8; end++) continue;
-        curspan_wattrset(remake.to, to, CURSPAN_ATTRIBUTES(cells[start]));
-        curspan_wcolor_set(remake.to, to, CURSPAN_PAIR(cells[start]));
-        curspan_waddstr(remake.to, to, text + start, (size_t)(end - start));
-    }
-    curspan_wattrset(remake.to, to, 0);
-    curspan_wcolor_set(remake.to, to, 0);
-}
-
 /* Brings the cells of a window to the new one, as far as they fit. What is new has the background. */
 static void bring_cells(const WINDOW *win, uint16_t from, uint16_t to) {
     const struct shape *before = &remake.before[place_of(win)], *shape = &remake.shapes[place_of(win)];
@@ -170,28 +155,25 @@ static void bring_cells(const WINDOW *win, uint16_t from, uint16_t to) {
         curspan_copywin(remake.to, from, to, 0, 0, 0, 0, (uint16_t)(lines - 1), (uint16_t)(columns - 1), false);
         return;
     }
-    set_background(to, ' ');
     for (uint16_t y = 0; y < lines; y++) {
         curspan_row(remake.from, from, y, cells, (size_t)columns);
-        put_line(to, y, cells, columns);
+        curspan_put(remake.to, to, y, 0, cells, (size_t)columns);
     }
-    set_background(to, win->background);
 }
 
 /* Brings what a window has. A derived one that isn't where its parent shows it comes to where it was, and a scroll
    region ends with the window where it did before. */
-static void bring(const WINDOW *win) {
+static void bring(WINDOW *win) {
     const struct shape *shape = &remake.shapes[place_of(win)];
     uint16_t from = remake.old[place_of(win)], to = remake.numbers[place_of(win)];
-    curspan_answer cursor = curspan_getyx(remake.from, from), region = curspan_wgetscrreg(remake.from, from);
+    curspan_answer cursor = curspan_getyx(remake.from, from);
     int y = least(shape->begin_y, remake.lines - shape->lines);
     int x = least(shape->begin_x, remake.columns - shape->columns);
-    int last = shape->lines - 1, top = least((int)region.first, last), bottom = least((int)region.second, last);
-    if ((int)region.second == remake.before[place_of(win)].lines - 1) bottom = last;
+    int last = shape->lines - 1;
+    win->top = least(win->top, last);
+    win->bottom = win->bottom == remake.before[place_of(win)].lines - 1 ? last : least(win->bottom, last);
     bring_cells(win, from, to);
     if (shape->parent) curspan_mvwin(remake.to, to, (uint16_t)y, (uint16_t)x);
-    curspan_scrollok(remake.to, to, is_so(curspan_is_scrollok(remake.from, from)));
-    curspan_wsetscrreg(remake.to, to, (uint32_t)top, (uint32_t)bottom);
     y = least((int)cursor.first, last);
     x = least((int)cursor.second, shape->columns - 1);
     curspan_wmove(remake.to, to, (uint16_t)y, (uint16_t)x);
@@ -216,11 +198,12 @@ static void renumber_all(void) {
         WINDOW *win = remake.family[i];
         const struct shape *shape = &remake.shapes[place_of(win)];
         curspan_renumber(win, remake.numbers[place_of(win)]);
-        win->given = A_NORMAL;
-        win->reach = 0;
+        win->told = win->background;
+        win->has_ended = false;
         curspan_measure(win);
         if (shape->is_pad) continue;
         win->outlies = shape->outlies;
+        if (!win->outlies) continue; /* else Curspan has told where it is */
         win->begin_y = shape->begin_y;
         win->begin_x = shape->begin_x;
     }
@@ -304,7 +287,7 @@ static void bring_picture(void) {
     for (int y = 0; y < lines; y++) {
         curspan_shown_row(remake.from, (uint32_t)y, cells, (size_t)columns);
         for (int x = 0; x < columns; x++) cells[x] = cell_of_shown(cells[x]);
-        put_line(0, (uint16_t)y, cells, columns);
+        curspan_put(remake.to, 0, (uint32_t)y, 0, cells, (size_t)columns);
     }
     int cursor_y = least(curspan_shown_y, remake.lines - 1), cursor_x = least(curspan_shown_x, remake.columns - 1);
     curspan_wmove(remake.to, 0, (uint16_t)cursor_y, (uint16_t)cursor_x);

@@ -12,7 +12,7 @@
 
 /* ---- any terminal */
 
-bool curspan_put(const struct curspan_tty *tty, const void *bytes, size_t length) {
+bool curspan_write_all(const struct curspan_tty *tty, const void *bytes, size_t length) {
     const uint8_t *next = bytes;
     while (length > 0) {
         ssize_t count = write(tty->out, next, length);
@@ -29,7 +29,7 @@ bool curspan_put(const struct curspan_tty *tty, const void *bytes, size_t length
     return true;
 }
 
-bool curspan_put_text(const struct curspan_tty *tty, const char *text) { return curspan_put(tty, text, strlen(text)); }
+bool curspan_put_text(const struct curspan_tty *tty, const char *text) { return curspan_write_all(tty, text, strlen(text)); }
 
 bool curspan_switch_keypad(struct curspan_tty *tty, bool flag) {
     tty->is_keypad = flag;
@@ -238,7 +238,7 @@ uint32_t curspan_terminal_suspend(curspan_terminal *terminal) {
 uint32_t curspan_terminal_resume(curspan_terminal *terminal) { WRITE(done(curspan_come_back(&it->tty))); }
 
 uint32_t curspan_terminal_write(curspan_terminal *terminal, const void *bytes, size_t length) {
-    WRITE(done(curspan_put(&it->tty, bytes, length)));
+    WRITE(done(curspan_write_all(&it->tty, bytes, length)));
 }
 
 uint32_t curspan_terminal_close(curspan_terminal *terminal) {
@@ -288,7 +288,7 @@ static uint32_t draw(struct terminal *it, const uint8_t *bytes, size_t length) {
     if (status != CURSPAN_TERMINAL_OK) return status;
     uint8_t *out = malloc(CURSPAN_RECOLOURED * length + 1);
     if (!out) return CURSPAN_TERMINAL_NO_MEMORY;
-    bool is_done = curspan_put(&it->tty, out, curspan_recolour(&it->palette, bytes, length, out));
+    bool is_done = curspan_write_all(&it->tty, out, curspan_recolour(&it->palette, bytes, length, out));
     free(out);
     return done(is_done);
 }

@@ -32,7 +32,7 @@ struct curspan_tty {
 /* ---- terminal.c */
 
 /* Writes all of some bytes, or of a text. Handlers of signals may call these. */
-bool curspan_put(const struct curspan_tty *tty, const void *bytes, size_t length);
+bool curspan_write_all(const struct curspan_tty *tty, const void *bytes, size_t length);
 bool curspan_put_text(const struct curspan_tty *tty, const char *text);
 bool curspan_switch_keypad(struct curspan_tty *tty, bool flag);
 /* Comes to the picture's page, with the program's modes, where it isn't there. */

@@ -1,29 +1,31 @@
-/* What waits to be written: functions by which wmove and waddch keep no registers. Nothing here is proved. */
+/* What waits to be written. Nothing here is proved. */
 #include "inside.h"
 
 struct curspan_waiting curspan_waiting;
 
+void curspan_put_waiting(void) {
+    struct curspan_waiting *all = &curspan_waiting;
+    uint32_t y = (uint32_t)all->y, x = (uint32_t)all->from;
+    curspan_put(&curspan_kept_screen, all->win->number, y, x, all->cells + x, (size_t)(all->x - all->from));
+    all->from = all->x;
+}
+
 void curspan_write_waiting(void) {
     struct curspan_waiting *all = &curspan_waiting;
-    uint16_t number = all->win->number;
-    unsigned count = all->count;
+    (void)curspan_drawn_screen();
+    curspan_wmove(&curspan_kept_screen, all->win->number, (uint32_t)all->y, (uint32_t)all->x);
     all->win = NULL;
-    all->count = 0;
-    if (all->y != ERR) curspan_wmove_end(number, (uint16_t)all->y, (uint16_t)all->x, &curspan_kept_screen);
-    if (count == 1) curspan_waddch_end(number, (uint8_t)all->text[0], &curspan_kept_screen);
-    else if (count > 1) curspan_waddstr(&curspan_kept_screen, number, all->text, count);
+    all->x = all->from = all->last = 0;
 }
 
-/* Where it moves to the end of what waits, nothing is left to be done. */
-int curspan_move_on(WINDOW *win, int y, int x) {
-    const struct curspan_waiting *all = &curspan_waiting;
-    if (all->y == y && all->x + (int)all->count == x && all->win == win) return OK;
-    curspan_write_waiting();
-    return curspan_wait_at(win, y, x);
+void curspan_begin_to_wait(WINDOW *win) {
+    (void)curspan_written_screen();
+    curspan_waiting.win = win;
+    curspan_waiting.last = (int)win->columns - 1;
 }
 
-int curspan_wait_here(WINDOW *win, char ch) {
-    if (curspan_waiting.win) curspan_write_waiting();
-    curspan_waiting.text[curspan_waiting.count++] = ch;
-    return curspan_wait_at(win, ERR, ERR);
+void curspan_wait_here(const WINDOW *win) {
+    if (curspan_waiting.win == win) return;
+    curspan_answer place = curspan_getyx(SCREEN_AND(win));
+    curspan_wait_at((WINDOW *)win, (int)place.first, (int)place.second);
 }

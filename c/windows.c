@@ -6,10 +6,10 @@ WINDOW *stdscr, *curscr;
 
 struct curspan_window curspan_windows[MOST];
 static WINDOW *numbered[MOST]; /* by their numbers */
-static struct curspan_window the_terminal = {.number = NUMBER, .limit = NOT_READY}; /* it is no window of Curspan */
+static struct curspan_window the_terminal = {.number = NUMBER}; /* it is no window of Curspan */
 
 static void forget(WINDOW *win) {
-    *win = (struct curspan_window){.number = NUMBER, .background = ' ', .delay = -1, .limit = NOT_READY};
+    *win = (struct curspan_window){.number = NUMBER, .background = ' ', .told = ' ', .delay = -1};
     win->part[4] = win->part[5] = -1;
 }
 
@@ -28,13 +28,18 @@ void curspan_renumber(WINDOW *win, uint16_t number) {
 }
 
 void curspan_measure(WINDOW *win) {
-    win->lines = (unsigned)getmaxy(win);
-    win->columns = (unsigned)getmaxx(win);
-    curspan_set_end(win);
+    curspan_answer size = curspan_getmaxyx(SCREEN_AND(win)), place = curspan_getbegyx(SCREEN_AND(win));
+    win->lines = size.first;
+    win->columns = size.second;
+    win->is_plain = false;
+    if (place.status != CURSPAN_OK) return; /* a pad of curspan.h is nowhere */
+    win->begin_y = (int)place.first;
+    win->begin_x = (int)place.second;
 }
 
 /* A derived pad is where copies take its parent to be. A derived window has its parent's attributes and background. */
 static void take_after(WINDOW *win, const WINDOW *parent) {
+    win->is_pad = parent->is_pad;
     win->begin_y = parent->begin_y + getpary(win);
     win->begin_x = parent->begin_x + getparx(win);
     wbkgdset(win, parent->background);
@@ -49,7 +54,9 @@ static WINDOW *made(curspan_answer answer) {
     forget(win);
     curspan_renumber(win, (uint16_t)answer.first);
     curspan_measure(win);
-    if (is_subwin(win)) take_after(win, wgetparent(win));
+    win->bottom = (int)win->lines - 1;
+    win->parent = curspan_window_of(curspan_wgetparent(SCREEN_AND(win)));
+    if (win->parent) take_after(win, win->parent);
     touchwin(win); /* as in System V: a new window covers what is below it */
     return win;
 }
@@ -104,7 +111,9 @@ WINDOW *derwin(WINDOW *win, int lines, int columns, int y, int x) {
 
 WINDOW *newpad(int lines, int columns) {
     if (!are_numbers(lines, columns, 0, 0)) return NULL;
-    return made(curspan_newpad(&curspan_the_screen, (uint16_t)lines, (uint16_t)columns));
+    WINDOW *pad = made(curspan_newpad(&curspan_the_screen, (uint16_t)lines, (uint16_t)columns));
+    if (pad) pad->is_pad = true;
+    return pad;
 }
 
 WINDOW *subpad(WINDOW *pad, int lines, int columns, int y, int x) {
@@ -126,7 +135,7 @@ WINDOW *dupwin(WINDOW *win) {
     scrollok(copy, is_scrollok(win));
     wsetscrreg(copy, top, bottom);
     wmove(copy, getcury(win), getcurx(win));
-    if (win->reach == ENDED) copy->reach = ENDED;
+    copy->has_ended = win->has_ended;
     copy->begin_y = win->begin_y;
     copy->begin_x = win->begin_x;
     for (int y = 0; y < lines; y++)
@@ -147,6 +156,8 @@ int mvwin(WINDOW *win, int y, int x) {
     if (!are_numbers(y, x, 0, 0)) return ERR;
     if (win && win->outlies) return curspan_move_inside(win, y, x);
     if (done(curspan_mvwin(SCREEN_AND(win), (uint16_t)y, (uint16_t)x)) == ERR) return ERR;
+    win->begin_y = y;
+    win->begin_x = x;
     return touchwin(win);
 }
 
@@ -159,20 +170,21 @@ int mvderwin(WINDOW *win, int y, int x) {
 }
 
 /* The terminal is as large as window 0 of curspan.h, and its cursor is where the last update left it. */
-static uint16_t number_of(const WINDOW *win) { return is_terminal(win) ? 0 : curspan_number(win); }
+#define OF(win, of_terminal, of_window) (is_terminal(win) ? (of_terminal) : is_there(win) == ERR ? ERR : (of_window))
 
-#define PLACE_OF(win) &curspan_the_screen, number_of(win)
-/* A pad of curspan.h is nowhere. */
-static bool is_nowhere(const WINDOW *win) { return is_so(curspan_is_pad(PLACE_OF(win))); }
+static const struct curspan_waiting *waiting_in(const WINDOW *win) {
+    curspan_wait_here(win);
+    return &curspan_waiting;
+}
 
-int getcury(const WINDOW *win) { return is_terminal(win) ? win->begin_y : first_of(curspan_getyx(SCREEN_AND(win))); }
-int getcurx(const WINDOW *win) { return is_terminal(win) ? win->begin_x : second_of(curspan_getyx(SCREEN_AND(win))); }
-int getmaxy(const WINDOW *win) { return first_of(curspan_getmaxyx(PLACE_OF(win))); }
-int getmaxx(const WINDOW *win) { return second_of(curspan_getmaxyx(PLACE_OF(win))); }
+int getcury(const WINDOW *win) { return OF(win, win->begin_y, waiting_in(win)->y); }
+int getcurx(const WINDOW *win) { return OF(win, win->begin_x, waiting_in(win)->x); }
+int getmaxy(const WINDOW *win) { return OF(win, curspan_lines(), (int)win->lines); }
+int getmaxx(const WINDOW *win) { return OF(win, curspan_columns(), (int)win->columns); }
 int getpary(const WINDOW *win) { return first_of(curspan_getparyx(SCREEN_AND(win))); }
 int getparx(const WINDOW *win) { return second_of(curspan_getparyx(SCREEN_AND(win))); }
-int getbegy(const WINDOW *win) { return is_nowhere(win) ? win->begin_y : first_of(curspan_getbegyx(PLACE_OF(win))); }
-int getbegx(const WINDOW *win) { return is_nowhere(win) ? win->begin_x : second_of(curspan_getbegyx(PLACE_OF(win))); }
+int getbegy(const WINDOW *win) { return OF(win, 0, win->begin_y); }
+int getbegx(const WINDOW *win) { return OF(win, 0, win->begin_x); }
 
 /* ---- options */
 
@@ -182,16 +194,12 @@ int clearok(WINDOW *win, bool flag) {
     return OK;
 }
 
-int scrollok(WINDOW *win, bool flag) {
-    if (done(curspan_scrollok(SCREEN_AND(win), flag)) == ERR) return ERR;
-    curspan_set_end(win);
-    return OK;
-}
+int scrollok(WINDOW *win, bool flag) { return SET_OF(win, scrolls, flag); }
 
 int wsetscrreg(WINDOW *win, int top, int bottom) {
-    if (!are_numbers(top, bottom, 0, 0)) return ERR;
-    if (done(curspan_wsetscrreg(SCREEN_AND(win), (uint16_t)top, (uint16_t)bottom)) == ERR) return ERR;
-    curspan_set_end(win);
+    if (is_there(win) == ERR || top < 0 || top > bottom || bottom >= (int)win->lines) return ERR;
+    win->top = top;
+    win->bottom = bottom;
     return OK;
 }
 
@@ -199,15 +207,8 @@ int idlok(WINDOW *win, bool flag) { return SET_OF(win, idlok, flag); }
 void idcok(WINDOW *win, bool flag) { (void)SET_OF(win, no_idcok, !flag); }
 int leaveok(WINDOW *win, bool flag) { return SET_OF(win, leaveok, flag); }
 
-void immedok(WINDOW *win, bool flag) {
-    if (SET_OF(win, is_immediate, flag) == OK) curspan_set_limit(win);
-}
-
-int syncok(WINDOW *win, bool flag) {
-    if (SET_OF(win, synchronizes, flag) == ERR) return ERR;
-    curspan_set_limit(win);
-    return OK;
-}
+void immedok(WINDOW *win, bool flag) { (void)SET_OF(win, is_immediate, flag); }
+int syncok(WINDOW *win, bool flag) { return SET_OF(win, synchronizes, flag); }
 
 void curspan_follow(WINDOW *win) {
     if (win->is_immediate) wrefresh(win);

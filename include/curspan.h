@@ -98,6 +98,10 @@ enum {
 #define CURSPAN_ATTRIBUTES(cell) ((uint8_t)((cell) >> 8))
 #define CURSPAN_PAIR(cell) ((uint16_t)((cell) >> 16))
 
+/* The cell of a character, attributes and a pair, as winch answers it. */
+#define CURSPAN_CELL(character, attributes, pair) \
+    ((uint32_t)(uint8_t)(character) | (uint32_t)(uint8_t)(attributes) << 8 | (uint32_t)(uint16_t)(pair) << 16)
+
 /* The colours of a cell as it is shown, which has CURSPAN_CHARACTER and CURSPAN_ATTRIBUTES too: 0 to 7, or 9 for the terminal's own. */
 #define CURSPAN_FOREGROUND(shown) ((uint8_t)((shown) >> 16))
 #define CURSPAN_BACKGROUND(shown) ((uint8_t)((shown) >> 24))
@@ -172,6 +176,21 @@ curspan_answer curspan_next_window(const curspan *screen, uint32_t win);
 
 /* The least number of a panel that is greater than a number, which needn't be one's. 0 is none. */
 curspan_answer curspan_next_panel(const curspan *screen, uint32_t panel);
+
+/* ---- cells that are given: they are written as they are, whatever the window's background, attributes and pair. The cursor
+   stays, and nothing scrolls. CURSPAN_CELL makes a cell. Bits beyond the six attributes are left out. */
+
+/* Sets the cells of a window or pad in the lines from `top` to `bottom` and the columns from `left` to `right`, all
+   inclusive, to one cell. Refused: NO_SUCH_WINDOW; BAD_RECTANGLE if a last line or column comes before its first;
+   OUTSIDE_WINDOW if the rectangle isn't in the window; BAD_CHARACTER for a character outside 32 to 126; BAD_PAIR for a
+   pair past 63. */
+curspan_answer curspan_fill(curspan *screen, uint32_t win, uint32_t top, uint32_t left, uint32_t bottom, uint32_t right,
+                            uint32_t cell);
+
+/* Puts `n` cells into line `y` of a window or pad, from column `x` on. `cells` may be NULL where `n` is 0, and nothing is
+   written then. Refused: NO_SUCH_WINDOW; OUTSIDE_WINDOW if the window hasn't line `y`, or not `n` columns from `x` on;
+   BAD_CHARACTER for a cell whose character is outside 32 to 126; BAD_PAIR for one whose pair is past 63. */
+curspan_answer curspan_put(curspan *screen, uint32_t win, uint32_t y, uint32_t x, const uint32_t *cells, size_t n);
 
 /* Written by tools/calls from calls.table: prototypes. */
 
@@ -415,9 +434,9 @@ curspan_answer curspan_pnoutrefresh(curspan *screen, uint32_t pad, uint32_t pmin
    or else of the standard screen. It answers how many cells it read. */
 curspan_answer curspan_update_panels(curspan *screen);
 
-/* Sends the bytes that show the virtual screen on the terminal: only what changed, or all of it after a clear. It
-   answers how many they are. CURSPAN_WRITE_FAILED where there was no memory for all of them: the first answer is how
-   many were sent, and the next doupdate clears the terminal and sends all. */
+/* Sends the bytes that show the virtual screen on the terminal: little more than what changed, or all of it after a
+   clear. It answers how many they are. CURSPAN_WRITE_FAILED where there was no memory for all of them: the first answer
+   is how many were sent, and the next doupdate clears the terminal and sends all. */
 curspan_answer curspan_doupdate(curspan *screen);
 
 /* Gives a colour pair a foreground and a background: 0 black, 1 red, 2 green, 3 yellow, 4 blue, 5 magenta, 6 cyan, 7

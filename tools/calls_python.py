@@ -45,7 +45,7 @@ SENTENCES = {
     'panel_above': 'The panel right above a visible one, or None.',
     'panel_below': 'The panel right below a visible one, or None.',
     'winch': 'The cell at the cursor, or at a place. The cursor stays.',
-    'doupdate': 'Sends the bytes that show the virtual screen on the terminal, to the file if there is one: only what changed, or all of it after '
+    'doupdate': 'Sends the bytes that show the virtual screen on the terminal, to the file if there is one: little more than what changed, or all of it after '
                 'a clear. It answers how many they are.',
 }
 # Calls that may be given a place first, and those whose function is written by hand for another reason.

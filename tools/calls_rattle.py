@@ -125,8 +125,9 @@ def window(call):
 def made(call):
     """How a call is made that writes in a window."""
     names = ', '.join(name for name, _ in call.arguments)
-    makes = f'windows.{call.name}({names})'
-    return f'        Writing::{call.variant} {{ {names} }} => {makes if call.draws else f"without_frame({makes})"},\n'
+    if not call.draws:
+        return f'        Writing::{call.variant} {{ win, .. }} => without_frame(windows.set(win, writing)),\n'
+    return f'        Writing::{call.variant} {{ {names} }} => windows.{call.name}({names}),\n'
 
 
 def writing(groups):

@@ -40,20 +40,30 @@ def asked_for(call):
 
 
 def dispatched(call, names):
-    """The call of `windows` that makes a call."""
-    return f'windows.{call.name}({", ".join(names)})'
+    """The call of `windows` that makes a call with these arguments."""
+    if call.draws:
+        return f'windows.{call.name}({", ".join(names)})'
+    fields = [own if own == name else f'{own}: {name}' for (own, _), name in zip(call.arguments, names)]
+    return f'windows.set({names[0]}, Writing::{call.variant} {{ {", ".join(fields)} }})'
+
+
+def in_dispatch(call, fields, makes):
+    """As much of a row of the dispatch as is there once."""
+    return makes if call.draws else f'Writing::{call.variant} {{ {fields} }} => without_frame({makes})'
 
 
 def wrong_dispatch(call, calls):
-    """A wrong body of the dispatch: its name, and the call that it makes in place of the right one."""
+    """A wrong body of the dispatch: its name, the text of its row, and that of the wrong one."""
     name, first, made = wrong_body(call, calls)
-    names = [name for name, _ in call.arguments]
+    own = [name for name, _ in call.arguments]
+    names = own[:]
     if first.startswith('let ('):
         one, two = map(names.index, first_pair(call))
         names[one], names[two] = names[two], names[one]
     elif first:
         names[0] = 'WinId(0)'
-    return f'{call.name}_{name}', dispatched(made, names)
+    makes = dispatched(call, own) if call.draws else 'windows.set(win, writing)'
+    return f'{call.name}_{name}', in_dispatch(call, 'win, ..', makes), in_dispatch(call, ', '.join(own), dispatched(made, names))
 
 
 def files(groups):
@@ -66,5 +76,5 @@ def files(groups):
             bodies.append(WrongBody(path, f'{call.name}_{name}', False, [(asked_for(call), first + asked_for(made))]))
     yield path, text_of(bodies)
     path, calls = 'crates/compose/wrong/written_dispatch.written.edits', groups['Writing'][1]
-    turned = [(dispatched(call, [name for name, _ in call.arguments]), *wrong_dispatch(call, calls)) for call in calls]
-    yield path, text_of([WrongBody(path, name, False, [(old, new)]) for old, name, new in turned])
+    turned = [wrong_dispatch(call, calls) for call in calls]
+    yield path, text_of([WrongBody(path, name, False, [(old, new)]) for name, old, new in turned])

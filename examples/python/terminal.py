@@ -38,13 +38,7 @@ def show(screen: curspan.Screen) -> None:
 
 def frame(window: curspan.Window, title: str = '') -> None:
     """Draws a frame at the edge of a window."""
-    lines, columns = window.getmaxyx()
-    edge = '+' + '-' * (columns - 2) + '+'
-    for y in range(1, lines - 1):
-        window.addch(y, 0, '|')
-        window.addch(y, columns - 1, '|')
-    window.addstr(0, 0, edge)
-    window.addstr(lines - 1, 0, edge)
+    window.box()
     if title:
         window.addstr(0, 2, f' {title} ', Attr.BOLD)
 

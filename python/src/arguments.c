@@ -146,3 +146,16 @@ bool curspan_take_window(PyObject *object, const Screen *screen, uint32_t *numbe
     *number = NUMBERED(object)->screen == screen ? NUMBER(object) : NO_NUMBER;
     return true;
 }
+
+bool curspan_take_cell(PyObject *object, uint32_t *cell) {
+    uint32_t ch = 0, pair = 0;
+    uint8_t bits = 0;
+    if (!PyTuple_Check(object) || PyTuple_Size(object) != 3) {
+        PyErr_Format(PyExc_TypeError, "a cell is a curspan.Cell, and not %R", object);
+        return false;
+    }
+    if (!curspan_take_character(PyTuple_GetItem(object, 0), &ch) || !curspan_take_attributes(PyTuple_GetItem(object, 1), &bits)) return false;
+    if (!curspan_take_number(PyTuple_GetItem(object, 2), &pair)) return false;
+    *cell = curspan_packed(ch, bits, pair);
+    return true;
+}

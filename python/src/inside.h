@@ -81,7 +81,7 @@ PyObject *curspan_two_numbers(curspan_answer answer);
 typedef struct Parameters {
     const char *method;
     Py_ssize_t fewest, most;
-    const char *names[8];
+    const char *names[10];
 } Parameters;
 
 PyObject *const *curspan_put_in_order(const Parameters *parameters, PyObject *const *given, Py_ssize_t count, PyObject *names, PyObject **room);
@@ -93,6 +93,12 @@ bool curspan_take_attributes(PyObject *object, uint8_t *bits);
 bool curspan_take_character(PyObject *object, uint32_t *ch);
 bool curspan_take_text(PyObject *object, const char **text, size_t *length);
 bool curspan_take_window(PyObject *object, const Screen *screen, uint32_t *number);
+bool curspan_take_cell(PyObject *object, uint32_t *cell);
+
+/* A cell in which the greatest numbers stand for all that are greater. */
+static inline uint32_t curspan_packed(uint32_t ch, uint32_t bits, uint32_t pair) {
+    return CURSPAN_CELL(ch > UINT8_MAX ? UINT8_MAX : ch, bits, pair > UINT16_MAX ? UINT16_MAX : pair);
+}
 
 static inline PyObject *unless_none(PyObject *object) { return object == Py_None ? NULL : object; }
 
@@ -153,6 +159,12 @@ PyObject *curspan_window_addstr(NAMED_ARGUMENTS);
 PyObject *curspan_window_insch(NAMED_ARGUMENTS);
 PyObject *curspan_window_delch(NAMED_ARGUMENTS);
 PyObject *curspan_window_inch(NAMED_ARGUMENTS);
+PyObject *curspan_window_fill(NAMED_ARGUMENTS);
+PyObject *curspan_window_put(NAMED_ARGUMENTS);
+PyObject *curspan_window_hline(NAMED_ARGUMENTS);
+PyObject *curspan_window_vline(NAMED_ARGUMENTS);
+PyObject *curspan_window_box(NAMED_ARGUMENTS);
+PyObject *curspan_window_border(NAMED_ARGUMENTS);
 PyObject *curspan_window_delete(PyObject *self, PyObject *none);
 PyObject *curspan_window_line(PyObject *self, PyObject *y);
 PyObject *curspan_window_row(PyObject *self, PyObject *y);

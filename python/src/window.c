@@ -128,31 +128,19 @@ static PyObject *get_background(PyObject *self, void *closure) {
     return answer.status == CURSPAN_OK ? curspan_cell(answer.first) : curspan_refuse(answer.status);
 }
 
-/* Sets the background to a cell. Where the pair is refused the background stays. */
-static int put_background(PyObject *self, uint32_t ch, uint8_t bits, uint32_t pair) {
-    curspan_answer before = curspan_getbkgd(HANDLE(self), NUMBER(self)), answer = curspan_wbkgdset(HANDLE(self), NUMBER(self), bits, ch);
-    if (answer.status == CURSPAN_OK) {
-        answer = curspan_wbkgdpair(HANDLE(self), NUMBER(self), pair);
-        if (answer.status != CURSPAN_OK) {
-            curspan_wbkgdset(HANDLE(self), NUMBER(self), CURSPAN_ATTRIBUTES(before.first), CURSPAN_CHARACTER(before.first));
-            curspan_wbkgdpair(HANDLE(self), NUMBER(self), CURSPAN_PAIR(before.first));
-        }
-    }
-    return done(answer);
+static curspan_answer put_background(PyObject *self, uint32_t cell) {
+    curspan_answer answer = curspan_wbkgdset(HANDLE(self), NUMBER(self), CURSPAN_ATTRIBUTES(cell), CURSPAN_CHARACTER(cell));
+    return answer.status == CURSPAN_OK ? curspan_wbkgdpair(HANDLE(self), NUMBER(self), CURSPAN_PAIR(cell)) : answer;
 }
 
+/* Sets the background to a cell. Where the pair is refused the background stays. */
 static int set_background(PyObject *self, PyObject *value, void *closure) {
     (void)closure;
-    uint8_t bits;
-    uint32_t ch, pair;
-    if (is_deleted(value)) return -1;
-    if (!PyTuple_Check(value) || PyTuple_Size(value) != 3) {
-        PyErr_Format(PyExc_TypeError, "a background is a curspan.Cell, and not %R", value);
-        return -1;
-    }
-    if (!curspan_take_character(PyTuple_GetItem(value, 0), &ch) || !curspan_take_attributes(PyTuple_GetItem(value, 1), &bits)) return -1;
-    if (!curspan_take_number(PyTuple_GetItem(value, 2), &pair)) return -1;
-    return put_background(self, ch, bits, pair);
+    uint32_t cell;
+    if (is_deleted(value) || !curspan_take_cell(value, &cell)) return -1;
+    curspan_answer before = curspan_getbkgd(HANDLE(self), NUMBER(self)), answer = put_background(self, cell);
+    if (answer.status == CURSPAN_BAD_PAIR) put_background(self, before.first);
+    return done(answer);
 }
 
 static PyObject *get_region(PyObject *self, void *closure) {

@@ -106,8 +106,8 @@ PyMethodDef curspan_screen_methods[] = {
      "doupdate($self)\n"
      "--\n"
      "\n"
-     "Sends the bytes that show the virtual screen on the terminal, to the file if there is one: only what\n"
-     "changed, or all of it after a clear. It answers how many they are."},
+     "Sends the bytes that show the virtual screen on the terminal, to the file if there is one: little\n"
+     "more than what changed, or all of it after a clear. It answers how many they are."},
     {"init_pair", AS_FUNCTION(curspan_screen_init_pair), METH_FASTCALL | METH_KEYWORDS,
      "init_pair($self, pair, foreground, background)\n"
      "--\n"

@@ -181,14 +181,7 @@ impl Installer {
 
 /// Draws a frame with a title.
 fn frame(screen: &mut Screen<Stdout>, window: Window, title: &str) -> Result<(), Refusal> {
-    let (lines, columns) = screen.getmaxyx(window)?;
-    let edge = format!("+{}+", "-".repeat(columns as usize - 2));
-    for y in 1..lines - 1 {
-        screen.mvwaddstr(window, y, 0, "|")?;
-        screen.mvwaddstr(window, y, columns - 1, "|")?;
-    }
-    screen.mvwaddstr(window, 0, 0, &edge)?;
-    screen.mvwaddstr(window, lines - 1, 0, &edge)?;
+    screen.wbox(window, '|', '-')?;
     screen.wattron(window, Attributes::BOLD)?;
     screen.mvwaddstr(window, 0, 2, title)?;
     screen.wattroff(window, Attributes::BOLD)

@@ -64,6 +64,23 @@ impl TryFrom<u32> for Color {
 pub struct Cell(pub(crate) u32);
 
 impl Cell {
+    /// A cell, for [`fill`](crate::Screen::fill) and [`put`](crate::Screen::put).
+    ///
+    /// # Errors
+    ///
+    /// [`BadCharacter`](Refusal::BadCharacter) for a character outside of the space to the tilde;
+    /// [`BadPair`](Refusal::BadPair) for a pair past 63.
+    pub fn new(character: char, attributes: Attributes, pair: u32) -> Result<Cell, Refusal> {
+        if !(' '..='~').contains(&character) {
+            return Err(Refusal::BadCharacter);
+        }
+        if pair > LAST_PAIR {
+            return Err(Refusal::BadPair);
+        }
+        let bits = u32::from(attributes.bits());
+        Ok(Cell(u32::from(character) | bits << 8 | pair << 16))
+    }
+
     /// The character, from the space to the tilde.
     #[must_use]
     pub fn character(self) -> char {
@@ -149,6 +166,8 @@ impl fmt::Debug for ShownCell {
             .finish()
     }
 }
+
+const LAST_PAIR: u32 = 63;
 
 /// The number of the terminal's own colours.
 const OWN: u8 = 9;

@@ -49,6 +49,7 @@ mod written_functions;
 
 mod attributes;
 mod cells;
+mod drawing;
 mod error;
 mod handles;
 mod queries;

@@ -87,6 +87,7 @@ with_calls! { functions! {
     fn curspan_window_panel(screen: &Screen, win: u32) -> Answer;
     fn curspan_next_window(screen: &Screen, win: u32) -> Answer;
     fn curspan_next_panel(screen: &Screen, panel: u32) -> Answer;
+    fn curspan_fill(screen: &mut Screen, win: u32, top: u32, left: u32, bottom: u32, right: u32, cell: u32) -> Answer;
 } }
 
 extern "C" {
@@ -97,6 +98,7 @@ extern "C" {
     fn curspan_doupdate(screen: &mut Screen) -> Answer;
     fn curspan_waddstr(screen: &mut Screen, win: u32, text: *const c_char, size: usize) -> Answer;
     fn curspan_row(screen: &Screen, win: u32, y: u32, cells: *mut u32, room: usize) -> Answer;
+    fn curspan_put(s: &mut Screen, win: u32, y: u32, x: u32, row: *const u32, n: usize) -> Answer;
     fn curspan_shown_row(screen: &Screen, y: u32, cells: *mut u32, room: usize) -> Answer;
 }
 
@@ -150,6 +152,19 @@ impl Drop for Screen {
 pub(crate) fn waddstr(screen: &mut Screen, win: u32, text: &[u8]) -> Result<Answer, Refusal> {
     // SAFETY: the screen is open and borrowed, and the text has this length.
     unsafe { curspan_waddstr(screen, win, text.as_ptr().cast(), text.len()) }.check()
+}
+
+/// Puts cells into a line of a window.
+#[inline]
+pub(crate) fn put(
+    screen: &mut Screen,
+    win: u32,
+    y: u32,
+    x: u32,
+    cells: &[Cell],
+) -> Result<Answer, Refusal> {
+    // SAFETY: the screen is open and borrowed, and there are so many cells, which are numbers.
+    unsafe { curspan_put(screen, win, y, x, cells.as_ptr().cast(), cells.len()) }.check()
 }
 
 /// Puts cells of a line into a buffer, and answers how many columns the line has.

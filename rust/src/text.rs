@@ -35,7 +35,12 @@ impl<W> Screen<W> {
     }
 
     /// Moves the cursor, and answers the window it moved in.
-    fn moved(&mut self, win: impl Into<Window>, y: u32, x: u32) -> Result<Window, Refusal> {
+    pub(crate) fn moved(
+        &mut self,
+        win: impl Into<Window>,
+        y: u32,
+        x: u32,
+    ) -> Result<Window, Refusal> {
         let win = win.into();
         self.wmove(win, y, x)?;
         Ok(win)

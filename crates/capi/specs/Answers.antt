@@ -1,5 +1,5 @@
 -- What C gets for an answer to a call.
-use Rattle.std.specs.Prelude.{if◌then◌else◌, ◌==◌, ◌+◌, ◌*◌, ℕ, ℤ, pos, negsuc, true, false, Some, None, Result, Ok, Err}
+use Rattle.std.specs.Prelude.{◌+◌, ◌*◌, ℕ, true, false, Some, None, Result, Ok, Err}
 use Rattle.cell.specs.declared.refusal.Refusal.{Refusal}
 use Rattle.cell.specs.declared.refusal.Refusal.TheVariants as refusals
 use Rattle.cell.specs.declared.attr.Attr.{Attr}
@@ -57,10 +57,6 @@ abbrev pub of_end : Result Reply Fault → Answer
 of_end (Ok reply) = of_reply reply
 of_end (Err (faults.Refused refusal)) = record { status = number_of refusal; first = 0; second = 0 }
 of_end (Err (faults.Write fault)) = record { status = write_failed; first = fault.sent; second = 0 }
-
--- what X/Open's calls answer: 0 where it is done, and else -1
-abbrev pub end_of : Answer → ℤ
-end_of answer = if answer.status == 0 then pos 0 else negsuc 0
 
 -- the set of some bits
 abbrev pub attrs_of : ℕ → Attr

@@ -1,5 +1,5 @@
 -- What a call from C does to a handle. This file has the one relation of a call, for all calls.
-use Rattle.std.specs.Prelude.{◌≡◌, ℤ, Option, Some, None, Result}
+use Rattle.std.specs.Prelude.{◌≡◌, Option, Some, None, Result}
 use Rattle.world.specs.declared.call.Call.{Call}
 use Rattle.world.specs.declared.call.Reply.{Reply}
 use Rattle.desk.specs.declared.screen.Fault.{Fault}
@@ -8,7 +8,7 @@ use Rattle.streams.specs.declared.sink.Sink.{Ghosts}
 use Rattle.capi.specs.Outlets.{Outlet}
 use Rattle.capi.specs.declared.answer.Answer.{Answer}
 use Rattle.capi.specs.declared.surface.Surface.{Surface}
-use Rattle.capi.specs.Answers.{closed, end_of, of_end}
+use Rattle.capi.specs.Answers.{closed, of_end}
 
 module _ (sink : Ghosts Outlet) where
   -- The call was made on the screen, ended so, and C gets that answer.
@@ -25,9 +25,3 @@ module _ (sink : Ghosts Outlet) where
   -- A call that only asks was made, and the handle has what it had.
   abbrev pub Asked : Option Surface → Call → Answer → Option Surface → Type 0
   Asked old query answer new = Called old query answer new × (new ≡ old)
-
-  -- The call was made, and C gets no more than whether it is done.
-  pub record Ended (old : Option Surface) (call : Call) (end : ℤ) (new : Option Surface) : Type 0 where
-    pub answer : Answer
-    pub called : Called old call answer new
-    pub end_is : end ≡ end_of answer

@@ -7,3 +7,4 @@ pub mod Called
 pub mod Lives
 pub mod Questions
 pub mod Lines
+pub mod Giving

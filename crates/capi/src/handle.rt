@@ -5,7 +5,8 @@ ghost use Rattle.std.specs.Option.{MatchOption};
 ghost use Rattle.cell.specs.Refusals.{RefusedBy};
 ghost use Rattle.world.specs.calls.Making.{new_refusal};
 ghost use Rattle.calls.specs.Queries.{is_query};
-ghost use Rattle.capi.specs.Called.{Asked, Called, Ended};
+ghost use Rattle.capi.specs.Called.{Asked, Called};
+ghost use Rattle.capi.specs.Giving.{GivenTo, IsFill, IsRow};
 ghost use Rattle.capi.specs.Held.{IsBlank};
 ghost use Rattle.capi.specs.Lines.{LineTold, screen_line, window_line};
 ghost use Rattle.capi.specs.Lives.{Forgotten, Opened, Taken};
@@ -15,7 +16,7 @@ ghost use Rattle.capi.specs.declared.surface.Surface.{Surface as TheSurface};
 use crate::answer::{Answer, refusal_answer};
 use crate::question::Question;
 use crate::surface::{Outlet, Surface};
-use desk::{Call, Refusal, Reply, Sink, WinId};
+use desk::{Call, Rect, Refusal, Reply, Sink, WinId};
 use loose::Loose;
 use std::alloc::Global;
 use std::marker::Model;
@@ -209,12 +210,32 @@ impl Handle {
         }
     }
 
-    /// Makes a call on the screen, and answers whether it is done.
-    #[inline(always)]
-    pub fn end(&mut self, alloc: Global, call: &Call<'_>) -> i32
-        ensures { Ended ⟦<Outlet as Sink>⟧ self.old.value call.now result self.new.value }
+    /// Sets the cells of a rectangle of a window to one cell.
+    pub fn fill(&mut self, alloc: Global, win: WinId, rect: Rect, cell: u32) -> Answer
+        ensures { GivenTo (IsFill win.0 rect cell) self.old.value result self.new.value }
     {
-        self.call(alloc, call).end()
+        match self.lift(alloc) {
+            Some(mut surface) => {
+                let answer = surface.fill(win, rect, cell);
+                self.put_back(surface);
+                answer
+            }
+            None => Answer::of_closed_handle(),
+        }
+    }
+
+    /// Puts cells into a line of a window.
+    pub fn give_row(&mut self, alloc: Global, win: WinId, y: u16, x: u16, cells: &[u32]) -> Answer
+        ensures { GivenTo (IsRow win.0 y x cells.now) self.old.value result self.new.value }
+    {
+        match self.lift(alloc) {
+            Some(mut surface) => {
+                let answer = surface.give_row(win, y, x, cells);
+                self.put_back(surface);
+                answer
+            }
+            None => Answer::of_closed_handle(),
+        }
     }
 
     /// Moves the bytes that were sent into a buffer, and says how many they are. If it is too short, they stay.

@@ -2,7 +2,7 @@
 //!
 //! - `answer`: what C gets for an answer
 //! - `exports`: an export for each call, a file for each group, `life`, which opens, takes and closes, `questions`,
-//!   what is asked beside the calls, and `ends`, the calls of which C only wants to know whether they were done
+//!   what is asked beside the calls, and `given`, cells that are given
 //! - `handle`: what C holds, and how a screen is taken out and put back
 //! - `line`: the cells of a line, as C gets them
 //! - `number`: numbers as C passes them

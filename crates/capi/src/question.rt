@@ -37,6 +37,7 @@ pub enum Question {
 
 impl Question {
     /// Asks it of a desk.
+    #[inline(always)]
     pub fn ask(self, desk: &Desk) -> Result<Reply, Refusal>
         ensures { IsAnswered (world desk.now) self result }
     {
@@ -56,6 +57,7 @@ impl Question {
 
 impl Setting {
     /// What it is among some settings.
+    #[inline(always)]
     fn reply(self, settings: Result<Settings, Refusal>) -> Result<Reply, Refusal>
         ensures { result ≡ as_reply (setting_reply self) settings }
     {
@@ -74,18 +76,16 @@ impl Setting {
 }
 
 /// The settings of a window or pad.
+#[inline(always)]
 fn settings(desk: &Desk, win: WinId) -> Result<Settings, Refusal>
     ensures { result ≡ settings_of (world desk.now).windows.window win.0 }
 {
-    let table = &desk.windows().table;
-    if table.has_window(win) {
-        Ok(table.settings(win))
-    } else {
-        Err(Refusal::NoSuchWindow)
-    }
+    let (_, _, settings) = desk.windows().table.state(win)?;
+    Ok(settings)
 }
 
 /// Whether it is a pad.
+#[inline(always)]
 fn is_pad(desk: &Desk, win: WinId) -> Result<bool, Refusal>
     ensures { result ≡ pad_answer (world desk.now).windows.window win.0 }
 {
@@ -97,6 +97,7 @@ fn is_pad(desk: &Desk, win: WinId) -> Result<bool, Refusal>
 }
 
 /// The panel that a window is in, if it is in one.
+#[inline(always)]
 fn panel_of(desk: &Desk, win: WinId) -> Result<Option<PanelId>, Refusal>
     ensures refused { result_err result ≡ first_of (missing_window (world desk.now).windows win.0 ∷ []) }
     ensures panel { IfOk result (IsPanelOf (world desk.now).panels win.0) }

@@ -6,6 +6,7 @@ ghost use Rattle.world.specs.calls.Making.{new_refusal};
 ghost use Rattle.desk.specs.Methods.{CallMade};
 ghost use Rattle.calls.specs.Queries.{is_query};
 ghost use Rattle.capi.specs.Called.{Makes};
+ghost use Rattle.capi.specs.Giving.{Gives, IsFill, IsRow};
 ghost use Rattle.capi.specs.Held.{IsBlank, pending};
 ghost use Rattle.capi.specs.Lines.{LineTold, screen_line, window_line};
 ghost use Rattle.capi.specs.Questions.{Told};
@@ -13,7 +14,7 @@ ghost use Rattle.capi.specs.Questions.{Told};
 use crate::answer::{Answer, refusal_answer};
 use crate::line::{line_of_screen, line_of_window, tell_line};
 use crate::question::Question;
-use desk::{Call, Calls, Counted, Fault, Refusal, Reply, Screen, Sink, WinId};
+use desk::{Call, Calls, Counted, Fault, Rect, Refusal, Reply, Screen, Sink, WinId};
 use std::alloc::Global;
 
 /// Where a screen sends its bytes.
@@ -96,6 +97,26 @@ impl Surface {
     {
         match line_of_screen(self.screen.desk(), y) {
             Ok(row) => tell_line(row, cells),
+            Err(refusal) => refusal_answer(refusal),
+        }
+    }
+
+    /// Sets the cells of a rectangle of a window to one cell.
+    pub fn fill(&mut self, win: WinId, rect: Rect, cell: u32) -> Answer
+        ensures { Gives (IsFill win.0 rect cell) self.old result self.new }
+    {
+        match self.screen.fill(win, rect, cell) {
+            Ok(()) => Answer::of(Ok(Reply::Nothing)),
+            Err(refusal) => refusal_answer(refusal),
+        }
+    }
+
+    /// Puts cells into a line of a window.
+    pub fn give_row(&mut self, win: WinId, y: u16, x: u16, cells: &[u32]) -> Answer
+        ensures { Gives (IsRow win.0 y x cells.now) self.old result self.new }
+    {
+        match self.screen.put(win, y, x, cells) {
+            Ok(()) => Answer::of(Ok(Reply::Nothing)),
             Err(refusal) => refusal_answer(refusal),
         }
     }

@@ -8,7 +8,7 @@ use Rattle.std.proofs.lemmas.List.{get_or-append_right}
 use Rattle.cell.specs.declared.limits.TheConstants.{LARGEST_PAD}
 use Rattle.cell.proofs.GridLemmas.{line_end}
 use Rattle.cell.proofs.PictureLemmas.{each-replicate, each-set}
-use Rattle.cell.proofs.PieceWrites.{IsWhole-piece, beyond, length-splice}
+use Rattle.cell.proofs.PieceWrites.{IsWhole-splice, beyond, length-splice}
 
 -- a place in blanks, or past them
 get_or-blanks : {A : Type 0} (blank : A) (n k : ℕ) → get_or (replicate n blank) k blank ≡ blank
@@ -92,22 +92,33 @@ with_blanks-set blank n cells k cell within = grind (arith, length-set, set-appe
 
 module _ {A : Type 0} {Is : A → Type 0} {blank : A} {lines columns : ℕ} {old new : List A} {capacity capacity' : ℕ} (y x : ℕ) (grid : IsGrid Is blank lines columns new capacity)
     (reached : IsReached blank lines columns y old new) (below : y < lines) (same : capacity' ≡ capacity) where
+  module _ (start : ℕ) (piece : List A) (fits : start + length piece ≤ y * columns + columns) where
+    abbrev pasted : List A → List A
+    pasted cells = splice cells start (start + length piece) piece
+
+    pub blanks-splice : with_blanks blank (lines * columns) (pasted new) ≡ pasted (with_blanks blank (lines * columns) old)
+    blanks-splice = with_blanks-splice blank (lines * columns) new piece start (omega (arith, reached.there, fits)) ∙ ap pasted reached.same
+
+    pub IsGrid-splice : AllByRecursion Is piece → IsGrid Is blank lines columns (pasted new) capacity'
+    IsGrid-splice sound = record {
+      all = rw (blanks-splice, ← reached.same) (IsWhole-splice blank lines columns (with_blanks blank (lines * columns) new) piece start grid.all
+          (omega (arith, reached.there, fits, length-with_blanks blank (lines * columns) new)) sound);
+      room = omega (arith, same, grid.room);
+      some = λ h. omega (arith, grid.some h, length-splice blank new piece start (omega (arith, reached.there, fits)));
+      last = λ missing k end. let long = length-splice blank new piece start (omega (arith, reached.there, fits)) in
+          let missing_there : length new < lines * columns = omega arith in
+          beyond blank new piece start (omega (arith, reached.there, fits)) k (omega (arith, reached.above missing_there, fits)) ∙ grid.last missing_there k (omega arith);
+    }
+
   module _ (piece : List A) (fits : x + length piece ≤ columns) where
     abbrev after : List A → List A
     after cells = splice cells (y * columns + x) (y * columns + x + length piece) piece
 
     pub blanks-piece : with_blanks blank (lines * columns) (after new) ≡ after (with_blanks blank (lines * columns) old)
-    blanks-piece = with_blanks-splice blank (lines * columns) new piece (y * columns + x) (omega (arith, reached.there, fits)) ∙ ap after reached.same
+    blanks-piece = blanks-splice (y * columns + x) piece (omega (arith, fits))
 
     pub IsGrid-piece : AllByRecursion Is piece → IsGrid Is blank lines columns (after new) capacity'
-    IsGrid-piece sound = record {
-      all = rw (blanks-piece, ← reached.same) (IsWhole-piece blank lines columns (with_blanks blank (lines * columns) new) piece y x grid.all below fits sound);
-      room = omega (arith, same, grid.room);
-      some = λ h. omega (arith, grid.some h, length-splice blank new piece (y * columns + x) (omega (arith, reached.there, fits)));
-      last = λ missing k end. let long = length-splice blank new piece (y * columns + x) (omega (arith, reached.there, fits)) in
-          let missing_there : length new < lines * columns = omega arith in
-          beyond blank new piece (y * columns + x) (omega (arith, reached.there, fits)) k (omega (arith, reached.above missing_there, fits)) ∙ grid.last missing_there k (omega arith);
-    }
+    IsGrid-piece sound = IsGrid-splice (y * columns + x) piece (omega (arith, fits)) sound
 
   module _ (cell : A) (left : x < columns) where
     pub blanks-set : with_blanks blank (lines * columns) (set new (y * columns + x) cell) ≡ set (with_blanks blank (lines * columns) old) (y * columns + x) cell

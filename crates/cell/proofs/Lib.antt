@@ -17,3 +17,5 @@ pub mod Clearing
 pub mod LaneLaws
 -- Cells that are shown many together; for `show`, `show_many`
 pub mod ShownPieces
+-- Cells that are copied to another place of a grid; for `copy_block` and what it calls
+pub mod Moves

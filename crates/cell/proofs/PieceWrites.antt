@@ -9,10 +9,10 @@ module _ {A : Type 0} (none : A) (old piece : List A) (start : ℕ) (fits : star
   prefix : length (take start old) ≡ start
   prefix = length-take-le start old (omega (arith, fits))
 
-  before : (n : ℕ) → n < start → get_or (splice old start (start + length piece) piece) n none ≡ get_or old n none
+  pub before : (n : ℕ) → n < start → get_or (splice old start (start + length piece) piece) n none ≡ get_or old n none
   before n below = grind (arith, get_or-append, prefix, get_or-take)
 
-  within : (n : ℕ) → start ≤ n → n < start + length piece → get_or (splice old start (start + length piece) piece) n none ≡ get_or piece (n - start) none
+  pub within : (n : ℕ) → start ≤ n → n < start + length piece → get_or (splice old start (start + length piece) piece) n none ≡ get_or piece (n - start) none
   within n from to = grind (arith, get_or-append_right, prefix, get_or-append)
 
   pub beyond : (n : ℕ) → start + length piece ≤ n → get_or (splice old start (start + length piece) piece) n none ≡ get_or old n none
@@ -23,10 +23,10 @@ module _ {A : Type 0} (none : A) (old piece : List A) (start : ℕ) (fits : star
 
 -- what a grid shows at a place
 
-shown-rows : {A : Type 0} (none : A) (lines columns : ℕ) (cells : List A) (v u : ℕ) → v < lines → u < columns → cell_or none (rows lines columns cells) (v, u) ≡ get_or cells (v * columns + u) none
+pub shown-rows : {A : Type 0} (none : A) (lines columns : ℕ) (cells : List A) (v u : ℕ) → v < lines → u < columns → cell_or none (rows lines columns cells) (v, u) ≡ get_or cells (v * columns + u) none
 shown-rows {A = A} none lines columns cells v u below left = grind (arith, line_of-rows, below, get_or-take, get_or-drop)
 
-shown-outside : {A : Type 0} (none : A) {Is : A → Type 0} (lines columns : ℕ) (cells : List A) → IsWhole Is lines columns cells → (v u : ℕ) → (lines ≤ v) ⊎ (columns ≤ u)
+pub shown-outside : {A : Type 0} (none : A) {Is : A → Type 0} (lines columns : ℕ) (cells : List A) → IsWhole Is lines columns cells → (v u : ℕ) → (lines ≤ v) ⊎ (columns ≤ u)
     → cell_or none (rows lines columns cells) (v, u) ≡ none
 shown-outside none lines columns cells grid v u out = grind (arith, cases_lt, get_or_past, length-rows, length-line_of-rows)
 
@@ -40,6 +40,12 @@ pub piece_end : {A B : Type 0} {Is : A → Type 0} (lines columns : ℕ) (cells 
     → y * columns + x + length piece ≤ length cells
 piece_end lines columns cells piece y x grid below fits = omega (arith, grid.whole, line_end lines columns y below, fits)
 
+-- a piece anywhere
+
+pub IsWhole-splice : {A : Type 0} (none : A) {Is : A → Type 0} (lines columns : ℕ) (cells piece : List A) (start : ℕ) → IsWhole Is lines columns cells → start + length piece ≤ length cells
+    → AllByRecursion Is piece → IsWhole Is lines columns (splice cells start (start + length piece) piece)
+IsWhole-splice none lines columns cells piece start grid fits sound = search (arith, length-splice, recursion_from_All, All-append, All-take, All-from_recursion, All-drop)
+
 -- a piece of line y from column x on
 module _ {A : Type 0} (none : A) {Is : A → Type 0} (lines columns : ℕ) (cells piece : List A) (y x : ℕ) (grid : IsWhole Is lines columns cells) (below : y < lines)
     (fits : x + length piece ≤ columns) where
@@ -47,7 +53,7 @@ module _ {A : Type 0} (none : A) {Is : A → Type 0} (lines columns : ℕ) (cell
   after = splice cells (y * columns + x) (y * columns + x + length piece) piece
 
   pub IsWhole-piece : AllByRecursion Is piece → IsWhole Is lines columns after
-  IsWhole-piece sound = search (arith, length-splice, piece_end, below, fits, recursion_from_All, All-append, All-take, All-from_recursion, All-drop)
+  IsWhole-piece sound = IsWhole-splice none lines columns cells piece (y * columns + x) grid (piece_end lines columns cells piece y x grid below fits) sound
 
   at_place : (v u : ℕ) → v < lines → u < columns → get_or after (v * columns + u) none ≡ (if (v == y) && (nat_le x u && nat_lt u (x + length piece)) then get_or piece (u - x) none else get_or cells
       (v * columns + u) none)

@@ -1,6 +1,6 @@
 -- The lines of a grid whose cells are one after another. How it keeps them is its own choice; it shows lines of cells.
 use Rattle.std.specs.Prelude.{◌≡◌, ◌+◌, ◌-◌, ◌*◌, ◌<◌, ◌≤◌, ◌++◌}
-use Rattle.cell.specs.Names.{ℕ, List, length, map, take, drop, replicate, slice_index_or, AllByRecursion, range_with_len}
+use Rattle.cell.specs.Names.{ℕ, List, length, map, take, drop, replicate, slice_index_or, AllByRecursion, range_with_len, splice}
 use Rattle.cell.specs.declared.limits.TheConstants.{LARGEST_PAD}
 
 -- cut into that many lines of that many columns
@@ -10,6 +10,10 @@ rows lines columns cells = map (λ y. take columns (drop (y * columns) cells)) (
 -- so many cells: those given, and after them blanks
 abbrev pub with_blanks : {A : Type 0} → A → ℕ → List A → List A
 with_blanks blank n cells = cells ++ replicate (n - length cells) blank
+
+-- n cells from one place on copied to another
+abbrev pub moved : {A : Type 0} → ℕ → ℕ → ℕ → List A → List A
+moved from to n cells = splice cells to (to + n) (take n (drop from cells))
 
 -- each line has its cells, and each cell passes the test
 pub record IsWhole {A : Type 0} (Is : A → Type 0) (lines columns : ℕ) (cells : List A) : Type 0 where

@@ -1,7 +1,7 @@
 //! A grid of cells: what a window holds, or what a screen or a terminal shows.
 
 ghost use Rattle.std.specs.Prelude.{◌≡◌, ◌≤◌, ◌<◌, ◌==◌, ◌&&◌, ◌+◌, ◌-◌, ◌*◌, if◌then◌else◌};
-ghost use Rattle.cell.specs.{ℕ, nat_le, nat_lt, length, map, replicate, slice_index_or, IfOk, true, AllByRecursion, splice, blank, IsCell, with_blanks, IsGrid, IsReached, shown, shown_blank};
+ghost use Rattle.cell.specs.{ℕ, nat_le, nat_lt, length, map, replicate, slice_index_or, IfOk, true, AllByRecursion, splice, blank, IsCell, with_blanks, moved, IsGrid, IsReached, shown, shown_blank};
 ghost use Rattle.cell.specs.{IsShown, vec_capacity, EachCell, HasSize, all_of, cell_or, line_of, shown_at, size_of, with_cell};
 
 use crate::cell::Cell;
@@ -151,6 +151,86 @@ impl<T: Element> Grid<T> {
         put_piece(&mut self.cells, line + x, cells);
     }
 
+    /// Copies so many lines and columns from line `sy` and column `sx` on to line `dy` and column `dx` on, as if all
+    /// were read before any is written.
+    pub fn copy_block(
+        &mut self,
+        sy: usize,
+        sx: usize,
+        dy: usize,
+        dx: usize,
+        lines: usize,
+        columns: usize,
+    )
+        requires source { sy + lines ≤ length self.old }
+        requires target { dy + lines ≤ length self.old }
+        requires source_columns { sx + columns ≤ length (line_of self.old sy) }
+        requires target_columns { dx + columns ≤ length (line_of self.old dy) }
+        ensures shown { (v u : ℕ) → cell_or T.blank self.new (v, u) ≡ (if (nat_le dy v && nat_lt v (dy + lines)) && (nat_le dx u && nat_lt u (dx + columns))
+            then cell_or T.blank self.old (sy + (v - dy), sx + (u - dx)) else cell_or T.blank self.old (v, u)) }
+        ensures height { length self.new ≡ length self.old }
+        ensures size { (lines columns : ℕ) → HasSize lines columns self.old → HasSize lines columns self.new }
+        ensures cells { EachCell T.Is self.old → EachCell T.Is self.new }
+    {
+        if columns == self.columns {
+            self.copy_lines(sy, dy, lines);
+        } else if dy <= sy {
+            'downward: for k in 0..lines {
+                self.copy_cells(sy + k, sx, dy + k, dx, columns);
+            }
+        } else {
+            'upward: for k in (0..lines).rev() {
+                self.copy_cells(sy + k, sx, dy + k, dx, columns);
+            }
+        }
+    }
+
+    /// Copies whole lines from line `from` on to line `to` on.
+    fn copy_lines(&mut self, from: usize, to: usize, n: usize)
+        requires source { from + n ≤ length self.old }
+        requires target { to + n ≤ length self.old }
+        ensures shown { (v u : ℕ) → cell_or T.blank self.new (v, u) ≡ (if nat_le to v && nat_lt v (to + n)
+            then cell_or T.blank self.old (from + (v - to), u) else cell_or T.blank self.old (v, u)) }
+        ensures height { length self.new ≡ length self.old }
+        ensures size { (lines columns : ℕ) → HasSize lines columns self.old → HasSize lines columns self.new }
+        ensures cells { EachCell T.Is self.old → EachCell T.Is self.new }
+    {
+        if n > 0 {
+            move_cells(
+                &mut self.cells,
+                self.lines,
+                self.columns,
+                from.max(to) + n - 1,
+                from * self.columns,
+                to * self.columns,
+                n * self.columns,
+            );
+        }
+    }
+
+    /// Copies `n` cells of line `sy` from column `sx` on to line `dy` from column `dx` on.
+    fn copy_cells(&mut self, sy: usize, sx: usize, dy: usize, dx: usize, n: usize)
+        requires source { sy < length self.old }
+        requires target { dy < length self.old }
+        requires source_columns { sx + n ≤ length (line_of self.old sy) }
+        requires target_columns { dx + n ≤ length (line_of self.old dy) }
+        ensures shown { (v u : ℕ) → cell_or T.blank self.new (v, u) ≡ (if (v == dy) && (nat_le dx u && nat_lt u (dx + n))
+            then cell_or T.blank self.old (sy, sx + (u - dx)) else cell_or T.blank self.old (v, u)) }
+        ensures height { length self.new ≡ length self.old }
+        ensures size { (lines columns : ℕ) → HasSize lines columns self.old → HasSize lines columns self.new }
+        ensures cells { EachCell T.Is self.old → EachCell T.Is self.new }
+    {
+        move_cells(
+            &mut self.cells,
+            self.lines,
+            self.columns,
+            sy.max(dy),
+            sy * self.columns + sx,
+            dy * self.columns + dx,
+            n,
+        );
+    }
+
     /// Puts blanks everywhere.
     pub fn clear(&mut self)
         ensures { (lines columns : ℕ) → HasSize lines columns self.old → self.new ≡ all_of T.blank lines columns }
@@ -249,4 +329,36 @@ fn put_piece<T: Copy>(cells: &mut Vec<T>, start: usize, piece: &[T])
     ensures room { vec_capacity cells.new ≡ vec_capacity cells.old }
 {
     cells[start..start + piece.len()].copy_from_slice(piece);
+}
+
+/// Copies so many cells of the lines up to line `y` from one place on to another, as if all were read before any is
+/// written.
+fn move_cells<T: Element>(
+    cells: &mut Vec<T>,
+    lines: usize,
+    columns: usize,
+    y: usize,
+    from: usize,
+    to: usize,
+    n: usize,
+)
+    requires grid { IsGrid T.Is T.blank lines columns cells.old.items (vec_capacity cells.old) }
+    requires line { y < lines }
+    requires from { from + n ≤ y * columns + columns }
+    requires to { to + n ≤ y * columns + columns }
+    ensures grid { IsGrid T.Is T.blank lines columns cells.new.items (vec_capacity cells.new) }
+    ensures moved { with_blanks T.blank (lines * columns) cells.new.items ≡ moved from to n (with_blanks T.blank (lines * columns) cells.old.items) }
+{
+    reach(cells, lines, columns, y);
+    move_piece(cells, from, to, n);
+}
+
+/// Copies so many cells from one place on to another, as if all were read before any is written.
+fn move_piece<T: Copy>(cells: &mut Vec<T>, from: usize, to: usize, n: usize)
+    requires from { from + n ≤ length cells.old.items }
+    requires to { to + n ≤ length cells.old.items }
+    ensures cells { cells.new.items ≡ moved from to n cells.old.items }
+    ensures room { vec_capacity cells.new ≡ vec_capacity cells.old }
+{
+    cells.copy_within(from..from + n, to);
 }

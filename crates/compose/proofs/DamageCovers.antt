@@ -12,7 +12,7 @@ use Rattle.world.proofs.SoundCalls.{sound-call}
 use Rattle.compose.proofs.DeskLemmas.{IsSound-first, world-left}
 
 -- what covers two tests, where it doesn't hold
-off-both : (one other cover : Bool) → (one ≡ true → cover ≡ true) → (other ≡ true → cover ≡ true) → cover ≡ false → (one ≡ false) × (other ≡ false)
+pub off-both : (one other cover : Bool) → (one ≡ true → cover ≡ true) → (other ≡ true → cover ≡ true) → cover ≡ false → (one ≡ false) × (other ≡ false)
 off-both one other cover h k free = grind arith
 
 -- a call that isn't update_panels, and leaves the count

@@ -4,14 +4,14 @@ pub mod DeskLemmas
 pub mod Laying
 -- What noutrefresh and pnoutrefresh draw on each line of the screen; for `show_touched`, `refresh_pad`, `show_rectangle` and others
 pub mod RefreshedLines
--- Windows are unmarked one after another; for `unmark_composed`, `unmark_lines`
+-- Windows are unmarked one after another; for `unmark_composed`
 pub mod Unmarking
 -- Where damage covers what an accepted call may change, the damage of a desk still covers all that differs after it, and few lines are damaged: so it
 -- leaves a desk, and was made; for `refresh_window`, `refresh_pad`, `set_colours`, `new` and others
 mod DamageCovers
 -- The damage of one window after another; for `damage_visible`
 mod Visible
--- What a change damages, in terms of the windows before it; for `copy_damaging`, `make_damaging`, `write_damaging`
+-- What a change damages, in terms of the windows before it; for `copy_damaging`, `make_damaging`, `write_damaging`, `fill_damaging`, `put_damaging`
 mod AffectedDamages
 -- How many cells update_panels reads: as many as there are damaged columns; for `CellsRead`
 mod Reading
@@ -30,5 +30,7 @@ pub mod Padding
 pub mod CellsRead
 -- A call on windows, made on a desk: it leaves a desk, and was made; for `call`
 mod WindowCalls
+-- Given cells, put on a desk: what they leave is a desk; for `fill`, `put`
+mod GivenCells
 -- What a method of a call answers, as the outcome of the call or its reply; for `make`, `draw`, `write`, `copy`, `arrange`
 pub mod OutcomeLaws

@@ -1,10 +1,7 @@
 -- Windows are unmarked one after another.
 use Rattle.std.specs.Prelude.{◌≡◌, ◌||◌, ◌==◌, if◌then◌else◌, ◌∷◌}
-use Rattle.compose.specs.{ℕ, Bool, false, Option, None, List, [], arith, refl, cases_eq, IsSomeAnd, is_none, option_map, list_any, WinId, set_in, Window, WindowMap, Windows, with_change}
-use Rattle.compose.specs.{after_copying, lines_marked, after_writing, with_clear, writing_refusal, Touchln, Clearok, asks_for_clear, without_marks, unmarked_lines, with_unmarked, first_of}
-use Rattle.compose.specs.{NoSuchWindow}
+use Rattle.compose.specs.{ℕ, Bool, false, Option, List, [], arith, refl, cases_eq, option_map, list_any, Window, WindowMap, Windows, with_change, asks_for_clear, without_marks, with_unmarked}
 use mathlib.Core.Path.{fun_ext}
-use Rattle.world.specs.Rows.{is_among}
 
 twice : (first others : Bool) (o : Option Window)
     → (if first || others then option_map without_marks o else o)
@@ -41,26 +38,3 @@ asked-first window w [] = refl
 asked-first window w (v ∷ ws) =
     either (asks_for_clear window w) (asks_for_clear window v) (asks_for_clear (with_unmarked window (w ∷ [])) v) (list_any (asks_for_clear window) ws)
     (list_any (asks_for_clear (with_unmarked window (w ∷ []))) ws) (asks-once window w v) (asked-first window w ws)
-
--- ---- some lines of one window
-
-none-if : (b : Bool) (o : Option Window) (change : Window → Window) → is_none (if b then option_map change o else o) ≡ is_none o
-none-if b o change = grind arith
-
-there-missing : (o : Option Window) (P : Window → Type 0) → IsSomeAnd o P → first_of ((is_none o, NoSuchWindow) ∷ []) ≡ None
-there-missing o P h = grind arith
-
--- a window whose lines were marked is still there
-pub still-there : (windows : Windows) (win : WinId) (first n : ℕ) (P : Window → Type 0) → IsSomeAnd (windows.window win.0) P
-    → writing_refusal (after_copying windows (Touchln win first n false)) (Clearok win false) ≡ None
-still-there windows win first n P h = grind (arith, none-if, there-missing)
-
--- marks and settings, changed one after the other
-both-changed : (t : Bool) (first n : ℕ) (o : Option Window)
-    → (if t then option_map (set_in (with_clear false)) (if t then option_map (lines_marked first n false) o else o) else (if t then option_map (lines_marked first n false) o else o))
-    ≡ (if t then option_map (unmarked_lines (is_among first n)) o else o)
-both-changed t first n o = grind arith
-
-pub lines-unmarked : (windows : Windows) (win : WinId) (first n : ℕ) → after_writing (after_copying windows (Touchln win first n false)) (Clearok win false)
-    ≡ record windows { window = with_change windows.window win.0 (unmarked_lines (is_among first n)) }
-lines-unmarked windows win first n = λ i. record windows { window = fun_ext (λ u. both-changed (u == win.0) first n (windows.window u)) i }

@@ -37,29 +37,29 @@ pub use Rattle.std.specs.Result.{result_err}
 pub use Rattle.windows.specs.Calls.{Drew, its_frame, no_frame}
 pub use Rattle.world.specs.Effects.{Change, Edit, Effect, Order, adds, after, after_change, after_edit, arranges, asks, asks_for_clear, carries, change_reply, changes, colours, composed_windows}
 pub use Rattle.world.specs.Effects.{composes, deletes, edit_frame, edit_window, edits, effect_reply, makes, marks, moves, order_reply, order_takes_memory, orders, panels_after, refreshes, shifts}
-pub use Rattle.world.specs.Effects.{shown_over, shows, unmarked_lines, windows_after, with_unmarked, without_marks}
+pub use Rattle.world.specs.Effects.{shown_over, shows, windows_after, with_unmarked, without_marks}
 pub use Rattle.world.specs.Frames.{AreRectangle}
 pub use Rattle.world.specs.PanelOrder.{Panels, cursor_of_topmost, found_from_top, is_in_panel, standard_screen, windows_from_top}
 pub use Rattle.world.specs.Replies.{its_flag, its_number, its_panel, no_answer}
 pub use Rattle.world.specs.Rows.{line_shown}
-pub use Rattle.world.specs.Settings.{set_in}
 pub use Rattle.world.specs.Sharing.{SharesPart}
 pub use Rattle.world.specs.Sound.{AreColumnsWithin, AreSoundPanels, AreSoundWindows, IsSound, IsStandardScreen}
-pub use Rattle.world.specs.WindowMaps.{Backing, Drawing, GridPlace, HasPlace, Window, WindowMap, Windows, cell_at, own, own_grid, part_of, with_change}
+pub use Rattle.world.specs.WindowMaps.{Backing, Drawing, GridPlace, HasPlace, Window, WindowMap, Windows, any_below, cell_at, own, own_grid, part_of, with_change}
 unfoldable pub use Rattle.world.specs.WindowMaps.{window_limit}
 pub use Rattle.world.specs.Worlds.{World, first_world, picture}
-pub use Rattle.world.specs.calls.Affected.{affected_after, affects_place, change_shows_at, effect_shows_at, follows_at, frame_shows_at, most_cells, move_shows_at, order_shows_at, panel_shows_at}
+pub use Rattle.world.specs.calls.Affected.{affected_after, affects_place, change_shows_at, edit_shows_at, effect_shows_at, follows_at, frame_shows_at, most_cells, move_shows_at, order_shows_at, panel_shows_at}
 pub use Rattle.world.specs.calls.Affected.{shows_at, stays_on_top, window_if_topmost}
-pub use Rattle.world.specs.calls.Copying.{after_copying, copying_change, copying_refusal, copywin_drawing, lines_marked}
+pub use Rattle.world.specs.calls.Copying.{copying_change, copying_refusal, copywin_drawing}
 pub use Rattle.world.specs.calls.Dispatch.{effect_of, is_doupdate, is_update_panels, refusal, reply_of, takes_memory, world_after}
+pub use Rattle.world.specs.calls.Given.{fill_edit, fill_tests, put_edit, put_tests, world_edited}
 pub use Rattle.world.specs.calls.Making.{is_own, making_change, making_refusal, new_refusal}
 pub use Rattle.world.specs.calls.Queries.{offset_of, place_on_screen, query_refusal, query_reply, touched_columns}
 pub use Rattle.world.specs.calls.Refresh.{among, colour_tests, pnoutrefresh_tests, refresh_refusal, touched_cells}
 pub use Rattle.world.specs.calls.RefusedCalls.{Refused}
 pub use Rattle.world.specs.calls.Stacking.{after_stacking, new_panel_number, new_panel_tests, next_panel, numbered_panel, panel_number, stacking_order, stacking_refusal, stacking_tests, window_tests}
-pub use Rattle.world.specs.calls.Writing.{after_writing, with_clear, writing_edit, writing_refusal}
+pub use Rattle.world.specs.calls.Writing.{writing_edit, writing_refusal}
 pub use Rattle.world.specs.declared.call.Call.{Call}
-pub use Rattle.world.specs.declared.call.Copying.TheVariants.{IsLinetouched, IsWintouched, Touchln}
+pub use Rattle.world.specs.declared.call.Copying.TheVariants.{IsLinetouched, IsWintouched}
 pub use Rattle.world.specs.declared.call.Making.{Making}
 pub use Rattle.world.specs.declared.call.Query.{Query}
 pub use Rattle.world.specs.declared.call.Query.TheVariants.{Getbegyx, Getparyx, Inch}
@@ -71,5 +71,4 @@ pub use Rattle.world.specs.declared.call.Stacking.{Stacking}
 pub use Rattle.world.specs.declared.call.Stacking.TheVariants.{BottomPanel, DelPanel, HidePanel, MovePanel, NewPanel, PanelAbove, PanelBelow, PanelHidden, PanelWindow, ReplacePanel, ShowPanel}
 pub use Rattle.world.specs.declared.call.Stacking.TheVariants.{TopPanel}
 pub use Rattle.world.specs.declared.call.Writing.{Writing}
-pub use Rattle.world.specs.declared.call.Writing.TheVariants.{Clearok}
 pub use Rattle.world.specs.declared.settings.Columns.{Columns}

@@ -3,16 +3,17 @@
 ghost use Rattle.std.specs.Prelude.{◌≡◌, ◌<◌, ◌≤◌, ◌-◌, ◌==◌, ◌&&◌, if◌then◌else◌};
 ghost use Rattle.compose.specs.{ℕ, None, Ok, Some, IfOk, false, true, length, nat_le, nat_lt, replicate, slice_index_or, result_err, AreShown, HasSize, line_of, picture_of, shown_at, blank, shown};
 ghost use Rattle.compose.specs.{first_world, picture, is_doupdate, IsSound, new_refusal, among, colour_tests, line_shown, HasPlace, RefusedBy, first_of, windows as windows_of, panels, IsSpan, Call};
-ghost use Rattle.compose.specs.{Refresh, damaged_columns, is_damaged_line, world, Called};
+ghost use Rattle.compose.specs.{Refresh, damaged_columns, is_damaged_line, world, Called, Filled, RowPut};
 
 use crate::damaging::damage_part;
 use crate::damaging_calls::{arrange_damaging, copy_damaging, make_damaging, write_damaging};
 use crate::dispatch::refresh;
+use crate::given::{fill_damaging, put_damaging};
 use crate::marks::unmark_composed;
 use crate::queries::{answer, of_window};
 use crate::virtual_picture::VirtualPicture;
 use calls::Calls;
-use cell::{Cell, Colour, Grid, PairId, Pairs, Refusal, Shown, VirtualScreen, WinId};
+use cell::{Cell, Colour, Grid, PairId, Pairs, Rect, Refusal, Shown, VirtualScreen, WinId};
 use extents::Extents;
 use grids::Grids;
 use picture::{
@@ -201,6 +202,45 @@ impl Desk {
         copy_damaging(&mut self.windows, &self.stack, &mut self.damage, copying)
     }
 
+    /// Sets the cells of a rectangle of a window to one cell: a number, as `Cell::bits` answers it.
+    ///
+    /// # Errors
+    /// `NoSuchWindow`; `BadRectangle` if a last line or column comes before its first; `OutsideWindow` if the rectangle
+    /// isn't in the window; `BadCharacter` for a character outside 32 to 126; `BadPair` for a pair past `LAST_PAIR`.
+    pub fn fill(&mut self, win: WinId, rect: Rect, cell: u32) -> Result<(), Refusal>
+        ensures { Filled self.old win.0 rect cell result self.new }
+    {
+        fill_damaging(
+            &mut self.windows,
+            &self.stack,
+            &mut self.damage,
+            win,
+            rect,
+            cell,
+        )?;
+        Ok(())
+    }
+
+    /// Puts cells, numbers as `Cell::bits` answers them, into line `y` of a window, from column `x` on.
+    ///
+    /// # Errors
+    /// `NoSuchWindow`; `OutsideWindow` if the window hasn't line `y`, or not so many columns from `x` on;
+    /// `BadCharacter` for a character outside 32 to 126; `BadPair` for a pair past `LAST_PAIR`.
+    pub fn put(&mut self, win: WinId, y: u16, x: u16, cells: &[u32]) -> Result<(), Refusal>
+        ensures { RowPut self.old win.0 y x cells.now result self.new }
+    {
+        put_damaging(
+            &mut self.windows,
+            &self.stack,
+            &mut self.damage,
+            win,
+            y,
+            x,
+            cells,
+        )?;
+        Ok(())
+    }
+
     /// Answers a call that asks about a window or pad.
     #[inline(always)]
     fn ask_window(&self, asked: Query) -> Result<Reply, Refusal>
@@ -346,6 +386,7 @@ impl Calls for Desk {
         }
     }
 
+    #[inline(always)]
     fn ask(&self, query: &Call<'_>) -> Result<Reply, Refusal> {
         answer(&self.windows, &self.stack, query)
     }

@@ -88,7 +88,10 @@ pub(crate) fn copy(windows: &mut Windows, copying: Copying) -> Result<Outcome, R
 impl Outcome {
     /// Of a call that drew in a window.
     #[inline(always)]
-    fn drawing(win: WinId, frame: Result<Option<Rect>, Refusal>) -> Result<Outcome, Refusal>
+    pub(crate) fn drawing(
+        win: WinId,
+        frame: Result<Option<Rect>, Refusal>,
+    ) -> Result<Outcome, Refusal>
         ensures { result ≡ as_outcome (drawn win) frame }
     {
         let affected = match frame? {

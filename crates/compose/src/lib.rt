@@ -5,6 +5,7 @@
 //! - `damaging`: what a call damages
 //! - `desk`: the `Desk` and what can be read of it
 //! - `dispatch`: a call of each group that changes something, made
+//! - `given`: cells that a program gives, with what they damage
 //! - `marks`: touched columns and clear flags of what makes up the picture
 //! - `panels`: the calls that look at windows and panels together
 //! - `queries`: the calls that only ask
@@ -17,6 +18,7 @@ mod damaging;
 mod damaging_calls;
 mod desk;
 mod dispatch;
+mod given;
 mod marks;
 mod panels;
 mod queries;

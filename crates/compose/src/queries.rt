@@ -11,6 +11,7 @@ use windows::Windows;
 use world::{Call, Copying, PanelId, Query, Reply, Stacking};
 
 /// Answers a call that only asks.
+#[inline(always)]
 pub(crate) fn answer(windows: &Windows, stack: &Stack, query: &Call<'_>) -> Result<Reply, Refusal>
     requires { is_query query.now ≡ true }
     ensures { (world : World) → let seen = record world { windows = windows_of windows.now.table; panels = panels stack.now } in
@@ -25,6 +26,7 @@ pub(crate) fn answer(windows: &Windows, stack: &Stack, query: &Call<'_>) -> Resu
 }
 
 /// What is asked about a window or pad.
+#[inline(always)]
 pub(crate) fn of_window(windows: &Windows, query: Query) -> Result<Reply, Refusal>
     ensures { Answered (query_refusal (windows_of windows.now.table) query) (query_reply (windows_of windows.now.table) query) result }
 {
@@ -38,6 +40,7 @@ pub(crate) fn of_window(windows: &Windows, query: Query) -> Result<Reply, Refusa
 }
 
 /// What is asked about what is touched.
+#[inline(always)]
 pub(crate) fn of_marks(table: &Grids, query: Copying) -> Result<Reply, Refusal>
     requires { is_query (Call.Copying query) ≡ true }
     ensures { Answered (copying_refusal (windows_of table.now) query) (change_reply (copying_change (windows_of table.now) query)) result }
@@ -50,6 +53,7 @@ pub(crate) fn of_marks(table: &Grids, query: Copying) -> Result<Reply, Refusal>
 }
 
 /// What is asked about panels.
+#[inline(always)]
 pub(crate) fn of_panels(stack: &Stack, query: Stacking) -> Result<Reply, Refusal>
     requires { is_query (Call.Stacking query) ≡ true }
     ensures { Answered (stacking_refusal no_windows (panels stack.now) query) (order_reply (stacking_order (panels stack.now) query)) result }

@@ -1,10 +1,9 @@
 //! The calls that copy what is touched of a window, or a rectangle of a pad, to the virtual screen.
 
-ghost use Rattle.std.specs.Prelude.{◌≡◌, ◌<◌, ◌≤◌, ◌+◌, ◌-◌, ◌==◌, ◌&&◌, ◌^◌, if◌then◌else◌};
-ghost use Rattle.compose.specs.{ℕ, None, Some, IsSomeAnd, false, is_some, length, nat_le, nat_lt, result_err, HasSize, picture_of, shown_at, shown, AreSoundWindows, copywin_drawing, place_on_screen};
-ghost use Rattle.compose.specs.{first_of, touched_cells, pnoutrefresh_tests, asks_for_clear, shown_over, unmarked_lines, with_change, AddsChanges, windows as windows_of, Damages, Call, Refresh};
+ghost use Rattle.std.specs.Prelude.{◌≡◌, ◌<◌, ◌+◌, ◌-◌, ◌==◌, ◌&&◌, ◌^◌, if◌then◌else◌};
+ghost use Rattle.compose.specs.{ℕ, None, Some, false, is_some, length, nat_le, nat_lt, result_err, HasSize, picture_of, shown_at, shown, AreSoundWindows, copywin_drawing, place_on_screen};
+ghost use Rattle.compose.specs.{first_of, touched_cells, pnoutrefresh_tests, shown_over, AddsChanges, windows as windows_of, Damages, Call, Refresh};
 ghost use Rattle.compose.specs.{Called};
-ghost use Rattle.world.specs.Rows.{is_among};
 
 use crate::damaging::damage_part;
 use crate::desk::Desk;
@@ -13,7 +12,6 @@ use cell::{Pairs, Rect, Refusal, WinId};
 use extents::Extents;
 use grids::{Grids, Place};
 use picture::cursor_on_screen;
-use windows::Windows;
 use world::Reply;
 
 impl Desk {
@@ -80,7 +78,8 @@ impl Desk {
             &mut self.picture,
         );
         damage_part(&mut self.damage, Some(target));
-        self.clear |= unmark_lines(&mut self.windows, pad, pminrow, smaxrow - sminrow + 1);
+        let lines = smaxrow - sminrow + 1;
+        self.clear |= self.windows.table.unmark_lines(pad, pminrow, lines);
         Ok(Reply::Nothing)
     }
 }
@@ -188,24 +187,4 @@ fn require_rectangle(table: &Grids, source: Place, target: Rect) -> Result<(), R
         return Err(Refusal::OffScreen);
     }
     Ok(())
-}
-
-/// Untouches some lines of a window, which must exist, and clears its clear flag. It answers whether the window asked
-/// for a clear screen.
-fn unmark_lines(windows: &mut Windows, win: WinId, first: u16, n: u16) -> bool
-    requires { IsSomeAnd ((windows_of windows.old.table).window win.0) (λ a. (first < a.lines) × (first + n ≤ a.lines)) }
-    ensures asked { result ≡ asks_for_clear (windows_of windows.old.table).window win.0 }
-    ensures unmarked { windows_of windows.new.table ≡ record (windows_of windows.old.table)
-        { window = with_change (windows_of windows.old.table).window win.0 (unmarked_lines (is_among first n)) } }
-{
-    let asked = windows.table.settings(win).clear;
-    match windows.table.wtouchln(win, first, n, false) {
-        Ok(()) => {}
-        Err(_) => unreachable!(),
-    }
-    match windows.clearok(win, false) {
-        Ok(()) => {}
-        Err(_) => unreachable!(),
-    }
-    asked
 }

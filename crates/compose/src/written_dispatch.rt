@@ -50,7 +50,7 @@ pub(crate) fn draw(windows: &mut Windows, writing: Writing<'_>) -> Result<Option
         (edits (writing_edit (windows_of windows.old.table) writing.entry)) result windows.new.table }
 {
     match writing {
-        Writing::Move { win, y, x } => without_frame(windows.wmove(win, y, x)),
+        Writing::Move { win, .. } => without_frame(windows.set(win, writing)),
         Writing::Addch { win, ch } => windows.waddch(win, ch),
         Writing::Addstr { win, text } => windows.waddstr(win, text),
         Writing::Insch { win, ch } => windows.winsch(win, ch),
@@ -62,14 +62,14 @@ pub(crate) fn draw(windows: &mut Windows, writing: Writing<'_>) -> Result<Option
         Writing::Clrtoeol { win } => windows.wclrtoeol(win),
         Writing::Clrtobot { win } => windows.wclrtobot(win),
         Writing::Scrl { win, n } => windows.wscrl(win, n),
-        Writing::Setscrreg { win, top, bottom } => without_frame(windows.wsetscrreg(win, top, bottom)),
-        Writing::Scrollok { win, flag } => without_frame(windows.scrollok(win, flag)),
-        Writing::Clearok { win, flag } => without_frame(windows.clearok(win, flag)),
-        Writing::Attrset { win, attrs } => without_frame(windows.wattrset(win, attrs)),
-        Writing::Attron { win, attrs } => without_frame(windows.wattron(win, attrs)),
-        Writing::Attroff { win, attrs } => without_frame(windows.wattroff(win, attrs)),
-        Writing::Bkgdset { win, attrs, ch } => without_frame(windows.wbkgdset(win, attrs, ch)),
-        Writing::ColorSet { win, pair } => without_frame(windows.wcolor_set(win, pair)),
-        Writing::Bkgdpair { win, pair } => without_frame(windows.wbkgdpair(win, pair)),
+        Writing::Setscrreg { win, .. } => without_frame(windows.set(win, writing)),
+        Writing::Scrollok { win, .. } => without_frame(windows.set(win, writing)),
+        Writing::Clearok { win, .. } => without_frame(windows.set(win, writing)),
+        Writing::Attrset { win, .. } => without_frame(windows.set(win, writing)),
+        Writing::Attron { win, .. } => without_frame(windows.set(win, writing)),
+        Writing::Attroff { win, .. } => without_frame(windows.set(win, writing)),
+        Writing::Bkgdset { win, .. } => without_frame(windows.set(win, writing)),
+        Writing::ColorSet { win, .. } => without_frame(windows.set(win, writing)),
+        Writing::Bkgdpair { win, .. } => without_frame(windows.set(win, writing)),
     }
 }

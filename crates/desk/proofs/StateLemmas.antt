@@ -3,6 +3,8 @@ use Rattle.std.specs.Prelude.{◌≡◌, ◌≤◌, ◌||◌, if◌then◌else�
 use Rattle.desk.specs.{ℕ, Bool, true, false, cond, List, [], Result, Ok, Err, subst, sym, ◌∙◌, arith, mul-le-mul_right, sum_by-le-sum_by, count_by, MatchOption, None, Some, ⊤, Picture, Refusal}
 use Rattle.desk.specs.{PainterState, ShownPicture, IsSound, World, affected_after, is_doupdate, Called, MayRead, DifferOnly, DeskTable, world, HasOneSize, IsScreen, IsWithin, ScreenOver, State, after}
 use Rattle.desk.specs.{state_of, MayAnswer, Outcome, Run, state_after, state_at_end, Call, UpdatePanels, Reply}
+use Rattle.desk.specs.{ap, CellsGiven, Edit, KeepsSize, arranges, changes, edits}
+use Rattle.world.proofs.Sizes.{size-effect}
 use Rattle.compose.proofs.DeskLemmas.{size-called, sound-called}
 use Rattle.world.specs.declared.call.Call.TheVariants as calls
 
@@ -97,3 +99,20 @@ screen-called old new call r painter made h = record {
         | Some s ↦ still-differ old new call r s.picture made
       ] h.changed;
 }
+
+-- given cells change neither the virtual screen nor the changes of it
+pub size-given : (old new : DeskTable) (tests : List (Bool × Refusal)) (edit : Edit) (r : Result (Unit {0}) Refusal) → CellsGiven old tests edit r new → KeepsSize old new
+size-given old new tests edit (Ok done) h =
+    let size = size-effect (world old) (arranges (changes (edits edit))) in
+    record { lines = ap (λ (w : World). w.windows.lines) h.written ∙ size.lines; columns = ap (λ (w : World). w.windows.columns) h.written ∙ size.columns }
+size-given old new tests edit (Err e) h = record { lines = ap (λ (t : DeskTable). t.windows.lines) h.unchanged; columns = ap (λ (t : DeskTable). t.windows.columns) h.unchanged }
+
+pub screen-given : (old new : DeskTable) (tests : List (Bool × Refusal)) (edit : Edit) (r : Result (Unit {0}) Refusal) (painter : PainterState) → CellsGiven old tests edit r new → IsScreen old painter
+    → IsScreen new painter
+screen-given old new tests edit r painter h screen =
+    let size = size-given old new tests edit r h in
+    record {
+      sound = h.sound;
+      size = record { lines = screen.size.lines ∙ sym size.lines; columns = screen.size.columns ∙ sym size.columns };
+      changed = subst (λ (t : DeskTable). MatchOption painter.last ⊤ (λ (s : ShownPicture). DifferOnly t.changes s.picture t.virtual.picture)) (sym h.rest) screen.changed;
+    }

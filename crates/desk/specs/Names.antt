@@ -8,6 +8,7 @@ pub use Rattle.cell.specs.ShownCells.{no_rendition, shown, shown_blank}
 pub use Rattle.cell.specs.declared.refusal.Refusal.{Refusal}
 pub use Rattle.compose.specs.Calling.{Called, CountsReads, DamagesFew, MayRead, MayRefuse, MayTell, cells_of_reply}
 pub use Rattle.compose.specs.Desks.{DeskTable, is_damaged_line, world}
+pub use Rattle.compose.specs.Giving.{CellsGiven, Filled, RowPut}
 pub use Rattle.compose.specs.KindLaws.{kind-of-answer, never-refused}
 pub use Rattle.ecma.specs.Streams.{Leads, LeadsWithBreaks, showing}
 pub use Rattle.ecma.specs.Terminals.{Terminal}
@@ -47,11 +48,12 @@ pub use Rattle.streams.specs.Counts.{count_after, next_count}
 pub use Rattle.streams.specs.Sinks.{Seen}
 pub use Rattle.streams.specs.Sources.{SourceSeen}
 pub use Rattle.streams.specs.declared.sending.WriteFault.{WriteFault}
-pub use Rattle.world.specs.Effects.{composed_windows}
+pub use Rattle.world.specs.Effects.{Edit, arranges, changes, composed_windows, edits}
 pub use Rattle.world.specs.Sound.{IsSound}
 pub use Rattle.world.specs.Worlds.{World, first_world, picture, topmost_cursor}
 pub use Rattle.world.specs.calls.Affected.{affected_after, bound_on_reads, most_cells}
 pub use Rattle.world.specs.calls.Dispatch.{is_doupdate, is_update_panels, refusal, reply_of, world_after}
+pub use Rattle.world.specs.calls.Given.{fill_edit, fill_tests, put_edit, put_tests}
 pub use Rattle.world.specs.calls.Making.{new_refusal}
 pub use Rattle.world.specs.calls.Queries.{both_numbers, cell_at_cursor}
 pub use Rattle.world.specs.declared.call.Call.{Call}

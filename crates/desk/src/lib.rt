@@ -11,7 +11,7 @@ mod run_script;
 mod screen;
 
 pub use calls::{Answer, Calls};
-pub use cell::{Attr, Cell, Refusal, VirtualScreen, WinId};
+pub use cell::{Attr, Cell, Rect, Refusal, VirtualScreen, WinId};
 pub use compose::Desk;
 pub use history::RunAllEnd;
 pub use screen::{Fault, RunEnd, Screen};

@@ -3,11 +3,11 @@
 mod writer;
 
 ghost use Rattle.std.specs.Prelude.{◌≡◌, ◌∷◌};
-ghost use Rattle.desk.specs.{ℕ, [], IfOk, None, is_some, false, new_refusal, RefusedBy, IsSound, first_world, is_doupdate, count_after, first_painter, cells_of_reply, is_damaged_line, world};
+ghost use Rattle.desk.specs.{ℕ, [], IfOk, None, is_some, false, new_refusal, RefusedBy, IsSound, first_world, is_doupdate, count_after, first_painter, cells_of_reply, is_damaged_line, world, Filled, RowPut};
 ghost use Rattle.desk.specs.declared.screen.Fault.TheVariants.{Refused};
 
 use calls::Calls;
-use cell::Refusal;
+use cell::{Rect, Refusal, WinId};
 use compose::Desk;
 use paint::Painter;
 use std::alloc::Global;
@@ -155,6 +155,34 @@ impl<W: Sink> Screen<W> {
         }
     }
 
+    /// Sets the cells of a rectangle of a window or pad to one cell: a number, as `Cell::bits` answers it. Nothing is
+    /// sent.
+    ///
+    /// # Errors
+    /// `NoSuchWindow`; `BadRectangle` if a last line or column comes before its first; `OutsideWindow` if the rectangle
+    /// isn't in the window; `BadCharacter` for a character outside 32 to 126; `BadPair` for a pair past `LAST_PAIR`.
+    pub fn fill(&mut self, win: WinId, rect: Rect, cell: u32) -> Result<(), Refusal>
+        ensures given { Filled self.old.desk win.0 rect cell result self.new.desk }
+        ensures rest { self.new ≡ record self.old { desk = self.new.desk } }
+        ensures size { KeepsSize self.old.desk self.new.desk }
+    {
+        self.desk.fill(win, rect, cell)
+    }
+
+    /// Puts cells, numbers as `Cell::bits` answers them, into line `y` of a window or pad, from column `x` on. Nothing
+    /// is sent.
+    ///
+    /// # Errors
+    /// `NoSuchWindow`; `OutsideWindow` if the window hasn't line `y`, or not so many columns from `x` on;
+    /// `BadCharacter` for a character outside 32 to 126; `BadPair` for a pair past `LAST_PAIR`.
+    pub fn put(&mut self, win: WinId, y: u16, x: u16, cells: &[u32]) -> Result<(), Refusal>
+        ensures given { RowPut self.old.desk win.0 y x cells.now result self.new.desk }
+        ensures rest { self.new ≡ record self.old { desk = self.new.desk } }
+        ensures size { KeepsSize self.old.desk self.new.desk }
+    {
+        self.desk.put(win, y, x, cells)
+    }
+
     /// Makes the calls in order. It goes on after a refusal, and stops where a write or a flush fails. Each
     /// `update_panels` composes only lines that were damaged before the run, or that a call affected since the one
     /// before it.
@@ -221,6 +249,7 @@ impl<W: Sink> Calls for Screen<W> {
     }
 
     /// Makes a call that only asks: the desk answers it.
+    #[inline(always)]
     fn ask(&self, query: &Call<'_>) -> Result<Reply, Fault> {
         Ok(self.desk.ask(query)?)
     }

@@ -41,6 +41,10 @@ pub line-before : (window : WindowMap) (src sy sx dy dx k m n columns : ℕ) (ov
     (rectangle_copied window src (sy + m) sx (dy + m) dx (n - m) columns overlay) ≡ rectangle_copied window src (sy + k) sx (dy + k) dx (n - k) columns overlay
 line-before window src sy sx dy dx k m n columns overlay e h = grind (arith, joined, nat_tests)
 
+-- a rectangle of one line
+pub one-line : (window : WindowMap) (src sy sx dy dx n : ℕ) (overlay : Bool) → rectangle_copied window src sy sx dy dx 1 n overlay ≡ copied_cells window src sy sx dy dx n overlay
+one-line window src sy sx dy dx n overlay = grind (arith, joined, nat_tests)
+
 -- ---- one cell
 
 pub one-shown : (window : WindowMap) (src sy sx dy dx : ℕ) (c : Glyph) → c ≡ cell_at window src sy sx → is_some (overlaid_cell true c) ≡ true

@@ -1,35 +1,31 @@
 -- The rectangle that a copy of a line covers.
 use Rattle.std.specs.Prelude.{◌≡◌, ◌+◌, ◌-◌, ◌<◌, ◌≤◌, if◌then◌else◌, ◌==◌, ◌&&◌}
-use Rattle.grids.specs.{ℕ, Bool, true, false, nat_lt, nat_le, Option, Some, None, is_some, IsSomeAnd, arith, sym, ◌∙◌, nat_tests, and_parts, and_from, eqb-true, eq-eqb, leb-true, le-leb}
-use Rattle.grids.specs.{option_and_then, Glyph, Window, Windows, Drawing, HasPlace, cell_at, filled_cells, copied_cells, Covers, frame_at, frame_of, drawing_frame}
+use Rattle.grids.specs.{ℕ, Bool, false, nat_lt, nat_le, Option, Some, None, is_some, IsSomeAnd, ap, arith, ◌∙◌, nat_tests, Rect, is_among, rectangle_copied}
+use Rattle.grids.specs.{option_and_then, Glyph, Window, Windows, Drawing, HasPlace, cell_at, filled_cells, copied_cells, frame_at, frame_of, drawing_frame}
 use Rattle.world.proofs.FrameLaws.{frame_of-only, frame_of-none}
 
 -- a drawing that has just the columns from left to right of a line
 record IsInLine (f : Drawing) (y left right : ℕ) : Type 0 where
   taken : (v x : ℕ) → is_some (f v x) ≡ ((v == y) && (nat_le left x && nat_le x right))
 
-in_line : (y left right : ℕ) (x : ℕ) → left ≤ x → x ≤ right → ((y == y) && (nat_le left x && nat_le x right)) ≡ true
-in_line y left right x before beyond = grind (arith, and_from, eq-eqb, le-leb)
+same_line : (v y : ℕ) → (v == y) ≡ (nat_le y v && nat_le v y)
+same_line v y = grind (arith, nat_tests)
+
+-- a drawing that has just the places of a rectangle
+block-frame : (a : Window) (f : Drawing) (r : Rect) → ((v x : ℕ) → is_some (f v x) ≡ ((nat_le r.top v && nat_le v r.bottom) && (nat_le r.left x && nat_le x r.right))) → r.top ≤ r.bottom → r.bottom < a.lines
+    → r.left ≤ r.right → r.right < a.columns → frame_of a f ≡ Some r
+block-frame a f r is lines below columns on = frame_of-only a f r (record {
+  holds = λ v x there. grind (arith, nat_tests, is v x, there.some);
+  top = (r.left, grind (arith, nat_tests, is r.top r.left));
+  bottom = (r.left, grind (arith, nat_tests, is r.bottom r.left));
+  left = (r.top, grind (arith, nat_tests, is r.top r.left));
+  right = (r.top, grind (arith, nat_tests, is r.top r.right));
+})
 
 line-frame : (a : Window) (f : Drawing) (y left right : ℕ) → IsInLine f y left right → y < a.lines → left ≤ right → right < a.columns
     → frame_of a f ≡ Some (record { top = y; left = left; bottom = y; right = right })
 line-frame a f y left right h below ordered on =
-    let covers : (x : ℕ) → left ≤ x → x ≤ right → Covers f a.columns a.lines y x =
-    λ x before beyond. record { below = below; left = omega arith; some = h.taken y x ∙ in_line y left right x before beyond } in
-    frame_of-only a f (record { top = y; left = left; bottom = y; right = right })
-    (record {
-      holds = λ v x there.
-          let line = and_parts (v == y) (nat_le left x && nat_le x right) (sym (h.taken v x) ∙ there.some) in
-          let columns = and_parts (nat_le left x) (nat_le x right) line.1 in
-          let same = eqb-true v y line.0 in
-          let first = leb-true left x columns.0 in
-          let last = leb-true x right columns.1 in
-          record { top = omega arith; bottom = omega arith; left = omega arith; right = omega arith };
-      top = (left, covers left (omega arith) ordered);
-      bottom = (left, covers left (omega arith) ordered);
-      left = (y, covers left (omega arith) ordered);
-      right = (y, covers right ordered (omega arith));
-    })
+    block-frame a f (record { top = y; left = left; bottom = y; right = right }) (λ v x. h.taken v x ∙ ap (λ t. t && (nat_le left x && nat_le x right)) (same_line v y)) (omega arith) below ordered on
 
 some_if : (t : Bool) (c : Glyph) → is_some (if t then Some c else None) ≡ t
 some_if t c = grind arith
@@ -55,6 +51,24 @@ whole-frame w src dst sy sx dy dx n there some =
           some_if ((v == dy) && (nat_le dx x && nat_lt x (dx + n))) (cell_at w.window src sy (sx + (x - dx)))
           ∙ within_columns (v == dy) dx n x some;
     }) (omega arith) there
+
+-- ---- a rectangle copied whole
+
+within_block : (dy dx lines columns v x : ℕ) → 0 < lines → 0 < columns → (is_among dy lines v && is_among dx columns x)
+    ≡ ((nat_le dy v && nat_le v (dy + lines - 1)) && (nat_le dx x && nat_le x (dx + columns - 1)))
+within_block dy dx lines columns v x some_line some_column = grind (arith, nat_tests)
+
+there_block : (o : Option Window) (f : Drawing) (r : Rect) → ((v x : ℕ) → is_some (f v x) ≡ ((nat_le r.top v && nat_le v r.bottom) && (nat_le r.left x && nat_le x r.right))) → r.top ≤ r.bottom → r.left ≤ r.right
+    → IsSomeAnd o (λ a. (r.bottom < a.lines) × (r.right < a.columns)) → option_and_then (λ a. frame_of a f) o ≡ Some r
+there_block None f r is lines columns there = grind arith
+there_block (Some a) f r is lines columns there = block-frame a f r is lines there.0 columns there.1
+
+pub rectangle-frame : (w : Windows) (src dst sy sx dy dx lines columns : ℕ) → HasPlace w.window dst (dy + lines - 1) (dx + columns - 1) → 0 < lines → 0 < columns
+    → drawing_frame w dst (λ a. rectangle_copied w.window src sy sx dy dx lines columns false) ≡ Some (record { top = dy; left = dx; bottom = dy + lines - 1; right = dx + columns - 1 })
+rectangle-frame w src dst sy sx dy dx lines columns there some_line some_column =
+    there_block (w.window dst) (rectangle_copied w.window src sy sx dy dx lines columns false) (record { top = dy; left = dx; bottom = dy + lines - 1; right = dx + columns - 1 })
+    (λ v x. some_if (is_among dy lines v && is_among dx columns x) (cell_at w.window src (sy + (v - dy)) (sx + (x - dx))) ∙ within_block dy dx lines columns v x some_line some_column)
+    (omega arith) (omega arith) there
 
 -- ---- one cell
 

@@ -1,4 +1,4 @@
--- the cells of a slot, for Slot::with_grid, fill, put_row and row
+-- the cells of a slot, for Slot::with_grid, fill, put_row, copy_block and row
 pub mod NewSlots
 -- that the way to the grid ends, for first_place and all that walks it
 pub mod Chain
@@ -22,7 +22,7 @@ pub mod Prints
 pub mod Changes
 -- that windows are sound
 pub mod Sounds
--- that a row is one write, for fill and copy_cells
+-- that a row or a block is one write, for fill, copy_cells and copy_block
 pub mod Writes
 -- a window shifted in its parent, for mvderwin
 pub mod Shifts
@@ -48,3 +48,5 @@ pub mod Syncs
 pub mod Shared
 -- that they are a rectangle, for seen_in
 pub mod Seen
+-- a block of cells copied within a grid, for copy_block
+pub mod Blocks

@@ -1,5 +1,6 @@
 -- The cells of a slot, and the lines of a grid.
-use Rattle.std.specs.Prelude.{◌≡◌, ◌+◌, ◌<◌, ◌≤◌}
+use Rattle.std.specs.Prelude.{◌≡◌, ◌+◌, ◌-◌, ◌<◌, ◌≤◌, ◌&&◌, if◌then◌else◌}
+use Rattle.grids.specs.{Bool, true, false, Some, unwrap_or, ap, refl, ◌∙◌, Glyph, is_among, with_block_copied}
 use Rattle.grids.specs.{ℕ, [], length, take, drop, replicate, get_or, map, Option, None, arith, zero-add, lit≤, lit<, cases_lt, AllByRecursion, range_with_len, All-from_recursion, recursion_from_All}
 use Rattle.grids.specs.{All-get_or, All-take, All-drop, ext_get_or, get_or-take, get_or-drop, get_or-replicate, get_or_past, length-replicate, length-take-le, length-drop, length-map-range_with_len}
 use Rattle.grids.specs.{get_or-map-range_with_len, blank, IsCell, Sheet, Place, AreCells, HasSize, line_of, glyph_at, blank_sheet, LARGEST_PAD, own_grid, first_settings, blank_grid, new_window, Kept}
@@ -66,3 +67,17 @@ StaysInPlace-grid k sheet new s is size cells = grind arith
 
 pub StaysInPlace-same : (k : Kept) → IsKept k → StaysInPlace k k
 StaysInPlace-same k s = grind arith
+
+-- a block of the grid is copied
+
+chosen : (t : Bool) (a b : Glyph) → (if t then a else b) ≡ unwrap_or (if t then Some a else None) b
+chosen true a b = refl
+chosen false a b = refl
+
+pub block-window : (k : Kept) (sheet new : Sheet) (sy sx dy dx lines columns : ℕ) → k.cells ≡ Own sheet
+    → ((v u : ℕ) → glyph_at new (v, u) ≡ (if is_among dy lines v && is_among dx columns u then glyph_at sheet (sy + (v - dy), sx + (u - dx)) else glyph_at sheet (v, u)))
+    → window_of (record k { cells = Own new }) ≡ with_block_copied sy sx dy dx lines columns (window_of k)
+block-window k sheet new sy sx dy dx lines columns own shown =
+    let cells : (λ y x. glyph_at new (y, x)) ≡ (λ y x. unwrap_or (if is_among dy lines y && is_among dx columns x then Some (glyph_at sheet (sy + (y - dy), sx + (x - dx))) else None) (glyph_at sheet (y, x))) =
+    fun_ext (λ y. fun_ext (λ x. shown y x ∙ chosen (is_among dy lines y && is_among dx columns x) (glyph_at sheet (sy + (y - dy), sx + (x - dx))) (glyph_at sheet (y, x)))) in
+    rw own (ap (λ (c : ℕ → ℕ → Glyph). record (window_of (record k { cells = Own new })) { backing = own_grid c }) cells)

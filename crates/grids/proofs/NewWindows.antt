@@ -1,23 +1,14 @@
 -- What is known of a new window: its size, and where it is.
-use Rattle.std.specs.Prelude.{◌≡◌, ◌+◌, ◌≤◌}
-use Rattle.grids.specs.{ℕ, Option, Some, None, List, arith, option_map, Backing, part_of, Window, WindowMap, IsOnScreen, extent, derived_window, place_from, under_number, new_window, Kept, IsKept}
-use Rattle.grids.specs.{window_of, WindowTable, IsWindowTable, windows, slot_at, IsChained, HasParentIn, part_in, SetAt, IsFree}
-use Rattle.grids.specs.declared.slot.Part.{Part}
-use Rattle.grids.specs.declared.slot.Cells.{Cells}
-use Rattle.grids.proofs.Chain.{shared_of}
+use Rattle.std.specs.Prelude.{◌≡◌}
+use Rattle.grids.specs.{ℕ, Option, Some, List, Result, arith, option_map, Place, Backing, part_of, Window, WindowMap, IsOnScreen, extent, derived_window, place_from, under_number, new_window, blank_grid}
+use Rattle.grids.specs.{Change, Changed, Refusal, Reply, Kept, IsKept, window_of, WindowTable, IsWindowTable, windows, IsChained, HasParentIn, SetAt, IsFree}
 use Rattle.grids.proofs.Changes.{windows-set, IsWindowTable-filled}
 use Rattle.grids.proofs.Origins.{HasOrigin}
 
-pub alone_in : (slots : List (Option Kept)) (k : Kept) (cells : Cells) → part_in cells ≡ None → k.depth ≡ 0 → HasParentIn slots k cells
-alone_in slots k cells e h = grind arith
-
 -- a new window lies on the screen
-pub placed_new : (lines columns n m y x : ℕ) (src : Backing) (k : Kept) → window_of k ≡ new_window n m (Some (y, x)) src → y + n ≤ lines → x + m ≤ columns → IsOnScreen lines columns (window_of k)
-placed_new lines columns n m y x src k e h1 h2 = grind arith
-
--- a pad lies nowhere
-pub placed_pad : (lines columns n m : ℕ) (src : Backing) (k : Kept) → window_of k ≡ new_window n m None src → IsOnScreen lines columns (window_of k)
-placed_pad lines columns n m src k e = grind arith
+pub placed_new : (lines columns n m : ℕ) (place : Option Place) (src : Backing) (k : Kept) → window_of k ≡ new_window n m place src → IsOnScreen lines columns (new_window n m place blank_grid)
+    → IsOnScreen lines columns (window_of k)
+placed_new lines columns n m place src k e h = grind arith
 
 -- it is put under a free number
 
@@ -29,19 +20,10 @@ module _ (t : WindowTable) (new : List (Option Kept)) (m : ℕ) (k : Kept) (set 
   pub windows-added : (a : Window) → window_of k ≡ a → windows (record t { slots = new }) ≡ under_number (windows t) m (Some a)
   windows-added a e = grind (arith, windows-set)
 
--- a new derived window lies in its parent
-
-pub derived_in : (slots : List (Option Kept)) (k p : Kept) (part : Part) (n m : ℕ) → part_in k.cells ≡ Some part → slot_at slots part.parent ≡ Some p → k.depth ≡ p.depth + 1
-    → window_of k ≡ new_window n m (place_from p.place part.line part.column) (part_of part.parent part.line part.column) → part.line + n ≤ p.lines → part.column + m ≤ p.columns
-    → HasParentIn slots k k.cells
-derived_in slots k p part n m is e depth made lines columns = grind (arith, shared_of)
-
--- and on the screen, where its parent does
-
-pub placed_derived : (t : WindowTable) → IsWindowTable t → (w : ℕ) (k p : Kept) (n m y x : ℕ) (src : Backing) → slot_at t.slots w ≡ Some p
-    → window_of k ≡ new_window n m (place_from p.place y x) src → y + n ≤ p.lines → x + m ≤ p.columns
-    → IsOnScreen t.lines t.columns (window_of k)
-placed_derived t s w k p n m y x src e made lines columns = grind arith
+-- a call that adds a window, by what its definition says
+pub changed-as : {T : Type 0} {reply_of : T → Reply} {old new : WindowTable} {refusal also : Option Refusal} {change means : Change} {r : Result T Refusal} → refusal ≡ also → change ≡ means
+    → Changed reply_of old refusal change r new → Changed reply_of old also means r new
+changed-as same is h = rw (← same, ← is) h
 
 -- it is the window that the definition gives
 pub made_derived : (window : WindowMap) (p : Kept) (w nlines ncols y x n m : ℕ) → window w ≡ Some (window_of p) → n ≡ extent nlines p.lines y → m ≡ extent ncols p.columns x

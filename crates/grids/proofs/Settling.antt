@@ -1,7 +1,7 @@
 -- The origins of the slots, set one by one.
 use Rattle.std.specs.Prelude.{◌≡◌, ◌+◌, ◌<◌, ◌≤◌}
-use Rattle.grids.specs.{ℕ, false, is_some, Option, Some, None, MatchOption, List, length, arith, refl, sym, ◌∙◌, subst, ⊤, cases_eq, length-set, MOST_WINDOWS, own, Kept, IsChained, grid_place}
-use Rattle.grids.specs.{slot_at, window_map, Led, SameShape, SetAt}
+use Rattle.grids.specs.{ℕ, false, is_some, Option, Some, None, MatchOption, List, length, arith, refl, sym, ◌∙◌, subst, ⊤, cases_eq, length-set, slice_set, MOST_WINDOWS, own, Kept, IsChained, grid_place}
+use Rattle.grids.specs.{slot_at, window_map, SameShape, SetAt}
 use mathlib.Core.Path.{fun_ext}
 use Rattle.grids.specs.declared.slot.Origin.{Origin}
 use Rattle.grids.proofs.Chain.{each_at}
@@ -21,6 +21,12 @@ empty-slot o h = grind arith
 -- an empty slot has none
 pub settled-empty : (old new : List (Option Kept)) (n : ℕ) → slot_at new n ≡ None → IsSettledBelow old new n → IsSettledBelow old new (n + 1)
 settled-empty old new n none h = grind (arith, cases_eq)
+
+-- one slot has another origin, and nothing else changed
+pub record Led (old new : List (Option Kept)) (at : ℕ) (origin : Origin) : Type 0 where
+  pub before : Kept
+  pub was : slot_at old at ≡ Some before
+  pub set : new ≡ slice_set old at (Some (record before { origin = origin }))
 
 module _ (old cur new : List (Option Kept)) (n : ℕ) (origin : Origin) (few : length cur ≤ MOST_WINDOWS + 1) (h : IsSettledBelow old cur n) (led : Led cur new n origin) where
   abbrev after : Kept

@@ -2,7 +2,7 @@
 use Rattle.std.specs.Prelude.{◌≡◌, ◌≢◌, ◌+◌, ◌-◌, ◌≤◌, if◌then◌else◌, ◌==◌, ◌||◌, ◌∷◌}
 use Rattle.grids.specs.{ℕ, Bool, true, false, Option, Some, None, IsSome, IsSomeAnd, [], ap, arith, refl, sym, ◌∙◌, eq-eqb, ne_eqb, zero-add, list_any, option_map, option_map_or, cases_eq, cases_lt}
 use Rattle.grids.specs.{lt-ltb, le-ltb, nat_tests, part_of, GridPlace, HasPlace, Window, WindowMap, Windows, ancestors, with_change, onward, own, shows_part_of, AreSoundWindows, after_copying}
-use Rattle.grids.specs.{in_line, shows_touched_of, with_touches, Syncdown, Syncup, Columns, in_parent, among, part_in_parent, shows_touched, touched_shown}
+use Rattle.grids.specs.{in_line, shows_touched_of, with_touches, Syncdown, Syncup, Columns, in_parent, among, part_in_parent, shows_touched, syncing, touched_shown}
 use Rattle.world.proofs.Below.{any_below-some, any_below-true}
 use Rattle.world.proofs.WindowLaws.{own-onward, touched-touched}
 use Rattle.grids.specs.declared.place.Place.{Place}
@@ -218,3 +218,41 @@ pub taken-all : (old cur : Windows) (w u line column : ℕ) → (h : IsTakenFrom
 taken-all old cur w u line column h last =
     let none : ancestors old.window u ≡ [] = grind (arith, part-none, ancestors-none) in
     h.size ∙ ap (λ (ws : WindowMap). record old { window = ws }) (sym (touched-nowhere cur.window w _ (λ y x. ap (list_any (λ v. shows_touched_of old.window v w y x)) none)) ∙ h.rest)
+
+-- ---- upwards or downwards
+
+abbrev pub IsSynced : Bool → Windows → Windows → ℕ → Place → Type 0
+IsSynced false old cur w at = IsHandedTo old cur w at.win.0 at.line at.column
+IsSynced true old cur w at = IsTakenFrom old cur w at.win.0 at.line at.column
+
+-- the walk came to a place of a window, and windows differ in what is touched of them
+pub record HasCome (old cur : Windows) (w : ℕ) (at : Place) : Type 0 where
+  pub walk : Walk old.window w at.win.0 at.line at.column
+  pub same : (v : ℕ) → option_map untouched (cur.window v) ≡ option_map untouched (old.window v)
+
+pub has-come : (down : Bool) (old cur : Windows) (w : ℕ) (at : Place) → IsSynced down old cur w at → HasCome old cur w at
+has-come false old cur w at h = record { walk = h.walk; same = h.same }
+has-come true old cur w at h = record { walk = h.walk; same = h.same }
+
+pub synced-none : (down : Bool) (windows : Windows) (w : ℕ) → IsSome (windows.window w) → IsSynced down windows windows w (record { win = record { 0 = w }; line = 0; column = 0 })
+synced-none false windows w there = handed-none windows w there
+synced-none true windows w there = taken-none windows w there
+
+-- what is touched was passed on to an ancestor, whose first place of the window is this one, or taken from it
+abbrev passed : Bool → Windows → ℕ → Place → Windows
+passed false cur w at = record cur { window = with_change cur.window at.win.0 (with_touches (touched_shown cur.window w (0, 0) (at.line, at.column))) }
+passed true cur w at = record cur { window = with_change cur.window w (with_touches (touched_shown cur.window at.win.0 (at.line, at.column) (0, 0))) }
+
+pub synced-on : (down : Bool) (old : Windows) → AreSoundWindows old → (w : ℕ) (at next : Place) (cur new : Windows) → IsSynced down old cur w at
+    → IsSomeAnd (cur.window at.win.0) (λ a. Some next ≡ option_map (in_parent at) (part_in_parent a.backing)) → next.win.0 ≢ w → new ≡ passed down cur w next → IsSynced down old new w next
+synced-on false old sound w at next cur new h there other is =
+    let on = next-part old cur w at h.walk h.same next there in
+    rw on.is (handed-on old sound w at.win.0 at.line at.column on.part h.walk on.part_is cur new h (rw on.is at other) (rw on.is at is))
+synced-on true old sound w at next cur new h there other is =
+    let on = next-part old cur w at h.walk h.same next there in
+    rw on.is (taken-on old sound w at.win.0 at.line at.column on.part h.walk on.part_is cur new h (rw on.is at other) (rw on.is at is))
+
+pub synced-all : (down : Bool) (old cur : Windows) (w : ℕ) (at : Place) → IsSynced down old cur w at
+    → IsSomeAnd (cur.window at.win.0) (λ a. None ≡ option_map (in_parent at) (part_in_parent a.backing)) → cur ≡ after_copying old (syncing down (record { 0 = w }))
+synced-all false old cur w at h last = handed-all old cur w at.win.0 at.line at.column h (no-part old cur w at h.walk h.same last)
+synced-all true old cur w at h last = taken-all old cur w at.win.0 at.line at.column h (no-part old cur w at h.walk h.same last)

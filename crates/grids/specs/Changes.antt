@@ -1,6 +1,6 @@
 -- What changes where one slot changes.
-use Rattle.std.specs.Prelude.{◌≡◌, ◌≢◌, ◌+◌, ◌<◌, ◌≤◌, if◌then◌else◌, ◌==◌}
-use Rattle.grids.specs.Names.{ℕ, List, length, Option, Some, None, is_some, max, slice_set, MOST_WINDOWS, joined_columns, Window, Drawing, laid_over}
+use Rattle.std.specs.Prelude.{◌≡◌, ◌≢◌, ◌+◌, ◌<◌, ◌≤◌, if◌then◌else◌, ◌==◌, ◌-◌, ◌&&◌}
+use Rattle.grids.specs.Names.{ℕ, Bool, List, length, Option, Some, None, is_some, max, slice_set, MOST_WINDOWS, joined_columns, Window, Drawing, laid_over, Backing, cell_of, is_among}
 use Rattle.grids.specs.declared.slot.Cells.{Cells}
 use Rattle.grids.specs.declared.slot.Cells.TheVariants.{Own, Shared}
 use Rattle.grids.specs.KeptSlots.{Kept, IsKept}
@@ -51,13 +51,25 @@ pub record SetAt (old new : List (Option Kept)) (at : ℕ) (o : Option Kept) : T
   pub size : length new ≡ max (length old) (at + 1)
   pub few : length new ≤ MOST_WINDOWS + 1
 
--- the columns from left to right of a line are touched
+-- the columns from left to right are touched, of the lines that pass a test, and of one line
+abbrev pub with_touched_lines : (ℕ → Bool) → ℕ → ℕ → Window → Window
+with_touched_lines test left right a = record a { touched = λ y. if test y then joined_columns (a.touched y) left right else a.touched y }
+
 abbrev pub with_touched : ℕ → ℕ → ℕ → Window → Window
-with_touched line left right a = record a { touched = λ y. if y == line then joined_columns (a.touched y) left right else a.touched y }
+with_touched line = with_touched_lines (λ y. y == line)
 
 -- a drawing is laid over a window's grid
 abbrev pub with_drawing : Drawing → Window → Window
 with_drawing f a = record a { backing = laid_over f a.backing }
+
+-- so many lines and columns of a grid from one place on, for another
+abbrev pub block_copied : Backing → ℕ → ℕ → ℕ → ℕ → ℕ → ℕ → Drawing
+block_copied grid sy sx dy dx lines columns y x =
+    if is_among dy lines y && is_among dx columns x then Some (cell_of grid (sy + (y - dy)) (sx + (x - dx))) else None
+
+-- they are copied within a window's grid
+abbrev pub with_block_copied : ℕ → ℕ → ℕ → ℕ → ℕ → ℕ → Window → Window
+with_block_copied sy sx dy dx lines columns a = with_drawing (block_copied a.backing sy sx dy dx lines columns) a
 
 -- the number is free, and the next one at most
 pub record IsFree (slots : List (Option Kept)) (number : ℕ) : Type 0 where

@@ -11,7 +11,7 @@ pub use Rattle.std.proofs.Common.{Bool, EachIndex, Err, IfErr, IfOk, IfSome, IsS
 pub use Rattle.std.proofs.Common.{arith, drop, eq-eqb, eqb, false, get_or, get_or-set_other, get_or-set_same, inl, inr, is_none, is_some, length, length-drop, length-take, lit<, lit≤, map, max}
 pub use Rattle.std.proofs.Common.{nat_le, nat_lt, ne_eqb, ok_or, option_and_then, option_map, refl, replicate, rules, slice_index, slice_index_or, slice_set, subst, suc, sym, take, true, unwrap_or}
 pub use Rattle.std.proofs.Common.{zero, zero-add, ℕ, ◌∙◌}
-pub use Rattle.std.proofs.lemmas.Bool.{and_from, and_parts, cases_eq, cases_lt, eqb-true, le-leb, le-ltb, leb-true, lt-ltb}
+pub use Rattle.std.proofs.lemmas.Bool.{and_from, and_parts, cases_Bool, cases_eq, cases_lt, eqb-true, le-leb, le-ltb, leb-true, lt-ltb}
 pub use Rattle.std.proofs.lemmas.Bool.Decides.{nat_tests}
 pub use Rattle.std.proofs.lemmas.Grind.{common_steps}
 pub use Rattle.std.proofs.lemmas.List.{ext_get_or, get_or-drop, get_or-map, get_or-replicate, get_or-take, get_or_past, get_or_read, length-map, length-replicate, length-set, length-take-le}
@@ -24,11 +24,12 @@ pub use Rattle.std.specs.List.{AllByRecursion, list_any, range_with_len}
 pub use Rattle.std.specs.Option.{option_map_or}
 pub use Rattle.std.specs.Prelude.{⊤}
 pub use Rattle.std.specs.Result.{result_err}
-pub use Rattle.world.specs.Effects.{Change, after_change, asks_for_clear, change_reply, change_takes_memory, drawing_frame, makes, under_number, with_part, with_place, without_marks}
+pub use Rattle.world.specs.Effects.{Change, after_change, asks_for_clear, change_reply, change_takes_memory, drawing_frame, makes, under_number, with_part, with_place, without_marks, unmarked_lines}
+pub use Rattle.world.specs.Drawings.{rectangle_filled}
 pub use Rattle.world.specs.Frames.{AreRectangle, Covers, frame_at, frame_of, frame_of_two}
 pub use Rattle.world.specs.PanelOrder.{standard_screen}
 pub use Rattle.world.specs.Replies.{its_flag, its_number, no_answer}
-pub use Rattle.world.specs.Rows.{copied_cells, filled_cells, line_shown, listed_cells, overlaid_cell}
+pub use Rattle.world.specs.Rows.{copied_cells, filled_cells, is_among, line_shown, listed_cells, overlaid_cell}
 pub use Rattle.world.specs.Settings.{after_set_settings, set, set_in, with_cursor, with_settings}
 pub use Rattle.world.specs.Sharing.{SharesPart, is_same_place, shows_part_of}
 pub use Rattle.world.specs.Sound.{AreColumnsWithin, AreSettingsWithin, AreSoundWindows, HasCells, IsOnScreen, IsPartOf, IsSoundWindow, IsStandardScreen}
@@ -39,7 +40,7 @@ unfoldable pub use Rattle.world.specs.WindowMaps.{window_limit}
 pub use Rattle.world.specs.Worlds.{blank_grid, first_settings, first_world, new_window}
 pub use Rattle.world.specs.calls.Copying.{after_copying, copying_change, copying_refusal, in_line, lines_marked, rectangle_copied, shows_touched_of, with_touches}
 pub use Rattle.world.specs.calls.Making.{derived_from, derived_window, extent, free_among, has_derived, is_inside, is_part_of, making_change, making_refusal, new_number, new_refusal, next_window}
-pub use Rattle.world.specs.calls.Making.{part_tests, place_from}
+pub use Rattle.world.specs.calls.Making.{is_full, part_tests, place_from}
 pub use Rattle.world.specs.calls.Queries.{cursor_of, offset_in_parent, place_on_screen, query_refusal, touched_columns, window_size}
 pub use Rattle.world.specs.calls.Refresh.{among}
 pub use Rattle.world.specs.calls.RefusedCalls.{Refused}

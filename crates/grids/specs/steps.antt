@@ -1,8 +1,8 @@
-pub mod Origins
+pub mod Adding
 pub mod Ends
 pub mod Syncs
 pub mod Lines
-unfoldable pub use Origins.*
+unfoldable pub use Adding.*
 unfoldable pub use Ends.*
 unfoldable pub use Syncs.*
 unfoldable pub use Lines.*

@@ -6,6 +6,7 @@
 //! - `list`: the slots by number, and the change of one
 //! - `making`: windows and pads are made, placed and deleted
 //! - `marks`: lines are touched and untouched
+//! - `moves`: copies within one grid
 //! - `parents`: from a window to its parent and on, up to the grid
 //! - `place`: a place of a window or a grid
 //! - `queries`: queries about a window
@@ -24,6 +25,7 @@ mod ink;
 mod list;
 mod making;
 mod marks;
+mod moves;
 mod parents;
 mod place;
 mod queries;

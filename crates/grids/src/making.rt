@@ -1,9 +1,10 @@
 //! Making, moving and deleting windows and pads. The table knows no panels: it moves and deletes as if no window were
 //! in one.
 
-ghost use Rattle.std.specs.Prelude.{◌≡◌, ◌<◌, ◌≤◌, ◌+◌, ◌^◌};
-ghost use Rattle.grids.specs.{IsSome, IfOk, IfErr, MatchOption, ⊤, true, false, nat_le, first_of, is_inside, extent, place_from, part_tests, derived_from, next_window, makes, its_number, no_answer};
-ghost use Rattle.grids.specs.{Making, Changed, Made, windows};
+ghost use Rattle.std.specs.Prelude.{◌≡◌, ◌<◌, ◌≤◌, ◌+◌, ◌^◌, ◌∷◌};
+ghost use Rattle.grids.specs.{IsSome, Some, IfOk, IfErr, MatchOption, Option, List, [], ⊤, true, false, nat_le, first_of, is_inside, extent, place_from, part_tests, derived_from, next_window};
+ghost use Rattle.grids.specs.{is_full, new_window, makes, its_number, no_answer, Making, Changed, Made, windows, own, window_map, grid_place, window_of, Kept, IsKept, HasParentIn, IsChained};
+ghost use Rattle.grids.specs.{IsFree, SetAt, FitsTable, backing_by};
 
 use crate::list::{change_slot, fill_slot_at, free_number, free_slot, has_derived, origin_of};
 use crate::parents::settle;
@@ -29,10 +30,7 @@ impl Grids {
         prove!(self.has_window(WinId::STANDARD));
         let lines = extent_inside(nlines, self.lines, begin_y, Refusal::OffScreen)?;
         let columns = extent_inside(ncols, self.columns, begin_x, Refusal::OffScreen)?;
-        let number = free_number(&self.slots).ok_or(Refusal::TooMany)?;
-        let slot = Slot::with_grid(self.alloc, number, lines, columns, Some((begin_y, begin_x)))?;
-        fill_slot_at(&mut self.slots, number, slot)?;
-        Ok(WinId(number))
+        self.add(lines, columns, Some((begin_y, begin_x)), None)
     }
 
     /// Makes a pad of 1 to 1000 lines and columns, with a blank grid of its own.
@@ -46,10 +44,7 @@ impl Grids {
         if is_no_size(LARGEST_PAD, nlines) || is_no_size(LARGEST_PAD, ncols) {
             return Err(Refusal::BadSize);
         }
-        let number = free_number(&self.slots).ok_or(Refusal::TooMany)?;
-        let slot = Slot::with_grid(self.alloc, number, nlines, ncols, None)?;
-        fill_slot_at(&mut self.slots, number, slot)?;
-        Ok(WinId(number))
+        self.add(nlines, ncols, None, None)
     }
 
     /// Makes a window that shows the part of a window from a line and a column of it on. A size of 0 reaches to its
@@ -132,17 +127,58 @@ impl Grids {
         let lines = extent_inside(nlines, parent.lines(), y, Refusal::OutsideParent)?;
         let columns = extent_inside(ncols, parent.columns(), x, Refusal::OutsideParent)?;
         let place = place_from(parent.place(), y, x);
-        let depth = parent.depth() + 1;
-        let origin = origin_of(&self.slots, win.0).onward(y, x);
-        let number = free_number(&self.slots).ok_or(Refusal::TooMany)?;
         let part = Part {
             parent: win.0,
             line: y,
             column: x,
         };
-        let slot = Slot::with_parent(self.alloc, lines, columns, place, part, depth, origin)?;
+        self.add(lines, columns, place, Some(part))
+    }
+
+    /// Puts a window or pad under a free number: a part of its parent, or one with a blank grid of its own.
+    fn add(
+        &mut self,
+        lines: u16,
+        columns: u16,
+        place: Option<(u16, u16)>,
+        part: Option<Part>,
+    ) -> Result<WinId, Refusal>
+        requires { FitsTable self.old lines columns place part }
+        ensures { Changed its_number self.old (first_of ((is_full (windows self.old).window, Refusal.TooMany) ∷ []))
+            (makes (next_window (windows self.old)) (Some (new_window lines columns place (backing_by part)))) result self.new }
+    {
+        prove!(self.has_window(WinId::STANDARD));
+        let number = free_number(&self.slots).ok_or(Refusal::TooMany)?;
+        let slot = self.new_slot(number, lines, columns, place, part)?;
         fill_slot_at(&mut self.slots, number, slot)?;
         Ok(WinId(number))
+    }
+
+    /// A window or pad that isn't in the table yet.
+    fn new_slot(
+        &self,
+        number: u16,
+        lines: u16,
+        columns: u16,
+        place: Option<(u16, u16)>,
+        part: Option<Part>,
+    ) -> Result<Slot, Refusal>
+        requires fits { FitsTable self.now lines columns place part }
+        requires free { IsFree self.now.slots number }
+        ensures refused { IfErr result (λ refusal. refusal ≡ Refusal.NoMemory) }
+        ensures window { IfOk result (λ s. window_of s ≡ new_window lines columns place (backing_by part)) }
+        ensures kept { IfOk result (λ s. IsKept s × HasParentIn self.now.slots s s.cells) }
+        ensures origin { IfOk result (λ s. (new : List (Option Kept)) → SetAt self.now.slots new number (Some s) → IsChained new
+            → own (window_map new) number 0 0 ≡ Some (grid_place s.origin)) }
+    {
+        match part {
+            None => Ok(Slot::with_grid(self.alloc, number, lines, columns, place)?),
+            Some(part) => {
+                let depth = self.slot(WinId(part.parent))?.depth() + 1;
+                let origin = origin_of(&self.slots, part.parent).onward(part.line, part.column);
+                Ok(Slot::with_parent(self.alloc, lines, columns, place, part, depth, origin)?)
+            }
+        }
     }
 
     /// Moves a window to a place of the screen. No other window moves, and each shows the cells that it showed.

@@ -1,7 +1,7 @@
 //! What is touched of a window, and whether it asks for a clear screen.
 
 ghost use Rattle.std.specs.Prelude.{◌≡◌, ◌≤◌, ◌+◌};
-ghost use Rattle.grids.specs.{IsSomeAnd, AreSoundWindows, HasPlace, with_change, lines_marked, touched_columns, asks_for_clear, without_marks, its_flag, no_answer, Copying, Marked, windows};
+ghost use Rattle.grids.specs.{IsSomeAnd, AreSoundWindows, HasPlace, with_change, is_among, lines_marked, touched_columns, asks_for_clear, unmarked_lines, without_marks, its_flag, no_answer, Copying, Marked, windows};
 
 use crate::table::Grids;
 use cell::{Refusal, WinId};
@@ -28,6 +28,18 @@ impl Grids {
         ensures sound { AreSoundWindows (windows self.new) }
     {
         self.has_window(win) && self.change(win, |slot| slot.unmark())
+    }
+
+    /// Untouches some lines of a window, which must exist, and clears its clear flag. It answers whether the window asked
+    /// for a clear screen.
+    pub fn unmark_lines(&mut self, win: WinId, first: u16, n: u16) -> bool
+        requires { IsSomeAnd ((windows self.old).window win.0) (λ a. first + n ≤ a.lines) }
+        ensures asked { result ≡ asks_for_clear (windows self.old).window win.0 }
+        ensures unmarked { windows self.new ≡ record (windows self.old)
+            { window = with_change (windows self.old).window win.0 (unmarked_lines (is_among first n)) } }
+        ensures sound { AreSoundWindows (windows self.new) }
+    {
+        self.change(win, |slot| slot.unmark_lines(first, n))
     }
 
     /// Touches all of a window.

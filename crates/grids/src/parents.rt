@@ -1,8 +1,9 @@
 //! The chain from a window through its parents to the grid in which its cells are.
 
 ghost use Rattle.std.specs.Prelude.{◌≡◌, ◌<◌, ◌≤◌, ◌+◌};
-ghost use Rattle.grids.specs.{Some, IsSome, IsSomeAnd, MatchOption, ⊤, length, option_map, HasPlace, own, slot_at, window_map, grid_place, IsChained, part_in, depth_at, in_parent, Led, Settled};
+ghost use Rattle.grids.specs.{Some, IsSome, IsSomeAnd, MatchOption, ⊤, length, option_map, HasPlace, own, slot_at, window_map, grid_place, IsChained, part_in, depth_at, in_parent, Settled};
 
+use crate::list::change_slot;
 use crate::place::Place;
 use crate::slot::{Origin, Slot};
 use cell::{MOST_WINDOWS, WinId};
@@ -53,17 +54,7 @@ pub fn settle(slots: &mut Vec<Option<Slot>>)
     for at in 0..slots.len() {
         if slots[at].is_some() {
             let origin = first_place(slots, at as u16);
-            lead_slot(slots, at as u16, origin);
+            change_slot(slots, at as u16, |slot| slot.set_origin(origin));
         }
-    }
-}
-
-/// Sets the origin of a slot.
-fn lead_slot(slots: &mut Vec<Option<Slot>>, at: u16, origin: Origin)
-    requires { IsSome (slot_at slots.old.items at) }
-    ensures { Led slots.old.items slots.new.items at origin }
-{
-    if let Some(slot) = &mut slots[usize::from(at)] {
-        slot.set_origin(origin);
     }
 }

@@ -42,7 +42,8 @@ impl Grids {
         frame
     }
 
-    /// Copies line by line, from the end at which no line is written before it is read.
+    /// Copies all lines at once within one grid, else line by line, from the end at which no line is written before it is
+    /// read.
     fn copy_lines(
         &mut self,
         from: Place,
@@ -58,6 +59,9 @@ impl Grids {
     {
         let source = origin_of(&self.slots, from.win.0);
         let target = origin_of(&self.slots, to.win.0);
+        if source.grid == target.grid && !overlay {
+            return self.copy_block(from, to, lines, columns);
+        }
         let mut frame = None;
         if target.line + to.line <= source.line + from.line {
             'downward: for k in 0..lines {

@@ -2,7 +2,7 @@
 
 ghost use Rattle.std.specs.Prelude.{◌≡◌, ◌<◌, ◌≤◌, ◌+◌, ◌-◌};
 ghost use Rattle.grids.specs.{is_some, length, map, slice_index, EachIndex, true, false, AllByRecursion, IsCell, is_printable, printed_cell, set, with_cursor, HasPlace, cell_at, put, AreSoundWindows};
-ghost use Rattle.grids.specs.{filled_cells, listed_cells, overlaid_cell, copied_cells, line_shown, AreRowsThere, AreThere, RowCopied, piece_of, windows};
+ghost use Rattle.grids.specs.{filled_cells, rectangle_filled, listed_cells, overlaid_cell, copied_cells, line_shown, AreRowsThere, AreThere, RowCopied, piece_of, windows};
 ghost use Rattle.grids.specs.declared.rows.TheConstants.{PIECE};
 
 use crate::frame::{frame_of_two, place};
@@ -56,6 +56,40 @@ impl Grids {
         let start = origin.column + left;
         let end = origin.column + right;
         self.change(WinId(origin.grid), |slot| slot.fill(line, start, end, cell));
+    }
+
+    /// Sets the cells of a rectangle of a window to one cell. The places must exist, and no first line or column be after
+    /// the last.
+    pub fn fill_rectangle(&mut self, win: WinId, rect: Rect, cell: Cell)
+        requires lines { rect.top ≤ rect.bottom }
+        requires columns { rect.left ≤ rect.right }
+        requires there { HasPlace (windows self.old).window win.0 rect.bottom rect.right }
+        ensures written { windows self.new ≡ put (windows self.old) win.0 (rectangle_filled rect cell) }
+        ensures sound { AreSoundWindows (windows self.new) }
+    {
+        let origin = self.touch_rectangle(win, rect);
+        let filled = Rect {
+            top: origin.line + rect.top,
+            left: origin.column + rect.left,
+            bottom: origin.line + rect.bottom,
+            right: origin.column + rect.right,
+        };
+        self.change(WinId(origin.grid), |slot| slot.fill_rectangle(filled, cell));
+    }
+
+    /// Puts cells into line `y` of a window, from column `left` on. The places must exist.
+    pub fn put(&mut self, win: WinId, y: u16, left: u16, cells: &[Cell])
+        requires some { 0 < length cells.now }
+        requires there { HasPlace (windows self.old).window win.0 y (left + length cells.now - 1) }
+        requires cells { AllByRecursion IsCell cells.now }
+        ensures written { windows self.new ≡ put (windows self.old) win.0 (listed_cells y left cells.now) }
+        ensures sound { AreSoundWindows (windows self.new) }
+    {
+        prove!(self.has_window(WinId::STANDARD));
+        let origin = self.touch(win, y, left, left + cells.len() as u16 - 1);
+        let line = origin.line + y;
+        let start = origin.column + left;
+        self.change(WinId(origin.grid), |slot| slot.put_row(line, start, cells));
     }
 
     /// Sets the cell of a window at line `y` and column `x`, and moves the cursor to the next column. Both places must
@@ -116,12 +150,7 @@ impl Grids {
         ensures written { windows self.new ≡ put (windows self.old) dst.0 (copied_cells (windows self.old).window src.0 sy sx dy dx n overlay) }
         ensures sound { AreSoundWindows (windows self.new) }
     {
-        let from = Place::new(src, sy, sx);
-        let to = Place::new(dst, dy, dx);
-        if n > 0 {
-            self.copy_line(from, to, n, overlay);
-        }
-        prove!(self.has_window(WinId::STANDARD));
+        self.copy_rectangle(src, sy, sx, dst, dy, dx, 1, n, overlay);
     }
 
     /// Copies some cells of a line, and answers the smallest rectangle of the destination that holds what it wrote. It

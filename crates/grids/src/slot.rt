@@ -2,13 +2,15 @@
 
 ghost use Rattle.std.specs.Prelude.{◌≡◌, ◌<◌, ◌≤◌, ◌+◌, ◌^◌, ◌&&◌};
 ghost use Rattle.grids.specs.{EachIndex, IfOk, IsSome, is_some, Some, None, length, map, slice_index, true, AllByRecursion, range_with_len, IsCell, is_printable, lines_marked, without_marks};
-ghost use Rattle.grids.specs.{with_place, with_part, filled_cells, listed_cells, set_in, with_cursor, with_settings, new_window, first_settings, blank_grid, any_below, cell_of, part_of, window_of};
-ghost use Rattle.grids.specs.{IsKept, Kept, HasShape, printed_cell, part_in, names_parent, with_touched, with_drawing, SameShape, with_new_offset, StaysInPlace};
+ghost use Rattle.grids.specs.{with_place, with_part, filled_cells, listed_cells, rectangle_filled, nat_le, set_in, with_cursor, with_settings, new_window, first_settings, blank_grid, any_below};
+ghost use Rattle.grids.specs.{cell_of, part_of, window_of};
+ghost use Rattle.grids.specs.{IsKept, Kept, HasShape, printed_cell, part_in, names_parent, with_touched, with_touched_lines, with_drawing, SameShape, with_new_offset, StaysInPlace, is_among};
+ghost use Rattle.grids.specs.{unmarked_lines, with_block_copied};
 
-use crate::ink::print_in;
+use crate::ink::{fill_in, print_in};
 use crate::touched::Touched;
 use crate::touched_lines::TouchedLines;
-use cell::{Attr, Cell, Grid, LARGEST_PAD, LAST_PAIR, PairId};
+use cell::{Attr, Cell, Grid, LARGEST_PAD, LAST_PAIR, PairId, Rect};
 use std::alloc::{AllocError, Global};
 use std::marker::Model;
 use world::{Columns, Settings};
@@ -307,14 +309,40 @@ impl Slot {
         }
     }
 
+    /// Sets the cells of a rectangle of the grid to one cell.
+    pub fn fill_rectangle(&mut self, rect: Rect, cell: Cell)
+        requires own { part_in self.old.cells ≡ None }
+        requires lines { rect.top ≤ rect.bottom }
+        requires bottom_in { rect.bottom < self.old.lines }
+        requires columns { rect.left ≤ rect.right }
+        requires right_in { rect.right < self.old.columns }
+        ensures window { window_of self.new ≡ with_drawing (rectangle_filled rect cell) (window_of self.old) }
+        ensures place { StaysInPlace self.old self.new }
+    {
+        if let Cells::Own(grid) = &mut self.cells {
+            fill_in(grid, rect, cell);
+        }
+    }
+
     /// Untouches all lines, and asks for a clear screen no more. It answers whether it asked for one.
     pub fn unmark(&mut self) -> bool
         ensures asked { result ≡ self.old.settings.clear }
         ensures window { window_of self.new ≡ without_marks (window_of self.old) }
         ensures place { StaysInPlace self.old self.new }
     {
-        let asked = self.settings.clear;
         self.touched.clear();
+        self.unmark_lines(0, 0)
+    }
+
+    /// Untouches lines from one on, and asks for a clear screen no more. It answers whether it asked for one.
+    pub fn unmark_lines(&mut self, first: u16, n: u16) -> bool
+        requires { first + n ≤ self.old.lines }
+        ensures asked { result ≡ self.old.settings.clear }
+        ensures window { window_of self.new ≡ unmarked_lines (is_among first n) (window_of self.old) }
+        ensures place { StaysInPlace self.old self.new }
+    {
+        let asked = self.settings.clear;
+        self.touched.set(first, n, Touched::none());
         self.settings.clear = false;
         asked
     }
@@ -357,6 +385,30 @@ impl Slot {
         }
     }
 
+    /// Copies so many lines and columns of the grid from line `sy` and column `sx` on to line `dy` and column `dx` on,
+    /// as if all were read before any is written.
+    pub fn copy_block(&mut self, sy: u16, sx: u16, dy: u16, dx: u16, lines: u16, columns: u16)
+        requires own { part_in self.old.cells ≡ None }
+        requires some { 0 < lines }
+        requires source_lines { sy + lines ≤ self.old.lines }
+        requires target_lines { dy + lines ≤ self.old.lines }
+        requires source_columns { sx + columns ≤ self.old.columns }
+        requires target_columns { dx + columns ≤ self.old.columns }
+        ensures window { window_of self.new ≡ with_block_copied sy sx dy dx lines columns (window_of self.old) }
+        ensures place { StaysInPlace self.old self.new }
+    {
+        if let Cells::Own(grid) = &mut self.cells {
+            grid.copy_block(
+                usize::from(sy),
+                usize::from(sx),
+                usize::from(dy),
+                usize::from(dx),
+                usize::from(lines),
+                usize::from(columns),
+            );
+        }
+    }
+
     /// Prints characters in a line of the grid, from column `left` on, with a pen.
     pub fn print(&mut self, line: u16, left: u16, text: &[u8], pen: Cell)
         requires own { part_in self.old.cells ≡ None }
@@ -383,6 +435,27 @@ impl Slot {
     {
         let origin = self.origin;
         self.touched.touch(line, left, right);
+        origin
+    }
+
+    /// Touches the columns of a rectangle in each of its lines. It answers where the window's first place is in a grid.
+    pub fn touch_rectangle(&mut self, rect: Rect) -> Origin
+        requires lines { rect.top ≤ rect.bottom }
+        requires bottom_in { rect.bottom < self.old.lines }
+        requires columns { rect.left ≤ rect.right }
+        requires right_in { rect.right < self.old.columns }
+        ensures origin { result ≡ self.old.origin }
+        ensures window { window_of self.new ≡
+            with_touched_lines (λ y. nat_le rect.top y && nat_le y rect.bottom) rect.left rect.right (window_of self.old) }
+        ensures place { StaysInPlace self.old self.new }
+    {
+        let origin = self.origin;
+        if rect.right - rect.left + 1 == self.columns {
+            self.mark(rect.top, rect.bottom - rect.top + 1, true);
+            return origin;
+        }
+        self.touched
+            .touch_lines(rect.top, rect.bottom, rect.left, rect.right);
         origin
     }
 }

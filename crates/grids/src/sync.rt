@@ -2,7 +2,7 @@
 
 ghost use Rattle.std.specs.Prelude.{◌≡◌, ◌≢◌, ◌<◌, ◌≤◌, ◌+◌, ◌-◌, ◌&&◌};
 ghost use Rattle.grids.specs.{ℕ, nat_le, ⊤, IsSome, IsSomeAnd, MatchOption, LARGEST_PAD, no_answer, AreColumnsWithin, HasPlace, with_change, with_touches, after_copying, among, Copying, Marked};
-ghost use Rattle.grids.specs.{windows, depth_at, EndsWithin, touched_shown};
+ghost use Rattle.grids.specs.{windows, depth_at, EndsWithin, syncing, touched_shown};
 
 use crate::place::Place;
 use crate::table::Grids;
@@ -18,7 +18,7 @@ impl Grids {
         ensures { Marked no_answer self.old (Copying.Syncup win) result self.new }
     {
         self.slot(win)?;
-        self.hand_up(win.0);
+        self.sync(win.0, false);
         prove!(self.has_window(WinId::STANDARD));
         Ok(())
     }
@@ -31,34 +31,26 @@ impl Grids {
         ensures { Marked no_answer self.old (Copying.Syncdown win) result self.new }
     {
         self.slot(win)?;
-        self.take_down(win.0);
+        self.sync(win.0, true);
         prove!(self.has_window(WinId::STANDARD));
         Ok(())
     }
 
-    /// Passes what is touched of a window on to its ancestors, from parent to parent.
-    fn hand_up(&mut self, win: u16)
+    /// Passes what is touched of a window on to its ancestors, from parent to parent, or with `down` takes what is
+    /// touched of them.
+    fn sync(&mut self, win: u16, down: bool)
         requires { IsSome ((windows self.old).window win) }
-        ensures { windows self.new ≡ after_copying (windows self.old) (Copying.Syncup (record { 0 = win })) }
+        ensures { windows self.new ≡ after_copying (windows self.old) (syncing down (record { 0 = win })) }
     {
         prove!(self.has_window(WinId::STANDARD));
         let mut at = Place::first_of(win);
         while let Some(next) = self.place_above(at) {
             at = next;
-            self.touch_shown(win, (0, 0), at.win.0, (at.line, at.column));
-        }
-    }
-
-    /// Takes what is touched of a window's ancestors, from parent to parent.
-    fn take_down(&mut self, win: u16)
-        requires { IsSome ((windows self.old).window win) }
-        ensures { windows self.new ≡ after_copying (windows self.old) (Copying.Syncdown (record { 0 = win })) }
-    {
-        prove!(self.has_window(WinId::STANDARD));
-        let mut at = Place::first_of(win);
-        while let Some(next) = self.place_above(at) {
-            at = next;
-            self.touch_shown(at.win.0, (at.line, at.column), win, (0, 0));
+            if down {
+                self.touch_shown(at.win.0, (at.line, at.column), win, (0, 0));
+            } else {
+                self.touch_shown(win, (0, 0), at.win.0, (at.line, at.column));
+            }
         }
     }
 

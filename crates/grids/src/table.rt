@@ -1,13 +1,14 @@
 //! The windows and pads of a screen.
 
-ghost use Rattle.std.specs.Prelude.{◌≡◌, ◌<◌, ◌≤◌, ◌-◌};
-ghost use Rattle.grids.specs.{ℕ, None, IsSome, IsSomeAnd, MatchResult, IfOk, Some, option_map, RefusedBy, after_set_settings, set, set_in, with_cursor, AreSoundWindows, HasPlace, first_world};
-ghost use Rattle.grids.specs.{new_refusal, windows, WindowTable, IsWindowTable, slot_at, depth_at, grid_place, HasLine, Kept, window_of, ChangedBy, StaysInPlace, with_touched, FnOnceReturnsAtMut};
+ghost use Rattle.std.specs.Prelude.{◌≡◌, ◌<◌, ◌≤◌, ◌-◌, ◌&&◌};
+ghost use Rattle.grids.specs.{ℕ, None, IsSomeAnd, MatchResult, IfOk, Some, RefusedBy, after_set_settings, set, set_in, with_cursor, AreSoundWindows, HasPlace, first_world};
+ghost use Rattle.grids.specs.{new_refusal, windows, WindowTable, IsWindowTable, slot_at, depth_at, grid_place, HasLine, Kept, window_of, ChangedBy, StaysInPlace, with_touched, with_touched_lines};
+ghost use Rattle.grids.specs.{nat_le, FnOnceReturnsAtMut};
 ghost use Rattle.grids.specs.{FnOnceTakesAtMut, Window, with_change};
 
 use crate::list::change_slot;
 use crate::slot::{Origin, Slot};
-use cell::{LARGEST_SCREEN, Refusal, WinId, is_no_size};
+use cell::{LARGEST_SCREEN, Rect, Refusal, WinId, is_no_size};
 use std::alloc::Global;
 use std::marker::Model;
 use world::Settings;
@@ -101,6 +102,22 @@ impl Grids {
         self.change(win, |slot| slot.touch(y, left, right))
     }
 
+    /// Touches the columns of a rectangle of a window in each of its lines, and answers where its first place is in a
+    /// grid.
+    pub(crate) fn touch_rectangle(&mut self, win: WinId, rect: Rect) -> Origin
+        requires lines { rect.top ≤ rect.bottom }
+        requires columns { rect.left ≤ rect.right }
+        requires there { HasPlace (windows self.old).window win.0 rect.bottom rect.right }
+        ensures touched { windows self.new ≡ record (windows self.old) {
+          window = with_change (windows self.old).window win.0
+              (with_touched_lines (λ y. nat_le rect.top y && nat_le y rect.bottom) rect.left rect.right);
+        } }
+        ensures line { HasLine self.old.slots self.new.slots win.0 rect.bottom rect.right (grid_place result) }
+        ensures sound { AreSoundWindows (windows self.new) }
+    {
+        self.change(win, |slot| slot.touch_rectangle(rect))
+    }
+
     /// Touches the columns of a line of a window from `left` up to `end`, where its cursor goes, and answers where its
     /// first place is in a grid.
     #[inline(always)]
@@ -133,18 +150,6 @@ impl Grids {
         Ok((slot.lines(), slot.columns(), slot.settings()))
     }
 
-    /// The settings of a window, which must exist.
-    pub fn settings(&self, win: WinId) -> Settings
-        requires { IsSome ((windows self.now).window win.0) }
-        ensures value { option_map (λ a. a.settings) ((windows self.now).window win.0) ≡ Some result }
-        ensures sound { AreSoundWindows (windows self.now) }
-    {
-        match self.slot(win) {
-            Ok(slot) => slot.settings(),
-            Err(_) => unreachable!(),
-        }
-    }
-
     /// Gives a window other settings. The window must exist and hold the cursor and the region, whose first line isn't
     /// after its last. Bits beyond the six attributes are dropped.
     pub fn set_settings(&mut self, win: WinId, settings: Settings)
@@ -156,6 +161,7 @@ impl Grids {
     {
         self.change(win, |slot| slot.set_settings(settings));
     }
+
     /// Moves the cursor of a window, which must hold the place.
     pub fn set_cursor(&mut self, win: WinId, y: u16, x: u16)
         requires { HasPlace (windows self.old).window win.0 y x }

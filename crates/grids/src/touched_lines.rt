@@ -67,6 +67,20 @@ impl TouchedLines {
         self.some = true;
     }
 
+    /// Touches the columns from `left` to `right` of the lines from `top` to `bottom`.
+    pub(crate) fn touch_lines(&mut self, top: u16, bottom: u16, left: u16, right: u16)
+        requires lines_in { bottom < length self.old }
+        requires ordered_lines { top ≤ bottom }
+        requires ordered { left ≤ right }
+        ensures length { length self.new ≡ length self.old }
+        ensures each { (y : ℕ) → touched_in self.new y ≡
+            (if nat_le top y && nat_le y bottom then joined_columns (touched_in self.old y) left right else touched_in self.old y) }
+    {
+        let last = usize::from(bottom);
+        join_lines(&mut self.lines, usize::from(top), last, left, right);
+        self.some = true;
+    }
+
     /// Sets the touched columns of `n` lines from one on.
     pub(crate) fn set(&mut self, first: u16, n: u16, columns: Touched)
         requires { first + n ≤ length self.old }
@@ -99,6 +113,20 @@ fn set_lines(touched: &mut Vec<Touched>, start: usize, end: usize, columns: Touc
 {
     for y in start..end {
         touched[y] = columns;
+    }
+}
+
+/// Touches the columns from `left` to `right` of the lines from `top` to `bottom`.
+fn join_lines(touched: &mut Vec<Touched>, top: usize, bottom: usize, left: u16, right: u16)
+    requires lines_in { bottom < length touched.old.items }
+    requires ordered_lines { top ≤ bottom }
+    requires ordered { left ≤ right }
+    ensures length { length touched.new.items ≡ length touched.old.items }
+    ensures each { (y : ℕ) → touched_in touched.new.items y ≡
+        (if nat_le top y && nat_le y bottom then joined_columns (touched_in touched.old.items y) left right else touched_in touched.old.items y) }
+{
+    for y in top..bottom + 1 {
+        touched[y] = touched[y].join(left, right);
     }
 }
 

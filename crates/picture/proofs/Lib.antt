@@ -12,7 +12,7 @@ pub mod Standard
 pub mod Searching
 -- a line made run by run, for compose_row
 pub mod PictureRuns
--- the search from the bottom, for find_owners
+-- panels laid from the top down, for Owners::find
 pub mod OwnerLaws
 -- spans of a line after a panel is laid over it, for Spans::lay and Spans::at
 pub mod SpanLaws

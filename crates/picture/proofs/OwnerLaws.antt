@@ -1,84 +1,113 @@
--- The owner of a column is found from the bottom up as well: each visible panel that holds the column takes it over.
-use Rattle.std.specs.Prelude.{◌≡◌, ◌≢◌, ◌+◌, ◌≤◌, if◌then◌else◌, ◌∷◌}
-use Rattle.picture.specs.{ℕ, Bool, true, false, Option, Some, None, List, [], reverse, refl, sym, ap, subst, ◌∙◌, arith, find, option_map_or, option_or, reverse-append, find-append, Rect, AreOnce}
-use Rattle.picture.specs.{IsOut, Panels, holds, owner, panel_holds, WindowMap, frame_holds, AreSpans}
-use Rattle.picture.specs.declared.spans.Spans.{Spans}
+-- What a search finds is found as well where each panel, from the top down, takes the columns that it holds and no panel above it does.
+use Rattle.std.specs.Prelude.{◌≡◌, ◌≢◌, ◌⊎◌, ◌≤◌, if◌then◌else◌, ◌∷◌}
+use Rattle.picture.specs.{ℕ, Bool, true, false, Option, Some, None, List, [], inl, inr, reverse, refl, sym, ap, subst, ◌∙◌, arith, find, option_map_or, option_or, reverse-append, Rect, AreOnce}
+use Rattle.picture.specs.{IsOut, Panels, holds, owner, panel_holds, WindowMap, frame_holds, AreInside, AreSpans, KnowsOwners}
+use Rattle.picture.specs.declared.owners.Owners.{Owners}
+use Rattle.stack.proofs.DistinctNumbers.{once-push, out-reverse}
 
--- the last of a list that passes a test, or another one
-abbrev pub last_or : (ℕ → Bool) → List ℕ → Option ℕ → Option ℕ
-last_or f rest other = option_or (find f (reverse rest)) other
+pub once-reverse : (ps : List ℕ) → AreOnce ps → AreOnce (reverse ps)
+once-reverse [] h = tt
+once-reverse (p ∷ ps) h = subst AreOnce (sym (reverse-append (p ∷ []) ps)) (once-push p (reverse ps) (once-reverse ps h.1) (out-reverse p ps h.0))
 
-after : (f : ℕ → Bool) (p : ℕ) (other o : Option ℕ) (b : Bool) → f p ≡ b → option_or (option_or o (find f (p ∷ []))) other ≡ option_or o (if b then Some p else other)
-after f p other o b is = grind arith
+-- ---- one or the other
 
--- the first of the list takes the other one's place, where it passes
-pub last_or-first : (f : ℕ → Bool) (p : ℕ) (rest : List ℕ) (other : Option ℕ) → last_or f (p ∷ rest) other ≡ last_or f rest (if f p then Some p else other)
-last_or-first f p rest other =
-    ap (λ (o : Option ℕ). option_or o other) (ap (find f) (reverse-append (p ∷ []) rest) ∙ find-append f (reverse rest) (p ∷ []))
-    ∙ after f p other (find f (reverse rest)) (f p) refl
+pub or-twice : (a b c : Option ℕ) → option_or a (option_or b c) ≡ option_or (option_or a b) c
+or-twice None b c = refl
+or-twice (Some p) b c = refl
 
--- Of the lines from a first to a last the spans are the same: each column's owner is the last of the panels that are left and hold it, or
--- else the one that was laid there. No panel is left that was laid.
-pub record AreLaid (window : WindowMap) (panels : Panels) (top bottom : ℕ) (rest : List ℕ) (kept : Spans) : Type 0 where
+pub or-none : (a : Option ℕ) → option_or a None ≡ a
+or-none None = refl
+or-none (Some p) = refl
+
+or-some : (a b : Option ℕ) → a ≢ None → option_or a b ≡ a
+or-some None b some = absurd (some refl)
+or-some (Some p) b some = refl
+
+first-some : (a b : Option ℕ) → a ≢ None → option_or a b ≢ None
+first-some None b some = absurd (some refl)
+first-some (Some p) b some = λ never. cc
+
+second-some : (a : Option ℕ) (p : ℕ) (test : Bool) → test ≡ true → option_or a (if test then Some p else None) ≢ None
+second-some None p true is = λ never. cc
+second-some None p false is = absurd (let never : false ≡ true = is in cc)
+second-some (Some q) p test is = λ never. cc
+
+-- ---- laid from the top down
+
+-- In the lines that are known a column's owner is the panel that was laid there, or else the first of those that are left and hold it. None of
+-- these was laid, and each column that is known is owned.
+pub record AreLaid (window : WindowMap) (panels : Panels) (rest : List ℕ) (owners : Owners) : Type 0 where
+  pub inside : AreInside owners.spans
   pub laid : ℕ → Option ℕ
-  pub spans : AreSpans laid kept
-  pub found : (y x : ℕ) → top ≤ y → y ≤ bottom → owner window panels y x ≡ last_or (panel_holds window panels y x) rest (laid x)
+  pub spans : AreSpans laid owners.spans
+  pub found : (y x : ℕ) → owners.top ≤ y → y ≤ owners.bottom → owner window panels y x ≡ option_or (laid x) (find (panel_holds window panels y x) rest)
+  pub owned : (x : ℕ) → owners.left ≤ x → x ≤ owners.right → laid x ≢ None
   pub once : AreOnce rest
   pub out : (x p : ℕ) → laid x ≡ Some p → IsOut p rest
 
-or-none : (o : Option ℕ) → o ≡ option_or o None
-or-none o = grind arith
+-- the first that does is this one, or else is found among the rest
+find-first : (f : ℕ → Bool) (p : ℕ) (rest : List ℕ) (test : Bool) → f p ≡ test → find f (p ∷ rest) ≡ option_or (if test then Some p else None) (find f rest)
+find-first f p rest true is = grind arith
+find-first f p rest false is = grind arith
 
-pub spans-as : (o same : ℕ → Option ℕ) (spans : Spans) → AreSpans o spans → ((x : ℕ) → same x ≡ o x) → AreSpans same spans
-spans-as o same spans h is = record {
-  same = λ x e from. is x ∙ h.same x e from;
-  past = λ x none. is x ∙ h.past x none;
-  another = λ e from other. h.another e from (sym (is (e + 1)) ∙ other);
-}
+out-of : (p q : ℕ) (rest : List ℕ) (before : Option ℕ) (test : Bool) → AreOnce (p ∷ rest) → (before ≡ Some q → IsOut q (p ∷ rest)) → option_or before (if test then Some p else None) ≡ Some q → IsOut q rest
+out-of p q rest (Some o) test once out is = (out is).1
+out-of p q rest None true once out is = let same : p ≡ q = cc in subst (λ k. IsOut k rest) same once.0
+out-of p q rest None false once out is = (out is).1
 
 module _ (window : WindowMap) (panels : Panels) where
-  pub laid-first : (top bottom : ℕ) (spans : Spans) → AreSpans (λ x. None) spans → AreOnce panels.visible → AreLaid window panels top bottom panels.visible spans
-  laid-first top bottom spans none once = record {
+  pub laid-first : (owners : Owners) → AreInside owners.spans → AreSpans (λ x. None) owners.spans → owners.left ≡ 1 → owners.right ≡ 0 → AreOnce panels.visible
+      → AreLaid window panels (reverse panels.visible) owners
+  laid-first owners inside none left right once = record {
+    inside = inside;
     laid = λ x. None;
     spans = none;
-    found = λ y x from upto. or-none (owner window panels y x);
-    once = once;
+    found = λ y x from upto. refl;
+    owned = λ x from upto. absurd (omega (arith, left, right, from, upto));
+    once = once-reverse panels.visible once;
     out = λ x p never. absurd (let e : None ≡ Some p = never in cc);
   }
 
-  -- a panel that isn't there holds no column
-  pub laid-past : (top bottom p : ℕ) (rest : List ℕ) (spans : Spans) → AreLaid window panels top bottom (p ∷ rest) spans → panels.window p ≡ None
-      → AreLaid window panels top bottom rest spans
-  laid-past top bottom p rest spans h none = record {
+  -- one more is laid, in lines in which its rectangle is the same
+  pub laid-next : (y p w : ℕ) (r : Rect) (rest : List ℕ) (old new : Owners) → AreLaid window panels (p ∷ rest) old → old.top ≡ y → panels.window p ≡ Some w
+      → ((v x : ℕ) → frame_holds r v x ≡ holds window w v x) → AreInside new.spans → new.top ≡ old.top → new.bottom ≤ old.bottom
+      → ((v x : ℕ) → y ≤ v → v ≤ new.bottom → frame_holds r v x ≡ frame_holds r y x)
+      → ((x : ℕ) → new.left ≤ x → x ≤ new.right → ((old.left ≤ x) × (x ≤ old.right)) ⊎ (frame_holds r y x ≡ true))
+      → ((o : ℕ → Option ℕ) → AreSpans o old.spans → ((x : ℕ) → o x ≢ Some p) → AreSpans (λ x. option_or (o x) (if frame_holds r y x then Some p else None)) new.spans)
+      → AreLaid window panels rest new
+  laid-next y p w r rest old new h top is rectangle inside same_top fewer same owned laid = record {
+    inside = inside;
+    laid = λ x. option_or (h.laid x) (if frame_holds r y x then Some p else None);
+    spans = laid h.laid h.spans (λ x has. (h.out x p has).0 refl);
+    found = λ v x from upto.
+        let held : panel_holds window panels v x p ≡ frame_holds r y x =
+        ap (λ (o : Option ℕ). option_map_or (λ w. holds window w v x) o false) is ∙ sym (rectangle v x) ∙ same v x (omega (arith, from, same_top, top)) upto in
+        h.found v x (omega (arith, from, same_top)) (omega (arith, upto, fewer))
+        ∙ ap (option_or (h.laid x)) (find-first (panel_holds window panels v x) p rest (frame_holds r y x) held)
+        ∙ or-twice (h.laid x) (if frame_holds r y x then Some p else None) (find (panel_holds window panels v x) rest);
+    owned = λ x from upto. elim (owned x from upto) [
+      | inl before ↦ first-some (h.laid x) (if frame_holds r y x then Some p else None) (h.owned x before.0 before.1)
+      | inr held ↦ second-some (h.laid x) p (frame_holds r y x) held
+    ];
+    once = h.once.1;
+    out = λ x q is. out-of p q rest (h.laid x) (frame_holds r y x) h.once (h.out x q) is;
+  }
+
+  -- the columns that are known are owned
+  pub laid-some : (rest : List ℕ) (owners : Owners) → AreLaid window panels rest owners → KnowsOwners window panels owners
+  laid-some rest owners h = record {
+    inside = h.inside;
     laid = h.laid;
     spans = h.spans;
-    found = λ y x from upto. h.found y x from upto ∙ last_or-first (panel_holds window panels y x) p rest (h.laid x)
-        ∙ ap (λ (o : Option ℕ). last_or (panel_holds window panels y x) rest (if option_map_or (λ w. holds window w y x) o false then Some p else h.laid x)) none;
-    once = h.once.1;
-    out = λ x q is. (h.out x q is).1;
+    found = λ y x from upto begun within. h.found y x from upto ∙ or-some (h.laid x) (find (panel_holds window panels y x) rest) (h.owned x begun within);
   }
 
-  out-of : (p q : ℕ) (rest : List ℕ) (before : Option ℕ) (test : Bool) → AreOnce (p ∷ rest) → (before ≡ Some q → IsOut q (p ∷ rest)) → (if test then Some p else before) ≡ Some q → IsOut q rest
-  out-of p q rest before true once out is = let same : p ≡ q = cc in subst (λ k. IsOut k rest) same once.0
-  out-of p q rest before false once out is = (out is).1
-
-  -- one more is laid, in lines in which its rectangle is the same
-  pub laid-next : (top bottom fewer p w : ℕ) (r : Rect) (rest : List ℕ) (old new : Spans) → AreLaid window panels top bottom (p ∷ rest) old → panels.window p ≡ Some w
-      → ((y x : ℕ) → frame_holds r y x ≡ holds window w y x) → fewer ≤ bottom → ((y x : ℕ) → top ≤ y → y ≤ fewer → frame_holds r y x ≡ frame_holds r top x)
-      → ((o : ℕ → Option ℕ) → AreSpans o old → ((x : ℕ) → o x ≢ Some p) → AreSpans (λ x. if frame_holds r top x then Some p else o x) new)
-      → AreLaid window panels top fewer rest new
-  laid-next top bottom fewer p w r rest old new h is rectangle within same laid = record {
-    laid = λ x. if frame_holds r top x then Some p else h.laid x;
-    spans = laid h.laid h.spans (λ x has. (h.out x p has).0 refl);
-    found = λ y x from upto.
-        let held : panel_holds window panels y x p ≡ frame_holds r top x =
-        ap (λ (o : Option ℕ). option_map_or (λ w. holds window w y x) o false) is ∙ sym (rectangle y x) ∙ same y x from upto in
-        h.found y x from (omega (arith, upto, within)) ∙ last_or-first (panel_holds window panels y x) p rest (h.laid x)
-        ∙ ap (λ (b : Bool). last_or (panel_holds window panels y x) rest (if b then Some p else h.laid x)) held;
-    once = h.once.1;
-    out = λ x q is. out-of p q rest (h.laid x) (frame_holds r top x) h.once (h.out x q) is;
+  -- all are laid, so all columns are known
+  pub laid-all : (owners : Owners) (left right : ℕ) → AreLaid window panels [] owners
+      → KnowsOwners window panels (record { top = owners.top; bottom = owners.bottom; left = left; right = right; spans = owners.spans })
+  laid-all owners left right h = record {
+    inside = h.inside;
+    laid = h.laid;
+    spans = h.spans;
+    found = λ y x from upto begun within. h.found y x from upto ∙ or-none (h.laid x);
   }
-
-  -- all are laid
-  pub laid-all : (top bottom : ℕ) (spans : Spans) → AreLaid window panels top bottom [] spans → (y : ℕ) → top ≤ y → y ≤ bottom → AreSpans (owner window panels y) spans
-  laid-all top bottom spans h y from upto = spans-as h.laid (owner window panels y) spans h.spans (λ x. h.found y x from upto)

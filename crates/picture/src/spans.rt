@@ -1,7 +1,7 @@
 //! The spans of a line, and panels that are laid over it one after another.
 
 ghost use Rattle.std.specs.Prelude.{◌≡◌, ◌≢◌, ◌+◌, ◌<◌, ◌≤◌, ◌==◌, ◌&&◌, ◌||◌, if◌then◌else◌};
-ghost use Rattle.picture.specs.{ℕ, Some, None, Option, true, false, nat_le, nat_lt, slice_index, IsNext, contains, Panels, owner, WindowMap, panel_number, IsSpan, AreInside, AreSpans, numbered};
+ghost use Rattle.picture.specs.{ℕ, Some, None, Option, true, false, nat_le, option_or, slice_index, IsNext, contains, panel_number, AreInside, AreSpans, IsRun, numbered};
 
 use crate::span::Span;
 use small_set::SmallSet;
@@ -25,6 +25,7 @@ impl Spans {
     /// Of a line of which no panel owns a column.
     pub fn none() -> Spans
         ensures inside { AreInside result }
+        ensures none { AreSpans (λ x. None) result }
     {
         Spans {
             ends: SmallSet::new(),
@@ -46,7 +47,10 @@ impl Spans {
     pub fn at(&self, x: u16, edge: u16) -> Span
         requires inside { AreInside self.now }
         requires ordered { x ≤ edge }
-        ensures { (window : WindowMap) (panels : Panels) (y : ℕ) → AreSpans (owner window panels y) self.now → IsSpan window panels y x edge result }
+        ensures from { x ≤ result.end }
+        ensures within { result.end ≤ edge }
+        ensures run { (o : ℕ → Option ℕ) → AreSpans o self.now → IsRun o x edge result }
+        ensures bare { (e : ℕ) → x ≤ e → e < result.end → contains self.now.ends e ≡ false }
     {
         match self.end_from(x) {
             Some(end) => Span {
@@ -60,7 +64,8 @@ impl Spans {
         }
     }
 
-    /// A panel that owned no column owns those from `left` to `right` now, both inclusive.
+    /// A panel that owned no column owns those from `left` to `right` now, both inclusive, that no other one owns.
+    #[inline(never)]
     pub fn lay(&mut self, panel: PanelId, left: u16, right: u16)
         requires inside { AreInside self.old }
         requires ordered { left ≤ right }
@@ -68,10 +73,31 @@ impl Spans {
         requires number { 0 < panel.0 }
         ensures inside { AreInside self.new }
         ensures laid { (o : ℕ → Option ℕ) → AreSpans o self.old → ((x : ℕ) → o x ≢ Some panel.0)
+            → AreSpans (λ x. option_or (o x) (if nat_le left x && nat_le x right then Some panel.0 else None)) self.new }
+    {
+        let mut x = left;
+        while x <= right {
+            let span = self.at(x, right);
+            if span.panel.is_none() {
+                self.fill(panel, x, span.end);
+            }
+            x = span.end + 1;
+        }
+    }
+
+    /// A panel owns the columns from `left` to `right` now, both inclusive, between which no span ends. It owns neither
+    /// the column before them nor the one after.
+    fn fill(&mut self, panel: PanelId, left: u16, right: u16)
+        requires inside { AreInside self.old }
+        requires ordered { left ≤ right }
+        requires column { right < COLUMNS }
+        requires number { 0 < panel.0 }
+        requires bare { (e : ℕ) → left ≤ e → e < right → contains self.old.ends e ≡ false }
+        ensures inside { AreInside self.new }
+        ensures filled { (o : ℕ → Option ℕ) → AreSpans o self.old → ((e : ℕ) → e + 1 ≡ left → o e ≢ Some panel.0) → o (right + 1) ≢ Some panel.0
             → AreSpans (λ x. if nat_le left x && nat_le x right then Some panel.0 else o x) self.new }
     {
         self.end_before(left);
-        self.remove_ends(left, right);
         self.put(right, panel.0);
     }
 
@@ -127,25 +153,6 @@ impl Spans {
         self.ends.insert(end);
         self.panels[usize::from(end)] = panel;
         self.beyond = self.beyond.max(end + 1);
-    }
-
-    /// No span ends at the columns from `left` on before `right` any more.
-    fn remove_ends(&mut self, left: u16, right: u16)
-        requires inside { AreInside self.old }
-        requires ordered { left ≤ right }
-        requires column { right < COLUMNS }
-        ensures inside { AreInside self.new }
-        ensures ends { (e : ℕ) → contains self.new.ends e ≡ (if nat_le left e && nat_lt e right then false else contains self.old.ends e) }
-        ensures panels { self.new.panels ≡ self.old.panels }
-    {
-        let mut from = left;
-        while let Some(end) = self.end_from(from) {
-            if right <= end {
-                return;
-            }
-            self.ends.remove(end);
-            from = end + 1;
-        }
     }
 }
 

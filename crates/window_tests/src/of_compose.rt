@@ -2,7 +2,7 @@
 
 use crate::scripts::run;
 use calls::Calls;
-use cell::VirtualScreen;
+use cell::{Rect, VirtualScreen, WinId};
 use compose::{Desk, Span};
 use std::alloc::Global;
 use std::test::Fail;
@@ -124,6 +124,39 @@ fn an_update_reads_what_changed(rt: HostRuntime) -> Result<(), Fail> {
     let (composed, clear) = updated_screen(rt.alloc())?;
     assert_eq!(rt; composed, [Composed { cells: 1 }, Composed { cells: 0 }]);
     assert_eq!(rt; clear, [true, false]);
+    Ok(())
+}
+
+/// How many cells two updates read, the first after a rectangle of a panel's window was filled, the second after a row
+/// was put into a window that derives from it; and what is shown then.
+fn give_cells(desk: &mut Desk, alloc: Global) -> Result<([Composed; 2], Vec<u8>), Fail> {
+    run(desk, alloc, "newwin 2 3 0 1\nnew_panel 1\nderwin 1 1 2 1 1")?;
+    let rect = Rect {
+        top: 0,
+        left: 0,
+        bottom: 1,
+        right: 0,
+    };
+    desk.fill(WinId(1), rect, u32::from(b'x'))?;
+    let first = desk.update_panels();
+    desk.put(WinId(2), 0, 0, &[u32::from(b'a'), u32::from(b'b')])?;
+    desk.put(WinId(2), 0, 2, &[])?;
+    let second = desk.update_panels();
+    Ok(([first, second], shown(desk, alloc)?))
+}
+
+fn cells_given(alloc: Global) -> Result<([Composed; 2], Vec<u8>), Fail> {
+    let mut desk = Desk::new(alloc, 2, 5)?;
+    let given = give_cells(&mut desk, alloc);
+    drop(desk);
+    given
+}
+
+#[test]
+fn given_cells_are_shown(rt: HostRuntime) -> Result<(), Fail> {
+    let (composed, shown) = cells_given(rt.alloc())?;
+    assert_eq!(rt; composed, [Composed { cells: 6 }, Composed { cells: 2 }]);
+    assert_eq!(rt; shown.as_slice(), b" x    xab ".as_slice());
     Ok(())
 }
 

@@ -17,6 +17,8 @@ pub mod ToBottom
 pub mod Everywhere
 pub mod LinesUp
 pub mod LinesDown
+-- given cells, for fill and put
+pub mod GivenCells
 -- one character, for waddch and type_first
 pub mod Typing
 -- one character after another, and that printed ones are accepted, for type_text and has_bad_character

@@ -1,10 +1,10 @@
 -- Lines moved down: their rectangle, what the call that inserts a line does and answers, and the writes, upwards.
 use Rattle.std.specs.Prelude.{◌≡◌, ◌+◌, ◌-◌, ◌<◌, ◌≤◌}
-use Rattle.windows.specs.{ℕ, false, Some, None, arith, inl, inr, cases_lt, nat_tests, Glyph, Rect, WindowMap, Windows, Window, put, filled_cells, copied_cells, lines_down, frame_of, drawing_frame}
+use Rattle.windows.specs.{ℕ, false, Some, None, arith, min, nat_tests, Glyph, Rect, WindowMap, Windows, Window, put, filled_cells, rectangle_copied, lines_down, frame_of, drawing_frame}
 use Rattle.windows.specs.{after_edit, draws, insertln_drawing, IsStateOf}
 use Rattle.windows.specs.declared.state.WindowState.{WindowState}
 use Rattle.windows.proofs.LineDrawings.{from}
-use Rattle.windows.proofs.NextWrites.{starts_below, ends_below, line_cleared_before, line_taken_above}
+use Rattle.windows.proofs.NextWrites.{once, ends_below, line_cleared_before}
 use Rattle.windows.proofs.Rectangles.{block}
 use Rattle.windows.proofs.Calls.{call-is, frame-is}
 
@@ -22,17 +22,18 @@ module _ (windows : Windows) (w : ℕ) (s : WindowState) (h : IsStateOf windows 
   line_inserted_frame r e = grind (arith, frame-lines_down, frame-is)
 
   module _ (top bottom n : ℕ) (c : Glyph) (ordered : top ≤ bottom) (below : bottom < s.lines) where
-    pub down_started : windows ≡ put windows w (from (bottom + 1) (lines_down windows.window w top bottom n c))
-    down_started = starts_below windows w s h (lines_down windows.window w top bottom n c) (bottom + 1) (λ y x beyond. grind (arith, nat_tests))
+    pub down_moved : (cleared : ℕ) (new : Windows) → cleared ≡ min n (bottom + 1 - top)
+        → new ≡ put windows w (rectangle_copied windows.window w top 0 (top + cleared) 0 (bottom + 1 - top - cleared) s.columns false)
+        → new ≡ put windows w (from (top + cleared) (lines_down windows.window w top bottom n c))
+    down_moved cleared new first is =
+        once windows w s h (rectangle_copied windows.window w top 0 (top + cleared) 0 (bottom + 1 - top - cleared) s.columns false) (from (top + cleared) (lines_down windows.window w top bottom n c)) new
+        (λ y x in_lines on. let wide = h.columns in grind (arith, nat_tests)) is
 
-    pub down_more : (k : ℕ) (now new : Windows) → top ≤ k → k ≤ bottom → now ≡ put windows w (from (k + 1) (lines_down windows.window w top bottom n c))
-        → (top + n ≤ k → new ≡ put now w (copied_cells now.window w (k - n) 0 k 0 s.columns false))
-        → (k < top + n → new ≡ put now w (filled_cells k 0 (s.columns - 1) c))
+    pub down_cleared : (cleared k m : ℕ) (now new : Windows) → cleared ≡ min n (bottom + 1 - top) → m ≡ k + 1 → top ≤ k → k < top + cleared
+        → now ≡ put windows w (from m (lines_down windows.window w top bottom n c)) → new ≡ put now w (filled_cells k 0 (s.columns - 1) c)
         → new ≡ put windows w (from k (lines_down windows.window w top bottom n c))
-    down_more k now new from_top to_end before copies clears = elim (cases_lt k (top + n)) [
-      | inl past ↦ line_cleared_before windows w s h (lines_down windows.window w top bottom n c) k c now new (λ x. grind (arith, nat_tests)) before (clears past)
-      | inr within ↦ line_taken_above windows w s h (lines_down windows.window w top bottom n c) (k - n) k now new (omega arith) (omega arith) (λ x. grind (arith, nat_tests)) before (copies (omega arith))
-    ]
+    down_cleared cleared k m now new first next from_top to_end before after =
+        line_cleared_before windows w s h (lines_down windows.window w top bottom n c) k c now new (λ x. grind (arith, nat_tests)) (rw next at before) after
 
     pub down_ended : (k : ℕ) (now : Windows) → k ≤ top → now ≡ put windows w (from k (lines_down windows.window w top bottom n c))
         → now ≡ put windows w (lines_down windows.window w top bottom n c)

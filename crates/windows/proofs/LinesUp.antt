@@ -1,10 +1,10 @@
 -- Lines moved up: their rectangle, what the call that deletes a line does and answers, and the writes, downwards.
 use Rattle.std.specs.Prelude.{◌≡◌, ◌+◌, ◌-◌, ◌<◌, ◌≤◌}
-use Rattle.windows.specs.{ℕ, false, Some, None, arith, inl, inr, cases_lt, nat_tests, Glyph, Rect, WindowMap, Windows, Window, put, filled_cells, copied_cells, lines_up, frame_of, drawing_frame}
+use Rattle.windows.specs.{ℕ, false, Some, None, arith, min, nat_tests, Glyph, Rect, WindowMap, Windows, Window, put, filled_cells, rectangle_copied, lines_up, frame_of, drawing_frame}
 use Rattle.windows.specs.{after_edit, draws, deleteln_drawing, IsStateOf}
 use Rattle.windows.specs.declared.state.WindowState.{WindowState}
 use Rattle.windows.proofs.LineDrawings.{above}
-use Rattle.windows.proofs.NextWrites.{starts_above, ends_above, line_cleared, line_taken_below}
+use Rattle.windows.proofs.NextWrites.{once, ends_above, line_cleared}
 use Rattle.windows.proofs.Rectangles.{block}
 use Rattle.windows.proofs.Calls.{call-is, frame-is}
 
@@ -22,17 +22,16 @@ module _ (windows : Windows) (w : ℕ) (s : WindowState) (h : IsStateOf windows 
   line_deleted_frame r e = grind (arith, frame-lines_up, frame-is)
 
   module _ (top bottom n : ℕ) (c : Glyph) (ordered : top ≤ bottom) (below : bottom < s.lines) where
-    pub up_started : windows ≡ put windows w (above top (lines_up windows.window w top bottom n c))
-    up_started = starts_above windows w s h (lines_up windows.window w top bottom n c) top (λ y x before. grind (arith, nat_tests))
+    pub up_moved : (cleared kept : ℕ) (new : Windows) → cleared ≡ min n (bottom + 1 - top) → kept ≡ bottom + 1 - top - cleared
+        → new ≡ put windows w (rectangle_copied windows.window w (top + cleared) 0 top 0 kept s.columns false) → new ≡ put windows w (above (top + kept) (lines_up windows.window w top bottom n c))
+    up_moved cleared kept new first rest is =
+        once windows w s h (rectangle_copied windows.window w (top + cleared) 0 top 0 kept s.columns false) (above (top + kept) (lines_up windows.window w top bottom n c)) new
+        (λ y x in_lines on. let wide = h.columns in grind (arith, nat_tests)) is
 
-    pub up_more : (k : ℕ) (now new : Windows) → top ≤ k → k ≤ bottom → now ≡ put windows w (above k (lines_up windows.window w top bottom n c))
-        → (k + n ≤ bottom → new ≡ put now w (copied_cells now.window w (k + n) 0 k 0 s.columns false))
-        → (bottom < k + n → new ≡ put now w (filled_cells k 0 (s.columns - 1) c))
+    pub up_cleared : (kept k : ℕ) (now new : Windows) → kept ≡ bottom + 1 - top - min n (bottom + 1 - top) → top + kept ≤ k → k ≤ bottom
+        → now ≡ put windows w (above k (lines_up windows.window w top bottom n c)) → new ≡ put now w (filled_cells k 0 (s.columns - 1) c)
         → new ≡ put windows w (above (k + 1) (lines_up windows.window w top bottom n c))
-    up_more k now new from_top to_end before copies clears = elim (cases_lt bottom (k + n)) [
-      | inl past ↦ line_cleared windows w s h (lines_up windows.window w top bottom n c) k c now new (λ x. grind (arith, nat_tests)) before (clears past)
-      | inr within ↦ line_taken_below windows w s h (lines_up windows.window w top bottom n c) (k + n) k now new (omega arith) (omega arith) (λ x. grind (arith, nat_tests)) before (copies (omega arith))
-    ]
+    up_cleared kept k now new rest from_kept to_end before after = line_cleared windows w s h (lines_up windows.window w top bottom n c) k c now new (λ x. grind (arith, nat_tests)) before after
 
     pub up_ended : (k : ℕ) (now : Windows) → bottom < k → now ≡ put windows w (above k (lines_up windows.window w top bottom n c))
         → now ≡ put windows w (lines_up windows.window w top bottom n c)

@@ -1,10 +1,9 @@
 -- What one more write of a line adds to a drawing, for a window of a known state.
 use Rattle.std.specs.Prelude.{◌≡◌, ◌+◌, ◌-◌, ◌<◌, ◌≤◌}
-use Rattle.windows.specs.{ℕ, false, Some, None, arith, sym, cases_eq, nat_tests, Glyph, WindowMap, Windows, Drawing, cell_at, put, over, filled_cells, copied_cells, IsStateOf}
+use Rattle.windows.specs.{ℕ, Some, None, arith, sym, cases_eq, nat_tests, Glyph, WindowMap, Windows, Drawing, put, over, filled_cells, IsStateOf}
 use Rattle.windows.specs.declared.state.WindowState.{WindowState}
-use Rattle.windows.proofs.States.{spot-of}
 use Rattle.world.proofs.WindowLaws.{put-nothing}
-use Rattle.world.proofs.PutLaws.{AreSame, put-same, put-then, shown-put}
+use Rattle.world.proofs.PutLaws.{AreSame, put-same, put-then}
 use Rattle.windows.proofs.LineDrawings.{above, from}
 
 with_map : (windows : Windows) (u v : WindowMap) → u ≡ v → record windows { window = u } ≡ record windows { window = v }
@@ -21,10 +20,6 @@ module _ (windows : Windows) (w : ℕ) (s : WindowState) (h : IsStateOf windows 
   pub nothing : (f : Drawing) → ((y x : ℕ) → f y x ≡ None) → windows ≡ put windows w f
   nothing f none = sym (with_map windows _ _ (put-nothing windows.window w f none))
 
-  -- a place that is not written
-  pub kept : (f : Drawing) (now : Windows) (y x : ℕ) → now ≡ put windows w f → f y x ≡ None → y < s.lines → x < s.columns → cell_at now.window w y x ≡ cell_at windows.window w y x
-  kept f now y x is none below on = let spot = spot-of windows w s h in grind (arith, (shown-put windows.window w h.window spot.0 f y x))
-
   -- ---- line after line, downwards
 
   pub starts_above : (f : Drawing) (k : ℕ) → ((y x : ℕ) → y < k → f y x ≡ None) → windows ≡ put windows w (above k f)
@@ -37,15 +32,7 @@ module _ (windows : Windows) (w : ℕ) (s : WindowState) (h : IsStateOf windows 
       → new ≡ put now w (filled_cells k 0 (s.columns - 1) c) → new ≡ put windows w (above (k + 1) f)
   line_cleared f k c now new is before after = twice (above k f) _ (above (k + 1) f) now new (λ y x below on. grind (arith, cases_eq, nat_tests)) before after
 
-  pub line_taken_below : (f : Drawing) (sy k : ℕ) (now new : Windows) → k ≤ sy → sy < s.lines → ((x : ℕ) → f k x ≡ Some (cell_at windows.window w sy x))
-      → now ≡ put windows w (above k f) → new ≡ put now w (copied_cells now.window w sy 0 k 0 s.columns false) → new ≡ put windows w (above (k + 1) f)
-  line_taken_below f sy k now new ordered below is before after = twice (above k f) _ (above (k + 1) f) now new
-      (λ y x in_lines on. let same = kept (above k f) now sy x before (grind (arith, nat_tests)) below (omega (arith, h.columns)) in grind (arith, cases_eq, nat_tests)) before after
-
   -- ---- and upwards
-
-  pub starts_below : (f : Drawing) (k : ℕ) → ((y x : ℕ) → k ≤ y → f y x ≡ None) → windows ≡ put windows w (from k f)
-  starts_below f k none = nothing (from k f) (λ y x. grind (arith, nat_tests))
 
   pub ends_below : (f : Drawing) (k : ℕ) (now : Windows) → ((y x : ℕ) → y < k → f y x ≡ None) → now ≡ put windows w (from k f) → now ≡ put windows w f
   ends_below f k now none is = once (from k f) f now (λ y x below on. grind (arith, nat_tests)) is
@@ -53,8 +40,3 @@ module _ (windows : Windows) (w : ℕ) (s : WindowState) (h : IsStateOf windows 
   pub line_cleared_before : (f : Drawing) (k : ℕ) (c : Glyph) (now new : Windows) → ((x : ℕ) → f k x ≡ Some c) → now ≡ put windows w (from (k + 1) f)
       → new ≡ put now w (filled_cells k 0 (s.columns - 1) c) → new ≡ put windows w (from k f)
   line_cleared_before f k c now new is before after = twice (from (k + 1) f) _ (from k f) now new (λ y x below on. grind (arith, cases_eq, nat_tests)) before after
-
-  pub line_taken_above : (f : Drawing) (sy k : ℕ) (now new : Windows) → sy ≤ k → sy < s.lines → ((x : ℕ) → f k x ≡ Some (cell_at windows.window w sy x))
-      → now ≡ put windows w (from (k + 1) f) → new ≡ put now w (copied_cells now.window w sy 0 k 0 s.columns false) → new ≡ put windows w (from k f)
-  line_taken_above f sy k now new ordered below is before after = twice (from (k + 1) f) _ (from k f) now new
-      (λ y x in_lines on. let same = kept (from (k + 1) f) now sy x before (grind (arith, nat_tests)) below (omega (arith, h.columns)) in grind (arith, cases_eq, nat_tests)) before after

@@ -1,6 +1,6 @@
 -- A call that writes in a window, copies to it, or sets how it is written in, made on a table of windows.
 use Rattle.std.specs.Prelude.{◌≡◌}
-use Rattle.windows.specs.Names.{IfOk, None, OnErr, OnOk, Option, Result, result_err, Refusal, Rect, Change, after_change, change_frame, edits, AreSoundWindows, copying_change, copying_refusal}
+use Rattle.windows.specs.Names.{ℕ, IfOk, None, OnErr, OnOk, Option, Result, result_err, Refusal, Rect, Change, Edit, after_change, change_frame, edits, sets, AreSoundWindows, copying_change, copying_refusal}
 use Rattle.windows.specs.Names.{writing_edit, writing_refusal, Copying, Writing, WindowTable, windows}
 
 -- it was refused exactly by its tests, and then nothing changed; else the frame and the windows are those of its effect
@@ -17,6 +17,11 @@ Wrote frame_of old writing r new = Drew frame_of old (writing_refusal (windows o
 
 abbrev pub Copied : {T : Type 0} → (T → Option Rect) → WindowTable → Copying → Result T Refusal → WindowTable → Type 0
 Copied frame_of old copying r new = Drew frame_of old (copying_refusal (windows old) copying) (copying_change (windows old) copying) r new
+
+-- it sets how window w is written in, and writes no cell
+abbrev pub IsSetting : ℕ → Edit → Type 0
+IsSetting w (sets u change) = u ≡ w
+IsSetting w edit = ⊥
 
 -- of a call that writes no cell
 abbrev pub no_frame : Unit {0} → Option Rect

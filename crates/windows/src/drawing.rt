@@ -1,7 +1,7 @@
 //! The drawings of the writing calls, made of writes of one line each. The window must exist and have the given state.
 
-ghost use Rattle.std.specs.Prelude.{◌≡◌, ◌<◌, ◌≤◌, ◌+◌, ◌-◌};
-ghost use Rattle.windows.specs.{false, put, copied_cells, filled_cells, at_place, character_deleted, character_inserted, everywhere, lines_down, lines_up, to_bottom, to_end_of_line, windows};
+ghost use Rattle.std.specs.Prelude.{◌+◌, ◌-◌};
+ghost use Rattle.windows.specs.{false, at_place, character_deleted, character_inserted, everywhere, lines_down, lines_up, to_bottom, to_end_of_line, windows};
 ghost use Rattle.windows.specs.{IsStateOf, DrewInState, HasStateAndLines, HasStateAndPlace};
 
 use crate::state::WindowState;
@@ -72,8 +72,22 @@ pub fn move_up(table: &mut Grids, win: WinId, state: &WindowState, top: u16, bot
     ensures { DrewInState (windows table.old) win.0 state.now
         (lines_up (windows table.old).window win.0 top bottom n state.now.settings.background) (windows table.new) }
 {
-    for line in top..bottom + 1 {
-        take_below(table, win, state, line, bottom, n);
+    let lines = bottom + 1 - top;
+    let cleared = n.min(lines);
+    let kept = lines - cleared;
+    table.copy_rectangle(
+        win,
+        top + cleared,
+        0,
+        win,
+        top,
+        0,
+        kept,
+        state.columns,
+        false,
+    );
+    for line in top + kept..bottom + 1 {
+        table.fill(win, line, 0, state.columns - 1, state.settings.background);
     }
 }
 
@@ -84,39 +98,20 @@ pub fn move_down(table: &mut Grids, win: WinId, state: &WindowState, top: u16, b
     ensures { DrewInState (windows table.old) win.0 state.now
         (lines_down (windows table.old).window win.0 top bottom n state.now.settings.background) (windows table.new) }
 {
-    for moved in 0..bottom + 1 - top {
-        take_above(table, win, state, top, bottom - moved, n);
-    }
-}
-
-/// Sets a line to the line `n` below it, or to the background if that is below `bottom`.
-fn take_below(table: &mut Grids, win: WinId, state: &WindowState, line: u16, bottom: u16, n: u16)
-    requires { HasStateAndLines (windows table.old) win.0 state.now line bottom }
-    ensures taken { line + n ≤ bottom → windows table.new ≡ put (windows table.old) win.0
-        (copied_cells (windows table.old).window win.0 (line + n) 0 line 0 state.now.columns false) }
-    ensures cleared { bottom < line + n → windows table.new ≡ put (windows table.old) win.0
-        (filled_cells line 0 (state.now.columns - 1) state.now.settings.background) }
-    ensures state { IsStateOf (windows table.new) win.0 state.now }
-{
-    if n <= bottom - line {
-        table.copy_row(win, line + n, 0, win, line, 0, state.columns, false);
-    } else {
-        table.fill(win, line, 0, state.columns - 1, state.settings.background);
-    }
-}
-
-/// Sets a line to the line `n` above it, or to the background if that is above `top`.
-fn take_above(table: &mut Grids, win: WinId, state: &WindowState, top: u16, line: u16, n: u16)
-    requires { HasStateAndLines (windows table.old) win.0 state.now top line }
-    ensures taken { top + n ≤ line → windows table.new ≡ put (windows table.old) win.0
-        (copied_cells (windows table.old).window win.0 (line - n) 0 line 0 state.now.columns false) }
-    ensures cleared { line < top + n → windows table.new ≡ put (windows table.old) win.0
-        (filled_cells line 0 (state.now.columns - 1) state.now.settings.background) }
-    ensures state { IsStateOf (windows table.new) win.0 state.now }
-{
-    if n <= line - top {
-        table.copy_row(win, line - n, 0, win, line, 0, state.columns, false);
-    } else {
+    let lines = bottom + 1 - top;
+    let cleared = n.min(lines);
+    table.copy_rectangle(
+        win,
+        top,
+        0,
+        win,
+        top + cleared,
+        0,
+        lines - cleared,
+        state.columns,
+        false,
+    );
+    for line in (top..top + cleared).rev() {
         table.fill(win, line, 0, state.columns - 1, state.settings.background);
     }
 }

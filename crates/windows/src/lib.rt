@@ -4,6 +4,7 @@
 //! - `copying`: the copies
 //! - `drawing`: drawings, each some writes of a line
 //! - `frame`: rectangles of drawings
+//! - `given`: cells that a program gives
 //! - `queries`: `winch`
 //! - `state`: what a call reads of its window
 //! - `table`: the `Windows`
@@ -13,6 +14,7 @@
 mod copying;
 mod drawing;
 mod frame;
+mod given;
 mod queries;
 mod state;
 mod table;

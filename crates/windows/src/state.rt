@@ -1,7 +1,7 @@
 //! What a call reads of its window first, and sets of it.
 
-ghost use Rattle.std.specs.Prelude.{◌≡◌, ◌<◌, ◌≤◌};
-ghost use Rattle.windows.specs.{IsSomeAnd, MatchResult, None, bits_of, set, with_cursor, HasPlace, AreSoundWindows, windows, IsStateOf, HasStateAndPlace};
+ghost use Rattle.std.specs.Prelude.{◌≡◌};
+ghost use Rattle.windows.specs.{MatchResult, None, set, AreSoundWindows, windows, IsStateOf, MayHave};
 
 use cell::{Refusal, WinId};
 use grids::Grids;
@@ -30,21 +30,9 @@ pub fn state_of(table: &Grids, win: WinId) -> Result<WindowState, Refusal>
     })
 }
 
-/// Moves the cursor. The window must exist, have the given state, and hold the place.
-pub fn move_cursor(table: &mut Grids, win: WinId, state: &WindowState, y: u16, x: u16)
-    requires { HasStateAndPlace (windows table.old) win.0 state.now y x }
-    ensures set { windows table.new ≡ set (windows table.old) win.0 (with_cursor (y, x)) }
-    ensures sound { AreSoundWindows (windows table.new) }
-{
-    table.set_cursor(win, y, x);
-}
-
-/// Gives a window these settings, which must be of its size and of the six attributes.
+/// Gives a window these settings.
 pub fn set_settings(table: &mut Grids, win: WinId, settings: Settings)
-    requires cursor { HasPlace (windows table.old).window win.0 settings.cursor.0 settings.cursor.1 }
-    requires region_order { settings.region.0 ≤ settings.region.1 }
-    requires region_end { IsSomeAnd ((windows table.old).window win.0) (λ a. settings.region.1 < a.lines) }
-    requires attributes { bits_of settings.attrs < 64 }
+    requires { MayHave (windows table.old) win.0 settings }
     ensures set { windows table.new ≡ set (windows table.old) win.0 (λ before. settings) }
     ensures sound { AreSoundWindows (windows table.new) }
 {

@@ -1,7 +1,7 @@
--- The tests of the calls that write and copy ensure what their effects require.
-use Rattle.std.specs.Prelude.{◌≡◌}
+-- The tests of the calls that write and copy ensure what their effects require, and given cells are cells.
+use Rattle.std.specs.Prelude.{◌≡◌, ◌∷◌}
 use Rattle.world.specs.{ℕ, true, Some, None, arith, nat_tests, and_le_l, and_le_r, IsCell, is_printable, written_glyph, Window, Windows, AreSettingsWithin, AreSoundWindows, copying_change}
-use Rattle.world.specs.{copying_refusal, writing_edit, writing_refusal}
+use Rattle.world.specs.{copying_refusal, writing_edit, writing_refusal, zero, suc, List, [], map, slice_index_or, blank, Rect, fill_edit, given_cell, put_edit}
 use Rattle.world.proofs.Allowed.{passed}
 use Rattle.world.proofs.Fits.{FitsChange, FitsEdit}
 use Rattle.world.proofs.SoundCells.{IsCell-written, attributes-or, copied-cells, held-cell, overlaid, shown, touched-within}
@@ -26,3 +26,19 @@ fits-writing windows writing sound accepted = grind (arith, nat_tests, passed, a
 
 pub fits-copying : (windows : Windows) (copying : Copying) → AreSoundWindows windows → copying_refusal windows copying ≡ None → FitsChange windows (copying_change windows copying)
 fits-copying windows copying sound accepted = grind (arith, passed, held-cell, overlaid, touched-within, copied-cells)
+
+-- ---- given cells
+
+cell-given : (number : ℕ) → IsCell (given_cell number)
+cell-given number = grind (arith, nat_tests, and_le_r)
+
+cell-listed : (numbers : List ℕ) (k : ℕ) → IsCell (slice_index_or (map given_cell numbers) k blank)
+cell-listed [] k = grind arith
+cell-listed (number ∷ numbers) zero = cell-given number
+cell-listed (number ∷ numbers) (suc k) = cell-listed numbers k
+
+pub fits-fill : (windows : Windows) (w : ℕ) (r : Rect) (number : ℕ) → FitsEdit windows (fill_edit w r number)
+fits-fill windows w r number = let cell = cell-given number in grind arith
+
+pub fits-put : (windows : Windows) (w y x : ℕ) (numbers : List ℕ) → FitsEdit windows (put_edit w y x numbers)
+fits-put windows w y x numbers = grind (arith, (cell-listed numbers))

@@ -43,7 +43,7 @@ pub mod PlaceLaws
 pub mod Fits
 -- that what windows show and drawings have are cells
 pub mod SoundCells
--- that the tests of the calls that write and copy ensure what their effects require
+-- that the tests of the calls that write and copy ensure what their effects require, and that given cells are cells
 pub mod FitsCalls
 -- that edits and marks leave sound windows
 pub mod SoundEdits

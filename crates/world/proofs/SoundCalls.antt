@@ -2,10 +2,11 @@
 use Rattle.std.specs.Prelude.{◌≡◌}
 use Rattle.world.specs.{Some, None, arith, Windows, Panels, window_or_standard, World, AreSoundPanels, AreSoundWindows, IsSound, Change, asks, edits, marks, makes, deletes, moves, shifts, Effect}
 use Rattle.world.specs.{arranges, refreshes, composes, Order, changes, carries, after, after_change, composed_windows, windows_after, effect_of, refusal, world_after}
+use Rattle.world.specs.{Edit, world_edited}
 use Rattle.world.specs.declared.call.Call.{Call}
 use Rattle.world.proofs.Allowed.{sound-panel}
 use Rattle.world.proofs.CallLaws.{IsReady, ready}
-use Rattle.world.proofs.Fits.{FitsChange, FitsEffect, FitsOrder}
+use Rattle.world.proofs.Fits.{FitsChange, FitsEdit, FitsEffect, FitsOrder}
 use Rattle.world.proofs.FitsCalls.{fits-copying, fits-writing}
 use Rattle.world.proofs.Sizes.{size-effect}
 use Rattle.world.proofs.SoundEdits.{sound-edit, sound-marks, sound-unmarked, sound-unmarked_lines}
@@ -49,6 +50,11 @@ module _ (world : World) (sound : IsSound world) where
     pairs = grind arith;
     virtual = let size = size-effect world effect in rw (size.lines, size.columns) (sound-virtual world effect sound fits);
   }
+
+-- ---- an edit alone
+
+pub sound-edited : (world : World) (edit : Edit) → IsSound world → FitsEdit world.windows edit → IsSound (world_edited world edit)
+sound-edited world edit sound fits = sound-effect world sound (arranges (changes (edits edit))) fits tt
 
 -- ---- each call
 

@@ -2,7 +2,7 @@
 -- X/Open Curses Issue 7: addch ("Rendition of characters placed into a window"), clrtoeol, clrtobot, erase, insch,
 -- delch, insertln, deleteln, scrl.
 use Rattle.std.specs.Prelude.{◌+◌, ◌-◌, if◌then◌else◌, ◌==◌, ◌&&◌, ◌||◌}
-use Rattle.world.specs.Names.{ℕ, nat_lt, nat_le, Some, None, bit_or, bits_of, Glyph, Place}
+use Rattle.world.specs.Names.{ℕ, nat_lt, nat_le, Some, None, bit_or, bits_of, Glyph, Place, Rect}
 use Rattle.world.specs.WindowMaps.{Drawing, WindowMap, cell_at}
 use Rattle.world.specs.declared.settings.Settings.{Settings}
 
@@ -43,6 +43,9 @@ to_bottom place glyph y x = if nat_lt place.0 y || (y == place.0 && nat_le place
 
 abbrev pub everywhere : Glyph → Drawing
 everywhere glyph y x = Some glyph
+
+abbrev pub rectangle_filled : Rect → Glyph → Drawing
+rectangle_filled r glyph y x = if (nat_le r.top y && nat_le y r.bottom) && (nat_le r.left x && nat_le x r.right) then Some glyph else None
 
 -- ---- lines
 

@@ -2,6 +2,7 @@ pub mod Rules
 pub mod RefusedCalls
 pub mod Making
 pub mod Writing
+pub mod Given
 pub mod Copying
 pub mod Queries
 pub mod Stacking
@@ -13,6 +14,7 @@ unfoldable pub use Rules.*
 unfoldable pub use RefusedCalls.*
 unfoldable pub use Making.*
 unfoldable pub use Writing.*
+unfoldable pub use Given.*
 unfoldable pub use Copying.*
 unfoldable pub use Queries.*
 unfoldable pub use Stacking.*

@@ -5,6 +5,7 @@ ghost use Rattle.world.specs.{ℕ, false, List, Option, Some, None, IsSome, opti
 ghost use Rattle.world.specs.{is_in_panel, SharesPart, AreSoundPanels, AreSoundWindows, IsSound, World, picture, call_frame, effect_of, is_update_panels, refusal, world_after, affects_line};
 ghost use Rattle.world.specs.{affects_place, change_shows_at, edit_shows_at, frame_shows_at, move_shows_at, order_shows_at, Writes, WritesAt, leads_elsewhere, windows_after_call, after_making};
 ghost use Rattle.world.specs.{has_no_parent, making_change, making_refusal, stacking_order, stacking_refusal, DifferInSettings, Edit, after_edit, edit_drawing, edit_frame, edit_window};
+ghost use Rattle.world.specs.{fill_edit, put_edit, world_edited};
 ghost use Rattle.world.specs.{panels_after, shifted_to, windows_after, with_unmarked, Glyph, shown_at, Drawing, GridPlace, HasPlace, IsWrite, Window, WindowMap, Windows, cell_at, cell_in_grid};
 ghost use Rattle.world.specs.{derives, onward, over, own, put, put_windows};
 ghost use Rattle.world.specs.declared.call.Call.{Call};
@@ -184,7 +185,9 @@ pub fn unmarked_picture()
         → cursor_of_topmost (with_unmarked window ws) panels ≡ cursor_of_topmost window panels }
 {}
 
-/// Each call that isn't refused leaves a sound world sound.
+/// Each call that isn't refused leaves a sound world sound, and so do cells that are given, whatever they are.
 pub fn worlds_stay_sound()
-    ensures { (world : World) (call : Call) → IsSound world → refusal world call ≡ None → IsSound (world_after world call) }
+    ensures called { (world : World) (call : Call) → IsSound world → refusal world call ≡ None → IsSound (world_after world call) }
+    ensures filled { (world : World) (w : ℕ) (r : Rect) (number : ℕ) → IsSound world → IsSound (world_edited world (fill_edit w r number)) }
+    ensures put { (world : World) (w y x : ℕ) (numbers : List ℕ) → IsSound world → IsSound (world_edited world (put_edit w y x numbers)) }
 {}

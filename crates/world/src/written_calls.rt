@@ -165,7 +165,8 @@ pub enum Refresh {
     /// Takes the picture of windows and panels into the virtual screen, with the cursor of the top visible panel's
     /// window, or else of the standard screen.
     UpdatePanels,
-    /// Sends the bytes that show the virtual screen on the terminal: only what changed, or all of it after a clear.
+    /// Sends the bytes that show the virtual screen on the terminal: little more than what changed, or all of it after
+    /// a clear.
     Doupdate,
     /// Gives a colour pair a foreground and a background: 0 black, 1 red, 2 green, 3 yellow, 4 blue, 5 magenta, 6 cyan,
     /// 7 white.

@@ -27,6 +27,8 @@ static void see_closed(void) {
     REFUSED(next_panel(&screen, 0), CLOSED);
     REFUSED(row(&screen, 0, 0, NULL, 0), CLOSED);
     REFUSED(shown_row(&screen, 0, NULL, 0), CLOSED);
+    REFUSED(fill(&screen, 0, 0, 0, 0, 0, 'x'), CLOSED);
+    REFUSED(put(&screen, 0, 0, 0, NULL, 0), CLOSED);
     curspan_invalidate(&screen);
     curspan_close(&screen);
     if (curspan_take(&screen, &byte, 1) != 0 || byte != 7) wrong++;
@@ -198,6 +200,70 @@ static void see_rows(void) {
     if (CURSPAN_FOREGROUND(cells[0]) != 1 || CURSPAN_BACKGROUND(cells[0]) != 4 || CURSPAN_FOREGROUND(cells[2]) != 9) wrong++;
 }
 
+static void want_row(uint32_t win, uint32_t y, const uint32_t *wanted, uint32_t count, const char *what) {
+    uint32_t cells[10];
+    ANSWERS(row(&screen, win, y, cells, 10), count, 0);
+    want_cells(cells, wanted, count, what);
+}
+
+/* A rectangle is refused by the first of its tests, and so is a row. */
+static void see_refused_cells(void) {
+    static const uint32_t bad[2] = {CURSPAN_CELL('x', 0, 64), CURSPAN_CELL(31, 0, 0)};
+    make_windows();
+    REFUSED(fill(&screen, 9, 1, 0, 0, 99, 0), NO_SUCH_WINDOW);
+    REFUSED(fill(&screen, 1, 1, 0, 0, 99, 0), BAD_RECTANGLE);
+    REFUSED(fill(&screen, 1, 0, 2, 99, 1, 0), BAD_RECTANGLE);
+    REFUSED(fill(&screen, 1, 0, 0, 2, 5, 0), OUTSIDE_WINDOW);
+    REFUSED(fill(&screen, 1, 0, 0, 1, 6, 0), OUTSIDE_WINDOW);
+    REFUSED(fill(&screen, 1, 0, 0, 1, 5, CURSPAN_CELL(127, 0, 64)), BAD_CHARACTER);
+    REFUSED(fill(&screen, 1, 0, 0, 1, 5, CURSPAN_CELL('x', 0, 64)), BAD_PAIR);
+    REFUSED(fill(&screen, 65536, 0, 0, 0, 0, 'x'), NO_SUCH_WINDOW);
+    REFUSED(fill(&screen, 1, 0, 0, UINT32_MAX, UINT32_MAX, 'x'), OUTSIDE_WINDOW);
+    REFUSED(put(&screen, 9, 2, 0, bad, 2), NO_SUCH_WINDOW);
+    REFUSED(put(&screen, 1, 2, 0, bad, 2), OUTSIDE_WINDOW);
+    REFUSED(put(&screen, 1, 0, 5, bad, 2), OUTSIDE_WINDOW);
+    REFUSED(put(&screen, 1, 0, 7, NULL, 0), OUTSIDE_WINDOW);
+    REFUSED(put(&screen, 1, 0, 0, bad, 2), BAD_CHARACTER);
+    REFUSED(put(&screen, 1, 0, 0, bad, 1), BAD_PAIR);
+    ANSWERS(is_wintouched(&screen, 1), 0, 0);
+}
+
+/* Cells are written as they are, in windows that share them too, and no cursor moves. */
+static void see_given_cells(void) {
+    enum { A = 5 * 65536 + 0x01 * 256 + 'a', B = 63 * 65536 + 'b' };
+    static const uint32_t given[3] = {CURSPAN_CELL('a', CURSPAN_BOLD, 5), CURSPAN_CELL('b', 0, 63), 'x'};
+    static const uint32_t filled[6] = {' ', ' ', ' ', ' ', A, A};
+    static const uint32_t put[6] = {' ', ' ', A, B, 'x', A};
+    static const uint32_t of_pad[8] = {CURSPAN_CELL('y', 0x21, 0), ' ', ' ', ' ', ' ', ' ', A, B};
+    static const uint32_t shown[10] = {0x09090020, 0x09090020, 0x09090020, 0x09090020, 0x09090161,
+                                       0x09090062, 0x09090078, 0x09090161, 0x09090020, 0x09090020};
+    uint32_t cells[10];
+    make_windows();
+    ANSWERS(wbkgdset(&screen, 1, CURSPAN_DIM, '.'), 0, 0);
+    ANSWERS(wattrset(&screen, 1, CURSPAN_REVERSE), 0, 0);
+    ANSWERS(scrollok(&screen, 1, true), 0, 0);
+    ANSWERS(wmove(&screen, 1, 1, 3), 0, 0);
+    ANSWERS(fill(&screen, 1, 0, 4, 1, 5, given[0]), 0, 0);
+    want_row(1, 0, filled, 6, "a filled line");
+    want_row(1, 1, filled, 6, "the last filled line");
+    want_row(3, 0, &filled[2], 3, "a line of a window that shares cells");
+    ANSWERS(is_wintouched(&screen, 3), 0, 0);
+    ANSWERS(put(&screen, 3, 0, 0, given, 3), 0, 0);
+    want_row(1, 1, put, 6, "a row that was put through a derived window");
+    ANSWERS(getyx(&screen, 1), 1, 3);
+    ANSWERS(getyx(&screen, 3), 0, 0);
+    ANSWERS(put(&screen, 2, 2, 6, given, 2), 0, 0);
+    ANSWERS(fill(&screen, 2, 2, 0, 2, 0, CURSPAN_CELL('y', 0xE1, 0)), 0, 0);
+    want_row(2, 2, of_pad, 8, "a pad's row, whose attributes are of the six");
+    ANSWERS(put(&screen, 2, 0, 8, NULL, 0), 0, 0);
+    ANSWERS(is_linetouched(&screen, 2, 0), 0, 0);
+    curspan_update_panels(&screen);
+    ANSWERS(shown_row(&screen, 2, cells, 10), 10, 0);
+    want_cells(cells, shown, 10, "given cells as they are shown");
+    ANSWERS(fill(&screen, 1, 0, 0, 1, 0, 'z'), 0, 0);
+    ANSWERS(update_panels(&screen), 2, 0);
+}
+
 /* Numbers of more than 16 bits, and characters of more than 8, are refused, and not cut. */
 static void see_too_great(void) {
     make_windows();
@@ -304,6 +370,8 @@ int main(void) {
     see_settings();
     see_kinships();
     see_rows();
+    see_refused_cells();
+    see_given_cells();
     see_too_great();
     see_texts();
     see_bytes();

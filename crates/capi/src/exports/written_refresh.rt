@@ -51,8 +51,8 @@ pub extern "C" fn curspan_update_panels(alloc: Global, screen: &mut Handle) -> A
     screen.call(alloc, &Call::Refresh(Refresh::UpdatePanels))
 }
 
-/// Sends the bytes that show the virtual screen on the terminal: only what changed, or all of it after a clear. It
-/// answers how many they are.
+/// Sends the bytes that show the virtual screen on the terminal: little more than what changed, or all of it after a
+/// clear. It answers how many they are.
 #[rattlefmt::skip]
 #[unsafe(no_mangle)]
 pub extern "C" fn curspan_doupdate(alloc: Global, screen: &mut Handle) -> Answer

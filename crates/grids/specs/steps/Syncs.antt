@@ -1,6 +1,6 @@
 -- What one window shows of what is touched of another, in lines and columns.
 use Rattle.std.specs.Prelude.{◌+◌, ◌-◌, ◌≤◌, if◌then◌else◌, ◌&&◌}
-use Rattle.grids.specs.Names.{ℕ, Bool, false, nat_lt, nat_le, Option, Some, None, IsSomeAnd, option_map_or, Place, LARGEST_PAD, Backing, own_grid, part_of, Window, WindowMap, among}
+use Rattle.grids.specs.Names.{ℕ, Bool, true, false, nat_lt, nat_le, Option, Some, None, IsSomeAnd, option_map_or, Place, LARGEST_PAD, WinId, Backing, own_grid, part_of, Window, WindowMap, among, Copying, Syncdown, Syncup}
 use Rattle.grids.specs.declared.slot.Part.{Part}
 
 -- the line is the window's, and the column is touched there
@@ -27,3 +27,8 @@ EndsWithin window w p = IsSomeAnd (window w) (λ a. (p.0 + a.lines ≤ LARGEST_P
 abbrev pub part_in_parent : Backing → Option Part
 part_in_parent (own_grid cells) = None
 part_in_parent (part_of parent line column) = Some (record { parent = parent; line = line; column = column })
+
+-- a window is synchronized with its ancestors, upwards or downwards
+abbrev pub syncing : Bool → WinId → Copying
+syncing false win = Syncup win
+syncing true win = Syncdown win

@@ -1,6 +1,6 @@
 -- What a call reads of its window first.
 use Rattle.std.specs.Prelude.{◌≡◌, ◌<◌, ◌≤◌}
-use Rattle.windows.specs.Names.{ℕ, Some, None, IsSome, LARGEST_PAD, Window, Windows, own, blank_grid, AreSettingsWithin, AreSoundWindows}
+use Rattle.windows.specs.Names.{ℕ, Some, None, IsSome, IsSomeAnd, LARGEST_PAD, Window, Windows, own, blank_grid, AreSettingsWithin, AreSoundWindows, Settings}
 use Rattle.windows.specs.declared.state.WindowState.{WindowState}
 
 -- window w is there with this size and these settings, and all windows are sound
@@ -17,6 +17,10 @@ pub record IsStateOf (windows : Windows) (w : ℕ) (state : WindowState) : Type 
   pub within : AreSettingsWithin state.lines state.columns state.settings
   pub chain_ends : IsSome (own windows.window w 0 0)
   pub sound : AreSoundWindows windows
+
+-- window w is there and may have these settings
+abbrev pub MayHave : Windows → ℕ → Settings → Type 0
+MayHave windows w settings = IsSomeAnd (windows.window w) (λ a. AreSettingsWithin a.lines a.columns settings)
 
 -- a window with this size and these settings
 abbrev pub window_in_state : WindowState → Window

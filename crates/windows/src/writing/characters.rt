@@ -7,7 +7,7 @@ ghost use Rattle.windows.specs.{CharacterPrinted, HasStateAndPlace, StepWrote, T
 
 use crate::drawing::{clear_rest, delete_cell, insert_cell, move_up, set_cell};
 use crate::frame::lines_from;
-use crate::state::{WindowState, move_cursor, state_of};
+use crate::state::{WindowState, state_of};
 use crate::table::Windows;
 use bitflags::Flags;
 use cell::{Cell, PairId, Rect, Refusal, WinId, are_printable, is_printable};
@@ -205,6 +205,7 @@ fn is_bad_character(ch: u8) -> bool
 }
 
 /// Writes an accepted character. The window must exist and have the given state.
+#[tactic(auto, using(crate::proofs::States::has_place))]
 fn type_character(table: &mut Grids, win: WinId, state: &WindowState, ch: u8) -> Option<Rect>
     requires state { IsStateOf (windows table.old) win.0 state.now }
     requires accepted { is_bad_character ch ≡ false }
@@ -216,11 +217,11 @@ fn type_character(table: &mut Grids, win: WinId, state: &WindowState, ch: u8) ->
         return end_line(table, win, state);
     }
     if ch == CARRIAGE_RETURN {
-        move_cursor(table, win, state, y, 0);
+        table.set_cursor(win, y, 0);
         return None;
     }
     if ch == BACKSPACE {
-        move_cursor(table, win, state, y, x.saturating_sub(1));
+        table.set_cursor(win, y, x.saturating_sub(1));
         return None;
     }
     print(table, win, state, ch)
@@ -267,6 +268,7 @@ fn end_line(table: &mut Grids, win: WinId, state: &WindowState) -> Option<Rect>
 }
 
 /// Goes to the next line, or scrolls the region; at the end of a last line the cursor goes to the place (y, x) instead.
+#[tactic(auto, using(crate::proofs::States::has_place))]
 fn to_next_line(table: &mut Grids, win: WinId, state: &WindowState, y: u16, x: u16) -> Option<Rect>
     requires { HasStateAndPlace (windows table.old) win.0 state.now y x }
     ensures { StepWrote (to_next_line (windows table.old) win.0 (window_in_state state.now) (y, x))
@@ -276,14 +278,14 @@ fn to_next_line(table: &mut Grids, win: WinId, state: &WindowState, y: u16, x: u
     let (top, bottom) = state.settings.region;
     if state.settings.scrolling && line == bottom {
         move_up(table, win, state, top, bottom, 1);
-        move_cursor(table, win, state, line, 0);
+        table.set_cursor(win, line, 0);
         return Some(lines_from(state, top, bottom, 0));
     }
     if line == bottom || line + 1 == state.lines {
-        move_cursor(table, win, state, y, x);
+        table.set_cursor(win, y, x);
         return None;
     }
-    move_cursor(table, win, state, line + 1, 0);
+    table.set_cursor(win, line + 1, 0);
     None
 }
 

@@ -4,7 +4,7 @@ ghost use Rattle.windows.specs.{Writing, Wrote, its_frame};
 
 use crate::drawing::{clear_all, clear_below, clear_rest, move_down, move_up};
 use crate::frame::lines_from;
-use crate::state::{move_cursor, set_settings, state_of};
+use crate::state::{set_settings, state_of};
 use crate::table::Windows;
 use cell::{Rect, Refusal, WinId};
 use world::Settings;
@@ -19,7 +19,7 @@ impl Windows {
     {
         let state = state_of(&self.table, win)?;
         clear_all(&mut self.table, win, &state);
-        move_cursor(&mut self.table, win, &state, 0, 0);
+        self.table.set_cursor(win, 0, 0);
         Ok(Some(lines_from(&state, 0, state.lines - 1, 0)))
     }
 

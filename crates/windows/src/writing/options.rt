@@ -1,142 +1,67 @@
-//! The cursor, the attributes, the colours and the background of a window, and whether it asks for a clear screen.
+//! The cursor, the attributes, the colours and the background of a window, its region, and whether it scrolls and asks
+//! for a clear screen.
 
-ghost use Rattle.windows.specs.{Writing, Wrote, no_frame};
+ghost use Rattle.std.specs.Prelude.{◌≡◌};
+ghost use Rattle.windows.specs.{None, Some, IfOk, MatchResult, AreSoundWindows, set, after_edit, writing_edit, writing_refusal, windows, IsSetting, MayHave, Wrote, no_frame};
 
-use crate::state::{move_cursor, set_settings, state_of};
+use crate::state::{set_settings, state_of};
 use crate::table::Windows;
 use bitflags::Flags;
-use cell::{Attr, Cell, PairId, Refusal, WinId};
-use world::Settings;
+use cell::{Cell, PairId, Refusal, WinId};
+use grids::Grids;
+use world::{Settings, Writing};
 
-#[tactic(auto, using(crate::proofs::States::of_the_six))]
 impl Windows {
-    /// Moves the cursor to line `y` and column `x`.
+    /// Makes a call that sets how a window is written in.
     ///
     /// # Errors
-    /// `NoSuchWindow`; `OutsideWindow` for a place that the window hasn't.
-    pub fn wmove(&mut self, win: WinId, y: u16, x: u16) -> Result<(), Refusal>
-        ensures { Wrote no_frame self.old.table (Writing.Move win y x) result self.new.table }
+    /// `NoSuchWindow`, `OutsideWindow`, `BadRegion`, `BadCharacter`, `BadPair`.
+    pub fn set(&mut self, win: WinId, writing: Writing<'_>) -> Result<(), Refusal>
+        requires { IsSetting win.0 (writing_edit (windows self.old.table) writing) }
+        ensures { Wrote no_frame self.old.table writing.entry result self.new.table }
     {
-        let state = state_of(&self.table, win)?;
-        if y >= state.lines || x >= state.columns {
-            return Err(Refusal::OutsideWindow);
+        let settings = settings_by(&self.table, win, writing)?;
+        set_settings(&mut self.table, win, settings);
+        Ok(())
+    }
+}
+
+/// The settings of a window after a call that sets how it is written in.
+#[rattlefmt::skip]
+#[tactic(auto, using(crate::proofs::States::of_the_six))]
+fn settings_by(table: &Grids, win: WinId, writing: Writing<'_>) -> Result<Settings, Refusal>
+    requires { IsSetting win.0 (writing_edit (windows table.now) writing) }
+    ensures within { IfOk result (MayHave (windows table.now) win.0) }
+    ensures made { MatchResult result
+        (λ made. (writing_refusal (windows table.now) writing.entry ≡ None)
+        × (set (windows table.now) win.0 (λ before. made) ≡ after_edit (windows table.now) (writing_edit (windows table.now) writing.entry)))
+        (λ refusal. writing_refusal (windows table.now) writing.entry ≡ Some refusal) }
+    ensures sound { AreSoundWindows (windows table.now) }
+{
+    let state = state_of(table, win)?;
+    let settings = state.settings;
+    let background = settings.background;
+    match writing {
+        Writing::Move { y, x, .. } => {
+            if y >= state.lines || x >= state.columns {
+                return Err(Refusal::OutsideWindow);
+            }
+            Ok(Settings { cursor: (y, x), ..settings })
         }
-        move_cursor(&mut self.table, win, &state, y, x);
-        Ok(())
-    }
-
-    /// Sets whether the window asks for a clear screen where it is next taken into the virtual screen.
-    ///
-    /// # Errors
-    /// `NoSuchWindow`.
-    pub fn clearok(&mut self, win: WinId, flag: bool) -> Result<(), Refusal>
-        ensures { Wrote no_frame self.old.table (Writing.Clearok win flag) result self.new.table }
-    {
-        let state = state_of(&self.table, win)?;
-        let settings = Settings {
-            clear: flag,
-            ..state.settings
-        };
-        set_settings(&mut self.table, win, settings);
-        Ok(())
-    }
-
-    /// Sets the window's attributes.
-    ///
-    /// # Errors
-    /// `NoSuchWindow`.
-    pub fn wattrset(&mut self, win: WinId, attrs: Attr) -> Result<(), Refusal>
-        ensures { Wrote no_frame self.old.table (Writing.Attrset win attrs) result self.new.table }
-    {
-        let state = state_of(&self.table, win)?;
-        let settings = Settings {
-            attrs: attrs.valid_attributes(),
-            ..state.settings
-        };
-        set_settings(&mut self.table, win, settings);
-        Ok(())
-    }
-
-    /// Adds attributes to the window's.
-    ///
-    /// # Errors
-    /// `NoSuchWindow`.
-    pub fn wattron(&mut self, win: WinId, attrs: Attr) -> Result<(), Refusal>
-        ensures { Wrote no_frame self.old.table (Writing.Attron win attrs) result self.new.table }
-    {
-        let state = state_of(&self.table, win)?;
-        let settings = Settings {
-            attrs: state.settings.attrs.union(attrs.valid_attributes()),
-            ..state.settings
-        };
-        set_settings(&mut self.table, win, settings);
-        Ok(())
-    }
-
-    /// Takes attributes from the window's.
-    ///
-    /// # Errors
-    /// `NoSuchWindow`.
-    pub fn wattroff(&mut self, win: WinId, attrs: Attr) -> Result<(), Refusal>
-        ensures { Wrote no_frame self.old.table (Writing.Attroff win attrs) result self.new.table }
-    {
-        let state = state_of(&self.table, win)?;
-        let settings = Settings {
-            attrs: state.settings.attrs.difference(attrs.valid_attributes()),
-            ..state.settings
-        };
-        set_settings(&mut self.table, win, settings);
-        Ok(())
-    }
-
-    /// Sets the window's background to a character with attributes, of pair 0.
-    ///
-    /// # Errors
-    /// `NoSuchWindow`; `BadCharacter` for a character outside 32 to 126.
-    pub fn wbkgdset(&mut self, win: WinId, attrs: Attr, ch: u8) -> Result<(), Refusal>
-        ensures { Wrote no_frame self.old.table (Writing.Bkgdset win attrs ch) result self.new.table }
-    {
-        let state = state_of(&self.table, win)?;
-        let background = Cell::new(ch, attrs, 0).ok_or(Refusal::BadCharacter)?;
-        let settings = Settings {
-            background,
-            ..state.settings
-        };
-        set_settings(&mut self.table, win, settings);
-        Ok(())
-    }
-
-    /// Sets the window's colour pair.
-    ///
-    /// # Errors
-    /// `NoSuchWindow`; `BadPair` for a number past `LAST_PAIR`.
-    pub fn wcolor_set(&mut self, win: WinId, pair: u16) -> Result<(), Refusal>
-        ensures { Wrote no_frame self.old.table (Writing.ColorSet win pair) result self.new.table }
-    {
-        let state = state_of(&self.table, win)?;
-        let pair = PairId::new(pair).ok_or(Refusal::BadPair)?;
-        let settings = Settings {
-            pair,
-            ..state.settings
-        };
-        set_settings(&mut self.table, win, settings);
-        Ok(())
-    }
-
-    /// Sets the colour pair of the window's background.
-    ///
-    /// # Errors
-    /// `NoSuchWindow`; `BadPair` for a number past `LAST_PAIR`.
-    pub fn wbkgdpair(&mut self, win: WinId, pair: u16) -> Result<(), Refusal>
-        ensures { Wrote no_frame self.old.table (Writing.Bkgdpair win pair) result self.new.table }
-    {
-        let state = state_of(&self.table, win)?;
-        let pair = PairId::new(pair).ok_or(Refusal::BadPair)?;
-        let settings = Settings {
-            background: state.settings.background.with_pair(pair),
-            ..state.settings
-        };
-        set_settings(&mut self.table, win, settings);
-        Ok(())
+        Writing::Setscrreg { top, bottom, .. } => {
+            if bottom < top || state.lines <= bottom {
+                return Err(Refusal::BadRegion);
+            }
+            Ok(Settings { region: (top, bottom), ..settings })
+        }
+        Writing::Scrollok { flag, .. } => Ok(Settings { scrolling: flag, ..settings }),
+        Writing::Clearok { flag, .. } => Ok(Settings { clear: flag, ..settings }),
+        Writing::Attrset { attrs, .. } => Ok(Settings { attrs: attrs.valid_attributes(), ..settings }),
+        Writing::Attron { attrs, .. } => Ok(Settings { attrs: settings.attrs.union(attrs.valid_attributes()), ..settings }),
+        Writing::Attroff { attrs, .. } => Ok(Settings { attrs: settings.attrs.difference(attrs.valid_attributes()), ..settings }),
+        Writing::Bkgdset { attrs, ch, .. } => Ok(Settings { background: Cell::new(ch, attrs, 0).ok_or(Refusal::BadCharacter)?, ..settings }),
+        Writing::ColorSet { pair, .. } => Ok(Settings { pair: PairId::new(pair).ok_or(Refusal::BadPair)?, ..settings }),
+        Writing::Bkgdpair { pair, .. } => Ok(Settings { background: background.with_pair(PairId::new(pair).ok_or(Refusal::BadPair)?), ..settings }),
+        _ => unreachable!(),
     }
 }

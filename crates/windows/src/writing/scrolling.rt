@@ -1,14 +1,13 @@
-//! The scroll region of a window.
+//! Scrolling.
 
-ghost use Rattle.windows.specs.{frame_of, scrl_drawing, put, Writing, windows, Wrote, its_frame, no_frame, IsStateOf, window_in_state, StepWrote};
+ghost use Rattle.windows.specs.{frame_of, scrl_drawing, put, Writing, windows, Wrote, its_frame, IsStateOf, window_in_state, StepWrote};
 
 use crate::drawing::{move_down, move_up};
 use crate::frame::lines_from;
-use crate::state::{WindowState, set_settings, state_of};
+use crate::state::{WindowState, state_of};
 use crate::table::Windows;
 use cell::{Rect, Refusal, WinId};
 use grids::Grids;
-use world::Settings;
 
 impl Windows {
     /// Moves the lines of the scroll region up by `n`, or down by `-n` for a negative one. Lines that come from outside
@@ -24,41 +23,6 @@ impl Windows {
             return Err(Refusal::ScrollingOff);
         }
         Ok(scroll(&mut self.table, win, &state, n))
-    }
-
-    /// Sets the scroll region to the lines from `top` to `bot`, both inclusive.
-    ///
-    /// # Errors
-    /// `NoSuchWindow`; `BadRegion` if `top` is after `bot` or `bot` outside the window.
-    pub fn wsetscrreg(&mut self, win: WinId, top: u16, bot: u16) -> Result<(), Refusal>
-        ensures { Wrote no_frame self.old.table (Writing.Setscrreg win top bot) result self.new.table }
-    {
-        let state = state_of(&self.table, win)?;
-        if bot < top || state.lines <= bot {
-            return Err(Refusal::BadRegion);
-        }
-        let settings = Settings {
-            region: (top, bot),
-            ..state.settings
-        };
-        set_settings(&mut self.table, win, settings);
-        Ok(())
-    }
-
-    /// Sets whether the window scrolls where the cursor leaves the last line of its region.
-    ///
-    /// # Errors
-    /// `NoSuchWindow`.
-    pub fn scrollok(&mut self, win: WinId, flag: bool) -> Result<(), Refusal>
-        ensures { Wrote no_frame self.old.table (Writing.Scrollok win flag) result self.new.table }
-    {
-        let state = state_of(&self.table, win)?;
-        let settings = Settings {
-            scrolling: flag,
-            ..state.settings
-        };
-        set_settings(&mut self.table, win, settings);
-        Ok(())
     }
 }
 

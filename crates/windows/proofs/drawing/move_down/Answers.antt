@@ -1,25 +1,22 @@
--- Each round takes one line more from above, from the last on.
-use Rattle.std.specs.Prelude.{◌≡◌, ◌+◌, ◌-◌}
-use Rattle.windows.specs.{arith}
-use Rattle.windows.proofs.LinesDown.{down_started, down_more, down_ended}
+-- The lines that stay in the region are copied, and each round clears one line more of those above them.
+use Rattle.std.specs.Prelude.{◌-◌}
+use Rattle.windows.specs.{arith, rules}
+use Rattle.windows.proofs.States.{state-written}
+use Rattle.windows.proofs.LinesDown.{down_moved, down_cleared, down_ended}
 use Rattle.windows.proofs.drawing.move_down.Goals as goal
 
-pub loop-moved-init : goal.loop-moved-init
-loop-moved-init c = record {
-  moved = grind (arith, (down_started _ _ _ c.requires.state c.args.top c.args.bottom c.args.n c.args.state.now.settings.background c.requires.ordered c.requires.lines));
-  state = c.requires.state;
+pub loop-line-init : goal.loop-line-init
+loop-line-init c = record {
+  moved = down_moved _ _ _ c.requires.state _ _ _ _ c.requires.ordered c.requires.lines _ _ c.min-cleared.ensures c.copy_rectangle.ensures.copied.written;
+  state = search (rules, state-written);
 }
 
-pub loop-moved-preserved : goal.loop-moved-preserved
-loop-moved-preserved c =
-    let k = c.args.bottom - c.loop-moved.moved in
-    let was : c.args.bottom + 1 - c.loop-moved.moved ≡ k + 1 = omega arith in
-    let next : c.args.bottom + 1 - (c.loop-moved.moved + 1) ≡ k = omega arith in
-    record {
-      moved = rw next (down_more _ _ _ c.requires.state _ _ _ _ c.requires.ordered c.requires.lines k _ _ (omega arith) (omega arith) (rw was at c.loop-moved.invariant.moved)
-          c.take_above.ensures.taken c.take_above.ensures.cleared);
-      state = c.take_above.ensures.state;
-    }
+pub loop-line-preserved : goal.loop-line-preserved
+loop-line-preserved c = record {
+  moved = down_cleared _ _ _ c.requires.state _ _ _ _ c.requires.ordered c.requires.lines c.min-cleared.result (c.loop-line.line - 1) c.loop-line.line _ _ c.min-cleared.ensures (omega arith) (omega arith) (omega arith)
+      c.loop-line.invariant.moved c.fill.ensures.written;
+  state = search (rules, state-written);
+}
 
 pub returns : goal.returns
-returns c = record { written = grind (arith, down_ended); state = c.loop-moved.invariant.state }
+returns c = record { written = down_ended _ _ _ c.requires.state _ _ _ _ c.requires.ordered c.requires.lines _ _ (omega arith) c.loop-line.invariant.moved; state = c.loop-line.invariant.state }

@@ -10,7 +10,7 @@ use Rattle.compose.proofs.desk.Desk.refresh_pad.Goals as goal
 
 abbrev new : goal.After-self-1 → DeskTable
 new c = record (the_view c.self.inside) {
-  windows = c.unmark_lines.new.windows.table;
+  windows = c.unmark_lines.new.self;
   virtual = record { picture = c.show_rectangle.new.picture.cells; cursor = c.self.inside.cursor; clear = c.self.inside.clear || c.unmark_lines.result };
   changes = c.show_rectangle.new.picture.changes;
   damage = c.damage_part.new.damage;

@@ -1,16 +1,15 @@
 use Rattle.std.specs.Prelude.{◌≡◌, ◌≤◌}
-use Rattle.picture.specs.{MatchOption, ⊤, true, AllByRecursion, is_no_pad, panels, AreInside}
+use Rattle.picture.specs.{MatchOption, ⊤, true, AllByRecursion, is_no_pad, panels}
 use Rattle.picture.proofs.OwnerLaws.{AreLaid}
 use Rattle.picture.proofs.owners.Owners.find.Given as goal
 
--- the panels before those that are left are laid over the line, and the windows of these are there
+-- the panels before those that are left are laid in the line, and the windows of these are there
 abbrev pub invariant-loop-panel : goal.invariant-loop-panel
 invariant-loop-panel g l = record {
   can_next : (goal.iterator-loop-panel g).can_next l.panel-iterator;
   is_finite : (goal.iterator-loop-panel g).is_finite l.panel-iterator;
   there : AllByRecursion (λ p. MatchOption ((panels l.stack).window p) ⊤ (λ w. is_no_pad (g.R.Rows.windows l.rows).window w ≡ true)) l.panel-iterator;
-  inside : AreInside l.self.spans;
   top : l.self.top ≡ l.y;
   begun : l.y ≤ l.self.bottom;
-  laid : AreLaid (g.R.Rows.windows l.rows).window (panels l.stack) l.y l.self.bottom l.panel-iterator l.self.spans;
+  laid : AreLaid (g.R.Rows.windows l.rows).window (panels l.stack) l.panel-iterator l.self;
 }

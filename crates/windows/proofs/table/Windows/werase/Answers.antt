@@ -6,5 +6,5 @@ use Rattle.windows.proofs.table.Windows.werase.Goals as goal
 
 pub returns : goal.returns
 returns c =
-    drew (search rules) (erased _ _ _ c.in_ok-state.ensures.state _ _ c.clear_all.ensures.written c.move_cursor.ensures.set)
+    drew (search rules) (erased _ _ _ c.in_ok-state.ensures.state _ _ c.clear_all.ensures.written c.set_cursor.ensures.set)
     (erased_frame _ _ _ c.in_ok-state.ensures.state _ c.lines_from.ensures) (search rules)

@@ -8,7 +8,7 @@ pub returns-then-line-bottom : goal.returns-then-line-bottom
 returns-then-line-bottom c = record {
   written = search (rules, scrolled);
   frame = scrolled_frame _ _ _ c.requires.state _ c.if-state.true c.if-line-bottom.true c.lines_from.ensures;
-  sound = c.move_cursor.ensures.sound;
+  sound = c.set_cursor.ensures.sound;
 }
 
 pub returns-then-line-bottom-2 : goal.returns-then-line-bottom-2
@@ -18,7 +18,7 @@ returns-then-line-bottom-2 c =
     record {
       written = grind (arith, nat_tests);
       frame = not_scrolled_frame _ _ _ c.requires.state off;
-      sound = c.move_cursor-then-line-bottom-2.ensures.sound;
+      sound = c.set_cursor-then-line-bottom-2.ensures.sound;
     }
 
 pub returns : goal.returns
@@ -28,5 +28,5 @@ returns c =
     record {
       written = grind (arith, nat_tests);
       frame = not_scrolled_frame _ _ _ c.requires.state off;
-      sound = c.move_cursor-2.ensures.sound;
+      sound = c.set_cursor-2.ensures.sound;
     }

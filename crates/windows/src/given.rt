@@ -1,0 +1,151 @@
+//! Cells that a program gives as numbers, written as they are.
+
+ghost use Rattle.std.specs.Prelude.{◌≡◌, ◌+◌, ◌≤◌, ◌<◌, ◌&&◌};
+ghost use Rattle.windows.specs.{length, list_any, map, nat_le, nat_lt, first_of, edits, fill_edit, fill_tests, put_edit, put_tests, given_cell, gives_no_character, gives_no_pair, listed_cells};
+ghost use Rattle.windows.specs.{windows, Drew, its_frame, IsStateOf, DrewInState};
+
+use crate::state::{WindowState, state_of};
+use crate::table::Windows;
+use bitflags::Flags;
+use cell::{Attr, Cell, LAST_PAIR, Rect, Refusal, WinId, is_printable};
+use grids::Grids;
+
+/// How many cells are held at most while they are put.
+const PIECE: usize = 64;
+
+impl Windows {
+    /// Sets the cells of a rectangle of a window to one cell.
+    ///
+    /// # Errors
+    /// `NoSuchWindow`; `BadRectangle` if a last line or column comes before its first; `OutsideWindow` if the rectangle
+    /// isn't in the window; `BadCharacter` for a character outside 32 to 126; `BadPair` for a pair past `LAST_PAIR`.
+    pub fn fill(&mut self, win: WinId, rect: Rect, number: u32) -> Result<Option<Rect>, Refusal>
+        ensures { Drew its_frame self.old.table (first_of (fill_tests (windows self.old.table) win.0 rect number))
+            (edits (fill_edit win.0 rect number)) result self.new.table }
+    {
+        let state = state_of(&self.table, win)?;
+        if rect.bottom < rect.top || rect.right < rect.left {
+            return Err(Refusal::BadRectangle);
+        }
+        if rect.bottom >= state.lines || rect.right >= state.columns {
+            return Err(Refusal::OutsideWindow);
+        }
+        if gives_no_character(number) {
+            return Err(Refusal::BadCharacter);
+        }
+        if gives_no_pair(number) {
+            return Err(Refusal::BadPair);
+        }
+        self.table.fill_rectangle(win, rect, given_cell(number));
+        Ok(Some(rect))
+    }
+
+    /// Puts cells into line `y` of a window, from column `x` on.
+    ///
+    /// # Errors
+    /// `NoSuchWindow`; `OutsideWindow` if the window hasn't line `y`, or not so many columns from `x` on;
+    /// `BadCharacter` for a character outside 32 to 126; `BadPair` for a pair past `LAST_PAIR`.
+    pub fn put(
+        &mut self,
+        win: WinId,
+        y: u16,
+        x: u16,
+        numbers: &[u32],
+    ) -> Result<Option<Rect>, Refusal>
+        ensures { Drew its_frame self.old.table (first_of (put_tests (windows self.old.table) win.0 y x numbers.now))
+            (edits (put_edit win.0 y x numbers.now)) result self.new.table }
+    {
+        let state = state_of(&self.table, win)?;
+        if !has_row(&state, y, x, numbers.len()) {
+            return Err(Refusal::OutsideWindow);
+        }
+        if some_give_no_character(numbers) {
+            return Err(Refusal::BadCharacter);
+        }
+        if some_give_no_pair(numbers) {
+            return Err(Refusal::BadPair);
+        }
+        if numbers.is_empty() {
+            return Ok(None);
+        }
+        put_cells(&mut self.table, win, &state, y, x, numbers);
+        Ok(Some(Rect {
+            top: y,
+            left: x,
+            bottom: y,
+            right: x + numbers.len() as u16 - 1,
+        }))
+    }
+}
+
+/// Whether a window has a line, and so many columns from a first one on.
+fn has_row(state: &WindowState, y: u16, x: u16, n: usize) -> bool
+    ensures { result ≡ (nat_lt y state.now.lines && nat_le (x + n) state.now.columns) }
+{
+    y < state.lines && x <= state.columns && n <= usize::from(state.columns - x)
+}
+
+/// Whether a number has a character that no cell has.
+fn gives_no_character(number: u32) -> bool
+    ensures { result ≡ gives_no_character number }
+{
+    !is_printable((number % 256) as u8)
+}
+
+/// Whether a number has a pair that no cell has.
+fn gives_no_pair(number: u32) -> bool
+    ensures { result ≡ gives_no_pair number }
+{
+    number / 65_536 > u32::from(LAST_PAIR)
+}
+
+fn some_give_no_character(numbers: &[u32]) -> bool
+    ensures { result ≡ list_any gives_no_character numbers.now }
+{
+    numbers.iter().any(|number| gives_no_character(*number))
+}
+
+fn some_give_no_pair(numbers: &[u32]) -> bool
+    ensures { result ≡ list_any gives_no_pair numbers.now }
+{
+    numbers.iter().any(|number| gives_no_pair(*number))
+}
+
+/// The cell that a number gives.
+fn given_cell(number: u32) -> Cell
+    ensures { result ≡ given_cell number }
+{
+    let attrs = Attr::from_bits_retain((number / 256 % 256) as u8);
+    Cell::new((number % 256) as u8, attrs, (number / 65_536) as u16).unwrap_or(Cell::BLANK)
+}
+
+/// Puts cells into a line, some at a time. The window must exist and have the given state and the places.
+fn put_cells(table: &mut Grids, win: WinId, state: &WindowState, y: u16, x: u16, numbers: &[u32])
+    requires state { IsStateOf (windows table.old) win.0 state.now }
+    requires line { y < state.now.lines }
+    requires columns { x + length numbers.now ≤ state.now.columns }
+    ensures { DrewInState (windows table.old) win.0 state.now (listed_cells y x (map given_cell numbers.now)) (windows table.new) }
+{
+    let mut done = 0;
+    while done < numbers.len() {
+        let end = (done + PIECE).min(numbers.len());
+        put_piece(table, win, state, y, x + done as u16, &numbers[done..end]);
+        done = end;
+    }
+}
+
+/// Puts a few cells into a line.
+fn put_piece(table: &mut Grids, win: WinId, state: &WindowState, y: u16, x: u16, numbers: &[u32])
+    requires state { IsStateOf (windows table.old) win.0 state.now }
+    requires line { y < state.now.lines }
+    requires columns { x + length numbers.now ≤ state.now.columns }
+    requires some { 0 < length numbers.now }
+    requires few { length numbers.now ≤ PIECE }
+    ensures { DrewInState (windows table.old) win.0 state.now (listed_cells y x (map given_cell numbers.now)) (windows table.new) }
+{
+    let mut held = [Cell::BLANK; PIECE];
+    for k in 0..numbers.len() {
+        held[k] = given_cell(numbers[k]);
+    }
+    table.put(win, y, x, &held[..numbers.len()]);
+}
