@@ -86,16 +86,19 @@ static chtype on_other(chtype cell, chtype old, chtype new) {
 }
 
 int wbkgd(WINDOW *win, chtype ch) {
-    chtype cells[LONGEST];
+    uint32_t row[LONGEST], before = 0, after = 0;
     if (is_there(win) == ERR) return ERR;
     chtype old = win->background;
     ch = curspan_as_drawn(ch);
     if (with_character(ch) == old) return OK;
     if (change_background(win, ch) == ERR || set(win, ch) == ERR) return ERR;
-    for (int y = 0; y < (int)win->lines; y++) {
-        int count = curspan_read_cells(win, y, 0, cells, -1);
-        for (int i = 0; i < count; i++) cells[i] = on_other(cells[i], old, win->background);
-        if (curspan_put_cells(win, y, 0, cells, count) == ERR) return ERR;
+    for (uint32_t y = 0; y < win->lines; y++) {
+        uint32_t count = (uint32_t)first_of(curspan_row(DRAWN_AND(win), y, row, LONGEST));
+        for (uint32_t x = 0; x < count; row[x++] = after) {
+            if (row[x] == before) continue;
+            before = row[x], after = curspan_written(on_other(curspan_read(before), old, win->background));
+        }
+        if (done(curspan_put(DRAWN_AND(win), y, 0, row, count)) == ERR) return ERR;
     }
     return curspan_changed(win, OK);
 }

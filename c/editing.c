@@ -30,14 +30,13 @@ static void append_byte(WINDOW *win, row *row, uint8_t byte, attr_t attrs) {
 }
 
 /* Inserts a row at the cursor, and leaves the cursor behind it, or in the last column. */
-static int insert_row(WINDOW *win, row *row) {
-    uint32_t line[LONGEST], y = (uint32_t)getcury(win), from = (uint32_t)row->from;
-    size_t columns = (size_t)row->columns, kept = columns - (size_t)row->to;
-    if (row->to == row->from) return OK;
-    curspan_row(DRAWN_AND(win), y, line, columns);
-    memcpy(row->cells + row->to, line + from, kept * sizeof *line);
-    if (done(curspan_put(DRAWN_AND(win), y, from, row->cells + from, columns - from)) == ERR) return ERR;
-    curspan_wait_at(win, (int)y, least(row->to, row->columns - 1));
+static int insert_row(WINDOW *win, const row *row) {
+    uint16_t y = (uint16_t)getcury(win), from = (uint16_t)row->from, to = (uint16_t)row->to;
+    uint16_t last = (uint16_t)(row->columns - 1);
+    if (to == from) return OK;
+    if (to <= last && done(curspan_copywin(DRAWN_AND(win), win->number, y, from, y, to, y, last, false)) == ERR) return ERR;
+    if (done(curspan_put(DRAWN_AND(win), y, from, row->cells + from, to - from)) == ERR) return ERR;
+    curspan_wait_at(win, y, least(to, last));
     return OK;
 }
 
@@ -57,7 +56,8 @@ static int insert(WINDOW *win, const uint8_t *text, size_t length, attr_t attrs)
     bool is_behind = false, has_ended = win->has_ended;
     for (size_t i = 0; i < length && answer == OK;) {
         int from = is_behind ? columns : getcurx(win);
-        row row = {.from = from, .to = from, .columns = columns};
+        row row; /* its cells are not cleared */
+        row.from = row.to = from, row.columns = columns;
         for (; i < length && (win->begun.count > 0 || !moves_cursor(text[i])); i++) append_byte(win, &row, text[i], attrs);
         answer = insert_row(win, &row);
         if (i == length) break;

@@ -218,4 +218,12 @@ static inline int first_of(curspan_answer answer) { return answer.status == CURS
 static inline int second_of(curspan_answer answer) { return answer.status == CURSPAN_OK ? (int)answer.second : ERR; }
 static inline bool is_so(curspan_answer answer) { return first_of(answer) == 1; }
 
+/* A cell of curspan.h as one here, and one here as curspan.h has it where it is drawn. */
+static inline chtype curspan_read(uint32_t cell) {
+    return CURSPAN_PAIR(cell) ? (cell & ~A_COLOR) | curspan_attributes_of(CURSPAN_PAIR(cell)) : cell;
+}
+static inline uint32_t curspan_written(chtype cell) {
+    return cell & ~A_CHARTEXT ? curspan_own(curspan_as_drawn(cell)) : cell;
+}
+
 #endif

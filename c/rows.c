@@ -3,12 +3,8 @@
 
 int curspan_put_cells(WINDOW *win, int y, int x, const chtype *cells, int n) {
     uint32_t row[LONGEST];
-    for (int i = 0; i < n; i++) row[i] = cells[i] & ~A_CHARTEXT ? curspan_own(curspan_as_drawn(cells[i])) : cells[i];
+    for (int i = 0; i < n; i++) row[i] = curspan_written(cells[i]);
     return done(curspan_put(DRAWN_AND(win), (uint32_t)y, (uint32_t)x, row, (size_t)most(n, 0)));
-}
-
-static inline chtype cell_of(uint32_t cell) {
-    return CURSPAN_PAIR(cell) ? (cell & ~A_COLOR) | curspan_attributes_of(CURSPAN_PAIR(cell)) : cell;
 }
 
 /* Reads a line into a row, and answers how many cells of it, up to n where that isn't negative, come from a column on. */
@@ -21,13 +17,13 @@ static int read_row(const WINDOW *win, int y, int x, uint32_t row[LONGEST], int 
 int curspan_read_cells(WINDOW *win, int y, int x, chtype *cells, int n) {
     uint32_t row[LONGEST];
     int count = read_row(win, y, x, row, n);
-    for (int i = 0; i < count; i++) cells[i] = cell_of(row[x + i]);
+    for (int i = 0; i < count; i++) cells[i] = curspan_read(row[x + i]);
     return count;
 }
 
 chtype winch(WINDOW *win) {
     curspan_answer answer = curspan_winch(SCREEN_AND(win));
-    return answer.status == CURSPAN_OK ? cell_of(answer.first) : (chtype)ERR;
+    return answer.status == CURSPAN_OK ? curspan_read(answer.first) : (chtype)ERR;
 }
 
 int winchnstr(WINDOW *win, chtype *row, int n) {
