@@ -23,6 +23,24 @@ use std::marker::Model;
 use std::mem::replace;
 use std::ptr::null_mut;
 
+/// Takes the surface out of a handle, does something with it and puts it back. Where the handle is closed, the answer
+/// says so, or is the last one here.
+macro_rules! with_surface {
+    ($handle:expr, $alloc:expr, |$surface:ident| $done:expr) => {
+        with_surface!($handle, $alloc, |$surface| $done, Answer::of_closed_handle())
+    };
+    ($handle:expr, $alloc:expr, |$surface:ident| $done:expr, $closed:expr) => {
+        match $handle.lift($alloc) {
+            Some(mut $surface) => {
+                let answer = $done;
+                $handle.put_back($surface);
+                answer
+            }
+            None => $closed,
+        }
+    };
+}
+
 /// What C holds. A handle of zeros is closed.
 #[repr(C)]
 pub struct Handle {
@@ -138,14 +156,7 @@ impl Handle {
     pub fn call(&mut self, alloc: Global, call: &Call<'_>) -> Answer
         ensures { Called ⟦<Outlet as Sink>⟧ self.old.value call.now result self.new.value }
     {
-        match self.lift(alloc) {
-            Some(mut surface) => {
-                let answer = surface.call(call);
-                self.put_back(surface);
-                answer
-            }
-            None => Answer::of_closed_handle(),
-        }
+        with_surface!(self, alloc, |surface| surface.call(call))
     }
 
     /// Makes a call that only asks. The handle has the same box after it.
@@ -154,14 +165,7 @@ impl Handle {
         requires { is_query query.now ≡ true }
         ensures { Asked ⟦<Outlet as Sink>⟧ self.old.value query.now result self.new.value }
     {
-        match self.lift(alloc) {
-            Some(surface) => {
-                let answer = surface.ask(query);
-                self.put_back(surface);
-                answer
-            }
-            None => Answer::of_closed_handle(),
-        }
+        with_surface!(self, alloc, |surface| surface.ask(query))
     }
 
     /// Answers a question.
@@ -170,14 +174,7 @@ impl Handle {
         ensures told { Told self.old.value question result }
         ensures same { self.new.value ≡ self.old.value }
     {
-        match self.lift(alloc) {
-            Some(surface) => {
-                let answer = surface.tell(question);
-                self.put_back(surface);
-                answer
-            }
-            None => Answer::of_closed_handle(),
-        }
+        with_surface!(self, alloc, |surface| surface.tell(question))
     }
 
     /// Puts the cells of a line of a window into a buffer, as many as fit, and answers how many the line has.
@@ -185,14 +182,7 @@ impl Handle {
         ensures told { LineTold self.old.value (window_line win.0 y) cells.old result cells.new }
         ensures same { self.new.value ≡ self.old.value }
     {
-        match self.lift(alloc) {
-            Some(surface) => {
-                let answer = surface.tell_row(win, y, cells);
-                self.put_back(surface);
-                answer
-            }
-            None => Answer::of_closed_handle(),
-        }
+        with_surface!(self, alloc, |surface| surface.tell_row(win, y, cells))
     }
 
     /// Puts the cells of a line of the virtual screen into a buffer, as many as fit, and answers how many the line has.
@@ -200,66 +190,35 @@ impl Handle {
         ensures told { LineTold self.old.value (screen_line y) cells.old result cells.new }
         ensures same { self.new.value ≡ self.old.value }
     {
-        match self.lift(alloc) {
-            Some(surface) => {
-                let answer = surface.tell_shown_row(y, cells);
-                self.put_back(surface);
-                answer
-            }
-            None => Answer::of_closed_handle(),
-        }
+        with_surface!(self, alloc, |surface| surface.tell_shown_row(y, cells))
     }
 
     /// Sets the cells of a rectangle of a window to one cell.
     pub fn fill(&mut self, alloc: Global, win: WinId, rect: Rect, cell: u32) -> Answer
         ensures { GivenTo (IsFill win.0 rect cell) self.old.value result self.new.value }
     {
-        match self.lift(alloc) {
-            Some(mut surface) => {
-                let answer = surface.fill(win, rect, cell);
-                self.put_back(surface);
-                answer
-            }
-            None => Answer::of_closed_handle(),
-        }
+        with_surface!(self, alloc, |surface| surface.fill(win, rect, cell))
     }
 
     /// Puts cells into a line of a window.
     pub fn give_row(&mut self, alloc: Global, win: WinId, y: u16, x: u16, cells: &[u32]) -> Answer
         ensures { GivenTo (IsRow win.0 y x cells.now) self.old.value result self.new.value }
     {
-        match self.lift(alloc) {
-            Some(mut surface) => {
-                let answer = surface.give_row(win, y, x, cells);
-                self.put_back(surface);
-                answer
-            }
-            None => Answer::of_closed_handle(),
-        }
+        with_surface!(self, alloc, |surface| surface.give_row(win, y, x, cells))
     }
 
     /// Moves the bytes that were sent into a buffer, and says how many they are. If it is too short, they stay.
     pub fn take(&mut self, alloc: Global, out: &mut [u8]) -> usize
         ensures { Taken self.old.value out.old result out.new self.new.value }
     {
-        match self.lift(alloc) {
-            Some(mut surface) => {
-                let length = surface.take(alloc, out);
-                self.put(alloc, surface);
-                length
-            }
-            None => 0,
-        }
+        with_surface!(self, alloc, |surface| surface.take(alloc, out), 0)
     }
 
     /// Forgets what the terminal shows.
     pub fn invalidate(&mut self, alloc: Global)
         ensures { Forgotten self.old.value self.new.value }
     {
-        if let Some(mut surface) = self.lift(alloc) {
-            surface.invalidate();
-            self.put(alloc, surface);
-        }
+        with_surface!(self, alloc, |surface| surface.invalidate(), ())
     }
 }
 
