@@ -22,9 +22,9 @@
    Windows and pads are numbers, 0 the standard screen; panels are numbers from 1 on. A new one has the least that is
    free. Lines and columns count from 0. Colour pair 0 has the terminal's own colours. There are no characters for lines
    and boxes: they are drawn in ASCII. In a window that doesn't scroll, a text that goes past the end of the scroll
-   region is CURSPAN_OK: each further character overwrites the last cell there. A number past 65,535 is taken as 65,535,
-   which no window, panel, line, column, size, pair or colour has. A call that is refused changes nothing and sends
-   nothing. Its refusals are listed in the order of its tests. */
+   region is CURSPAN_OK: each further character overwrites the last cell there. A number past 65,535 that is no cell is
+   taken as 65,535, which no window, panel, line, column, size, pair or colour has. A call that is refused changes
+   nothing and sends nothing. Its refusals are listed in the order of its tests. */
 #ifndef CURSPAN_H
 #define CURSPAN_H
 
@@ -98,7 +98,7 @@ enum {
 #define CURSPAN_ATTRIBUTES(cell) ((uint8_t)((cell) >> 8))
 #define CURSPAN_PAIR(cell) ((uint16_t)((cell) >> 16))
 
-/* The cell of a character, attributes and a pair, as winch answers it. */
+/* The cell of a character, attributes and a pair, as winch answers it: of their low 8, 8 and 16 bits. */
 #define CURSPAN_CELL(character, attributes, pair) \
     ((uint32_t)(uint8_t)(character) | (uint32_t)(uint8_t)(attributes) << 8 | (uint32_t)(uint16_t)(pair) << 16)
 
