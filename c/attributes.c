@@ -55,15 +55,6 @@ uint32_t curspan_rendered(const WINDOW *win, chtype ch) {
 
 /* ---- backgrounds */
 
-uint16_t curspan_with_background(WINDOW *win) {
-    chtype ch = win && win->told != win->background ? win->background : 0;
-    if (ch == 0) return curspan_number(win);
-    curspan_wbkgdset(DRAWN_AND(win), CURSPAN_ATTRIBUTES(ch), CURSPAN_CHARACTER(ch));
-    curspan_wbkgdpair(DRAWN_AND(win), (uint16_t)curspan_use_pair(ch));
-    win->told = ch;
-    return win->number;
-}
-
 static chtype with_character(chtype ch) { return ch & A_CHARTEXT ? ch : ch | ' '; }
 
 /* The window's attributes have those of the background. One whose character is none in ASCII is refused. */
@@ -93,12 +84,12 @@ int wbkgd(WINDOW *win, chtype ch) {
     if (with_character(ch) == old) return OK;
     if (change_background(win, ch) == ERR || set(win, ch) == ERR) return ERR;
     for (uint32_t y = 0; y < win->lines; y++) {
-        uint32_t count = (uint32_t)first_of(curspan_row(DRAWN_AND(win), y, row, LONGEST));
+        uint32_t count = (uint32_t)first_of(curspan_row(SCREEN_AND(win), y, row, LONGEST));
         for (uint32_t x = 0; x < count; row[x++] = after) {
             if (row[x] == before) continue;
             before = row[x], after = curspan_written(on_other(curspan_read(before), old, win->background));
         }
-        if (done(curspan_put(DRAWN_AND(win), y, 0, row, count)) == ERR) return ERR;
+        if (done(curspan_put(SCREEN_AND(win), y, 0, row, count)) == ERR) return ERR;
     }
     return curspan_changed(win, OK);
 }

@@ -13,16 +13,16 @@ static bool is_space(uint32_t cell) { return CURSPAN_CHARACTER(cell) == ' '; }
 static int lay_line(WINDOW *from, int from_y, int from_x, WINDOW *to, int to_y, int to_x, int n) {
     uint32_t over[LONGEST], under[LONGEST];
     int first = from_x, end = from_x + n, right = to_x - from_x;
-    curspan_row(DRAWN_AND(from), (uint32_t)from_y, over, (size_t)end);
+    curspan_row(SCREEN_AND(from), (uint32_t)from_y, over, (size_t)end);
     while (first < end && is_space(over[first])) first++;
     while (first < end && is_space(over[end - 1])) end--;
     if (first == end) return OK;
-    curspan_row(DRAWN_AND(to), (uint32_t)to_y, under, (size_t)(end + right));
+    curspan_row(SCREEN_AND(to), (uint32_t)to_y, under, (size_t)(end + right));
     for (int i = first; i < end; i++)
         if (!is_space(over[i]) && over[i] != under[i + right])
             under[i + right] = curspan_written(laid_over(curspan_read(over[i]), to->background));
     first += right, end += right;
-    return done(curspan_put(DRAWN_AND(to), (uint32_t)to_y, (uint32_t)first, under + first, (size_t)(end - first)));
+    return done(curspan_put(SCREEN_AND(to), (uint32_t)to_y, (uint32_t)first, under + first, (size_t)(end - first)));
 }
 
 /* Whether a window has a rectangle that begins at a place, of so many more lines and columns. */

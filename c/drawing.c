@@ -4,28 +4,26 @@
 static chtype drawn(chtype ch, chtype usual) { return ch & A_CHARTEXT ? ch : ch | usual; }
 
 /* Draws a rectangle of a window, of one character. */
-static int draw(WINDOW *win, int y, int x, int lines, int columns, chtype ch) {
-    uint32_t top = (uint32_t)y, left = (uint32_t)x, bottom = top + (uint32_t)lines - 1;
-    uint32_t right = left + (uint32_t)columns - 1, cell = curspan_rendered(win, ch);
-    return done(curspan_fill(DRAWN_AND(win), top, left, bottom, right, cell));
+static int draw(const WINDOW *win, int y, int x, int lines, int columns, chtype ch) {
+    return curspan_fill_cells(win, y, x, lines, columns, curspan_rendered(win, ch));
 }
 
 int whline(WINDOW *win, chtype ch, int n) {
-    int y = getcury(win), x = getcurx(win), count = least(n, getmaxx(win) - x);
-    if (y == ERR || count < 1) return is_there(win);
-    return curspan_changed(win, draw(win, y, x, 1, count, drawn(ch, ACS_HLINE)));
+    if (is_there(win) == ERR) return ERR;
+    int count = least(n, (int)win->columns - win->x);
+    return count < 1 ? OK : curspan_changed(win, draw(win, win->y, win->x, 1, count, drawn(ch, ACS_HLINE)));
 }
 
 int wvline(WINDOW *win, chtype ch, int n) {
-    int y = getcury(win), x = getcurx(win), count = least(n, getmaxy(win) - y);
-    if (y == ERR || count < 1) return is_there(win);
-    return curspan_changed(win, draw(win, y, x, count, 1, drawn(ch, ACS_VLINE)));
+    if (is_there(win) == ERR) return ERR;
+    int count = least(n, (int)win->lines - win->y);
+    return count < 1 ? OK : curspan_changed(win, draw(win, win->y, win->x, count, 1, drawn(ch, ACS_VLINE)));
 }
 
 int wborder(WINDOW *win, chtype left, chtype right, chtype top, chtype bottom, chtype top_left, chtype top_right,
             chtype bottom_left, chtype bottom_right) {
     if (is_there(win) == ERR) return ERR;
-    int lines = getmaxy(win), columns = getmaxx(win), last_y = lines - 1, last_x = columns - 1;
+    int lines = (int)win->lines, columns = (int)win->columns, last_y = lines - 1, last_x = columns - 1;
     draw(win, 0, 0, 1, columns, drawn(top, ACS_HLINE));
     draw(win, last_y, 0, 1, columns, drawn(bottom, ACS_HLINE));
     draw(win, 0, 0, lines, 1, drawn(left, ACS_VLINE));

@@ -1,6 +1,18 @@
 /* Characters and lines inserted and deleted, and parts cleared. Nothing here is proved. */
 #include "inside.h"
 
+/* Sets the rest of a line, from a column on, or of so many lines, to the background. */
+static int blank(const WINDOW *win, int y, int x, int lines) {
+    return curspan_fill_cells(win, y, x, lines, getmaxx(win) - x, curspan_written(win->background));
+}
+
+/* Copies lines of a window, from a column on to the last one, to others from a column on. */
+static int shift(const WINDOW *win, int y, int x, int to_y, int to_x, int lines) {
+    uint32_t from_y = (uint32_t)y, from_x = (uint32_t)x, top = (uint32_t)to_y, left = (uint32_t)to_x;
+    uint32_t bottom = top + (uint32_t)lines - 1, right = left + win->columns - 1 - (uint32_t)most(x, to_x);
+    return done(curspan_copywin(SCREEN_AND(win), win->number, from_y, from_x, top, left, bottom, right, false));
+}
+
 /* ---- inserted characters */
 
 /* Cells on their way into a line, from the cursor's column on and no further than the line goes. */
@@ -30,14 +42,12 @@ static void append_byte(WINDOW *win, row *row, uint8_t byte, attr_t attrs) {
 }
 
 /* Inserts a row at the cursor, and leaves the cursor behind it, or in the last column. */
-static int insert_row(WINDOW *win, const row *row) {
-    uint16_t y = (uint16_t)getcury(win), from = (uint16_t)row->from, to = (uint16_t)row->to;
-    uint16_t last = (uint16_t)(row->columns - 1);
-    if (to == from) return OK;
-    if (to <= last && done(curspan_copywin(DRAWN_AND(win), win->number, y, from, y, to, y, last, false)) == ERR) return ERR;
-    if (done(curspan_put(DRAWN_AND(win), y, from, row->cells + from, to - from)) == ERR) return ERR;
-    curspan_wait_at(win, y, least(to, last));
-    return OK;
+static void insert_row(WINDOW *win, const row *row) {
+    int from = row->from, to = row->to, last = row->columns - 1;
+    if (to == from) return;
+    if (to <= last) shift(win, win->y, from, win->y, to, 1);
+    curspan_put(SCREEN_AND(win), (uint32_t)win->y, (uint32_t)from, row->cells + from, (size_t)(to - from));
+    curspan_go(win, win->y, least(to, last));
 }
 
 static bool moves_cursor(uint8_t byte) { return byte == '\n' || byte == '\r' || byte == '\b'; }
@@ -51,53 +61,55 @@ static bool stays_behind(WINDOW *win, const row *row, uint8_t byte) {
 }
 
 /* Inserts a text, as far as lines go. The cursor comes back in the end. */
-static int insert(WINDOW *win, const uint8_t *text, size_t length, attr_t attrs) {
-    int y = getcury(win), x = getcurx(win), columns = getmaxx(win), answer = OK;
+static void insert(WINDOW *win, const uint8_t *text, size_t length, attr_t attrs) {
+    int y = win->y, x = win->x, columns = (int)win->columns;
     bool is_behind = false, has_ended = win->has_ended;
-    for (size_t i = 0; i < length && answer == OK;) {
-        int from = is_behind ? columns : getcurx(win);
+    for (size_t i = 0; i < length;) {
+        int from = is_behind ? columns : win->x;
         row row; /* its cells are not cleared */
         row.from = row.to = from, row.columns = columns;
         for (; i < length && (win->begun.count > 0 || !moves_cursor(text[i])); i++) append_byte(win, &row, text[i], attrs);
-        answer = insert_row(win, &row);
+        insert_row(win, &row);
         if (i == length) break;
         is_behind = stays_behind(win, &row, text[i++]);
         has_ended = has_ended && win->has_ended;
     }
-    curspan_wait_at(win, y, x);
+    curspan_go(win, y, x);
     win->has_ended = has_ended;
-    curspan_keep_begun(win, y, x);
-    return answer;
+    curspan_keep_begun(win);
 }
 
 int winsch(WINDOW *win, chtype ch) {
     uint8_t text = ch & A_CHARTEXT;
     if (is_there(win) == ERR) return ERR;
     if (win->begun.count > 0) curspan_check_begun(win);
-    return curspan_changed(win, insert(win, &text, 1, ch & A_ATTRIBUTES));
+    insert(win, &text, 1, ch & A_ATTRIBUTES);
+    return curspan_changed(win, OK);
 }
 
 int winsnstr(WINDOW *win, const char *text, int n) {
     if (!text || is_there(win) == ERR) return ERR;
     size_t length = n <= 0 ? strlen(text) : strnlen(text, (size_t)n);
     win->begun.count = 0;
-    int answer = insert(win, (const uint8_t *)text, length, A_NORMAL);
+    insert(win, (const uint8_t *)text, length, A_NORMAL);
     win->begun.count = 0;
-    return curspan_changed(win, answer);
+    return curspan_changed(win, OK);
 }
 
 /* ---- deleted and inserted lines, and what is cleared */
 
-/* The screen, and a window of it with its background, as arguments. */
-#define BLANKS_OF(win) &curspan_the_screen, curspan_with_background(win)
-
-int wdelch(WINDOW *win) { return curspan_changed(win, done(curspan_wdelch(BLANKS_OF(win)))); }
+int wdelch(WINDOW *win) {
+    if (is_there(win) == ERR) return ERR;
+    int last = (int)win->columns - 1;
+    if (win->x < last) shift(win, win->y, win->x + 1, win->y, win->x, 1);
+    return curspan_changed(win, blank(win, win->y, last, 1));
+}
 
 int curspan_scroll_lines(WINDOW *win, int top, int bottom, int n) {
-    int lines = getmaxy(win), most = n < -lines ? -lines : n > lines ? lines : n;
-    if (done(curspan_wsetscrreg(DRAWN_AND(win), (uint16_t)top, (uint16_t)bottom)) == ERR) return ERR;
-    curspan_scrollok(DRAWN_AND(win), true);
-    return done(curspan_wscrl(curspan_drawn_screen(), curspan_with_background(win), (int16_t)most));
+    int all = bottom - top + 1, up = least(n, all), down = -most(n, -all), rest = all - most(up, down);
+    if (up > 0 && rest > 0) shift(win, top + up, 0, top, 0, rest);
+    if (down > 0 && rest > 0) shift(win, top, 0, top + down, 0, rest);
+    return n == 0 ? OK : blank(win, up > 0 ? top + rest : top, 0, all - rest);
 }
 
 int wscrl(WINDOW *win, int n) {
@@ -107,24 +119,29 @@ int wscrl(WINDOW *win, int n) {
 
 int winsdelln(WINDOW *win, int n) {
     if (is_there(win) == ERR) return ERR;
-    return curspan_changed(win, curspan_scroll_lines(win, getcury(win), (int)win->lines - 1, -n));
+    return curspan_changed(win, curspan_scroll_lines(win, win->y, (int)win->lines - 1, -n));
 }
 
 int winsertln(WINDOW *win) { return winsdelln(win, 1); }
 int wdeleteln(WINDOW *win) { return winsdelln(win, -1); }
 
 int werase(WINDOW *win) {
-    if (win) win->has_ended = false;
-    return curspan_changed(win, done(curspan_werase(BLANKS_OF(win))));
+    if (is_there(win) == ERR || blank(win, 0, 0, (int)win->lines) == ERR) return ERR;
+    win->has_ended = false;
+    curspan_go(win, 0, 0);
+    return curspan_changed(win, OK);
 }
 
-int wclear(WINDOW *win) {
-    if (win) win->has_ended = false;
-    return curspan_changed(win, done(curspan_wclear(BLANKS_OF(win))));
-}
+int wclear(WINDOW *win) { return werase(win) == ERR ? ERR : clearok(win, TRUE); }
 
 /* A character that was just written in the last place isn't to the right of the cursor, which stayed on it. */
 int wclrtoeol(WINDOW *win) {
-    return win && win->has_ended ? ERR : curspan_changed(win, done(curspan_wclrtoeol(BLANKS_OF(win))));
+    return is_there(win) == ERR || win->has_ended ? ERR : curspan_changed(win, blank(win, win->y, win->x, 1));
 }
-int wclrtobot(WINDOW *win) { return curspan_changed(win, done(curspan_wclrtobot(BLANKS_OF(win)))); }
+
+int wclrtobot(WINDOW *win) {
+    if (is_there(win) == ERR) return ERR;
+    int below = (int)win->lines - 1 - win->y;
+    if (below > 0) blank(win, win->y + 1, 0, below);
+    return curspan_changed(win, blank(win, win->y, win->x, 1));
+}

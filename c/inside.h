@@ -31,11 +31,12 @@ struct curspan_window {
     bool keypad, no_timeout; /* how getch reads */
     int delay;               /* for how many milliseconds it waits, without end where that is negative */
     attr_t attrs; /* the window's, with its pair: curspan.h has no pairs past LAST_OWN, and no A_ALTCHARSET */
-    chtype background;       /* which has such pairs too */
-    chtype told;             /* the background that Curspan has */
+    chtype background;       /* which has such pairs too. Curspan's windows keep the one that they have first */
     WINDOW *parent;          /* from which it derives, or NULL */
     unsigned lines, columns; /* 0 where it isn't there */
-    int top, bottom;         /* its scroll region: Curspan gets that where it scrolls */
+    int y, x;                /* its cursor */
+    bool is_placed;          /* there Curspan has it, too */
+    int top, bottom;         /* its scroll region */
     bool scrolls;
     bool has_ended; /* a character was written in the last place, and the cursor wasn't moved since */
     bool is_plain;  /* a letter is a cell of curspan.h as it is added to this one, and a blank is that one: */
@@ -49,42 +50,34 @@ struct curspan_window {
     int part[6];          /* of a pad, which part of it was refreshed last, and to where */
 };
 
-/* A window whose cursor C moves, and cells of its line that are before the cursor from a column on, which wait until
-   Curspan is asked for something else, so that one call of it writes many. None of them can be refused. */
+/* Cells of a line of a window, from a column up to its cursor, which wait until Curspan is asked for something, so that
+   one call of it writes many. None of them can be refused. */
 struct curspan_waiting {
     WINDOW *win; /* or NULL */
-    int y, x;    /* its cursor: before the last column, where a character waits */
-    int from, last;
+    int from;
     uint32_t cells[LONGEST]; /* by their columns */
 };
 
 extern struct curspan_waiting curspan_waiting;
-void curspan_put_waiting(void);
-void curspan_write_waiting(void);
-void curspan_begin_to_wait(WINDOW *win);
-/* Lets a window wait, with the cursor at a place, or where it is. At the end of what waits nothing is left to be done. */
-static inline void curspan_wait_at(WINDOW *win, int y, int x) {
-    struct curspan_waiting *all = &curspan_waiting;
-    if (all->win != win) curspan_begin_to_wait(win);
-    else if (all->x > all->from && all->y == y && all->x == x) return;
-    else if (all->x > all->from) curspan_put_waiting();
-    all->y = y;
-    all->x = all->from = x;
-}
-void curspan_wait_here(const WINDOW *win);
+/* Writes those up to a column, which are all. */
+void curspan_put_waiting(int end);
 
-/* The screen, in which nothing is left to be written; and one in which no cells are left, which serves what asks for no
-   cursor. */
+/* The screen, in which nothing is left to be written. */
 extern curspan curspan_kept_screen;
 static inline curspan *curspan_written_screen(void) {
-    if (curspan_waiting.win) curspan_write_waiting();
-    return &curspan_kept_screen;
-}
-static inline curspan *curspan_drawn_screen(void) {
-    if (curspan_waiting.x > curspan_waiting.from) curspan_put_waiting();
+    if (curspan_waiting.win) curspan_put_waiting(curspan_waiting.win->x);
     return &curspan_kept_screen;
 }
 #define curspan_the_screen (*curspan_written_screen())
+
+/* Moves the cursor of a window. */
+static inline void curspan_go(WINDOW *win, int y, int x) {
+    if (win->y == y && win->x == x) return;
+    if (curspan_waiting.win == win) curspan_put_waiting(win->x);
+    win->y = y;
+    win->x = x;
+    win->is_placed = false;
+}
 
 extern struct curspan_window curspan_windows[MOST];
 
@@ -100,7 +93,8 @@ void curspan_forget_all(void);
 
 /* The screen, and a window of it, as arguments. */
 #define SCREEN_AND(win) &curspan_the_screen, curspan_number(win)
-#define DRAWN_AND(win) curspan_drawn_screen(), curspan_number(win)
+/* The number of a window for a call that asks for its cursor, which Curspan has then. */
+uint16_t curspan_placed(WINDOW *win);
 
 /* Answers for a call that has changed a window: refreshes it, or touches its ancestors, where that is to be. */
 void curspan_follow(WINDOW *win);
@@ -123,7 +117,7 @@ curspan_spelling curspan_spell_part(curspan_unfinished *begun, uint8_t byte);
 /* The character that some bytes begin with, and its length: 0 where more must come, and ERR where they begin none. */
 int curspan_decode(const uint8_t *bytes, size_t count, uint32_t *character);
 /* Says that a character is begun at the cursor, or that it was finished there. */
-void curspan_keep_begun(WINDOW *win, int y, int x);
+void curspan_keep_begun(WINDOW *win);
 /* Forgets the character that is begun where the cursor was moved since. */
 void curspan_check_begun(WINDOW *win);
 
@@ -146,12 +140,12 @@ uint32_t curspan_rendered(const WINDOW *win, chtype ch);
 /* Writes a character as waddch does, whatever it is, with no look at what is to follow. */
 int curspan_add(WINDOW *win, chtype ch);
 
-/* The number of a window whose background Curspan has then, for what sets cells to it. */
-uint16_t curspan_with_background(WINDOW *win);
 /* Scrolls lines of a window, whether it scrolls or not. */
 int curspan_scroll_lines(WINDOW *win, int top, int bottom, int n);
 
-/* Sets cells of a line as they are: the cursor, the background and scrolling have no part in it. */
+/* Sets the cells of so many lines and columns, or those of a line, as they are: the cursor, the background and scrolling
+   have no part in it. */
+int curspan_fill_cells(const WINDOW *win, int y, int x, int lines, int columns, uint32_t cell);
 int curspan_put_cells(WINDOW *win, int y, int x, const chtype *cells, int n);
 /* Reads up to n cells from a place on, or all where n is negative, and answers how many they are. */
 int curspan_read_cells(WINDOW *win, int y, int x, chtype *cells, int n);
@@ -223,7 +217,8 @@ static inline chtype curspan_read(uint32_t cell) {
     return CURSPAN_PAIR(cell) ? (cell & ~A_COLOR) | curspan_attributes_of(CURSPAN_PAIR(cell)) : cell;
 }
 static inline uint32_t curspan_written(chtype cell) {
-    return cell & ~A_CHARTEXT ? curspan_own(curspan_as_drawn(cell)) : cell;
+    cell &= A_CHARTEXT | A_ATTRIBUTES;
+    return cell & (A_COLOR | A_ALTCHARSET) ? curspan_own(curspan_as_drawn(cell)) : cell;
 }
 
 #endif

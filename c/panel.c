@@ -173,7 +173,7 @@ int replace_panel(PANEL *panel, WINDOW *win) {
     return OK;
 }
 
-WINDOW *panel_window(const PANEL *panel) { return curspan_window_of(curspan_panel_window(SCREEN_AND_PANEL(panel))); }
+WINDOW *panel_window(const PANEL *panel) { return number_of(panel) == NUMBER ? NULL : panel->win; }
 
 PANEL *panel_above(const PANEL *panel) {
     return panel_of(curspan_panel_above(&curspan_the_screen, panel ? number_of(panel) : 0));
@@ -200,15 +200,17 @@ static void put_standard(void) {
 
 /* Takes the whole picture of the standard screen and the panels. */
 static void update_all(void) {
+    PANEL *top = panel_below(NULL);
+    WINDOW *topmost = top ? top->win : stdscr;
     if (stdscr && stdscr->number > 0) put_standard();
+    (void)curspan_placed(topmost);
     curspan_update_panels(&curspan_the_screen);
     if (stdscr) stdscr->moved = false;
     for (PANEL *panel = panels; panel < end; panel++) {
         panel->is_left = false;
         if (panel->number > 0 && panel->win->moved) panel->win->moved = panel_hidden(panel) == TRUE;
     }
-    PANEL *top = panel_below(NULL);
-    if (stdscr) curspan_note_cursor(top ? panel_window(top) : stdscr);
+    if (topmost) curspan_note_cursor(topmost);
 }
 
 /* Beside windows that are refreshed nothing is taken where there never was a panel. */

@@ -138,19 +138,13 @@ static int make_all(void) {
 
 /* ---- what they have */
 
-static void set_background(uint16_t to, chtype ch) {
-    curspan_wbkgdset(remake.to, to, CURSPAN_ATTRIBUTES(ch), CURSPAN_CHARACTER(ch));
-    curspan_wbkgdpair(remake.to, to, (uint16_t)curspan_use_pair(ch));
-}
-
 /* Brings the cells of a window to the new one, as far as they fit. What is new has the background. */
 static void bring_cells(const WINDOW *win, uint16_t from, uint16_t to) {
     const struct shape *before = &remake.before[place_of(win)], *shape = &remake.shapes[place_of(win)];
     int lines = least(before->lines, shape->lines), columns = least(before->columns, shape->columns);
-    uint32_t cells[LONGEST];
-    set_background(to, win->background);
+    uint32_t cells[LONGEST], last_y = (uint32_t)shape->lines - 1, last_x = (uint32_t)shape->columns - 1;
     if (shape->parent) return;
-    curspan_werase(remake.to, to);
+    curspan_fill(remake.to, to, 0, 0, last_y, last_x, curspan_written(win->background));
     if (remake.from == remake.to) {
         curspan_copywin(remake.to, from, to, 0, 0, 0, 0, (uint16_t)(lines - 1), (uint16_t)(columns - 1), false);
         return;
@@ -166,7 +160,6 @@ static void bring_cells(const WINDOW *win, uint16_t from, uint16_t to) {
 static void bring(WINDOW *win) {
     const struct shape *shape = &remake.shapes[place_of(win)];
     uint16_t from = remake.old[place_of(win)], to = remake.numbers[place_of(win)];
-    curspan_answer cursor = curspan_getyx(remake.from, from);
     int y = least(shape->begin_y, remake.lines - shape->lines);
     int x = least(shape->begin_x, remake.columns - shape->columns);
     int last = shape->lines - 1;
@@ -174,9 +167,9 @@ static void bring(WINDOW *win) {
     win->bottom = win->bottom == remake.before[place_of(win)].lines - 1 ? last : least(win->bottom, last);
     bring_cells(win, from, to);
     if (shape->parent) curspan_mvwin(remake.to, to, (uint16_t)y, (uint16_t)x);
-    y = least((int)cursor.first, last);
-    x = least((int)cursor.second, shape->columns - 1);
-    curspan_wmove(remake.to, to, (uint16_t)y, (uint16_t)x);
+    win->y = least(win->y, last);
+    win->x = least(win->x, shape->columns - 1);
+    win->is_placed = false;
 }
 
 /* Touches what was touched, and what is new, and asks for a clear screen where that was asked for. */
@@ -198,7 +191,6 @@ static void renumber_all(void) {
         WINDOW *win = remake.family[i];
         const struct shape *shape = &remake.shapes[place_of(win)];
         curspan_renumber(win, remake.numbers[place_of(win)]);
-        win->told = win->background;
         win->has_ended = false;
         curspan_measure(win);
         if (shape->is_pad) continue;

@@ -1,16 +1,21 @@
 /* Rows of cells, put into windows as they are, and read back. Nothing here is proved. */
 #include "inside.h"
 
+int curspan_fill_cells(const WINDOW *win, int y, int x, int lines, int columns, uint32_t cell) {
+    uint32_t top = (uint32_t)y, left = (uint32_t)x, bottom = top + (uint32_t)lines - 1;
+    return done(curspan_fill(SCREEN_AND(win), top, left, bottom, left + (uint32_t)columns - 1, cell));
+}
+
 int curspan_put_cells(WINDOW *win, int y, int x, const chtype *cells, int n) {
     uint32_t row[LONGEST];
     for (int i = 0; i < n; i++) row[i] = curspan_written(cells[i]);
-    return done(curspan_put(DRAWN_AND(win), (uint32_t)y, (uint32_t)x, row, (size_t)most(n, 0)));
+    return done(curspan_put(SCREEN_AND(win), (uint32_t)y, (uint32_t)x, row, (size_t)most(n, 0)));
 }
 
 /* Reads a line into a row, and answers how many cells of it, up to n where that isn't negative, come from a column on. */
 static int read_row(const WINDOW *win, int y, int x, uint32_t row[LONGEST], int n) {
     int room = n < 0 || n > LONGEST - x ? LONGEST : x + n;
-    int count = first_of(curspan_row(DRAWN_AND(win), (uint32_t)y, row, (size_t)room));
+    int count = first_of(curspan_row(SCREEN_AND(win), (uint32_t)y, row, (size_t)room));
     return most(least(count, room) - x, 0);
 }
 
@@ -22,7 +27,7 @@ int curspan_read_cells(WINDOW *win, int y, int x, chtype *cells, int n) {
 }
 
 chtype winch(WINDOW *win) {
-    curspan_answer answer = curspan_winch(SCREEN_AND(win));
+    curspan_answer answer = curspan_winch(&curspan_the_screen, curspan_placed(win));
     return answer.status == CURSPAN_OK ? curspan_read(answer.first) : (chtype)ERR;
 }
 

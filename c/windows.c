@@ -9,7 +9,7 @@ static WINDOW *numbered[MOST]; /* by their numbers */
 static struct curspan_window the_terminal = {.number = NUMBER}; /* it is no window of Curspan */
 
 static void forget(WINDOW *win) {
-    *win = (struct curspan_window){.number = NUMBER, .background = ' ', .told = ' ', .delay = -1};
+    *win = (struct curspan_window){.number = NUMBER, .background = ' ', .is_placed = true, .delay = -1};
     win->part[4] = win->part[5] = -1;
 }
 
@@ -172,13 +172,8 @@ int mvderwin(WINDOW *win, int y, int x) {
 /* The terminal is as large as window 0 of curspan.h, and its cursor is where the last update left it. */
 #define OF(win, of_terminal, of_window) (is_terminal(win) ? (of_terminal) : is_there(win) == ERR ? ERR : (of_window))
 
-static const struct curspan_waiting *waiting_in(const WINDOW *win) {
-    curspan_wait_here(win);
-    return &curspan_waiting;
-}
-
-int getcury(const WINDOW *win) { return OF(win, win->begin_y, waiting_in(win)->y); }
-int getcurx(const WINDOW *win) { return OF(win, win->begin_x, waiting_in(win)->x); }
+int getcury(const WINDOW *win) { return OF(win, win->begin_y, win->y); }
+int getcurx(const WINDOW *win) { return OF(win, win->begin_x, win->x); }
 int getmaxy(const WINDOW *win) { return OF(win, curspan_lines(), (int)win->lines); }
 int getmaxx(const WINDOW *win) { return OF(win, curspan_columns(), (int)win->columns); }
 int getpary(const WINDOW *win) { return first_of(curspan_getparyx(SCREEN_AND(win))); }

@@ -11,7 +11,7 @@ int set_tabsize(int columns) {
 
 static int go(WINDOW *win, int y, int x) {
     win->has_ended = false;
-    curspan_wait_at(win, y, x);
+    curspan_go(win, y, x);
     return OK;
 }
 
@@ -21,22 +21,33 @@ int wmove(WINDOW *win, int y, int x) {
     return go(win, y, x);
 }
 
-/* ---- the end of a line, in a window that waits */
+/* ---- the end of a line */
 
 /* Goes to the next line, for which the region scrolls where it ends. In one that doesn't scroll that is an error. */
-static int leave_line(WINDOW *win, int y) {
-    if (y != win->bottom) return go(win, least(y + 1, (int)win->lines - 1), 0);
+static int leave_line(WINDOW *win) {
+    if (win->y != win->bottom) return go(win, least(win->y + 1, (int)win->lines - 1), 0);
     if (!win->scrolls || curspan_scroll_lines(win, win->top, win->bottom, 1) == ERR) return ERR;
-    return go(win, y, 0);
+    return go(win, win->y, 0);
 }
+
+/* From now on the cells that are written in a window wait. */
+static void begin_to_wait(WINDOW *win) {
+    (void)curspan_written_screen();
+    curspan_waiting.win = win;
+    curspan_waiting.from = win->x;
+    win->is_placed = false;
+}
+
+/* Whether cells wait in a window, and another one has a place before the last. */
+static inline bool has_room(const WINDOW *win) { return curspan_waiting.win == win && win->x + 1 < (int)win->columns; }
 
 /* Writes a cell at the cursor, which goes on. In the last place it stays, and that is an error. */
 static int add_cell(WINDOW *win, uint32_t cell) {
-    struct curspan_waiting *all = &curspan_waiting;
-    all->cells[all->x++] = cell;
-    if (all->x <= all->last) return OK;
-    curspan_wait_at(win, all->y, all->last);
-    win->has_ended = leave_line(win, all->y) == ERR;
+    if (curspan_waiting.win != win) begin_to_wait(win);
+    curspan_waiting.cells[win->x] = cell;
+    if (has_room(win)) return win->x++, OK;
+    curspan_put_waiting((int)win->columns);
+    win->has_ended = leave_line(win) == ERR;
     return win->has_ended ? ERR : OK;
 }
 
@@ -51,36 +62,35 @@ static int add_blanks(WINDOW *win, int n, attr_t attrs) {
 
 /* Clears the rest of the line, but not what has ended it, and goes to the next one, if there is one. */
 static int end_line(WINDOW *win) {
-    int y = curspan_waiting.y;
     wclrtoeol(win);
-    return leave_line(win, y);
+    return leave_line(win);
 }
 
 static int add_tab(WINDOW *win, attr_t attrs) {
-    int x = curspan_waiting.x, stop = x + TABSIZE - x % TABSIZE;
-    bool stops = curspan_waiting.y == win->bottom && !win->scrolls;
-    return stop < (int)win->columns || stops ? add_blanks(win, stop - x, attrs) : end_line(win);
+    int stop = win->x + TABSIZE - win->x % TABSIZE;
+    bool stops = win->y == win->bottom && !win->scrolls;
+    return stop < (int)win->columns || stops ? add_blanks(win, stop - win->x, attrs) : end_line(win);
 }
 
 /* ---- characters that are spelled */
 
-void curspan_keep_begun(WINDOW *win, int y, int x) {
-    win->begun.y = y;
-    win->begun.x = x;
+void curspan_keep_begun(WINDOW *win) {
+    win->begun.y = win->y;
+    win->begun.x = win->x;
     win->is_plain = false;
 }
 
 void curspan_check_begun(WINDOW *win) {
-    if (win->begun.y != getcury(win) || win->begun.x != getcurx(win)) win->begun.count = 0;
+    if (win->begun.y != win->y || win->begun.x != win->x) win->begun.count = 0;
 }
 
 /* Writes what a byte ends. One of two columns is on the next line where one is left on this. */
 static int add_part(WINDOW *win, uint8_t byte, attr_t attrs) {
     curspan_spelling spelling = curspan_spell_part(&win->begun, byte);
     int answer = OK;
-    curspan_keep_begun(win, curspan_waiting.y, curspan_waiting.x);
+    curspan_keep_begun(win);
     if (spelling.is_wide && win->columns < 2) return ERR;
-    if (spelling.is_wide && curspan_waiting.x == curspan_waiting.last) answer = add_blanks(win, 1, A_NORMAL);
+    if (spelling.is_wide && win->x + 1 == (int)win->columns) answer = add_blanks(win, 1, A_NORMAL);
     for (int i = 0; i < spelling.count && answer == OK; i++) {
         chtype text = (uint8_t)spelling.text[i];
         answer = spelling.is_wide ? add_cell(win, curspan_rendered(win, attrs) | text) : add_drawn(win, attrs | text);
@@ -90,13 +100,12 @@ static int add_part(WINDOW *win, uint8_t byte, attr_t attrs) {
 
 /* Writes a character that isn't printable, or one after a part of another. */
 static int add_spelled(WINDOW *win, uint8_t ch, attr_t attrs) {
-    int y = curspan_waiting.y, x = curspan_waiting.x;
     if (win->begun.count > 0 || ch > 127) return add_part(win, ch, attrs);
     switch (ch) {
     case '\n': return end_line(win);
     case '\t': return add_tab(win, attrs);
-    case '\r': return go(win, y, 0);
-    case '\b': return go(win, y, most(x - 1, 0));
+    case '\r': return go(win, win->y, 0);
+    case '\b': return go(win, win->y, most(win->x - 1, 0));
     default: return add_drawn(win, '^' | attrs) == ERR ? ERR : add_drawn(win, (chtype)(ch ^ 64) | attrs);
     }
 }
@@ -123,7 +132,6 @@ static int add_printable(WINDOW *win, chtype ch) {
 
 int curspan_add(WINDOW *win, chtype ch) {
     if (is_there(win) == ERR) return ERR;
-    curspan_wait_here(win);
     if (win->begun.count > 0) curspan_check_begun(win);
     if (!win->is_plain) prepare(win);
     uint8_t character = curspan_as_drawn(ch | (win->attrs & A_ALTCHARSET)) & A_CHARTEXT;
@@ -132,10 +140,10 @@ int curspan_add(WINDOW *win, chtype ch) {
 }
 
 static inline int add(WINDOW *win, chtype ch) {
-    struct curspan_waiting *all = &curspan_waiting;
-    bool waits = all->x < all->last && all->win == win && win->is_plain && is_printable(ch & A_CHARTEXT);
-    if (waits && is_printable(ch)) all->cells[all->x++] = ch == ' ' ? win->blank : win->plain | ch;
-    else if (waits && (ch & ~A_CHARTEXT) == win->other) all->cells[all->x++] = win->in_other | (ch & A_CHARTEXT);
+    uint32_t *cells = curspan_waiting.cells;
+    bool waits = win && has_room(win) && win->is_plain && is_printable(ch & A_CHARTEXT);
+    if (waits && is_printable(ch)) cells[win->x++] = ch == ' ' ? win->blank : win->plain | ch;
+    else if (waits && (ch & ~A_CHARTEXT) == win->other) cells[win->x++] = win->in_other | (ch & A_CHARTEXT);
     else return curspan_add(win, ch);
     return OK;
 }
