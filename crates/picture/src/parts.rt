@@ -36,8 +36,11 @@ pub fn shared_part(table: &Grids, win: WinId, frame: Rect, u: WinId) -> Option<R
     ensures holds { (y x : ℕ) → part_holds result y x ≡ shows_at (windows_of table.now).window win.0 frame y x u.0 }
     ensures within { MatchOption result ⊤ (IsFrameWithin table.now.lines table.now.columns) }
 {
-    let (top, left) = table.getbegyx(u).ok()?;
+    if !table.has_window(u) {
+        return None;
+    }
     let seen = table.seen_in(win, frame, u)?;
+    let (top, left) = table.getbegyx(u).ok()?;
     Some(Rect {
         top: top + seen.top,
         left: left + seen.left,
