@@ -27,15 +27,20 @@ static int free_own(int pair) {
     return own;
 }
 
+/* Lets a pair of curspan.h that stands for none stand for another. Where there is none, it is that of pair 0. */
+static int take_own(attr_t attrs, uint8_t *of) {
+    int pair = PAIR_NUMBER(attrs), own = free_own(attrs & A_ALTCHARSET ? LAST_OWN : pair);
+    if (!own) return attrs & A_ALTCHARSET ? of[0] : 0;
+    of[pair] = (uint8_t)own;
+    it.stands_for[own] = attrs;
+    it.is_stale = it.palette.changes = true;
+    return own;
+}
+
 int curspan_use_pair(attr_t attrs) {
-    int pair = PAIR_NUMBER(attrs);
-    uint8_t *of = it.owns[(attrs & A_ALTCHARSET) != 0];
-    if ((attrs & (A_COLOR | A_ALTCHARSET)) == 0) return 0;
-    if (!of[pair]) of[pair] = (uint8_t)free_own(attrs & A_ALTCHARSET ? LAST_OWN : pair);
-    if (!of[pair]) return attrs & A_ALTCHARSET ? of[0] : 0;
-    if (it.stands_for[of[pair]] != (attrs & (A_COLOR | A_ALTCHARSET))) it.is_stale = it.palette.changes = true;
-    it.stands_for[of[pair]] = attrs & (A_COLOR | A_ALTCHARSET);
-    return of[pair];
+    attrs &= A_COLOR | A_ALTCHARSET;
+    uint8_t *of = it.owns[attrs >= A_ALTCHARSET];
+    return attrs == 0 ? 0 : of[PAIR_NUMBER(attrs)] ? of[PAIR_NUMBER(attrs)] : take_own(attrs, of);
 }
 
 attr_t curspan_attributes_of(int own) { return it.stands_for[own]; }

@@ -20,18 +20,24 @@ int wvline(WINDOW *win, chtype ch, int n) {
     return count < 1 ? OK : curspan_changed(win, draw(win, win->y, win->x, count, 1, drawn(ch, ACS_VLINE)));
 }
 
+/* Draws the first or the last line of a border. In a window of one column it is the right corner. */
+static void draw_end(const WINDOW *win, int y, chtype left, chtype line, chtype right) {
+    uint32_t row[LONGEST], cell = curspan_rendered(win, line), last = win->columns - 1;
+    for (uint32_t x = 1; x < last; x++) row[x] = cell;
+    row[0] = curspan_rendered(win, left);
+    row[last] = curspan_rendered(win, right);
+    curspan_put(SCREEN_AND(win), (uint32_t)y, 0, row, win->columns);
+}
+
 int wborder(WINDOW *win, chtype left, chtype right, chtype top, chtype bottom, chtype top_left, chtype top_right,
             chtype bottom_left, chtype bottom_right) {
     if (is_there(win) == ERR) return ERR;
-    int lines = (int)win->lines, columns = (int)win->columns, last_y = lines - 1, last_x = columns - 1;
-    draw(win, 0, 0, 1, columns, drawn(top, ACS_HLINE));
-    draw(win, last_y, 0, 1, columns, drawn(bottom, ACS_HLINE));
+    int lines = (int)win->lines, last_x = (int)win->columns - 1;
     draw(win, 0, 0, lines, 1, drawn(left, ACS_VLINE));
     draw(win, 0, last_x, lines, 1, drawn(right, ACS_VLINE));
-    draw(win, 0, 0, 1, 1, drawn(top_left, ACS_ULCORNER));
-    draw(win, 0, last_x, 1, 1, drawn(top_right, ACS_URCORNER));
-    draw(win, last_y, 0, 1, 1, drawn(bottom_left, ACS_LLCORNER));
-    return curspan_changed(win, draw(win, last_y, last_x, 1, 1, drawn(bottom_right, ACS_LRCORNER)));
+    draw_end(win, 0, drawn(top_left, ACS_ULCORNER), drawn(top, ACS_HLINE), drawn(top_right, ACS_URCORNER));
+    draw_end(win, lines - 1, drawn(bottom_left, ACS_LLCORNER), drawn(bottom, ACS_HLINE), drawn(bottom_right, ACS_LRCORNER));
+    return curspan_changed(win, OK);
 }
 
 int wchgat(WINDOW *win, int n, attr_t attrs, short pair, const void *none) {

@@ -143,8 +143,8 @@ int curspan_add(WINDOW *win, chtype ch);
 /* Scrolls lines of a window, whether it scrolls or not. */
 int curspan_scroll_lines(WINDOW *win, int top, int bottom, int n);
 
-/* Sets the cells of so many lines and columns, or those of a line, as they are: the cursor, the background and scrolling
-   have no part in it. */
+/* Sets the cells of so many lines and columns, or up to n of a line, before a 0, as they are: the cursor, the background
+   and scrolling have no part in it. */
 int curspan_fill_cells(const WINDOW *win, int y, int x, int lines, int columns, uint32_t cell);
 int curspan_put_cells(WINDOW *win, int y, int x, const chtype *cells, int n);
 /* Reads up to n cells from a place on, or all where n is negative, and answers how many they are. */

@@ -8,8 +8,9 @@ int curspan_fill_cells(const WINDOW *win, int y, int x, int lines, int columns, 
 
 int curspan_put_cells(WINDOW *win, int y, int x, const chtype *cells, int n) {
     uint32_t row[LONGEST];
-    for (int i = 0; i < n; i++) row[i] = curspan_written(cells[i]);
-    return done(curspan_put(SCREEN_AND(win), (uint32_t)y, (uint32_t)x, row, (size_t)most(n, 0)));
+    int count;
+    for (count = 0; count < n && cells[count]; count++) row[count] = curspan_written(cells[count]);
+    return done(curspan_put(SCREEN_AND(win), (uint32_t)y, (uint32_t)x, row, (size_t)count));
 }
 
 /* Reads a line into a row, and answers how many cells of it, up to n where that isn't negative, come from a column on. */

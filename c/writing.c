@@ -38,14 +38,11 @@ static void begin_to_wait(WINDOW *win) {
     win->is_placed = false;
 }
 
-/* Whether cells wait in a window, and another one has a place before the last. */
-static inline bool has_room(const WINDOW *win) { return curspan_waiting.win == win && win->x + 1 < (int)win->columns; }
-
 /* Writes a cell at the cursor, which goes on. In the last place it stays, and that is an error. */
 static int add_cell(WINDOW *win, uint32_t cell) {
     if (curspan_waiting.win != win) begin_to_wait(win);
     curspan_waiting.cells[win->x] = cell;
-    if (has_room(win)) return win->x++, OK;
+    if (win->x + 1 < (int)win->columns) return win->x++, OK;
     curspan_put_waiting((int)win->columns);
     win->has_ended = leave_line(win) == ERR;
     return win->has_ended ? ERR : OK;
@@ -141,9 +138,11 @@ int curspan_add(WINDOW *win, chtype ch) {
 
 static inline int add(WINDOW *win, chtype ch) {
     uint32_t *cells = curspan_waiting.cells;
-    bool waits = win && has_room(win) && win->is_plain && is_printable(ch & A_CHARTEXT);
-    if (waits && is_printable(ch)) cells[win->x++] = ch == ' ' ? win->blank : win->plain | ch;
-    else if (waits && (ch & ~A_CHARTEXT) == win->other) cells[win->x++] = win->in_other | (ch & A_CHARTEXT);
+    if (!win || !win->is_plain || !is_printable(ch & A_CHARTEXT)) return curspan_add(win, ch);
+    if (curspan_waiting.win != win) begin_to_wait(win);
+    if (win->x + 1 >= (int)win->columns) return curspan_add(win, ch);
+    if (is_printable(ch)) cells[win->x++] = ch == ' ' ? win->blank : win->plain | ch;
+    else if ((ch & ~A_CHARTEXT) == win->other) cells[win->x++] = win->in_other | (ch & A_CHARTEXT);
     else return curspan_add(win, ch);
     return OK;
 }
@@ -165,11 +164,9 @@ int waddnstr(WINDOW *win, const char *text, int n) {
 }
 
 int waddchnstr(WINDOW *win, const chtype *row, int n) {
-    int y = getcury(win), x = getcurx(win), most = getmaxx(win) - x, count;
-    if (y == ERR || (!row && n != 0)) return ERR;
-    if (n >= 0 && n < most) most = n;
-    for (count = 0; count < most && row[count]; count++) continue;
-    return curspan_changed(win, curspan_put_cells(win, y, x, row, count));
+    if (is_there(win) == ERR || (!row && n != 0)) return ERR;
+    int room = (int)win->columns - win->x;
+    return curspan_changed(win, curspan_put_cells(win, win->y, win->x, row, n < 0 ? room : least(n, room)));
 }
 
 int vw_printw(WINDOW *win, const char *format, va_list arguments) {
