@@ -34,9 +34,9 @@ def exports(group, what, calls):
         f'ghost use Rattle.capi.specs.Numbers.{{{", ".join(numbers)}}};',
         *(['ghost use Rattle.capi.specs.Answers.{attrs_of};'] if attrs else []), '',
         'use crate::answer::{Answer, attrs_of};' if attrs else 'use crate::answer::Answer;',
-        'use crate::handle::Handle;',
+        'use crate::c_screen::Outlet;', 'use crate::handle::Handle;',
         'use crate::number::' + (f'{{{", ".join(numbers)}}};' if len(numbers) > 1 else f'{numbers[0]};'),
-        'use crate::surface::Outlet;', 'use desk::Sink;', 'use std::alloc::Global;', f'use world::{{Call, {group}}};', '',
+        'use desk::Sink;', 'use std::alloc::Global;', f'use world::{{Call, {group}}};', '',
         '\n\n'.join(map(export, calls)), ''])
 
 

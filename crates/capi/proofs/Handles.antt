@@ -26,7 +26,7 @@ use Rattle.std.specs.declared.option.Option.TheVariants.{None, Some}
 use Rattle.std_alloc.specs.Box.Ownership.{box_owns}
 use Rattle.capi.specs.Owned.{owned, token}
 use Rattle.capi.specs.contracts.handle.Handle as handle
-pub use Rattle.capi.specs.contracts.surface.Surface.{the_row as R}
+pub use Rattle.capi.specs.contracts.c_screen.CScreen.{the_row as R}
 
 abbrev pub Z : RattleType
 Z = heap.the_row

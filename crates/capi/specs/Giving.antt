@@ -9,7 +9,7 @@ use Rattle.compose.specs.Giving.{Filled, RowPut}
 use Rattle.desk.specs.declared.screen.Fault.{Fault}
 use Rattle.desk.specs.declared.screen.Fault.TheVariants.{Refused}
 use Rattle.capi.specs.declared.answer.Answer.{Answer}
-use Rattle.capi.specs.declared.surface.Surface.{Surface}
+use Rattle.capi.specs.declared.c_screen.CScreen.{CScreen}
 use Rattle.capi.specs.Answers.{closed, of_end}
 use Rattle.capi.specs.Numbers.{saturated}
 
@@ -20,16 +20,16 @@ end_of_giving (Err e) = Err (Refused e)
 
 module _ (Given : DeskTable → Result (Unit {0}) Refusal → DeskTable → Type 0) where
   -- They were given to the desk of the screen, of which nothing else changed, and C gets that answer.
-  pub record Gives (old : Surface) (answer : Answer) (new : Surface) : Type 0 where
+  pub record Gives (old : CScreen) (answer : Answer) (new : CScreen) : Type 0 where
     pub end : Result (Unit {0}) Refusal
     pub given : Given old.screen.desk end new.screen.desk
     pub rest : new ≡ record old { screen = record old.screen { desk = new.screen.desk } }
     pub answer_is : answer ≡ of_end (end_of_giving end)
 
   -- A closed handle stays closed, and an open one open.
-  abbrev pub GivenTo : Option Surface → Answer → Option Surface → Type 0
+  abbrev pub GivenTo : Option CScreen → Answer → Option CScreen → Type 0
   GivenTo None answer new = (answer ≡ closed) × (new ≡ None)
-  GivenTo (Some old) answer new = (after : Surface) × Gives old answer after × (new ≡ Some after)
+  GivenTo (Some old) answer new = (after : CScreen) × Gives old answer after × (new ≡ Some after)
 
 -- one cell in a rectangle, and a row of cells in a line
 abbrev pub IsFill : ℕ → Rect → ℕ → DeskTable → Result (Unit {0}) Refusal → DeskTable → Type 0

@@ -14,7 +14,7 @@ use Rattle.world.specs.Worlds.{World}
 use Rattle.compose.specs.Desks.{world}
 use Rattle.desk.specs.declared.screen.Fault.TheVariants.{Refused}
 use Rattle.capi.specs.declared.answer.Answer.{Answer}
-use Rattle.capi.specs.declared.surface.Surface.{Surface}
+use Rattle.capi.specs.declared.c_screen.CScreen.{CScreen}
 use Rattle.capi.specs.Answers.{closed, of_end, ok}
 
 -- ---- a line
@@ -63,6 +63,6 @@ abbrev pub IsLineTold : Result (List ℕ) Refusal → List ℕ → Answer → Li
 IsLineTold (Ok line) buffer answer buffer' = (answer ≡ ok (length line) 0) × (buffer' ≡ put_into buffer line)
 IsLineTold (Err refusal) buffer answer buffer' = (answer ≡ of_end (Err (Refused refusal))) × (buffer' ≡ buffer)
 
-abbrev pub LineTold : Option Surface → (World → Result (List ℕ) Refusal) → List ℕ → Answer → List ℕ → Type 0
+abbrev pub LineTold : Option CScreen → (World → Result (List ℕ) Refusal) → List ℕ → Answer → List ℕ → Type 0
 LineTold None line buffer answer buffer' = (answer ≡ closed) × (buffer' ≡ buffer)
 LineTold (Some s) line buffer answer buffer' = IsLineTold (line (world s.screen.desk)) buffer answer buffer'

@@ -1,11 +1,11 @@
--- What a handle owns: nothing where its pointer is null, and else a box with a surface.
+-- What a handle owns: nothing where its pointer is null, and else a box with a screen.
 use Rattle.std.specs.Prelude.{Option, Some, None}
 use base.Fml.{Fml, ftrue, fex}
 use mir.Syntax.{Ty}
 use denote.RawPtr.{Ptr, block_ptr, null_ptr}
 use Rattle.std.specs.contracts.impls.GlobalAllocator.TheImpl.{ghosts}
 use Rattle.std_alloc.specs.Box.Ownership.{box_owns}
-use Rattle.capi.specs.contracts.surface.Surface.{the_row}
+use Rattle.capi.specs.contracts.c_screen.CScreen.{the_row}
 
 -- the right to free a block of the C library's heap
 abbrev pub token : Ty → Ptr → Fml

@@ -26,7 +26,7 @@ use Rattle.capi.specs.declared.question.Question.{Question}
 use Rattle.capi.specs.declared.question.Question.TheVariants as questions
 use Rattle.capi.specs.declared.question.Setting.{Setting}
 use Rattle.capi.specs.declared.question.Setting.TheVariants.{Attributes, Background, Region, Scrolls, Clears}
-use Rattle.capi.specs.declared.surface.Surface.{Surface}
+use Rattle.capi.specs.declared.c_screen.CScreen.{CScreen}
 use Rattle.capi.specs.Answers.{closed, of_end}
 
 -- ---- what is asked
@@ -78,6 +78,6 @@ abbrev pub of_answer : Result Reply Refusal → Answer
 of_answer (Ok reply) = of_end (Ok reply)
 of_answer (Err refusal) = of_end (Err (Refused refusal))
 
-abbrev pub Told : Option Surface → Question → Answer → Type 0
+abbrev pub Told : Option CScreen → Question → Answer → Type 0
 Told None question answer = answer ≡ closed
 Told (Some s) question answer = (end : Result Reply Refusal) × IsAnswered (world s.screen.desk) question end × (answer ≡ of_answer end)

@@ -1,4 +1,4 @@
-//! A handle for C: the pointer of a box with a surface, or null.
+//! A handle for C: the pointer of a box with a screen, or null.
 
 ghost use Rattle.std.specs.Prelude.{◌≡◌, IfOk, None, Option, Some, true};
 ghost use Rattle.std.specs.Option.{MatchOption};
@@ -11,29 +11,29 @@ ghost use Rattle.capi.specs.Held.{IsBlank};
 ghost use Rattle.capi.specs.Lines.{LineTold, screen_line, window_line};
 ghost use Rattle.capi.specs.Lives.{Forgotten, Opened, Taken};
 ghost use Rattle.capi.specs.Questions.{Told};
-ghost use Rattle.capi.specs.declared.surface.Surface.{Surface as TheSurface};
+ghost use Rattle.capi.specs.declared.c_screen.CScreen.{CScreen as TheCScreen};
 
 use crate::answer::{Answer, refusal_answer};
+use crate::c_screen::{CScreen, Outlet};
 use crate::question::Question;
-use crate::surface::{Outlet, Surface};
 use desk::{Call, Rect, Refusal, Reply, Sink, WinId};
-use loose::Loose;
+use raw_box::RawBox;
 use std::alloc::Global;
 use std::marker::Model;
 use std::mem::replace;
 use std::ptr::null_mut;
 
-/// Takes the surface out of a handle, does something with it and puts it back. Where the handle is closed, the answer
+/// Takes the screen out of a handle, does something with it and puts it back. Where the handle is closed, the answer
 /// says so, or is the last one here.
-macro_rules! with_surface {
-    ($handle:expr, $alloc:expr, |$surface:ident| $done:expr) => {
-        with_surface!($handle, $alloc, |$surface| $done, Answer::of_closed_handle())
+macro_rules! with_screen {
+    ($handle:expr, $alloc:expr, |$c_screen:ident| $done:expr) => {
+        with_screen!($handle, $alloc, |$c_screen| $done, Answer::of_closed_handle())
     };
-    ($handle:expr, $alloc:expr, |$surface:ident| $done:expr, $closed:expr) => {
+    ($handle:expr, $alloc:expr, |$c_screen:ident| $done:expr, $closed:expr) => {
         match $handle.lift($alloc) {
-            Some(mut $surface) => {
+            Some(mut $c_screen) => {
                 let answer = $done;
-                $handle.put_back($surface);
+                $handle.put_back($c_screen);
                 answer
             }
             None => $closed,
@@ -45,7 +45,7 @@ macro_rules! with_surface {
 #[repr(C)]
 pub struct Handle {
     at: *mut u8,
-    pub ghost value: { Option TheSurface },
+    pub ghost value: { Option TheCScreen },
 }
 
 impl Model for Handle {
@@ -63,24 +63,24 @@ impl Handle {
     }
 
     /// A handle that owns a box.
-    pub fn of(loose: Loose<Surface, Global>) -> Handle
-        ensures { result.value ≡ Some loose.value }
+    pub fn of(raw: RawBox<CScreen, Global>) -> Handle
+        ensures { result.value ≡ Some raw.value }
     {
-        let Loose { at, alloc: _ } = loose;
+        let RawBox { at, alloc: _ } = raw;
         Handle { at: at as *mut u8 }
     }
 
     /// Gives the box back, where the handle is open.
     #[inline(always)]
-    pub fn into_loose(self, alloc: Global) -> Option<Loose<Surface, Global>>
+    pub fn into_raw_box(self, alloc: Global) -> Option<RawBox<CScreen, Global>>
         ensures { MatchOption result (self.value ≡ None) (λ l. self.value ≡ Some l.value) }
     {
         let Handle { at } = self;
         if at.is_null() {
             None
         } else {
-            Some(Loose {
-                at: at as *mut Surface,
+            Some(RawBox {
+                at: at as *mut CScreen,
                 alloc,
             })
         }
@@ -89,38 +89,38 @@ impl Handle {
     /// Frees what it owns, which is mostly nothing. No clause can say that: `tests/library_memory` looks for leaks.
     #[inline(always)]
     fn free(self, alloc: Global) {
-        if let Some(loose) = self.into_loose(alloc) {
-            free_surface(loose);
+        if let Some(raw) = self.into_raw_box(alloc) {
+            free_screen(raw);
         }
     }
 
-    /// Takes the surface out, where the handle is open, and closes it.
+    /// Takes the screen out, where the handle is open, and closes it.
     #[inline(always)]
-    fn lift(&mut self, alloc: Global) -> Option<Box<Surface>>
-        ensures lifted { MatchOption result (self.old.value ≡ None) (λ surface. self.old.value ≡ Some surface.value) }
+    fn lift(&mut self, alloc: Global) -> Option<Box<CScreen>>
+        ensures lifted { MatchOption result (self.old.value ≡ None) (λ c_screen. self.old.value ≡ Some c_screen.value) }
         ensures closed { self.new.value ≡ None }
     {
-        match replace(self, Handle::empty()).into_loose(alloc) {
-            Some(loose) => Some(loose.into_box()),
+        match replace(self, Handle::empty()).into_raw_box(alloc) {
+            Some(raw) => Some(raw.into_box()),
             None => None,
         }
     }
 
-    /// Puts a surface in. One that was there is freed.
+    /// Puts a screen in. One that was there is freed.
     #[inline(always)]
-    fn put(&mut self, alloc: Global, surface: Box<Surface>)
-        ensures { self.new.value ≡ Some surface.value }
+    fn put(&mut self, alloc: Global, c_screen: Box<CScreen>)
+        ensures { self.new.value ≡ Some c_screen.value }
     {
-        replace(self, Handle::of(Loose::of(surface))).free(alloc);
+        replace(self, Handle::of(RawBox::of(c_screen))).free(alloc);
     }
 
-    /// Puts a surface into a closed handle.
+    /// Puts a screen into a closed handle.
     #[inline(always)]
-    fn put_back(&mut self, surface: Box<Surface>)
+    fn put_back(&mut self, c_screen: Box<CScreen>)
         requires { self.old.value ≡ None }
-        ensures { self.new.value ≡ Some surface.value }
+        ensures { self.new.value ≡ Some c_screen.value }
     {
-        replace(self, Handle::of(Loose::of(surface))).discard();
+        replace(self, Handle::of(RawBox::of(c_screen))).discard();
     }
 
     /// Consumes a closed handle, which owns nothing: there is nothing that a clause could say.
@@ -142,9 +142,9 @@ impl Handle {
     pub fn open(&mut self, alloc: Global, lines: u16, columns: u16) -> Answer
         ensures { Opened lines columns self.old.value result self.new.value }
     {
-        match new_surface(alloc, lines, columns) {
-            Ok(surface) => {
-                self.put(alloc, surface);
+        match new_screen(alloc, lines, columns) {
+            Ok(c_screen) => {
+                self.put(alloc, c_screen);
                 Answer::of(Ok(Reply::Nothing))
             }
             Err(refusal) => refusal_answer(refusal),
@@ -156,7 +156,7 @@ impl Handle {
     pub fn call(&mut self, alloc: Global, call: &Call<'_>) -> Answer
         ensures { Called ⟦<Outlet as Sink>⟧ self.old.value call.now result self.new.value }
     {
-        with_surface!(self, alloc, |surface| surface.call(call))
+        with_screen!(self, alloc, |c_screen| c_screen.call(call))
     }
 
     /// Makes a call that only asks. The handle has the same box after it.
@@ -165,7 +165,7 @@ impl Handle {
         requires { is_query query.now ≡ true }
         ensures { Asked ⟦<Outlet as Sink>⟧ self.old.value query.now result self.new.value }
     {
-        with_surface!(self, alloc, |surface| surface.ask(query))
+        with_screen!(self, alloc, |c_screen| c_screen.ask(query))
     }
 
     /// Answers a question.
@@ -174,7 +174,7 @@ impl Handle {
         ensures told { Told self.old.value question result }
         ensures same { self.new.value ≡ self.old.value }
     {
-        with_surface!(self, alloc, |surface| surface.tell(question))
+        with_screen!(self, alloc, |c_screen| c_screen.tell(question))
     }
 
     /// Puts the cells of a line of a window into a buffer, as many as fit, and answers how many the line has.
@@ -182,7 +182,7 @@ impl Handle {
         ensures told { LineTold self.old.value (window_line win.0 y) cells.old result cells.new }
         ensures same { self.new.value ≡ self.old.value }
     {
-        with_surface!(self, alloc, |surface| surface.tell_row(win, y, cells))
+        with_screen!(self, alloc, |c_screen| c_screen.tell_row(win, y, cells))
     }
 
     /// Puts the cells of a line of the virtual screen into a buffer, as many as fit, and answers how many the line has.
@@ -190,53 +190,53 @@ impl Handle {
         ensures told { LineTold self.old.value (screen_line y) cells.old result cells.new }
         ensures same { self.new.value ≡ self.old.value }
     {
-        with_surface!(self, alloc, |surface| surface.tell_shown_row(y, cells))
+        with_screen!(self, alloc, |c_screen| c_screen.tell_shown_row(y, cells))
     }
 
     /// Sets the cells of a rectangle of a window to one cell.
     pub fn fill(&mut self, alloc: Global, win: WinId, rect: Rect, cell: u32) -> Answer
         ensures { GivenTo (IsFill win.0 rect cell) self.old.value result self.new.value }
     {
-        with_surface!(self, alloc, |surface| surface.fill(win, rect, cell))
+        with_screen!(self, alloc, |c_screen| c_screen.fill(win, rect, cell))
     }
 
     /// Puts cells into a line of a window.
     pub fn give_row(&mut self, alloc: Global, win: WinId, y: u16, x: u16, cells: &[u32]) -> Answer
         ensures { GivenTo (IsRow win.0 y x cells.now) self.old.value result self.new.value }
     {
-        with_surface!(self, alloc, |surface| surface.give_row(win, y, x, cells))
+        with_screen!(self, alloc, |c_screen| c_screen.give_row(win, y, x, cells))
     }
 
     /// Moves the bytes that were sent into a buffer, and says how many they are. If it is too short, they stay.
     pub fn take(&mut self, alloc: Global, out: &mut [u8]) -> usize
         ensures { Taken self.old.value out.old result out.new self.new.value }
     {
-        with_surface!(self, alloc, |surface| surface.take(alloc, out), 0)
+        with_screen!(self, alloc, |c_screen| c_screen.take(alloc, out), 0)
     }
 
     /// Forgets what the terminal shows.
     pub fn invalidate(&mut self, alloc: Global)
         ensures { Forgotten self.old.value self.new.value }
     {
-        with_surface!(self, alloc, |surface| surface.invalidate(), ())
+        with_screen!(self, alloc, |c_screen| c_screen.invalidate(), ())
     }
 }
 
 /// Frees a screen. No clause can say that: `tests/library_memory` looks for leaks.
 #[cold]
 #[inline(never)]
-fn free_surface(loose: Loose<Surface, Global>) {
-    drop(loose.into_box());
+fn free_screen(raw: RawBox<CScreen, Global>) {
+    drop(raw.into_box());
 }
 
 /// A blank screen in a box.
-fn new_surface(alloc: Global, lines: u16, columns: u16) -> Result<Box<Surface>, Refusal>
-    ensures blank { IfOk result (λ surface. IsBlank lines columns surface.value) }
+fn new_screen(alloc: Global, lines: u16, columns: u16) -> Result<Box<CScreen>, Refusal>
+    ensures blank { IfOk result (λ c_screen. IsBlank lines columns c_screen.value) }
     ensures refused { RefusedBy (new_refusal lines columns) result }
 {
-    let surface = Surface::new(alloc, lines, columns)?;
-    match Box::new(alloc, surface) {
-        Ok(surface) => Ok(surface),
+    let c_screen = CScreen::new(alloc, lines, columns)?;
+    match Box::new(alloc, c_screen) {
+        Ok(c_screen) => Ok(c_screen),
         Err(failed) => {
             drop(failed.value);
             Err(Refusal::NoMemory)

@@ -7,15 +7,15 @@
 //! - `line`: the cells of a line, as C gets them
 //! - `number`: numbers as C passes them
 //! - `question`: what C asks beside the calls
-//! - `surface`: a screen whose bytes are kept
+//! - `screen`: a screen whose bytes are kept
 //! - `written_numbers`: the numbers of refusals, written by a tool
 #![tactic(auto)]
 
 mod answer;
+mod c_screen;
 mod exports;
 mod handle;
 mod line;
 mod number;
 mod question;
-mod surface;
 mod written_numbers;

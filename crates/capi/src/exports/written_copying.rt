@@ -7,9 +7,9 @@ ghost use Rattle.capi.specs.Called.{Asked, Called};
 ghost use Rattle.capi.specs.Numbers.{saturated, window_of};
 
 use crate::answer::Answer;
+use crate::c_screen::Outlet;
 use crate::handle::Handle;
 use crate::number::{saturated, window_of};
-use crate::surface::Outlet;
 use desk::Sink;
 use std::alloc::Global;
 use world::{Call, Copying};

@@ -7,9 +7,9 @@ ghost use Rattle.capi.specs.Called.{Asked, Called};
 ghost use Rattle.capi.specs.Numbers.{panel_of, panel_or_none_of, saturated, window_of};
 
 use crate::answer::Answer;
+use crate::c_screen::Outlet;
 use crate::handle::Handle;
 use crate::number::{panel_of, panel_or_none_of, saturated, window_of};
-use crate::surface::Outlet;
 use desk::Sink;
 use std::alloc::Global;
 use world::{Call, Stacking};

@@ -6,9 +6,9 @@ ghost use Rattle.capi.specs.Called.{Asked};
 ghost use Rattle.capi.specs.Numbers.{window_of};
 
 use crate::answer::Answer;
+use crate::c_screen::Outlet;
 use crate::handle::Handle;
 use crate::number::window_of;
-use crate::surface::Outlet;
 use desk::Sink;
 use std::alloc::Global;
 use world::{Call, Query};

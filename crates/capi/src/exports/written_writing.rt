@@ -7,9 +7,9 @@ ghost use Rattle.capi.specs.Numbers.{saturated, saturated_character, saturated_s
 ghost use Rattle.capi.specs.Answers.{attrs_of};
 
 use crate::answer::{Answer, attrs_of};
+use crate::c_screen::Outlet;
 use crate::handle::Handle;
 use crate::number::{saturated, saturated_character, saturated_signed, window_of};
-use crate::surface::Outlet;
 use desk::Sink;
 use std::alloc::Global;
 use world::{Call, Writing};

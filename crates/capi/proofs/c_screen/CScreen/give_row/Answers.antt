@@ -1,6 +1,6 @@
 -- How it ended is what the screen answered.
 use Rattle.std.proofs.Common.{Err, Ok, rules}
-use Rattle.capi.proofs.surface.Surface.give_row.Goals as goal
+use Rattle.capi.proofs.c_screen.CScreen.give_row.Goals as goal
 
 pub returns-in-Ok : goal.returns-in-Ok
 returns-in-Ok c = record { end = Ok tt; given = search rules; rest = search rules; answer_is = search rules }

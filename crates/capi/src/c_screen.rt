@@ -22,18 +22,18 @@ pub type Outlet = Counted<Vec<u8>>;
 
 /// What an open handle owns.
 #[derive(Drop)]
-pub struct Surface {
+pub struct CScreen {
     pub(crate) screen: Screen<Outlet>,
 }
 
-impl Surface {
+impl CScreen {
     /// A blank screen.
-    pub fn new(alloc: Global, lines: u16, columns: u16) -> Result<Surface, Refusal>
+    pub fn new(alloc: Global, lines: u16, columns: u16) -> Result<CScreen, Refusal>
         ensures blank { IfOk result (IsBlank lines columns) }
         ensures refused { RefusedBy (new_refusal lines columns) result }
     {
         let screen = Screen::new(alloc, lines, columns, Counted::new(Vec::new(alloc)))?;
-        Ok(Surface { screen })
+        Ok(CScreen { screen })
     }
 
     /// Makes a call, and says all that is known of it.

@@ -8,30 +8,30 @@ use std::alloc::Allocator;
 use std::marker::Model;
 
 /// What a box owns, held by its pointer.
-pub struct Loose<T, A: Allocator> {
+pub struct RawBox<T, A: Allocator> {
     pub at: *mut T,
     pub alloc: A,
     pub ghost value: { T },
 }
 
-impl<T, A: Allocator> Model for Loose<T, A> {
+impl<T, A: Allocator> Model for RawBox<T, A> {
     ghost also_owns = { λ l. box_owns (A.dealloc_token l.alloc) T.row l.at l.value };
 }
 
-impl<T: Drop, A: Allocator> Loose<T, A> {
+impl<T: Drop, A: Allocator> RawBox<T, A> {
     /// Takes a box apart into its pointer and its allocator.
-    pub fn of(value: Box<T, A>) -> Loose<T, A>
+    pub fn of(value: Box<T, A>) -> RawBox<T, A>
         ensures { result.value ≡ value.value }
     {
         let (at, alloc) = Box::into_raw_with_allocator(value);
-        Loose { at, alloc }
+        RawBox { at, alloc }
     }
 
     /// Makes the box again.
     pub fn into_box(self) -> Box<T, A>
         ensures { result.value ≡ self.value }
     {
-        let Loose { at, alloc } = self;
+        let RawBox { at, alloc } = self;
         unsafe { Box::from_raw(alloc, at) }
     }
 }

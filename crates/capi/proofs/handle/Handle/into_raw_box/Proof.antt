@@ -1,4 +1,4 @@
--- `into_loose` tests the pointer, and moves the box out where it is not null.
+-- `into_raw_box` tests the pointer, and moves the box out where it is not null.
 use Rattle.std.proofs.Common.{◌≡◌, List, [], ◌∷◌, ◌++◌, refl, sym, subst, lit<}
 use mir.Val.{Val, vptr, vcons, vnil}
 use base.Logic.{SProp, ent, emp, id⊢}
@@ -27,18 +27,18 @@ use Rattle.std.proofs.alloc.Global.TheLaws as heap_laws
 use Rattle.std.proofs.raw_atomic.Walks.{proved_at, leaves}
 use Rattle.std.specs.contracts.impls.GlobalAllocator.TheImpl.{ghosts}
 use Rattle.std_alloc.proofs.ResultValues.{and_tt}
-use Rattle.loose.proofs.Values.{both, Loose, loose_good, loose_in}
+use Rattle.raw_box.proofs.Values.{both, RawBox, raw_box_good, raw_box_in}
 use Rattle.capi.proofs.Handles.{R, Z, Row, one as only_field, handle_good, handle_out, either}
-use Rattle.capi.specs.contracts.handle.Handle.into_loose as f
-use Rattle.capi.proofs.handle.Handle.into_loose.Statement.{statement}
-use Rattle.capi.proofs.handle.Handle.into_loose.Code as code
+use Rattle.capi.specs.contracts.handle.Handle.into_raw_box as f
+use Rattle.capi.proofs.handle.Handle.into_raw_box.Statement.{statement}
+use Rattle.capi.proofs.handle.Handle.into_raw_box.Code as code
 
 abbrev stayed : Stays f.ended.signature.params f.ended.kept
 stayed = (stay_dropped (plain (λ _. Row)) yes, (stay_dropped (plain (λ _. Z)) yes, tt))
 
-pub into_loose_spec : {M : Type 1} → statement M
-into_loose_spec 𝓤 𝓛 𝓜 𝓡 wired =
-    let H = 𝓛.H in let 𝓣 = tables 𝓤 H 𝓜 𝓡 𝓡.env in let c = f.clauses 𝓛 𝓜.mem 𝓡.returns in let fn = code.function in let LZ = heap_laws.the_row_laws in let Lr : RattleType = Loose R Z LZ ghosts in
+pub into_raw_box_spec : {M : Type 1} → statement M
+into_raw_box_spec 𝓤 𝓛 𝓜 𝓡 wired =
+    let H = 𝓛.H in let 𝓣 = tables 𝓤 H 𝓜 𝓡 𝓡.env in let c = f.clauses 𝓛 𝓜.mem 𝓡.returns in let fn = code.function in let LZ = heap_laws.the_row_laws in let Lr : RattleType = RawBox R Z LZ ghosts in
     proved_at 𝓛 f.ended stayed c 𝓜 𝓡 (Goes-dropped 𝓛 0 (plain (λ _. Row)) yes (λ κs x w. refl), (Goes-dropped 𝓛 0 (plain (λ _. Z)) yes (λ κs x w. refl), tt))
     f.Key.name fn (code.unfolded 𝓤 H 𝓜 𝓡 wired) (λ z are.
     let κs = z.0.0 in let d = z.0.3.0 in let a = z.0.3.1.0 in
@@ -57,7 +57,7 @@ into_loose_spec 𝓤 𝓛 𝓜 𝓡 wired =
     (none_of 𝓛 Lr) $ nothing ! $ nothing ! $ fjoin ! $ nothing ! $ fjoin ! $ nothing ! $
     by ! (leaves 𝓛 f.ended stayed c z (live 0 vnil) None (tt, (tt, tt)) (tt, (tt, tt)))) (λ wrong. absurd wrong)))
     (λ b o x is some t. let p : Ptr = block_ptr b o in let w : List Val = only_field (vptr b o) ∷ hv ∷ [] in
-    let made : Val = both (vptr b o) hv in let typed = loose_good R Z LZ ghosts b o hv gh in let v₁ : Val = live 1 (vcons made vnil) in let r : Lr.Denot = record { at = p; alloc = a; value = x } in
+    let made : Val = both (vptr b o) hv in let typed = raw_box_good R Z LZ ghosts b o hv gh in let v₁ : Val = live 1 (vcons made vnil) in let r : Lr.Denot = record { at = p; alloc = a; value = x } in
     let good : Good (layout Out) v₁ = (and_tt _ typed.0, (record { fits = lit< tt }, (typed.1, tt))) in
     suffices ! (Run w) (subst (λ (us : List Val). ent 𝓤 (Run w) (Run us)) (sym (λ i. (subst (λ (q : Ptr). z.0.4.0 ≡ only_field (ptr_val q) ∷ []) is ws) i ++ (h.1 i ++ []))) (id⊢ 𝓤 (Run w))) $
     enter ! 𝓣.C 𝓣.Λ fn w Post $ alloc_all ! (λ l. pass_all ! refl (handle_good p, (gh, tt)) $ let Ev = env fn.locals l in
@@ -66,7 +66,7 @@ into_loose_spec 𝓤 𝓛 𝓜 𝓡 wired =
     sets ! (of_opd ! (get ! refl)) refl (tt, tt) $ sets ! (agg ! (and_then ! (get ! refl) (and_then ! (get ! refl) (no_more !)))) refl typed $ sets_last !
     (agg ! (and_then ! (lit ! tt) (and_then ! (get ! refl) (no_more !)))) refl good $
     exec ! 𝓣.C 𝓣.Λ Ev (after 3 fn.body) (at_ret Ev Post) $ sets ! (of_opd ! (get ! refl)) refl good $
-    returns ! (look_at ! 0 refl) $ free_all ! refl $ keep ! (0 ∷ 1 ∷ []) $ loose_in R Z LZ ghosts ! b o hv a x $
+    returns ! (look_at ! 0 refl) $ free_all ! refl $ keep ! (0 ∷ 1 ∷ []) $ raw_box_in R Z LZ ghosts ! b o hv a x $
     use1 𝓛 (‵ (Out.own_val (Some r) (v₁ ∷ []))) (Some-of 𝓛 Lr r made) $ use0 𝓛 (raw (fact 𝓤 (d.value ≡ Some x))) (fact_i 𝓤 (d.value ≡ Some x) (emp 𝓤) some) $ move !
     (1 ∷ []) $ nothing ! $ nothing ! $ fjoin ! $ nothing ! $ fjoin ! $ nothing ! $
     by ! (leaves 𝓛 f.ended stayed c z v₁ (Some r) (tt, (tt, tt)) (tt, (tt, tt))))))))

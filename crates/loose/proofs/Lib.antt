@@ -1,2 +1,0 @@
--- The machine values of a `Loose`; for `into_box`, `of`
-pub mod Values
