@@ -94,7 +94,11 @@ void curspan_forget_all(void);
 /* The screen, and a window of it, as arguments. */
 #define SCREEN_AND(win) &curspan_the_screen, curspan_number(win)
 /* The number of a window for a call that asks for its cursor, which Curspan has then. */
-uint16_t curspan_placed(WINDOW *win);
+void curspan_place(WINDOW *win);
+static inline uint16_t curspan_placed(WINDOW *win) {
+    if (win && !win->is_placed) curspan_place(win);
+    return curspan_number(win);
+}
 
 /* Answers for a call that has changed a window: refreshes it, or touches its ancestors, where that is to be. */
 void curspan_follow(WINDOW *win);

@@ -10,8 +10,7 @@ void curspan_put_waiting(int end) {
     if ((uint32_t)end > x) curspan_put(&curspan_kept_screen, win->number, y, x, curspan_waiting.cells + x, (uint32_t)end - x);
 }
 
-uint16_t curspan_placed(WINDOW *win) {
-    if (win && !win->is_placed) curspan_wmove(SCREEN_AND(win), (uint32_t)win->y, (uint32_t)win->x);
-    if (win) win->is_placed = true;
-    return curspan_number(win);
+void curspan_place(WINDOW *win) {
+    curspan_wmove(SCREEN_AND(win), (uint32_t)win->y, (uint32_t)win->x);
+    win->is_placed = true;
 }
