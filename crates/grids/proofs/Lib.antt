@@ -14,7 +14,7 @@ pub mod Settling
 pub mod FreeNumbers
 -- a test of each slot, for has_derived and is_touched
 pub mod Derived
--- that lines of which none is touched are found so, for TouchedLines
+-- that lines of which none is touched are found so, and what lines are that are changed together, for TouchedLines
 pub mod Untouched
 -- characters printed after others, for print_in
 pub mod Prints

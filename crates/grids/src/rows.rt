@@ -1,7 +1,7 @@
 //! Reading a line of a window, and the writes of one line of which every write is made.
 
 ghost use Rattle.std.specs.Prelude.{◌≡◌, ◌<◌, ◌≤◌, ◌+◌, ◌-◌};
-ghost use Rattle.grids.specs.{is_some, length, map, slice_index, EachIndex, true, false, AllByRecursion, IsCell, is_printable, printed_cell, set, with_cursor, HasPlace, cell_at, put, AreSoundWindows};
+ghost use Rattle.grids.specs.{is_some, length, map, slice_index, EachIndex, true, false, AllByRecursion, IsCell, is_printable, printed_cell, set, with_cursor, HasPlace, cell_at, given_cell, put, AreSoundWindows};
 ghost use Rattle.grids.specs.{filled_cells, rectangle_filled, listed_cells, overlaid_cell, copied_cells, line_shown, AreRowsThere, AreThere, RowCopied, piece_of, windows};
 ghost use Rattle.grids.specs.declared.rows.TheConstants.{PIECE};
 
@@ -77,19 +77,18 @@ impl Grids {
         self.change(WinId(origin.grid), |slot| slot.fill_rectangle(filled, cell));
     }
 
-    /// Puts cells into line `y` of a window, from column `left` on. The places must exist.
-    pub fn put(&mut self, win: WinId, y: u16, left: u16, cells: &[Cell])
-        requires some { 0 < length cells.now }
-        requires there { HasPlace (windows self.old).window win.0 y (left + length cells.now - 1) }
-        requires cells { AllByRecursion IsCell cells.now }
-        ensures written { windows self.new ≡ put (windows self.old) win.0 (listed_cells y left cells.now) }
+    /// Puts the cells that numbers give into line `y` of a window, from column `left` on. The places must exist.
+    pub fn put(&mut self, win: WinId, y: u16, left: u16, numbers: &[u32])
+        requires some { 0 < length numbers.now }
+        requires there { HasPlace (windows self.old).window win.0 y (left + length numbers.now - 1) }
+        ensures written { windows self.new ≡ put (windows self.old) win.0 (listed_cells y left (map given_cell numbers.now)) }
         ensures sound { AreSoundWindows (windows self.new) }
     {
         prove!(self.has_window(WinId::STANDARD));
-        let origin = self.touch(win, y, left, left + cells.len() as u16 - 1);
+        let origin = self.touch(win, y, left, left + numbers.len() as u16 - 1);
         let line = origin.line + y;
         let start = origin.column + left;
-        self.change(WinId(origin.grid), |slot| slot.put_row(line, start, cells));
+        self.change(WinId(origin.grid), |slot| slot.give(line, start, numbers));
     }
 
     /// Sets the cell of a window at line `y` and column `x`, and moves the cursor to the next column. Both places must
