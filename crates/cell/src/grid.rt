@@ -1,7 +1,7 @@
 //! A grid of cells: what a window holds, or what a screen or a terminal shows.
 
 ghost use Rattle.std.specs.Prelude.{◌≡◌, ◌≤◌, ◌<◌, ◌==◌, ◌&&◌, ◌+◌, ◌-◌, ◌*◌, if◌then◌else◌};
-ghost use Rattle.cell.specs.{ℕ, nat_le, nat_lt, length, map, replicate, slice_index_or, IfOk, true, AllByRecursion, splice, blank, IsCell, with_blanks, moved, IsGrid, IsReached, shown, shown_blank};
+ghost use Rattle.cell.specs.{ℕ, nat_le, nat_lt, length, map, replicate, slice_index_or, IfOk, true, AllByRecursion, splice, blank, IsCell, with_blanks, moved, IsGrid, IsReached, shown, shown_blank, start_of};
 ghost use Rattle.cell.specs.{IsShown, vec_capacity, EachCell, HasSize, all_of, cell_or, line_of, shown_at, size_of, with_cell};
 
 use crate::cell::Cell;
@@ -114,9 +114,8 @@ impl<T: Element> Grid<T> {
         requires column { x < length (line_of self.old y) }
         ensures { self.new ≡ with_cell self.old (y, x) cell }
     {
-        prove!(cell.character() >= b' ');
-        let line = reach(&mut self.cells, self.lines, self.columns, y);
-        self.cells[line + x] = cell;
+        prove!(x < self.columns);
+        self.fill(y, x, x + 1, cell);
     }
 
     /// Puts one cell in the columns of line `y` from `start` on, up to `end`, which it leaves out.
@@ -173,15 +172,12 @@ impl<T: Element> Grid<T> {
         ensures cells { EachCell T.Is self.old → EachCell T.Is self.new }
     {
         if columns == self.columns {
-            self.copy_lines(sy, dy, lines);
-        } else if dy <= sy {
-            'downward: for k in 0..lines {
-                self.copy_cells(sy + k, sx, dy + k, dx, columns);
-            }
-        } else {
-            'upward: for k in (0..lines).rev() {
-                self.copy_cells(sy + k, sx, dy + k, dx, columns);
-            }
+            return self.copy_lines(sy, dy, lines);
+        }
+        let back = sy < dy;
+        for i in 0..lines {
+            let k = start_of(back, lines, i, 1);
+            self.copy_cells(sy + k, sx, dy + k, dx, columns);
         }
     }
 
@@ -247,6 +243,14 @@ impl<T: Element> Grid<T> {
         self.cells.clear();
         self.cells.extend_from_slice(&other.cells).unwrap();
     }
+}
+
+/// Where the next of `n` lines begin, `len` of them after so many, from the first on or back from the last.
+fn start_of(back: bool, n: usize, done: usize, len: usize) -> usize
+    requires { done + len ≤ n }
+    ensures { result ≡ start_of back n done len }
+{
+    if back { n - (done + len) } else { done }
 }
 
 /// Puts cells into line `y` of a picture from column `x` on, in the colours that their pairs have.

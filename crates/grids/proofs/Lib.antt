@@ -32,12 +32,8 @@ pub mod Deletion
 pub mod NewWindows
 -- the cells that a window shows, for cell and row
 pub mod Showing
--- the drawings of copies, for copy_rectangle and what it calls
+-- copies, for copy_rectangle and what it calls
 pub mod Copies
--- copies step by step, for overlay_cells and copy_lines
-pub mod CopySteps
--- the rectangle of a copy, for copy_row, overlay_cells and copy_lines
-pub mod CopyFrames
 -- a window touched line by line, for touch_shown
 pub mod Touches
 -- the ancestors of a window, for derives, hand_up and take_down

@@ -223,6 +223,7 @@ impl Slot {
         requires line_in { line < self.now.lines }
         requires columns_in { left + len ≤ self.now.columns }
         ensures row { result.now ≡ map (λ x. cell_of (window_of self.now).backing line (left + x)) (range_with_len 0 len) }
+        ensures len { length result.now ≡ len }
         ensures cells { AllByRecursion IsCell result.now }
     {
         match &self.cells {

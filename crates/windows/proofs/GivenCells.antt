@@ -5,7 +5,7 @@ use Rattle.windows.specs.{Option, ap, sym, subst, take_all, ◌∙◌, given_cel
 use Rattle.world.proofs.FrameLaws.{frame_of-none}
 use Rattle.windows.specs.declared.state.WindowState.{WindowState}
 use Rattle.windows.proofs.NextWrites.{nothing, once, twice}
-use Rattle.windows.proofs.Rectangles.{block}
+use Rattle.grids.proofs.Copies.{block}
 
 module _ (a : Window) where
   pub frame-rectangle : (r : Rect) (c : Glyph) → r.top ≤ r.bottom → r.bottom < a.lines → r.left ≤ r.right → r.right < a.columns → frame_of a (rectangle_filled r c) ≡ Some r
