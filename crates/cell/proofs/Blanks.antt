@@ -1,13 +1,13 @@
 -- The cells that a grid has, with the blanks that are missing after them: a line that is lent, blanks that are added, and
 -- what is written before those that are missing.
 use Rattle.std.specs.Prelude.{◌≡◌, ◌+◌, ◌-◌, ◌*◌, ◌<◌, ◌≤◌}
-use Rattle.cell.specs.{ℕ, inl, inr, List, [], length, take, drop, set, min, replicate, get_or, sym, ap, ◌∙◌, arith, length-append, AllByRecursion, splice, cases_lt, cases_eq, append_assoc}
-use Rattle.cell.specs.{length-replicate, length-set, length-take-le, length-drop, replicate-append-replicate, get_or-replicate, get_or_append_left, get_or_past, get_or-take, get_or-drop}
-use Rattle.cell.specs.{get_or-set_other, set-append_left, take-append-le, drop-append-le, ext_get_or, IsGrid, IsReached, with_blanks}
+use Rattle.cell.specs.{ℕ, inl, inr, List, [], length, take, drop, min, replicate, get_or, sym, ap, ◌∙◌, arith, length-append, AllByRecursion, splice, cases_lt, cases_eq, append_assoc}
+use Rattle.cell.specs.{length-replicate, length-take-le, length-drop, replicate-append-replicate, get_or-replicate, get_or_append_left, get_or_past, get_or-take, get_or-drop}
+use Rattle.cell.specs.{take-append-le, drop-append-le, ext_get_or, IsGrid, IsReached, with_blanks}
 use Rattle.std.proofs.lemmas.List.{get_or-append_right}
 use Rattle.cell.specs.declared.limits.TheConstants.{LARGEST_PAD}
 use Rattle.cell.proofs.GridLemmas.{line_end}
-use Rattle.cell.proofs.PictureLemmas.{each-replicate, each-set}
+use Rattle.cell.proofs.PictureLemmas.{each-replicate}
 use Rattle.cell.proofs.PieceWrites.{IsWhole-splice, beyond, length-splice}
 
 -- a place in blanks, or past them
@@ -87,9 +87,6 @@ with_blanks-splice : {A : Type 0} (blank : A) (n : ℕ) (cells piece : List A) (
     → with_blanks blank n (splice cells start (start + length piece) piece) ≡ splice (with_blanks blank n cells) start (start + length piece) piece
 with_blanks-splice blank n cells piece start fits = grind (arith, length-splice, take-append-le, drop-append-le, append_assoc)
 
-with_blanks-set : {A : Type 0} (blank : A) (n : ℕ) (cells : List A) (k : ℕ) (cell : A) → k < length cells → with_blanks blank n (set cells k cell) ≡ set (with_blanks blank n cells) k cell
-with_blanks-set blank n cells k cell within = grind (arith, length-set, set-append_left)
-
 module _ {A : Type 0} {Is : A → Type 0} {blank : A} {lines columns : ℕ} {old new : List A} {capacity capacity' : ℕ} (y x : ℕ) (grid : IsGrid Is blank lines columns new capacity)
     (reached : IsReached blank lines columns y old new) (below : y < lines) (same : capacity' ≡ capacity) where
   module _ (start : ℕ) (piece : List A) (fits : start + length piece ≤ y * columns + columns) where
@@ -119,25 +116,6 @@ module _ {A : Type 0} {Is : A → Type 0} {blank : A} {lines columns : ℕ} {old
 
     pub IsGrid-piece : AllByRecursion Is piece → IsGrid Is blank lines columns (after new) capacity'
     IsGrid-piece sound = IsGrid-splice (y * columns + x) piece (omega (arith, fits)) sound
-
-  module _ (cell : A) (left : x < columns) where
-    pub blanks-set : with_blanks blank (lines * columns) (set new (y * columns + x) cell) ≡ set (with_blanks blank (lines * columns) old) (y * columns + x) cell
-    blanks-set = with_blanks-set blank (lines * columns) new (y * columns + x) cell (omega (arith, reached.there, left)) ∙ ap (λ cells. set cells (y * columns + x) cell) reached.same
-
-    pub IsGrid-set : Is cell → IsGrid Is blank lines columns (set new (y * columns + x) cell) capacity'
-    IsGrid-set sound = record {
-      all = rw (blanks-set, ← reached.same) (record {
-        few_lines = grid.all.few_lines;
-        few_columns = grid.all.few_columns;
-        whole = length-set (with_blanks blank (lines * columns) new) (y * columns + x) cell ∙ grid.all.whole;
-        each = each-set Is _ (y * columns + x) cell sound grid.all.each;
-      });
-      room = omega (arith, same, grid.room);
-      some = λ h. omega (arith, grid.some h, length-set new (y * columns + x) cell);
-      last = λ missing k end. let long = length-set new (y * columns + x) cell in
-          let missing_there : length new < lines * columns = omega arith in
-          get_or-set_other new (y * columns + x) k cell blank (λ e. absurd (omega (arith, reached.above missing_there, left))) ∙ grid.last missing_there k (omega arith);
-    }
 
 -- a grid of the same size is copied
 

@@ -1,8 +1,8 @@
--- The lines of a grid whose cells are one after another: each line, a change of one cell, and equal sizes.
-use Rattle.std.specs.Prelude.{◌≡◌, ◌<◌, ◌≤◌, ◌+◌, ◌*◌, ◌-◌}
-use Rattle.cell.specs.{ℕ, List, [], length, take, drop, replicate, set, arith, zero-add, take-set-lt, cases_eq, cases_lt, length-set, length-take-le, length-drop, length-replicate, drop-set-add}
-use Rattle.cell.specs.{drop-set-lt, take-set-le, take-replicate, drop-replicate, get_or-replicate, get_or-set_same, get_or-set_other, ext_get_or, nil_from_length, All-from_recursion}
-use Rattle.cell.specs.{recursion_from_All, All-take, All-drop, length-map-range_with_len, get_or-map-range_with_len, mul-le, row_fits, line_of, with_cell, EachCell, size_of, all_of, rows, IsWhole}
+-- The lines of a grid whose cells are one after another: each line, and equal sizes.
+use Rattle.std.specs.Prelude.{◌≡◌, ◌<◌, ◌≤◌, ◌+◌, ◌*◌}
+use Rattle.cell.specs.{ℕ, List, [], length, take, drop, replicate, arith, zero-add, length-take-le, length-drop, length-replicate}
+use Rattle.cell.specs.{take-replicate, drop-replicate, get_or-replicate, ext_get_or, nil_from_length, All-from_recursion}
+use Rattle.cell.specs.{recursion_from_All, All-take, All-drop, length-map-range_with_len, get_or-map-range_with_len, mul-le, row_fits, line_of, EachCell, size_of, all_of, rows, IsWhole}
 use Rattle.cell.proofs.PictureLemmas.{each-map}
 
 abbrev line_at : {A : Type 0} → ℕ → List A → ℕ → List A
@@ -21,19 +21,6 @@ line_end lines columns y below = row_fits y columns lines columns below (omega a
 pub length-line_of-rows : {A : Type 0} {Is : A → Type 0} (lines columns : ℕ) (cells : List A) (y : ℕ) → IsWhole Is lines columns cells → y < lines
     → length (line_of (rows lines columns cells) y) ≡ columns
 length-line_of-rows lines columns cells y grid below = grind (arith, line_end, line_of-rows, length-take-le, length-drop)
-
--- a change of one cell
-
-line_at-set : {A : Type 0} (columns : ℕ) (cells : List A) (y x k : ℕ) (cell : A) → x < columns → (k ≡ y → ⊥)
-    → line_at columns (set cells (y * columns + x) cell) k ≡ line_at columns cells k
-line_at-set columns cells y x k cell left other =
-    grind (arith, cases_lt, line_end, drop-set-add (k * columns) cells (y * columns + x - k * columns) cell, take-set-le, drop-set-lt)
-
-pub rows-set : {A : Type 0} (lines columns : ℕ) (cells : List A) (y x : ℕ) (cell : A) → y < lines → x < columns
-    → rows lines columns (set cells (y * columns + x) cell) ≡ with_cell (rows lines columns cells) (y, x) cell
-rows-set lines columns cells y x cell below left =
-    ext_get_or [] (rows lines columns (set cells (y * columns + x) cell)) (with_cell (rows lines columns cells) (y, x) cell) (grind (arith, length-rows, length-set))
-    (λ k within. grind (arith, length-rows, cases_eq k y, line_of-rows, drop-set-add, take-set-lt, get_or-set_same, line_at-set, get_or-set_other))
 
 -- cells
 

@@ -5,9 +5,9 @@ pub mod Ranges
 pub mod GridLemmas
 -- Pictures of a known size: what each line has, and when two are equal; for `clear`, `fill` and others
 pub mod PictureLemmas
--- Places that are filled with one cell, one after another, and a line of which some are; for `fill`, `fill_piece`
+-- Lines of which some places are filled with one cell, one after another; for `fill_rectangle`, `fill_lines`
 pub mod Fills
--- A piece of a line of a grid that is written at once; for `fill`, `put_cells`, `show_cells`
+-- A piece of a line of a grid that is written at once; for `fill_lines`, `put_cells`, `give_cells`, `show_cells`
 pub mod PieceWrites
 -- The cells that a grid has, with the blanks that are missing after them; for `reach`, `row` and others
 pub mod Blanks

@@ -1,6 +1,6 @@
 -- Cells of a grid that are copied to another place of it: a piece of a line, and whole lines.
 use Rattle.std.specs.Prelude.{◌≡◌, ◌+◌, ◌-◌, ◌*◌, ◌<◌, ◌≤◌, ◌==◌, ◌&&◌, ◌⊎◌, if◌then◌else◌}
-use Rattle.cell.specs.{ℕ, nat_le, nat_lt, true, List, [], length, take, drop, get_or, ap, sym, ◌∙◌, inl, inr, arith, AllByRecursion, cases_lt, nat_tests, get_or-take, get_or-drop, length-take-le, length-drop}
+use Rattle.cell.specs.{ℕ, Bool, nat_le, nat_lt, true, false, refl, start_of, List, [], length, take, drop, get_or, ap, sym, ◌∙◌, inl, inr, arith, AllByRecursion, cases_lt, nat_tests, get_or-take, get_or-drop, length-take-le, length-drop}
 use Rattle.cell.specs.{All-from_recursion, recursion_from_All, All-take, All-drop, take-append-le, drop-append-le, mul-le, cell_or, line_of, HasSize, cases_eq, rows, IsGrid, IsReached, IsWhole, with_blanks, moved}
 use Rattle.cell.proofs.Blanks.{IsGrid-splice, length-with_blanks}
 use Rattle.std.specs.Prelude.{max}
@@ -182,7 +182,7 @@ pub record BlockFits (lines columns sy sx dy dx high wide : ℕ) {A : Type 0} (p
   pub left : 0 < high → sx + wide ≤ columns
   pub fits : 0 < high → dx + wide ≤ columns
 
-each_width : {A : Type 0} {Is : A → Type 0} (lines columns : ℕ) (cells : List A) → IsWhole Is lines columns cells → HasSize lines columns (rows lines columns cells)
+pub each_width : {A : Type 0} {Is : A → Type 0} (lines columns : ℕ) (cells : List A) → IsWhole Is lines columns cells → HasSize lines columns (rows lines columns cells)
 each_width lines columns cells grid = record {
   height = length-rows lines columns cells;
   width = recursion_from_All (λ line. length line ≡ columns) _ (All-from_get_or (λ line. length line ≡ columns) _ [] (λ y below. length-line_of-rows lines columns cells y grid (omega (arith, length-rows lines columns cells))));
@@ -219,9 +219,6 @@ abbrev pub line_added : {A : Type 0} → A → List (List A) → ℕ → ℕ →
 line_added none now sy sx dy dx wide v u = if (v == dy) && (nat_le dx u && nat_lt u (dx + wide)) then cell_or none now (sy, sx + (u - dx)) else cell_or none now (v, u)
 
 module _ {A : Type 0} (none : A) (old : List (List A)) (sy sx dy dx wide : ℕ) where
-  pub none-shown : (first : ℕ) → (v u : ℕ) → cell_or none old (v, u) ≡ block_shown none old sy sx dy dx first first wide v u
-  none-shown first v u = grind (arith, nat_tests)
-
   skipped : (first end v u : ℕ) → (v < first) ⊎ (end ≤ v) → block_shown none old sy sx dy dx first end wide v u ≡ cell_or none old (v, u)
   skipped first end v u out = grind (arith, nat_tests)
 
@@ -243,17 +240,16 @@ module _ {A : Type 0} (none : A) (old : List (List A)) (sy sx dy dx wide : ℕ) 
         ∙ (λ i. if (v == dy + k) && (nat_le dx u && nat_lt u (dx + wide)) then read i else shown v u i)
         ∙ with_line first end k first' end' v u other this
 
-  pub next-down : (now new : List (List A)) (k : ℕ) → dy ≤ sy → ((v u : ℕ) → cell_or none now (v, u) ≡ block_shown none old sy sx dy dx dy (dy + k) wide v u)
-      → ((v u : ℕ) → cell_or none new (v, u) ≡ line_added none now (sy + k) sx (dy + k) dx wide v u)
-      → (v u : ℕ) → cell_or none new (v, u) ≡ block_shown none old sy sx dy dx dy (dy + (k + 1)) wide v u
-  next-down now new k ordered shown step v u =
-      next-line now new dy (dy + k) k dy (dy + (k + 1)) shown step (inr (omega arith)) v u (λ differs. grind (arith, nat_tests)) (grind (arith, nat_tests))
-
-  pub next-up : (now new : List (List A)) (k m end : ℕ) → m ≡ k + 1 → sy ≤ dy → dy + k < end → ((v u : ℕ) → cell_or none now (v, u) ≡ block_shown none old sy sx dy dx (dy + m) end wide v u)
-      → ((v u : ℕ) → cell_or none new (v, u) ≡ line_added none now (sy + k) sx (dy + k) dx wide v u)
-      → (v u : ℕ) → cell_or none new (v, u) ≡ block_shown none old sy sx dy dx (dy + k) end wide v u
-  next-up now new k m end next ordered more shown step v u =
-      next-line now new (dy + m) end k (dy + k) end shown step (inl (omega arith)) v u (λ differs. grind (arith, nat_tests)) (grind (arith, nat_tests))
+  -- from the first line on, or back from the last
+  pub next : (back : Bool) (now new : List (List A)) (n k : ℕ) → k < n → (back ≡ true → sy < dy) → (back ≡ false → dy ≤ sy)
+      → ((v u : ℕ) → cell_or none now (v, u) ≡ block_shown none old sy sx dy dx (dy + start_of back n 0 k) (dy + start_of back n 0 k + k) wide v u)
+      → ((v u : ℕ) → cell_or none new (v, u) ≡ line_added none now (sy + start_of back n k 1) sx (dy + start_of back n k 1) dx wide v u)
+      → (v u : ℕ) → cell_or none new (v, u) ≡ block_shown none old sy sx dy dx (dy + start_of back n 0 (k + 1)) (dy + start_of back n 0 (k + 1) + (k + 1)) wide v u
+  next true now new n k more up down shown step v u = let past = up refl in
+      next-line now new (dy + (n - (0 + k))) (dy + (n - (0 + k)) + k) (n - (k + 1)) (dy + (n - (0 + (k + 1)))) (dy + (n - (0 + (k + 1))) + (k + 1)) shown step (inl (omega arith)) v u
+      (λ differs. grind (arith, nat_tests)) (grind (arith, nat_tests))
+  next false now new n k more up down shown step v u = let past = down refl in
+      next-line now new (dy + 0) (dy + 0 + k) k (dy + 0) (dy + 0 + (k + 1)) shown step (inr (omega arith)) v u (λ differs. grind (arith, nat_tests)) (grind (arith, nat_tests))
 
 -- whole lines are such a block
 pub whole-block : {A : Type 0} (none : A) {Is : A → Type 0} (lines columns : ℕ) (cells : List A) → IsWhole Is lines columns cells → (sy sx dy dx high : ℕ)

@@ -1,8 +1,8 @@
 -- Pictures of a known size: what each line has, and when two are equal.
-use Rattle.std.specs.Prelude.{◌≡◌, ◌+◌, ◌<◌, ◌∷◌}
+use Rattle.std.specs.Prelude.{◌≡◌, ◌+◌, ◌<◌, ◌∷◌, ◌==◌, ◌&&◌, if◌then◌else◌}
 use Rattle.cell.specs.{refl, ℕ, ◌∙◌, List, [], length, map, replicate, get_or, set, sym, arith, zero-add, lit≤, lit<, size_of, line_of, cell_or, HasSize, EachCell, all_of, lines_from}
 use Rattle.cell.specs.{AllByRecursion, length-replicate, ext_get_or, All-from_recursion, recursion_from_All, All-get_or, All-map, All-replicate, All-set, length-map-range_with_len}
-use Rattle.cell.specs.{get_or-map-range_with_len, blank, IsCell, no_rendition, IsRendition, shown_blank, IsShown, ArePairs, IsPair, default_pair, first_pairs}
+use Rattle.cell.specs.{get_or-map-range_with_len, length-set, cases_eq, nat_le, nat_lt, nat_tests, get_or-set_same, get_or-set_other, with_cell, blank, IsCell, no_rendition, IsRendition, shown_blank, IsShown, ArePairs, IsPair, default_pair, first_pairs}
 use Rattle.cell.specs.declared.limits.TheConstants.{LAST_PAIR}
 
 -- `AllByRecursion` of lists that are made by a rule
@@ -57,6 +57,20 @@ same_pictures none {lines} {columns} {one} {other} size other_size same =
     let within : y < lines = omega arith in
     let width = length-line y size within in
     ext_get_or none (line_of one y) (line_of other y) (width ∙ sym (length-line y other_size within)) (λ x left. same y x within (omega arith)))
+
+-- one cell was changed
+
+HasSize-with_cell : {A : Type 0} {lines columns : ℕ} {picture : List (List A)} (y x : ℕ) (cell : A) → HasSize lines columns picture → y < lines → HasSize lines columns (with_cell picture (y, x) cell)
+HasSize-with_cell {A = A} {lines} {columns} {picture} y x cell size below = record {
+  height = length-set picture y _ ∙ size.height;
+  width = each-set (λ (line : List A). length line ≡ columns) picture y _ (length-set (line_of picture y) x cell ∙ length-line y size below) size.width;
+}
+
+pub one-cell : {A : Type 0} (none cell : A) {lines columns : ℕ} {old new : List (List A)} (y x : ℕ) → HasSize lines columns old → HasSize lines columns new → y < lines → x < columns
+    → ((v u : ℕ) → cell_or none new (v, u) ≡ (if (v == y) && (nat_le x u && nat_lt u (x + 1)) then cell else cell_or none old (v, u))) → new ≡ with_cell old (y, x) cell
+one-cell none cell {lines} {columns} {old} {new} y x size new_size below left shown =
+    same_pictures none new_size (HasSize-with_cell y x cell size below) (λ v u v_below u_left.
+    let width = length-line y size below in shown v u ∙ grind (arith, nat_tests, cases_eq, get_or-set_same, get_or-set_other))
 
 first_width : {A : Type 0} (lines columns : ℕ) (one other : List (List A)) → HasSize lines columns one → HasSize lines columns other
     → length (line_of one 0) ≡ length (line_of other 0)

@@ -1,6 +1,6 @@
 -- The lines of a grid whose cells are one after another. How it keeps them is its own choice; it shows lines of cells.
-use Rattle.std.specs.Prelude.{◌≡◌, ◌+◌, ◌-◌, ◌*◌, ◌<◌, ◌≤◌, ◌++◌}
-use Rattle.cell.specs.Names.{ℕ, List, length, map, take, drop, replicate, slice_index_or, AllByRecursion, range_with_len, splice}
+use Rattle.std.specs.Prelude.{◌≡◌, ◌+◌, ◌-◌, ◌*◌, ◌<◌, ◌≤◌, ◌++◌, if◌then◌else◌}
+use Rattle.cell.specs.Names.{ℕ, Bool, List, length, map, take, drop, replicate, slice_index_or, AllByRecursion, range_with_len, splice}
 use Rattle.cell.specs.declared.limits.TheConstants.{LARGEST_PAD}
 
 -- cut into that many lines of that many columns
@@ -14,6 +14,10 @@ with_blanks blank n cells = cells ++ replicate (n - length cells) blank
 -- n cells from one place on copied to another
 abbrev pub moved : {A : Type 0} → ℕ → ℕ → ℕ → List A → List A
 moved from to n cells = splice cells to (to + n) (take n (drop from cells))
+
+-- where the next len of n lines begin after so many, from the first on or back from the last
+abbrev pub start_of : Bool → ℕ → ℕ → ℕ → ℕ
+start_of back n done len = if back then n - (done + len) else done
 
 -- each line has its cells, and each cell passes the test
 pub record IsWhole {A : Type 0} (Is : A → Type 0) (lines columns : ℕ) (cells : List A) : Type 0 where

@@ -11,7 +11,6 @@ pub use Rattle.std.proofs.lemmas.Grind.{common_steps}
 pub use Rattle.std.proofs.lemmas.List.{append_assoc, drop-append-le, drop-replicate, drop-set-add, drop-set-lt, ext_get_or, get_or-drop, get_or-map, get_or-replicate, get_or-set_other}
 pub use Rattle.std.proofs.lemmas.List.{get_or-set_same, get_or-take, get_or_append_left, get_or_default, get_or_past, length-drop, length-map, length-replicate, length-set, length-take-le}
 pub use Rattle.std.proofs.lemmas.List.{map-append, nil_from_length, replicate-append-replicate, set-append_left, take-append-le, take-map, take-replicate, take-set-le, take_more, take_more_set}
-pub use Rattle.std.proofs.lemmas.List.Edits.{fill_from_more, paste_all}
 pub use Rattle.std.proofs.lemmas.List.Elements.{All-append, All-drop, All-from_recursion, All-get_or, All-map, All-replicate, All-set, All-take, recursion_from_All}
 pub use Rattle.std.proofs.lemmas.List.Folds.{drop_split, list_all-append}
 pub use Rattle.std.proofs.lemmas.List.FromFn.{get_or-map-range_with_len, length-map-range_with_len}

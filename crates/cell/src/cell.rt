@@ -1,7 +1,7 @@
 //! A cell: a character with attributes and a colour pair.
 
 ghost use Rattle.std.specs.Prelude.{◌≡◌, ◌+◌, ◌*◌, ◌&&◌, ◌<◌, if◌then◌else◌};
-ghost use Rattle.cell.specs.{nat_le, true, bits_of, valid_attributes, IsCell, is_printable, same_glyph, partial_equiv_from_equiv, list_all};
+ghost use Rattle.cell.specs.{nat_le, true, bits_of, valid_attributes, given_cell, IsCell, is_printable, same_glyph, partial_equiv_from_equiv, list_all};
 ghost use Rattle.cell.specs.declared.limits.TheConstants.{LAST_PAIR};
 
 use crate::attr::Attr;
@@ -64,6 +64,16 @@ impl Cell {
             Some(pair) if is_printable(ch) => Some(pack(ch, attr.valid_attributes(), pair)),
             _ => None,
         }
+    }
+
+    /// The cell that a number gives, without bits beyond the six attributes; a blank where no cell has its character or
+    /// its pair.
+    pub fn of_number(number: u32) -> Cell
+        ensures value { result ≡ given_cell number }
+        ensures sound { IsCell result }
+    {
+        let attrs = Attr::from_bits_retain((number / 256 % 256) as u8);
+        Cell::new((number % 256) as u8, attrs, (number / 65_536) as u16).unwrap_or(Cell::BLANK)
     }
 
     /// The cell with another pair.

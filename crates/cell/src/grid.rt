@@ -1,8 +1,8 @@
 //! A grid of cells: what a window holds, or what a screen or a terminal shows.
 
 ghost use Rattle.std.specs.Prelude.{◌≡◌, ◌≤◌, ◌<◌, ◌==◌, ◌&&◌, ◌+◌, ◌-◌, ◌*◌, if◌then◌else◌};
-ghost use Rattle.cell.specs.{ℕ, nat_le, nat_lt, length, map, replicate, slice_index_or, IfOk, true, AllByRecursion, splice, blank, IsCell, with_blanks, moved, IsGrid, IsReached, shown, shown_blank};
-ghost use Rattle.cell.specs.{IsShown, vec_capacity, EachCell, HasSize, all_of, cell_or, line_of, shown_at, size_of, with_cell};
+ghost use Rattle.cell.specs.{ℕ, nat_le, nat_lt, length, map, replicate, slice_index_or, IfOk, true, AllByRecursion, splice, blank, IsCell, with_blanks, moved, IsGrid, IsReached, shown};
+ghost use Rattle.cell.specs.{shown_blank, start_of, IsShown, vec_capacity, EachCell, HasSize, all_of, cell_or, line_of, shown_at, size_of, with_cell, given_cell, rows};
 
 use crate::cell::Cell;
 use crate::colour::Pairs;
@@ -114,9 +114,8 @@ impl<T: Element> Grid<T> {
         requires column { x < length (line_of self.old y) }
         ensures { self.new ≡ with_cell self.old (y, x) cell }
     {
-        prove!(cell.character() >= b' ');
-        let line = reach(&mut self.cells, self.lines, self.columns, y);
-        self.cells[line + x] = cell;
+        prove!(x < self.columns);
+        self.fill(y, x, x + 1, cell);
     }
 
     /// Puts one cell in the columns of line `y` from `start` on, up to `end`, which it leaves out.
@@ -131,9 +130,34 @@ impl<T: Element> Grid<T> {
         ensures size { (lines columns : ℕ) → HasSize lines columns self.old → HasSize lines columns self.new }
         ensures cells { EachCell T.Is self.old → EachCell T.Is self.new }
     {
+        self.fill_rectangle(y, y, start, end, cell);
+    }
+
+    /// Puts one cell in the columns from `start` on, up to `end`, which it leaves out, of the lines from `top` to
+    /// `bottom`, both inclusive.
+    #[inline(always)]
+    pub fn fill_rectangle(&mut self, top: usize, bottom: usize, start: usize, end: usize, cell: T)
+        requires lines { top ≤ bottom }
+        requires bottom { bottom < length self.old }
+        requires ordered { start ≤ end }
+        requires columns { end ≤ length (line_of self.old bottom) }
+        ensures shown { (v u : ℕ) → cell_or T.blank self.new (v, u) ≡ (if (nat_le top v && nat_le v bottom) &&
+            (nat_le start u && nat_lt u end) then cell else cell_or T.blank self.old (v, u)) }
+        ensures height { length self.new ≡ length self.old }
+        ensures size { (lines columns : ℕ) → HasSize lines columns self.old → HasSize lines columns self.new }
+        ensures cells { EachCell T.Is self.old → EachCell T.Is self.new }
+    {
         prove!(cell.character() >= b' ');
-        let line = reach(&mut self.cells, self.lines, self.columns, y);
-        fill_piece(&mut self.cells, line + start, end - start, cell);
+        fill_lines(
+            &mut self.cells,
+            self.lines,
+            self.columns,
+            top,
+            bottom,
+            start,
+            end,
+            cell,
+        );
     }
 
     /// Puts cells into line `y`, from column `x` on.
@@ -173,15 +197,12 @@ impl<T: Element> Grid<T> {
         ensures cells { EachCell T.Is self.old → EachCell T.Is self.new }
     {
         if columns == self.columns {
-            self.copy_lines(sy, dy, lines);
-        } else if dy <= sy {
-            'downward: for k in 0..lines {
-                self.copy_cells(sy + k, sx, dy + k, dx, columns);
-            }
-        } else {
-            'upward: for k in (0..lines).rev() {
-                self.copy_cells(sy + k, sx, dy + k, dx, columns);
-            }
+            return self.copy_lines(sy, dy, lines);
+        }
+        let back = sy < dy;
+        for i in 0..lines {
+            let k = start_of(back, lines, i, 1);
+            self.copy_cells(sy + k, sx, dy + k, dx, columns);
         }
     }
 
@@ -249,6 +270,14 @@ impl<T: Element> Grid<T> {
     }
 }
 
+/// Where the next of `n` lines begin, `len` of them after so many, from the first on or back from the last.
+fn start_of(back: bool, n: usize, done: usize, len: usize) -> usize
+    requires { done + len ≤ n }
+    ensures { result ≡ start_of back n done len }
+{
+    if back { n - (done + len) } else { done }
+}
+
 /// Puts cells into line `y` of a picture from column `x` on, in the colours that their pairs have.
 pub fn show_cells(cells: &[Cell], pairs: &Pairs, y: u16, x: u16, picture: &mut Grid<Shown>)
     requires line { y < length picture.old }
@@ -266,6 +295,42 @@ pub fn show_cells(cells: &[Cell], pairs: &Pairs, y: u16, x: u16, picture: &mut G
         usize::from(y),
     );
     show_piece(cells, pairs, &mut picture.cells, line + usize::from(x));
+}
+
+/// Puts the cells that numbers give into line `y` of a grid, from column `x` on.
+pub fn give_cells(numbers: &[u32], y: usize, x: usize, grid: &mut Grid<Cell>)
+    requires line { y < length grid.old }
+    requires columns { x + length numbers.now ≤ length (line_of grid.old y) }
+    ensures shown { (v u : ℕ) → cell_or blank grid.new (v, u) ≡ (if (v == y) && (nat_le x u && nat_lt u (x + length numbers.now)) then
+        slice_index_or (map given_cell numbers.now) (u - x) blank else cell_or blank grid.old (v, u)) }
+    ensures height { length grid.new ≡ length grid.old }
+    ensures size { (lines columns : ℕ) → HasSize lines columns grid.old → HasSize lines columns grid.new }
+    ensures cells { EachCell IsCell grid.old → EachCell IsCell grid.new }
+{
+    let line = reach(&mut grid.cells, grid.lines, grid.columns, y);
+    give_piece(numbers, &mut grid.cells, line + x);
+}
+
+/// Puts the cells that numbers give among others, from a place on, by a loop that the compiler vectorizes.
+fn give_piece(numbers: &[u32], cells: &mut Vec<Cell>, start: usize)
+    requires { start + length numbers.now ≤ length cells.old.items }
+    ensures cells { cells.new.items ≡ splice cells.old.items start (start + length numbers.now) (map given_cell numbers.now) }
+    ensures sound { AllByRecursion IsCell (map given_cell numbers.now) }
+    ensures room { vec_capacity cells.new ≡ vec_capacity cells.old }
+{
+    let end = start + numbers.len();
+    give_each(numbers, &mut cells[start..end]);
+}
+
+/// Writes the cells that numbers give into as many places.
+fn give_each(numbers: &[u32], places: &mut [Cell])
+    requires { length places.old ≡ length numbers.now }
+    ensures given { places.new ≡ map given_cell numbers.now }
+    ensures sound { AllByRecursion IsCell places.new }
+{
+    for x in 0..numbers.len() {
+        places[x] = Cell::of_number(numbers[x]);
+    }
 }
 
 /// Puts how cells are shown among others, from a place on.
@@ -311,14 +376,51 @@ fn add_blanks<T: Element>(cells: &mut Vec<T>, end: usize)
     cells.resize(end, blank).unwrap();
 }
 
+/// Puts one cell in the columns from `start` on, up to `end`, which it leaves out, of the lines from `top` to `bottom` of
+/// so many.
+#[inline(always)]
+fn fill_lines<T: Element>(
+    cells: &mut Vec<T>,
+    lines: usize,
+    columns: usize,
+    top: usize,
+    bottom: usize,
+    start: usize,
+    end: usize,
+    cell: T,
+)
+    requires grid { IsGrid T.Is T.blank lines columns cells.old.items (vec_capacity cells.old) }
+    requires sound { T.Is cell }
+    requires lines { top ≤ bottom }
+    requires bottom { bottom < lines }
+    requires ordered { start ≤ end }
+    requires columns { end ≤ columns }
+    ensures grid { IsGrid T.Is T.blank lines columns cells.new.items (vec_capacity cells.new) }
+    ensures filled { (v u : ℕ) → cell_or T.blank (rows lines columns (with_blanks T.blank (lines * columns) cells.new.items)) (v, u)
+        ≡ (if (nat_le top v && nat_le v bottom) && (nat_le start u && nat_lt u end) then cell
+        else cell_or T.blank (rows lines columns (with_blanks T.blank (lines * columns) cells.old.items)) (v, u)) }
+{
+    reach(cells, lines, columns, bottom);
+    for y in top..bottom + 1 {
+        fill_piece(cells, y * columns + start, end - start, cell);
+    }
+}
+
 /// Puts one cell in so many places, from one on.
 fn fill_piece<T: Copy>(cells: &mut Vec<T>, start: usize, count: usize, cell: T)
     requires { start + count ≤ length cells.old.items }
     ensures cells { cells.new.items ≡ splice cells.old.items start (start + count) (replicate count cell) }
     ensures room { vec_capacity cells.new ≡ vec_capacity cells.old }
 {
-    for x in start..start + count {
-        cells[x] = cell;
+    fill_each(&mut cells[start..start + count], cell);
+}
+
+/// Puts one cell in all of some places, by a loop that the compiler vectorizes.
+fn fill_each<T: Copy>(places: &mut [T], cell: T)
+    ensures { places.new ≡ replicate (length places.old) cell }
+{
+    for x in 0..places.len() {
+        places[x] = cell;
     }
 }
 

@@ -34,7 +34,7 @@ pub use attr::{Attr, hex_digits};
 pub use cell::{Cell, are_printable, is_printable};
 pub use colour::{Colour, ColourPair, PairId, Pairs};
 pub use difference::{first_diff, last_diff};
-pub use grid::{Element, Grid, show_cells};
+pub use grid::{Element, Grid, give_cells, show_cells};
 pub use lanes::{LANES, have_rendition};
 pub use limits::{
     FIRST_CHARACTER, LARGEST_PAD, LARGEST_SCREEN, LAST_CHARACTER, LAST_COLOUR, LAST_PAIR,

@@ -1,5 +1,5 @@
 -- The lines that have columns, one after another; and a rectangle that is added line by line.
-use Rattle.std.proofs.Common.{◌≡◌, ℕ, ◌+◌, ◌-◌, ◌<◌, ◌≤◌, ◌&&◌, true, false, nat_le, nat_lt, if◌then◌else◌, List, Option, Some, None, length, set, refl, subst, sym, ◌∙◌, arith, rules}
+use Rattle.std.proofs.Common.{◌≡◌, ℕ, ◌+◌, ◌-◌, ◌<◌, ◌≤◌, ◌&&◌, true, false, nat_le, nat_lt, if◌then◌else◌, List, Option, Some, None, is_some, length, set, refl, subst, sym, ◌∙◌, arith, rules}
 use Rattle.std.specs.Prelude.{MatchOption, replicate, slice_set}
 use Rattle.std.specs.Option.{option_map_or}
 use Rattle.std.proofs.Common.{get_or-set_other, get_or-set_same}
@@ -70,3 +70,8 @@ all-lines top bottom n v a b h = grind (arith, nat_tests)
 pub widened-all : (r : Rect) (n : ℕ) (old now : List (Option Columns)) → Widened r n old now → r.bottom < n → (v : ℕ) → columns_of now v
     ≡ (if nat_le r.top v && nat_le v r.bottom then joined_columns (columns_of old v) r.left r.right else columns_of old v)
 widened-all r n old now h past v = grind (arith, all-lines)
+
+-- a line that others were added to has some
+pub has_joined : (o : Option Columns) (first last : ℕ) → is_some (joined_columns o first last) ≡ true
+has_joined None first last = refl
+has_joined (Some r) first last = refl

@@ -119,29 +119,23 @@ impl Extents {
     {
         if frame.top == frame.bottom {
             self.widen(frame.top, frame.left, frame.right);
-        } else {
+        } else if frame.top < frame.bottom {
             self.widen_lines(frame);
         }
     }
 
-    /// Adds a rectangle line by line.
+    /// Adds a rectangle of some lines.
     #[inline(never)]
+    #[tactic(auto, using(crate::proofs::Lines::has_joined))]
     fn widen_lines(&mut self, frame: Rect)
-        requires { frame.bottom < length self.old }
+        requires ordered { frame.top ≤ frame.bottom }
+        requires inside { frame.bottom < length self.old }
         ensures height { length self.new ≡ length self.old }
         ensures each { (y : ℕ) → columns_of self.new y
             ≡ (if nat_le frame.top y && nat_le y frame.bottom then joined_columns (columns_of self.old y) frame.left frame.right else columns_of self.old y) }
     {
-        let Rect {
-            top,
-            left,
-            bottom,
-            right,
-        } = frame;
-        prove!(usize::from(bottom) < self.lines.len());
-        for y in top..bottom + 1 {
-            self.widen(y, left, right);
-        }
+        self.some.insert_range(frame.top, frame.bottom);
+        join_lines(&mut self.lines, frame);
     }
 
     /// Gives each line all of so many columns, and no other.
@@ -180,5 +174,19 @@ impl Extents {
             next = self.some.next(y + 1);
         }
         self.some.clear();
+    }
+}
+
+/// Adds the columns of a rectangle to those of each of its lines.
+fn join_lines(lines: &mut Vec<Option<Columns>>, frame: Rect)
+    requires ordered { frame.top ≤ frame.bottom }
+    requires inside { frame.bottom < length lines.old.items }
+    ensures height { length lines.new.items ≡ length lines.old.items }
+    ensures each { (y : ℕ) → columns_of lines.new.items y
+        ≡ (if nat_le frame.top y && nat_le y frame.bottom then joined_columns (columns_of lines.old.items y) frame.left frame.right else columns_of lines.old.items y) }
+{
+    let end = usize::from(frame.bottom) + 1;
+    for y in usize::from(frame.top)..end {
+        lines[y] = Some(Columns::join(lines[y], frame.left, frame.right));
     }
 }

@@ -14,7 +14,7 @@ pub mod Settling
 pub mod FreeNumbers
 -- a test of each slot, for has_derived and is_touched
 pub mod Derived
--- that lines of which none is touched are found so, for TouchedLines
+-- that lines of which none is touched are found so, and what lines are that are changed together, for TouchedLines
 pub mod Untouched
 -- characters printed after others, for print_in
 pub mod Prints
@@ -32,12 +32,8 @@ pub mod Deletion
 pub mod NewWindows
 -- the cells that a window shows, for cell and row
 pub mod Showing
--- the drawings of copies, for copy_rectangle and what it calls
+-- copies, for copy_rectangle and what it calls
 pub mod Copies
--- copies step by step, for overlay_cells and copy_lines
-pub mod CopySteps
--- the rectangle of a copy, for copy_row, overlay_cells and copy_lines
-pub mod CopyFrames
 -- a window touched line by line, for touch_shown
 pub mod Touches
 -- the ancestors of a window, for derives, hand_up and take_down

@@ -1,8 +1,7 @@
 -- A copy from one place on to another: what it wants, and what it does.
-use Rattle.std.specs.Prelude.{◌≡◌, ◌+◌, ◌-◌, if◌then◌else◌}
-use Rattle.grids.specs.Names.{ℕ, Bool, Option, Rect, Drawing, HasPlace, WindowMap, Windows, put, copied_cells, drawing_frame, rectangle_copied}
+use Rattle.std.specs.Prelude.{◌≡◌, ◌+◌, ◌-◌, ◌<◌}
+use Rattle.grids.specs.Names.{ℕ, Bool, is_some, Option, Rect, Drawing, HasPlace, WindowMap, Windows, cell_at, put, overlaid_cell, copied_cells, drawing_frame, rectangle_copied}
 use Rattle.grids.specs.declared.place.Place.{Place}
-use Rattle.grids.specs.declared.rows.TheConstants.{PIECE}
 
 -- both places are there
 pub record AreThere (window : WindowMap) (source target : Place) : Type 0 where
@@ -32,6 +31,6 @@ abbrev pub RectangleCopied : Windows → Place → Place → ℕ → ℕ → Boo
 RectangleCopied old from to lines columns overlay frame new =
     Drawn old to.win.0 (rectangle_copied old.window from.win.0 from.line from.column to.line to.column lines columns overlay) frame new
 
--- how many cells of a line are copied at once at most: as many as are held, and of an overlay one
-abbrev pub piece_of : Bool → ℕ
-piece_of overlay = if overlay then 1 else PIECE
+-- n cells of a line are all copied or none, as of an overlay no spaces are
+abbrev pub AreAlike : WindowMap → Bool → ℕ → ℕ → ℕ → ℕ → Type 0
+AreAlike window overlay w y x n = (j : ℕ) → j < n → is_some (overlaid_cell overlay (cell_at window w y (x + j))) ≡ is_some (overlaid_cell overlay (cell_at window w y x))

@@ -1,5 +1,7 @@
 -- The names from below: definitions take them from here, proofs and code from `specs`.
 pub use Rattle.cell.specs.Glyphs.{Glyph, IsCell, blank, is_printable}
+pub use Rattle.cell.specs.Grids.{start_of}
+pub use Rattle.cell.specs.Packing.{given_cell}
 pub use Rattle.cell.specs.Pictures.{AreCells, EachCell, HasSize, Place, Sheet, blank_sheet, cell_or, glyph_at, line_of}
 pub use Rattle.cell.specs.Refusals.{RefusedBy, first_of}
 pub use Rattle.cell.specs.declared.limits.TheConstants.{LARGEST_PAD, LARGEST_SCREEN, MOST_WINDOWS}

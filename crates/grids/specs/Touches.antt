@@ -6,7 +6,7 @@ abbrev pub columns_in : ℕ → ℕ → Option Columns
 columns_in first last = if nat_lt last first then None else Some (record { first = first; last = last })
 
 abbrev pub first_in : Option Columns → ℕ
-first_in None = 1
+first_in None = 65535
 first_in (Some columns) = columns.first
 
 abbrev pub last_in : Option Columns → ℕ
@@ -21,6 +21,7 @@ touched_in lines y = slice_index_or lines y None
 abbrev pub AreUntouched : List (Option Columns) → Type 0
 AreUntouched lines = (y : ℕ) → touched_in lines y ≡ None
 
--- a first column that is past the last is 1, and the last is 0 then
+-- A first column that is past the last is the greatest number, and the last is 0 then: any others are joined with these by
+-- their least and their greatest.
 abbrev pub AreEnds : ℕ → ℕ → Type 0
-AreEnds first last = (first ≤ last) ⊎ ((first ≡ 1) × (last ≡ 0))
+AreEnds first last = (first ≤ last) ⊎ ((first ≡ 65535) × (last ≡ 0))

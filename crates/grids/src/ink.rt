@@ -1,10 +1,10 @@
-//! Characters printed with a pen, and a rectangle filled with one cell.
+//! Characters printed with a pen.
 
 ghost use Rattle.std.specs.Prelude.{◌≡◌, ◌+◌, ◌-◌, ◌<◌, ◌≤◌, ◌==◌, ◌&&◌, if◌then◌else◌};
 ghost use Rattle.grids.specs.{ℕ, nat_le, nat_lt, length, map, slice_index, slice_index_or, EachIndex, true, IsCell, blank, is_printable, LARGEST_PAD, EachCell, HasSize, cell_or, line_of};
 ghost use Rattle.grids.specs.{printed_cell};
 
-use cell::{Cell, Grid, Rect};
+use cell::{Cell, Grid};
 
 /// How many characters of a text are printed together, at most.
 const PIECE: usize = 16;
@@ -61,23 +61,4 @@ fn printed_cell(pen: Cell, ch: u8) -> Cell
         return pen;
     }
     pen.with_character(ch)
-}
-
-/// Sets the cells of a rectangle of a grid to one cell. All lines of the grid are of one width.
-pub(crate) fn fill_in(grid: &mut Grid<Cell>, rect: Rect, cell: Cell)
-    requires lines { rect.top ≤ rect.bottom }
-    requires bottom_in { rect.bottom < length grid.old }
-    requires even { HasSize (length grid.old) (length (line_of grid.old rect.top)) grid.old }
-    requires columns { rect.left ≤ rect.right }
-    requires right_in { rect.right < length (line_of grid.old rect.top) }
-    ensures shown { (v u : ℕ) → cell_or blank grid.new (v, u) ≡ (if (nat_le rect.top v && nat_le v rect.bottom) &&
-        (nat_le rect.left u && nat_le u rect.right) then cell else cell_or blank grid.old (v, u)) }
-    ensures size { (lines columns : ℕ) → HasSize lines columns grid.old → HasSize lines columns grid.new }
-    ensures cells { EachCell IsCell grid.old → EachCell IsCell grid.new }
-{
-    let start = usize::from(rect.left);
-    let end = usize::from(rect.right) + 1;
-    for y in usize::from(rect.top)..usize::from(rect.bottom) + 1 {
-        grid.fill(y, start, end, cell);
-    }
 }

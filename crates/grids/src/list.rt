@@ -42,6 +42,7 @@ pub fn row_in(slots: &[Option<Slot>], at: u16, line: u16, left: u16, len: u16) -
     requires line_in { line < lines_at slots.now at }
     requires columns_in { left + len ≤ columns_at slots.now at }
     ensures row { IsSomeAnd (slot_at slots.now at) (λ k. result.now ≡ map (λ x. cell_of (window_of k).backing line (left + x)) (range_with_len 0 len)) }
+    ensures len { length result.now ≡ len }
     ensures cells { AllByRecursion IsCell result.now }
 {
     match &slots[usize::from(at)] {

@@ -6,6 +6,7 @@ ghost use Rattle.grids.specs.{AreSoundWindows, AreRectanglesThere, RectangleCopi
 use crate::frame::frame_of_two;
 use crate::list::origin_of;
 use crate::place::Place;
+use crate::rows::start_of;
 use crate::table::Grids;
 use cell::{Rect, WinId};
 
@@ -57,22 +58,17 @@ impl Grids {
         requires there { AreRectanglesThere (windows self.old).window from to lines columns }
         ensures { RectangleCopied (windows self.old) from to lines columns overlay result (windows self.new) }
     {
-        let source = origin_of(&self.slots, from.win.0);
-        let target = origin_of(&self.slots, to.win.0);
+        let source = origin_of(&self.slots, from.win.0).onward(from.line, from.column);
+        let target = origin_of(&self.slots, to.win.0).onward(to.line, to.column);
         if source.grid == target.grid && !overlay {
             return self.copy_block(from, to, lines, columns);
         }
+        let upward = source.line < target.line;
         let mut frame = None;
-        if target.line + to.line <= source.line + from.line {
-            'downward: for k in 0..lines {
-                let copied = self.copy_line(from.down_by(k), to.down_by(k), columns, overlay);
-                frame = frame_of_two(frame, copied);
-            }
-        } else {
-            'upward: for k in (0..lines).rev() {
-                let copied = self.copy_line(from.down_by(k), to.down_by(k), columns, overlay);
-                frame = frame_of_two(frame, copied);
-            }
+        for k in 0..lines {
+            let line = start_of(upward, lines, k, 1);
+            let copied = self.copy_line(from.down_by(line), to.down_by(line), columns, overlay);
+            frame = frame_of_two(frame, copied);
         }
         frame
     }

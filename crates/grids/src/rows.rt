@@ -1,13 +1,15 @@
 //! Reading a line of a window, and the writes of one line of which every write is made.
 
-ghost use Rattle.std.specs.Prelude.{◌≡◌, ◌<◌, ◌≤◌, ◌+◌, ◌-◌};
-ghost use Rattle.grids.specs.{is_some, length, map, slice_index, EachIndex, true, false, AllByRecursion, IsCell, is_printable, printed_cell, set, with_cursor, HasPlace, cell_at, put, AreSoundWindows};
-ghost use Rattle.grids.specs.{filled_cells, rectangle_filled, listed_cells, overlaid_cell, copied_cells, line_shown, AreRowsThere, AreThere, RowCopied, piece_of, windows};
+ghost use Rattle.std.specs.Prelude.{◌≡◌, ◌<◌, ◌≤◌, ◌+◌, ◌-◌, ◌==◌, ◌&&◌};
+ghost use Rattle.grids.specs.{ℕ, is_some, length, map, nat_lt, slice_index, slice_index_or, blank, EachIndex, true, false, AllByRecursion, IsCell, is_printable, printed_cell, set, with_cursor};
+ghost use Rattle.grids.specs.{HasPlace, cell_at, put, AreSoundWindows, filled_cells, rectangle_filled, listed_cells, overlaid_cell, copied_cells, line_shown, AreAlike, AreRowsThere, RowCopied};
+ghost use Rattle.grids.specs.{start_of, windows, given_cell};
 ghost use Rattle.grids.specs.declared.rows.TheConstants.{PIECE};
 
-use crate::frame::{frame_of_two, place};
+use crate::frame::frame_of_two;
 use crate::list::{columns_of, origin_of, row_in};
 use crate::place::Place;
+use crate::slot::Origin;
 use crate::table::Grids;
 use cell::{Cell, Rect, WinId};
 
@@ -77,19 +79,18 @@ impl Grids {
         self.change(WinId(origin.grid), |slot| slot.fill_rectangle(filled, cell));
     }
 
-    /// Puts cells into line `y` of a window, from column `left` on. The places must exist.
-    pub fn put(&mut self, win: WinId, y: u16, left: u16, cells: &[Cell])
-        requires some { 0 < length cells.now }
-        requires there { HasPlace (windows self.old).window win.0 y (left + length cells.now - 1) }
-        requires cells { AllByRecursion IsCell cells.now }
-        ensures written { windows self.new ≡ put (windows self.old) win.0 (listed_cells y left cells.now) }
+    /// Puts the cells that numbers give into line `y` of a window, from column `left` on. The places must exist.
+    pub fn put(&mut self, win: WinId, y: u16, left: u16, numbers: &[u32])
+        requires some { 0 < length numbers.now }
+        requires there { HasPlace (windows self.old).window win.0 y (left + length numbers.now - 1) }
+        ensures written { windows self.new ≡ put (windows self.old) win.0 (listed_cells y left (map given_cell numbers.now)) }
         ensures sound { AreSoundWindows (windows self.new) }
     {
         prove!(self.has_window(WinId::STANDARD));
-        let origin = self.touch(win, y, left, left + cells.len() as u16 - 1);
+        let origin = self.touch(win, y, left, left + numbers.len() as u16 - 1);
         let line = origin.line + y;
         let start = origin.column + left;
-        self.change(WinId(origin.grid), |slot| slot.put_row(line, start, cells));
+        self.change(WinId(origin.grid), |slot| slot.give(line, start, numbers));
     }
 
     /// Sets the cell of a window at line `y` and column `x`, and moves the cursor to the next column. Both places must
@@ -154,7 +155,7 @@ impl Grids {
     }
 
     /// Copies some cells of a line, and answers the smallest rectangle of the destination that holds what it wrote. It
-    /// goes piece by piece, an overlay cell by cell, from the end at which no cell is written before it is read.
+    /// goes piece by piece, from the end at which no cell is written before it is read.
     pub(crate) fn copy_line(
         &mut self,
         from: Place,
@@ -166,42 +167,60 @@ impl Grids {
         requires there { AreRowsThere (windows self.old).window from to n }
         ensures { RowCopied (windows self.old) from to n overlay result (windows self.new) }
     {
-        let source = origin_of(&self.slots, from.win.0);
-        let target = origin_of(&self.slots, to.win.0);
-        let most = most_at_once(overlay);
+        let source = origin_of(&self.slots, from.win.0).onward(from.line, from.column);
+        let target = origin_of(&self.slots, to.win.0).onward(to.line, to.column);
+        let back = goes_back(source, target);
         let mut frame = None;
-        if target.column + to.column <= source.column + from.column {
-            let mut k = 0;
-            'forward: while k < n {
-                let len = most.min(n - k);
-                let copied = self.copy_piece(from.right_by(k), to.right_by(k), len, overlay);
-                frame = frame_of_two(frame, copied);
-                k += len;
-            }
-        } else {
-            let mut k = n;
-            'backward: while k > 0 {
-                let len = most.min(k);
-                k -= len;
-                let copied = self.copy_piece(from.right_by(k), to.right_by(k), len, overlay);
-                frame = frame_of_two(frame, copied);
-            }
+        let mut done = 0;
+        'pieces: while done < n {
+            let len = self.piece_length(from, n, done, back, overlay);
+            let start = start_of(back, n, done, len);
+            let copied = self.copy_piece(from.right_by(start), to.right_by(start), len, overlay);
+            frame = frame_of_two(frame, copied);
+            done += len;
         }
         frame
     }
 
-    /// Copies so many cells that they can be held, of an overlay one.
+    /// How many cells of a line of so many are the next piece of a copy: backwards one, of an overlay as many as are
+    /// spaces, or as are none, and as can be held.
+    fn piece_length(&self, from: Place, n: u16, done: u16, back: bool, overlay: bool) -> u16
+        requires more { done < n }
+        requires there { HasPlace (windows self.now).window from.win.0 from.line (from.column + n - 1) }
+        ensures some { 0 < result }
+        ensures few { result ≤ PIECE }
+        ensures within { done + result ≤ n }
+        ensures alike { AreAlike (windows self.now).window overlay from.win.0 from.line (from.column + start_of back n done result) result }
+    {
+        if back {
+            return 1;
+        }
+        let most = (n - done).min(PIECE);
+        if !overlay {
+            return most;
+        }
+        let source = origin_of(&self.slots, from.win.0);
+        run_length(row_in(
+            &self.slots,
+            source.grid,
+            source.line + from.line,
+            source.column + (from.column + done),
+            most,
+        ))
+    }
+
+    /// Copies cells that are all spaces, or of which none is, and so many that they can be held.
     fn copy_piece(&mut self, from: Place, to: Place, n: u16, overlay: bool) -> Option<Rect>
         requires some { 0 < n }
-        requires few { n ≤ piece_of overlay }
+        requires few { n ≤ PIECE }
         requires there { AreRowsThere (windows self.old).window from to n }
+        requires alike { AreAlike (windows self.old).window overlay from.win.0 from.line from.column n }
         ensures { RowCopied (windows self.old) from to n overlay result (windows self.new) }
     {
-        if overlay {
-            self.overlay_cell(from, to)
-        } else {
-            self.copy_cells(from, to, n)
+        if !is_copied(overlay, self.cell(from.win, from.line, from.column)) {
+            return None;
         }
+        self.copy_cells(from, to, n)
     }
 
     /// Copies so many cells that they can be held.
@@ -233,32 +252,43 @@ impl Grids {
             right,
         })
     }
+}
 
-    /// Copies one cell unless it is a space.
-    fn overlay_cell(&mut self, from: Place, to: Place) -> Option<Rect>
-        requires { AreThere (windows self.old).window from to }
-        ensures { RowCopied (windows self.old) from to 1 true result (windows self.new) }
-    {
-        let cell = self.cell(from.win, from.line, from.column);
-        if is_visible(cell) {
-            self.fill(to.win, to.line, to.column, to.column, cell);
-            Some(place(to.line, to.column))
-        } else {
-            None
+/// Whether the cells of a line are copied from its end: a copy within one grid to columns further right.
+fn goes_back(source: Origin, target: Origin) -> bool
+    ensures { result ≡ (source.grid == target.grid && nat_lt source.column target.column) }
+{
+    source.grid == target.grid && source.column < target.column
+}
+
+/// Where the next of `n` lines or columns begin, `len` of them after so many, from the first on or back from the last.
+pub(crate) fn start_of(back: bool, n: u16, done: u16, len: u16) -> u16
+    requires { done + len ≤ n }
+    ensures { result ≡ start_of back n done len }
+{
+    if back { n - (done + len) } else { done }
+}
+
+/// How many cells from the first on are spaces, or are none, as the first is.
+fn run_length(cells: &[Cell]) -> u16
+    requires some { 0 < length cells.now }
+    requires few { length cells.now ≤ PIECE }
+    ensures some { 0 < result }
+    ensures within { result ≤ length cells.now }
+    ensures alike { (k : ℕ) → k < result → is_some (overlaid_cell true (slice_index_or cells.now k blank)) ≡ is_some (overlaid_cell true (slice_index_or cells.now 0 blank)) }
+{
+    let first = is_copied(true, cells[0]);
+    for k in 1..cells.len() {
+        if is_copied(true, cells[k]) != first {
+            return k as u16;
         }
     }
+    cells.len() as u16
 }
 
-/// How many cells are copied at once at most.
-fn most_at_once(overlay: bool) -> u16
-    ensures { result ≡ piece_of overlay }
+/// Whether a cell is copied, as all are but a space of an overlay.
+fn is_copied(overlay: bool, cell: Cell) -> bool
+    ensures { result ≡ is_some (overlaid_cell overlay cell) }
 {
-    if overlay { 1 } else { PIECE }
-}
-
-/// Whether a cell isn't a space.
-fn is_visible(cell: Cell) -> bool
-    ensures { result ≡ is_some (overlaid_cell true cell) }
-{
-    cell.ch() != b' '
+    !overlay || cell.ch() != b' '
 }

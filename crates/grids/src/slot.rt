@@ -2,15 +2,15 @@
 
 ghost use Rattle.std.specs.Prelude.{◌≡◌, ◌<◌, ◌≤◌, ◌+◌, ◌^◌, ◌&&◌};
 ghost use Rattle.grids.specs.{EachIndex, IfOk, IsSome, is_some, Some, None, length, map, slice_index, true, AllByRecursion, range_with_len, IsCell, is_printable, lines_marked, without_marks};
-ghost use Rattle.grids.specs.{with_place, with_part, filled_cells, listed_cells, rectangle_filled, nat_le, set_in, with_cursor, with_settings, new_window, first_settings, blank_grid, any_below};
+ghost use Rattle.grids.specs.{with_place, with_part, filled_cells, given_cell, listed_cells, rectangle_filled, nat_le, set_in, with_cursor, with_settings, new_window, first_settings, blank_grid, any_below};
 ghost use Rattle.grids.specs.{cell_of, part_of, window_of};
 ghost use Rattle.grids.specs.{IsKept, Kept, HasShape, printed_cell, part_in, names_parent, with_touched, with_touched_lines, with_drawing, SameShape, with_new_offset, StaysInPlace, is_among};
 ghost use Rattle.grids.specs.{unmarked_lines, with_block_copied};
 
-use crate::ink::{fill_in, print_in};
+use crate::ink::print_in;
 use crate::touched::Touched;
 use crate::touched_lines::TouchedLines;
-use cell::{Attr, Cell, Grid, LARGEST_PAD, LAST_PAIR, PairId, Rect};
+use cell::{Attr, Cell, Grid, LARGEST_PAD, LAST_PAIR, PairId, Rect, give_cells};
 use std::alloc::{AllocError, Global};
 use std::marker::Model;
 use world::{Columns, Settings};
@@ -223,6 +223,7 @@ impl Slot {
         requires line_in { line < self.now.lines }
         requires columns_in { left + len ≤ self.now.columns }
         ensures row { result.now ≡ map (λ x. cell_of (window_of self.now).backing line (left + x)) (range_with_len 0 len) }
+        ensures len { length result.now ≡ len }
         ensures cells { AllByRecursion IsCell result.now }
     {
         match &self.cells {
@@ -320,7 +321,13 @@ impl Slot {
         ensures place { StaysInPlace self.old self.new }
     {
         if let Cells::Own(grid) = &mut self.cells {
-            fill_in(grid, rect, cell);
+            grid.fill_rectangle(
+                usize::from(rect.top),
+                usize::from(rect.bottom),
+                usize::from(rect.left),
+                usize::from(rect.right) + 1,
+                cell,
+            );
         }
     }
 
@@ -354,14 +361,11 @@ impl Slot {
         ensures place { StaysInPlace self.old self.new }
     {
         let columns = if flag {
-            Some(Columns {
-                first: 0,
-                last: self.columns - 1,
-            })
+            Touched::none().join(0, self.columns - 1)
         } else {
-            None
+            Touched::none()
         };
-        self.touched.set(first, n, Touched::new(columns));
+        self.touched.set(first, n, columns);
     }
 
     /// Whether some line is touched.
@@ -382,6 +386,19 @@ impl Slot {
     {
         if let Cells::Own(grid) = &mut self.cells {
             grid.put_cells(usize::from(line), usize::from(left), row);
+        }
+    }
+
+    /// Puts the cells that numbers give into a line of the grid, from column `left` on.
+    pub fn give(&mut self, line: u16, left: u16, numbers: &[u32])
+        requires own { part_in self.old.cells ≡ None }
+        requires line_in { line < self.old.lines }
+        requires columns_in { left + length numbers.now ≤ self.old.columns }
+        ensures window { window_of self.new ≡ with_drawing (listed_cells line left (map given_cell numbers.now)) (window_of self.old) }
+        ensures place { StaysInPlace self.old self.new }
+    {
+        if let Cells::Own(grid) = &mut self.cells {
+            give_cells(numbers, usize::from(line), usize::from(left), grid);
         }
     }
 
@@ -439,6 +456,7 @@ impl Slot {
     }
 
     /// Touches the columns of a rectangle in each of its lines. It answers where the window's first place is in a grid.
+    #[inline(always)]
     pub fn touch_rectangle(&mut self, rect: Rect) -> Origin
         requires lines { rect.top ≤ rect.bottom }
         requires bottom_in { rect.bottom < self.old.lines }

@@ -104,6 +104,7 @@ impl Grids {
 
     /// Touches the columns of a rectangle of a window in each of its lines, and answers where its first place is in a
     /// grid.
+    #[inline(always)]
     pub(crate) fn touch_rectangle(&mut self, win: WinId, rect: Rect) -> Origin
         requires lines { rect.top ≤ rect.bottom }
         requires columns { rect.left ≤ rect.right }

@@ -1,7 +1,7 @@
 //! The touched columns of a line.
 
 ghost use Rattle.std.specs.Prelude.{◌≡◌, ◌≤◌};
-ghost use Rattle.grids.specs.{IfSome, None, joined_columns};
+ghost use Rattle.grids.specs.{None, joined_columns};
 
 use std::marker::Model;
 use world::Columns;
@@ -36,20 +36,9 @@ impl Touched {
     pub(crate) fn none() -> Touched
         ensures { result ≡ None }
     {
-        Touched { first: 1, last: 0 }
-    }
-
-    /// These, if there are any.
-    pub(crate) fn new(columns: Option<Columns>) -> Touched
-        requires { IfSome columns (λ columns. columns.first ≤ columns.last) }
-        ensures { result ≡ columns }
-    {
-        match columns {
-            None => Touched::none(),
-            Some(columns) => Touched {
-                first: columns.first,
-                last: columns.last,
-            },
+        Touched {
+            first: u16::MAX,
+            last: 0,
         }
     }
 
@@ -72,6 +61,9 @@ impl Touched {
         requires { first ≤ last }
         ensures { result ≡ joined_columns self first last }
     {
-        Touched::new(Some(Columns::join(self.columns(), first, last)))
+        Touched {
+            first: self.first.min(first),
+            last: self.last.max(last),
+        }
     }
 }

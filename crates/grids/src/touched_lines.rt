@@ -111,9 +111,7 @@ fn set_lines(touched: &mut Vec<Touched>, start: usize, end: usize, columns: Touc
     ensures length { length touched.new.items ≡ length touched.old.items }
     ensures each { (y : ℕ) → touched_in touched.new.items y ≡ (if nat_le start y && nat_lt y end then columns else touched_in touched.old.items y) }
 {
-    for y in start..end {
-        touched[y] = columns;
-    }
+    touched[start..end].fill(columns);
 }
 
 /// Touches the columns from `left` to `right` of the lines from `top` to `bottom`.
@@ -125,7 +123,16 @@ fn join_lines(touched: &mut Vec<Touched>, top: usize, bottom: usize, left: u16, 
     ensures each { (y : ℕ) → touched_in touched.new.items y ≡
         (if nat_le top y && nat_le y bottom then joined_columns (touched_in touched.old.items y) left right else touched_in touched.old.items y) }
 {
-    for y in top..bottom + 1 {
+    join_each(&mut touched[top..bottom + 1], left, right);
+}
+
+/// Touches the columns from `left` to `right` of each of some lines, by a loop that the compiler vectorizes.
+fn join_each(touched: &mut [Touched], left: u16, right: u16)
+    requires { left ≤ right }
+    ensures length { length touched.new ≡ length touched.old }
+    ensures each { (y : ℕ) → y < length touched.old → touched_in touched.new y ≡ joined_columns (touched_in touched.old y) left right }
+{
+    for y in 0..touched.len() {
         touched[y] = touched[y].join(left, right);
     }
 }

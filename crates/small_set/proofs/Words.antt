@@ -1,11 +1,12 @@
 -- The numbers of a set by its words, and which words have any: where one is added or removed, and where the least one from another on is.
-use Rattle.std.proofs.Common.{◌≡◌, ◌≢◌, ℕ, ◌+◌, ◌*◌, ◌/◌, ◌%◌, ◌^◌, ◌<◌, ◌≤◌, ◌==◌, ◌||◌, ◌∙◌, refl, eqb, length-set, List, length, inl, inr}
+use Rattle.std.proofs.Common.{◌≡◌, ◌≢◌, ℕ, ◌+◌, ◌*◌, ◌/◌, ◌%◌, ◌^◌, ◌<◌, ◌≤◌, ◌==◌, ◌&&◌, ◌||◌, ◌∙◌, refl, eqb, length-set, List, length, inl, inr}
 use Rattle.std.proofs.Common.{get_or, set, bit_and, bit_or, w64, if◌then◌else◌, false, arith, get_or-set_same, get_or-set_other}
 use Rattle.std.specs.Int.{bit_at, bit_not}
 use Rattle.std.specs.Int.Bits.{and_zero_l}
 use Rattle.std.proofs.lemmas.Bool.{cases_eq, cases_lt, eq-eqb, ne_eqb}
-use Rattle.std.proofs.lemmas.Nat.Bits.{bit_at-zero, bit_at_set_same, bit_at_set_other, bit_at_clear_same, bit_at_clear_other, bit_at_and}
+use Rattle.std.proofs.lemmas.Nat.Bits.{bit_at-lt, bit_at_or, bit_at-zero, bit_at_set_same, bit_at_set_other, bit_at_clear_same, bit_at_clear_other, bit_at_and}
 use Rattle.std.proofs.lemmas.List.{get_or_past}
+use Rattle.std.proofs.lemmas.Nat.{le_or_r}
 use Rattle.small_set.specs.Sets.{HaveNumbers, IsFound, contains}
 
 module _ (words : List ℕ) (number : ℕ) (within : number / 64 < length words) where
@@ -17,22 +18,21 @@ module _ (words : List ℕ) (number : ℕ) (within : number / 64 < length words)
       → (n : ℕ) → contains (set words (number / 64) new) n ≡ (if n == number then bit == 1 else contains words n)
   contains-set new bit here kept n = grind (arith, cases_eq, eq-eqb, ne_eqb, get_or-set_same, within, get_or-set_other)
 
-  pub contains-inserted : (n : ℕ) → contains (set words (number / 64) (bit_or word (1 * 2 ^ (number % 64) % 2 ^ 64))) n ≡ (n == number || contains words n)
-  contains-inserted n = grind (arith, contains-set, bit_at_set_same w64, bit_at_set_other w64)
-
   pub contains-removed : (n : ℕ) → contains (set words (number / 64) (bit_and word (bit_not w64 (1 * 2 ^ (number % 64) % 2 ^ 64)))) n
       ≡ (if n == number then false else contains words n)
   contains-removed = grind (arith, contains-set, bit_at_clear_same w64, bit_at_clear_other w64)
+
+-- a word to which bits are added
+pub contains-added : (words : List ℕ) (at bits : ℕ) → at < length words → (n : ℕ)
+    → contains (set words at (bit_or (get_or words at 0) bits)) n ≡ (n / 64 == at && bit_at bits (n % 64) == 1 || contains words n)
+contains-added words at bits within n = grind (arith, cases_eq, eq-eqb, ne_eqb, get_or-set_same, get_or-set_other, bit_at_or, bit_at-lt)
 
 -- a word of which a bit is set isn't 0
 not-zero : (w i : ℕ) → bit_at w i ≡ 1 → eqb w 0 ≡ false
 not-zero w i one = ne_eqb w 0 (λ none. grind (arith, bit_at-zero i, one, none))
 
 -- which words have a number, where one is added, and where one is removed
-module _ (words : List ℕ) (some number : ℕ) (long : length words ≡ 16) (within : number / 64 < 16) (have : HaveNumbers words some) where
-  abbrev at : ℕ
-  at = number / 64
-
+module _ (words : List ℕ) (some at : ℕ) (long : length words ≡ 16) (within : at < 16) (have : HaveNumbers words some) where
   numbers-set : (new more : ℕ) → bit_at more at ≡ (if new == 0 then 0 else 1) → ((k : ℕ) → k < 64 → k ≢ at → bit_at more k ≡ bit_at some k)
       → ((k : ℕ) → 64 ≤ k → bit_at more k ≡ 0) → HaveNumbers (set words at new) more
   numbers-set new more here others above k = elim (cases_eq k at) [
@@ -46,10 +46,9 @@ module _ (words : List ℕ) (some number : ℕ) (long : length words ≡ 16) (wi
   past : (k : ℕ) → 64 ≤ k → bit_at some k ≡ 0
   past k far = grind (arith, have k, get_or_past words k 0 (omega (arith, long, far)))
 
-  pub numbers-inserted : HaveNumbers (set words at (bit_or (get_or words at 0) (1 * 2 ^ (number % 64) % 2 ^ 64))) (bit_or some (1 * 2 ^ at % 2 ^ 64))
-  numbers-inserted =
-      let one = bit_at_set_same w64 (get_or words at 0) (number % 64) (omega arith) in
-      numbers-set _ _ (grind (arith, bit_at_set_same w64 some at (omega (arith, within)), not-zero _ _ one))
+  pub numbers-added : (bits : ℕ) → 0 < bits → HaveNumbers (set words at (bit_or (get_or words at 0) bits)) (bit_or some (1 * 2 ^ at % 2 ^ 64))
+  numbers-added bits more =
+      numbers-set _ _ (grind (arith, bit_at_set_same w64 some at (omega (arith, within)), ne_eqb, le_or_r (get_or words at 0) bits))
       (λ k few apart. bit_at_set_other w64 some at (omega (arith, within)) k apart)
       (λ k far. grind (arith, bit_at_set_other w64 some at (omega (arith, within)) k (omega (arith, within, far)), past k far))
 

@@ -1,6 +1,6 @@
 //! The bits of a word.
 
-ghost use Rattle.std.specs.Prelude.{◌≡◌, ◌<◌, ◌≤◌, ℕ};
+ghost use Rattle.std.specs.Prelude.{◌≡◌, ◌<◌, ◌≤◌, ◌&&◌, ℕ, if◌then◌else◌, nat_le};
 ghost use Rattle.std.specs.Int.{bit_at};
 
 /// How many bits a word has.
@@ -13,6 +13,16 @@ pub(crate) fn bits_from(word: u64, from: u16) -> u64
     ensures others { (i : ℕ) → from ≤ i → bit_at result i ≡ bit_at word i }
 {
     word & (u64::MAX << from)
+}
+
+/// The bits from one to another, both inclusive.
+pub(crate) fn bits_between(first: u16, last: u16) -> u64
+    requires ordered { first ≤ last }
+    requires inside { last < WIDTH }
+    ensures some { 0 < result }
+    ensures bits { (i : ℕ) → bit_at result i ≡ (if nat_le first i && nat_le i last then 1 else 0) }
+{
+    (u64::MAX << first) & (u64::MAX >> (63 - last))
 }
 
 /// The lowest bit that is set.

@@ -1,9 +1,10 @@
 //! A set of numbers below 1,024.
 
-ghost use Rattle.std.specs.Prelude.{◌≡◌, ◌<◌, ◌==◌, ◌||◌, ℕ, true, false, if◌then◌else◌};
+ghost use Rattle.std.specs.Prelude.{◌≡◌, ◌<◌, ◌≤◌, ◌==◌, ◌&&◌, ◌||◌, ◌/◌, ◌%◌, ℕ, true, false, if◌then◌else◌, nat_le};
+ghost use Rattle.std.specs.Int.{bit_at};
 ghost use Rattle.small_set.specs.Sets.{IsLast, IsNext, contains};
 
-use crate::bits::{WIDTH, bits_from, highest_bit, lowest_bit};
+use crate::bits::{WIDTH, bits_between, bits_from, highest_bit, lowest_bit};
 use std::marker::Model;
 
 const WORDS: u16 = 16;
@@ -46,8 +47,29 @@ impl SmallSet {
         requires { number < CAPACITY }
         ensures { (n : ℕ) → contains self.new n ≡ (n == number || contains self.old n) }
     {
-        let at = number / WIDTH;
-        self.words[usize::from(at)] |= 1 << (number % WIDTH);
+        self.insert_bits(number / WIDTH, 1 << (number % WIDTH));
+    }
+
+    /// Adds the numbers from one to another, both inclusive.
+    pub fn insert_range(&mut self, first: u16, last: u16)
+        requires ordered { first ≤ last }
+        requires inside { last < CAPACITY }
+        ensures { (n : ℕ) → contains self.new n ≡ (nat_le first n && nat_le n last || contains self.old n) }
+    {
+        for at in first / WIDTH..last / WIDTH + 1 {
+            let low = first.max(at * WIDTH) - at * WIDTH;
+            let high = (last - at * WIDTH).min(WIDTH - 1);
+            self.insert_bits(at, bits_between(low, high));
+        }
+    }
+
+    /// Adds the numbers that some bits of a word stand for.
+    fn insert_bits(&mut self, at: u16, bits: u64)
+        requires inside { at < WORDS }
+        requires some { 0 < bits }
+        ensures { (n : ℕ) → contains self.new n ≡ (n / 64 == at && bit_at bits (n % 64) == 1 || contains self.old n) }
+    {
+        self.words[usize::from(at)] |= bits;
         self.some |= 1 << at;
     }
 

@@ -9,7 +9,7 @@ use Rattle.world.proofs.WindowLaws.{own-put, put-nothing}
 use Rattle.world.proofs.PutLaws.{put-then}
 use Rattle.windows.specs.declared.state.WindowState.{WindowState}
 use Rattle.windows.proofs.Calls.{with_state}
-use Rattle.windows.proofs.AtPlace.{frame-at_place}
+use Rattle.windows.proofs.Drawings.{frame-at_place}
 use Rattle.windows.proofs.States.{spot-of, window-put}
 use Rattle.windows.proofs.TextFrames.{frame-append, frame-first, frame-nothing, frame_of_character, text_frame}
 use Rattle.windows.proofs.Texts.{HasSame, same-typed, joined-none, joined-joined}

@@ -1,22 +1,11 @@
--- the lines of a drawing above a line, and those from it on, for clear_all, clear_below, move_up and move_down
-pub mod LineDrawings
--- drawings that write a rectangle, or nothing, for the frames that calls answer
-pub mod Rectangles
 -- what a window of a known state keeps, for state_of and what writes a line
 pub mod States
--- one more write of a line, for the drawings
+-- a write, two that are one, and none, for the drawings
 pub mod NextWrites
 -- what calls do to a window of a known state, for the calls that edit and the copies
 pub mod Calls
--- each drawing: its rectangle, its writes, and the frame of the call that draws it
-pub mod AtPlace
-pub mod CharacterInserted
-pub mod CharacterDeleted
-pub mod ToEndOfLine
-pub mod ToBottom
-pub mod Everywhere
-pub mod LinesUp
-pub mod LinesDown
+-- each drawing: its rectangle, its writes, and what the call that draws it does and answers
+pub mod Drawings
 -- given cells, for fill and put
 pub mod GivenCells
 -- one character, for waddch and type_first

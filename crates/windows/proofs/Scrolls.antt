@@ -1,11 +1,13 @@
 -- The lines of a region, scrolled by a number of lines.
 use Rattle.std.specs.Prelude.{◌≡◌, ◌-◌}
-use Rattle.windows.specs.{ℕ, ℤ, pos, Some, None, ap, refl, sym, ◌∙◌, arith, Windows, put, frame_of, scrl_drawing, Rect, IsStateOf, window_in_state}
+use Rattle.windows.specs.{ℕ, ℤ, pos, Some, None, ap, refl, sym, ◌∙◌, arith, Window, Windows, put, frame_of, scrl_drawing, Rect, IsStateOf, window_in_state}
+use Rattle.world.proofs.FrameLaws.{frame_of-none}
 use Rattle.world.proofs.WindowLaws.{put-nothing}
 use Rattle.windows.specs.declared.state.WindowState.{WindowState}
-use Rattle.windows.proofs.LinesUp.{frame-lines_up}
-use Rattle.windows.proofs.LinesDown.{frame-lines_down}
-use Rattle.windows.proofs.Rectangles.{frame-nothing}
+use Rattle.windows.proofs.Drawings.{frame-lines_up, frame-lines_down}
+
+frame-nothing : (a : Window) → frame_of a (λ y x. None) ≡ None
+frame-nothing a = frame_of-none a (λ y x. None) (λ y x there. let e = there.some in cc)
 
 module _ (windows : Windows) (w : ℕ) (s : WindowState) (n : ℤ) where
   -- by none

@@ -6,9 +6,7 @@ use Rattle.windows.specs.{line_ended_drawing, typed_in, typed_drawing, after_cha
 use Rattle.windows.specs.declared.state.WindowState.{WindowState}
 use Rattle.world.proofs.EditLaws.{frame-if-there}
 use Rattle.world.proofs.FrameLaws.{frame-over, frame_of-none}
-use Rattle.windows.proofs.AtPlace.{frame-at_place, one_cell}
-use Rattle.windows.proofs.ToEndOfLine.{frame-to_end_of_line}
-use Rattle.windows.proofs.LinesUp.{frame-lines_up}
+use Rattle.windows.proofs.Drawings.{frame-at_place, frame-lines_up, frame-to_end_of_line, one_cell}
 use Rattle.windows.proofs.Calls.{call-is, frame-is}
 use Rattle.windows.proofs.TextFrames.{frame_of_character}
 use Rattle.windows.proofs.States.{either-few, valid_attributes-small}

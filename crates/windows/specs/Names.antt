@@ -1,6 +1,7 @@
 -- The names from below: definitions take them from here, proofs and code from `specs`.
 pub use Rattle.cell.specs.Attributes.{bits_of, valid_attributes, without}
 pub use Rattle.cell.specs.Glyphs.{Glyph, IsCell, blank, is_printable}
+pub use Rattle.cell.specs.Packing.{given_cell}
 pub use Rattle.cell.specs.Pictures.{Place, origin}
 pub use Rattle.cell.specs.Refusals.{RefusedBy, first_of}
 pub use Rattle.cell.specs.declared.limits.TheConstants.{LARGEST_PAD}
@@ -35,7 +36,7 @@ pub use Rattle.world.specs.WindowMaps.{put_windows, with_change, with_window}
 unfoldable pub use Rattle.world.specs.WindowMaps.{window_limit}
 pub use Rattle.world.specs.Worlds.{blank_grid, first_settings, first_world}
 pub use Rattle.world.specs.calls.Copying.{common_cells, copying_change, copying_refusal, overlay_tests, rectangle_copied}
-pub use Rattle.world.specs.calls.Given.{fill_edit, fill_tests, given_cell, gives_no_character, gives_no_pair, put_edit, put_tests}
+pub use Rattle.world.specs.calls.Given.{fill_edit, fill_tests, gives_no_character, gives_no_pair, put_edit, put_tests}
 pub use Rattle.world.specs.calls.Making.{new_refusal}
 pub use Rattle.world.specs.calls.Queries.{cell_at_cursor, place_on_screen}
 pub use Rattle.world.specs.calls.Writing.{after_clear, clrtobot_drawing, clrtoeol_drawing, delch_drawing, deleteln_drawing, erase_drawing, insch_drawing, insertln_drawing, is_bad_character}

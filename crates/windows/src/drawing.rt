@@ -1,9 +1,10 @@
-//! The drawings of the writing calls, made of writes of one line each. The window must exist and have the given state.
+//! The drawings of the writing calls, made of one or two writes each. The window must exist and have the given state.
 
-ghost use Rattle.std.specs.Prelude.{◌+◌, ◌-◌};
-ghost use Rattle.windows.specs.{false, at_place, character_deleted, character_inserted, everywhere, lines_down, lines_up, to_bottom, to_end_of_line, windows};
+ghost use Rattle.std.specs.Prelude.{◌+◌, ◌-◌, ◌≤◌};
+ghost use Rattle.windows.specs.{false, at_place, character_deleted, character_inserted, everywhere, lines_down, lines_filled, lines_up, to_bottom, to_end_of_line, windows};
 ghost use Rattle.windows.specs.{IsStateOf, DrewInState, HasStateAndLines, HasStateAndPlace};
 
+use crate::frame::lines_from;
 use crate::state::WindowState;
 use cell::{Cell, WinId};
 use grids::Grids;
@@ -44,15 +45,29 @@ pub fn clear_rest(table: &mut Grids, win: WinId, state: &WindowState, y: u16, le
     table.fill(win, y, left, state.columns - 1, state.settings.background);
 }
 
+/// Sets the cells of all lines from `top` on to the background, up to `end`, which it leaves out.
+fn clear_lines(table: &mut Grids, win: WinId, state: &WindowState, top: u16, end: u16)
+    requires state { IsStateOf (windows table.old) win.0 state.now }
+    requires end { end ≤ state.now.lines }
+    ensures { DrewInState (windows table.old) win.0 state.now (lines_filled top end state.now.settings.background) (windows table.new) }
+{
+    if top >= end {
+        return;
+    }
+    table.fill_rectangle(
+        win,
+        lines_from(state, top, end - 1, 0),
+        state.settings.background,
+    );
+}
+
 /// Sets the cells from a column to the end of a line, and all lines below, to the background.
 pub fn clear_below(table: &mut Grids, win: WinId, state: &WindowState, y: u16, left: u16)
     requires { HasStateAndPlace (windows table.old) win.0 state.now y left }
     ensures { DrewInState (windows table.old) win.0 state.now (to_bottom (y, left) state.now.settings.background) (windows table.new) }
 {
-    table.fill(win, y, left, state.columns - 1, state.settings.background);
-    for line in y + 1..state.lines {
-        table.fill(win, line, 0, state.columns - 1, state.settings.background);
-    }
+    clear_rest(table, win, state, y, left);
+    clear_lines(table, win, state, y + 1, state.lines);
 }
 
 /// Sets all cells to the background.
@@ -60,9 +75,7 @@ pub fn clear_all(table: &mut Grids, win: WinId, state: &WindowState)
     requires state { IsStateOf (windows table.old) win.0 state.now }
     ensures { DrewInState (windows table.old) win.0 state.now (everywhere state.now.settings.background) (windows table.new) }
 {
-    for line in 0..state.lines {
-        table.fill(win, line, 0, state.columns - 1, state.settings.background);
-    }
+    clear_lines(table, win, state, 0, state.lines);
 }
 
 /// Moves the lines from `top` to `bottom`, both inclusive, up by `n` lines; those that come from below `bottom` are set
@@ -86,9 +99,7 @@ pub fn move_up(table: &mut Grids, win: WinId, state: &WindowState, top: u16, bot
         state.columns,
         false,
     );
-    for line in top + kept..bottom + 1 {
-        table.fill(win, line, 0, state.columns - 1, state.settings.background);
-    }
+    clear_lines(table, win, state, top + kept, bottom + 1);
 }
 
 /// Moves the lines from `top` to `bottom`, both inclusive, down by `n` lines; those that come from above `top` are set
@@ -111,7 +122,5 @@ pub fn move_down(table: &mut Grids, win: WinId, state: &WindowState, top: u16, b
         state.columns,
         false,
     );
-    for line in (top..top + cleared).rev() {
-        table.fill(win, line, 0, state.columns - 1, state.settings.background);
-    }
+    clear_lines(table, win, state, top, top + cleared);
 }

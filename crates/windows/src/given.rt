@@ -1,17 +1,12 @@
 //! Cells that a program gives as numbers, written as they are.
 
-ghost use Rattle.std.specs.Prelude.{◌≡◌, ◌+◌, ◌≤◌, ◌<◌, ◌&&◌};
-ghost use Rattle.windows.specs.{length, list_any, map, nat_le, nat_lt, first_of, edits, fill_edit, fill_tests, put_edit, put_tests, given_cell, gives_no_character, gives_no_pair, listed_cells};
-ghost use Rattle.windows.specs.{windows, Drew, its_frame, IsStateOf, DrewInState};
+ghost use Rattle.std.specs.Prelude.{◌≡◌, ◌+◌, ◌&&◌};
+ghost use Rattle.windows.specs.{length, list_any, nat_le, nat_lt, first_of, edits, fill_edit, fill_tests, put_edit, put_tests, gives_no_character, gives_no_pair};
+ghost use Rattle.windows.specs.{windows, Drew, its_frame};
 
 use crate::state::{WindowState, state_of};
 use crate::table::Windows;
-use bitflags::Flags;
-use cell::{Attr, Cell, LAST_PAIR, Rect, Refusal, WinId, is_printable};
-use grids::Grids;
-
-/// How many cells are held at most while they are put.
-const PIECE: usize = 64;
+use cell::{Cell, LAST_PAIR, Rect, Refusal, WinId, is_printable};
 
 impl Windows {
     /// Sets the cells of a rectangle of a window to one cell.
@@ -36,7 +31,8 @@ impl Windows {
         if gives_no_pair(number) {
             return Err(Refusal::BadPair);
         }
-        self.table.fill_rectangle(win, rect, given_cell(number));
+        self.table
+            .fill_rectangle(win, rect, Cell::of_number(number));
         Ok(Some(rect))
     }
 
@@ -68,7 +64,7 @@ impl Windows {
         if numbers.is_empty() {
             return Ok(None);
         }
-        put_cells(&mut self.table, win, &state, y, x, numbers);
+        self.table.put(win, y, x, numbers);
         Ok(Some(Rect {
             top: y,
             left: x,
@@ -99,53 +95,24 @@ fn gives_no_pair(number: u32) -> bool
     number / 65_536 > u32::from(LAST_PAIR)
 }
 
+/// Whether some number has such a character, by a loop with one exit, which the compiler vectorizes.
 fn some_give_no_character(numbers: &[u32]) -> bool
     ensures { result ≡ list_any gives_no_character numbers.now }
 {
-    numbers.iter().any(|number| gives_no_character(*number))
+    let mut some = false;
+    for number in numbers {
+        some |= gives_no_character(*number);
+    }
+    some
 }
 
+/// Whether some number has such a pair, by a loop of the same form.
 fn some_give_no_pair(numbers: &[u32]) -> bool
     ensures { result ≡ list_any gives_no_pair numbers.now }
 {
-    numbers.iter().any(|number| gives_no_pair(*number))
-}
-
-/// The cell that a number gives.
-fn given_cell(number: u32) -> Cell
-    ensures { result ≡ given_cell number }
-{
-    let attrs = Attr::from_bits_retain((number / 256 % 256) as u8);
-    Cell::new((number % 256) as u8, attrs, (number / 65_536) as u16).unwrap_or(Cell::BLANK)
-}
-
-/// Puts cells into a line, some at a time. The window must exist and have the given state and the places.
-fn put_cells(table: &mut Grids, win: WinId, state: &WindowState, y: u16, x: u16, numbers: &[u32])
-    requires state { IsStateOf (windows table.old) win.0 state.now }
-    requires line { y < state.now.lines }
-    requires columns { x + length numbers.now ≤ state.now.columns }
-    ensures { DrewInState (windows table.old) win.0 state.now (listed_cells y x (map given_cell numbers.now)) (windows table.new) }
-{
-    let mut done = 0;
-    while done < numbers.len() {
-        let end = (done + PIECE).min(numbers.len());
-        put_piece(table, win, state, y, x + done as u16, &numbers[done..end]);
-        done = end;
+    let mut some = false;
+    for number in numbers {
+        some |= gives_no_pair(*number);
     }
-}
-
-/// Puts a few cells into a line.
-fn put_piece(table: &mut Grids, win: WinId, state: &WindowState, y: u16, x: u16, numbers: &[u32])
-    requires state { IsStateOf (windows table.old) win.0 state.now }
-    requires line { y < state.now.lines }
-    requires columns { x + length numbers.now ≤ state.now.columns }
-    requires some { 0 < length numbers.now }
-    requires few { length numbers.now ≤ PIECE }
-    ensures { DrewInState (windows table.old) win.0 state.now (listed_cells y x (map given_cell numbers.now)) (windows table.new) }
-{
-    let mut held = [Cell::BLANK; PIECE];
-    for k in 0..numbers.len() {
-        held[k] = given_cell(numbers[k]);
-    }
-    table.put(win, y, x, &held[..numbers.len()]);
+    some
 }

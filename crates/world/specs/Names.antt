@@ -2,7 +2,7 @@
 pub use Rattle.cell.specs.Attributes.{bits_of, valid_attributes}
 pub use Rattle.cell.specs.Glyphs.{Glyph, IsCell, blank, is_printable}
 pub use Rattle.cell.specs.Limits.{is_no_size}
-pub use Rattle.cell.specs.Packing.{attributes_of, character_of}
+pub use Rattle.cell.specs.Packing.{attributes_of, character_of, given_cell}
 pub use Rattle.cell.specs.Pictures.{AreShown, HasSize, Picture, Place, blank_picture, origin, picture_of, shown_at}
 pub use Rattle.cell.specs.Refusals.{RefusedBy, first_of}
 pub use Rattle.cell.specs.ShownCells.{ArePairs, IsShown, Pairs, Shown, first_pairs, shown}

@@ -1,6 +1,6 @@
 -- What a step of a call wants of its window, and what it writes there.
-use Rattle.std.specs.Prelude.{◌≡◌, ◌<◌, ◌≤◌}
-use Rattle.windows.specs.Names.{ℕ, Option, List, Rect, Drawing, Windows, put, AreSoundWindows, frame_of, character_printed, character_drawing, after_edit, edit_frame, types}
+use Rattle.std.specs.Prelude.{◌≡◌, ◌<◌, ◌≤◌, ◌&&◌, if◌then◌else◌}
+use Rattle.windows.specs.Names.{ℕ, nat_le, nat_lt, Option, Some, None, List, Glyph, Rect, Drawing, Windows, put, AreSoundWindows, frame_of, character_printed, character_drawing, after_edit, edit_frame, types}
 use Rattle.windows.specs.declared.state.WindowState.{WindowState}
 use Rattle.windows.specs.steps.State.{IsStateOf, window_in_state}
 
@@ -15,6 +15,10 @@ pub record HasStateAndLines (windows : Windows) (w : ℕ) (given : WindowState) 
   pub state : IsStateOf windows w given
   pub ordered : first ≤ last
   pub lines : last < given.lines
+
+-- one cell in all columns of the lines from a first one up to an end
+abbrev pub lines_filled : ℕ → ℕ → Glyph → Drawing
+lines_filled top end glyph y x = if nat_le top y && nat_lt y end then Some glyph else None
 
 -- a drawing was written through window w, which keeps its state
 pub record DrewInState (old : Windows) (w : ℕ) (given : WindowState) (drawing : Drawing) (new : Windows) : Type 0 where

@@ -2,8 +2,8 @@
 -- its tests and its effect, as a call has.
 -- X/Open Curses Issue 7: addchstr (the cursor stays, and nothing wraps). The rectangle, the numbers and the order of the
 -- tests are Curspan's own.
-use Rattle.std.specs.Prelude.{◌+◌, ◌/◌, ◌&&◌, ◌||◌, ◌∷◌, if◌then◌else◌}
-use Rattle.world.specs.Names.{ℕ, Bool, false, not, nat_lt, nat_le, None, List, [], length, list_any, map, option_map_or, valid_attributes, Glyph, blank, is_printable, attributes_of, character_of}
+use Rattle.std.specs.Prelude.{◌+◌, ◌/◌, ◌&&◌, ◌||◌, ◌∷◌}
+use Rattle.world.specs.Names.{ℕ, Bool, false, not, nat_lt, nat_le, None, List, [], length, list_any, map, option_map_or, is_printable, character_of, given_cell}
 use Rattle.world.specs.Names.{Rect, Refusal, BadCharacter, BadPair, BadRectangle, OutsideWindow}
 use Rattle.world.specs.WindowMaps.{WindowMap, Windows}
 use Rattle.world.specs.Rows.{listed_cells}
@@ -13,19 +13,13 @@ use Rattle.world.specs.Effects.{Edit, draws, edits, changes, arranges, after}
 use Rattle.world.specs.calls.Rules.{missing_window}
 use Rattle.world.specs.calls.Writing.{is_no_pair, lacks_place}
 
--- ---- a number as a cell
+-- ---- what no number of a cell has
 
 abbrev pub gives_no_character : ℕ → Bool
 gives_no_character number = not (is_printable (character_of number))
 
 abbrev pub gives_no_pair : ℕ → Bool
 gives_no_pair number = is_no_pair (number / 65536)
-
--- without bits beyond the six attributes; of a number that is refused, a blank
-abbrev pub given_cell : ℕ → Glyph
-given_cell number =
-    if gives_no_character number || gives_no_pair number then blank
-    else record { character = character_of number; attributes = valid_attributes (attributes_of number); pair = number / 65536 }
 
 -- ---- one cell in a rectangle
 

@@ -1,7 +1,7 @@
 -- A copy of the rest of the line and a write of its last cell are one drawing.
 use Rattle.windows.specs.{arith, rules}
 use Rattle.windows.proofs.States.{state-written, has_place}
-use Rattle.windows.proofs.CharacterDeleted.{deleted}
+use Rattle.windows.proofs.Drawings.{deleted}
 use Rattle.windows.proofs.drawing.delete_cell.Goals as goal
 
 pub fill-requires-clause-there : goal.fill-requires-clause-there

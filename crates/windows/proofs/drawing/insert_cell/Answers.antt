@@ -1,7 +1,7 @@
 -- A copy of the rest of the line and a write of one cell are one drawing.
 use Rattle.windows.specs.{rules}
 use Rattle.windows.proofs.States.{state-written, has_place}
-use Rattle.windows.proofs.CharacterInserted.{inserted}
+use Rattle.windows.proofs.Drawings.{inserted}
 use Rattle.windows.proofs.drawing.insert_cell.Goals as goal
 
 pub fill-requires-clause-there : goal.fill-requires-clause-there

@@ -1,7 +1,7 @@
 -- A cell is one write.
 use Rattle.windows.specs.{rules}
 use Rattle.windows.proofs.States.{state-written}
-use Rattle.windows.proofs.AtPlace.{one_cell}
+use Rattle.windows.proofs.Drawings.{one_cell}
 use Rattle.windows.proofs.drawing.set_cell.Goals as goal
 
 pub returns : goal.returns

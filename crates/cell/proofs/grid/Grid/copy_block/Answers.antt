@@ -1,45 +1,24 @@
 -- `copy_block`: cells copied within a grid, line by line, or whole lines at once (`Moves`).
-use Rattle.std.specs.Prelude.{◌+◌, ◌-◌}
-use Rattle.cell.specs.{arith, ◌∙◌}
-use Rattle.cell.proofs.Moves.{BlockFits-from, source_left, target_left, next-down, next-up, whole-block}
+use Rattle.cell.specs.{arith, ◌∙◌, common_steps, nat_lt, nat_tests}
+use Rattle.cell.proofs.Moves.{BlockFits-from, source_left, target_left, next, whole-block}
 use Rattle.cell.proofs.grid.Grid.copy_block.Goals as goal
 
 pub overflow_add-sy : goal.overflow_add-sy
-overflow_add-sy g c = let f = BlockFits-from _ _ _ _ _ _ c.self.invariant.all c.self.view_is c.requires.source c.requires.target c.requires.source_columns c.requires.target_columns in omega (arith, f.source, f.few_lines, c.downward-test.true)
+overflow_add-sy g c = let f = BlockFits-from _ _ _ _ _ _ c.self.invariant.all c.self.view_is c.requires.source c.requires.target c.requires.source_columns c.requires.target_columns in grind (arith, common_steps, f.source, f.few_lines)
 
 pub overflow_add-dy : goal.overflow_add-dy
-overflow_add-dy g c = let f = BlockFits-from _ _ _ _ _ _ c.self.invariant.all c.self.view_is c.requires.source c.requires.target c.requires.source_columns c.requires.target_columns in omega (arith, f.target, f.few_lines, c.downward-test.true)
+overflow_add-dy g c = let f = BlockFits-from _ _ _ _ _ _ c.self.invariant.all c.self.view_is c.requires.source c.requires.target c.requires.source_columns c.requires.target_columns in grind (arith, common_steps, f.target, f.few_lines)
 
 pub copy_cells-requires-clause-source_columns : goal.copy_cells-requires-clause-source_columns
-copy_cells-requires-clause-source_columns g c = source_left (BlockFits-from _ _ _ _ _ _ c.self.invariant.all c.self.view_is c.requires.source c.requires.target c.requires.source_columns c.requires.target_columns) c.downward.invariant.size c.downward.k c.downward-test.true
+copy_cells-requires-clause-source_columns g c = source_left (BlockFits-from _ _ _ _ _ _ c.self.invariant.all c.self.view_is c.requires.source c.requires.target c.requires.source_columns c.requires.target_columns) c.loop-i.invariant.size c.start_of-k.result (grind (arith, common_steps))
 
 pub copy_cells-requires-clause-target_columns : goal.copy_cells-requires-clause-target_columns
-copy_cells-requires-clause-target_columns g c = target_left (BlockFits-from _ _ _ _ _ _ c.self.invariant.all c.self.view_is c.requires.source c.requires.target c.requires.source_columns c.requires.target_columns) c.downward.invariant.size c.downward.k c.downward-test.true
+copy_cells-requires-clause-target_columns g c = target_left (BlockFits-from _ _ _ _ _ _ c.self.invariant.all c.self.view_is c.requires.source c.requires.target c.requires.source_columns c.requires.target_columns) c.loop-i.invariant.size c.start_of-k.result (grind (arith, common_steps))
 
-pub downward-preserved : goal.downward-preserved
-downward-preserved g c = let a = c.args in let i = c.downward.invariant in let e = c.copy_cells.ensures in record {
-  shown = next-down g.T.Element.blank a.self.now a.sy a.sx a.dy a.dx a.columns c.downward.self c.copy_cells.new.self c.downward.k c.if-dy-sy.true i.shown e.shown;
-  height = e.height ∙ i.height;
-  size = λ lines columns h. e.size lines columns (i.size lines columns h);
-  cells = λ h. e.cells (i.cells h);
-}
-
-pub overflow_add-sy-in-upward : goal.overflow_add-sy-in-upward
-overflow_add-sy-in-upward g c = let f = BlockFits-from _ _ _ _ _ _ c.self.invariant.all c.self.view_is c.requires.source c.requires.target c.requires.source_columns c.requires.target_columns in omega (arith, f.source, f.few_lines, c.upward-test.true, c.upward.auto.k)
-
-pub overflow_add-dy-in-upward : goal.overflow_add-dy-in-upward
-overflow_add-dy-in-upward g c = let f = BlockFits-from _ _ _ _ _ _ c.self.invariant.all c.self.view_is c.requires.source c.requires.target c.requires.source_columns c.requires.target_columns in omega (arith, f.target, f.few_lines, c.upward-test.true, c.upward.auto.k)
-
-pub copy_cells-requires-in-upward-clause-source_columns : goal.copy_cells-requires-in-upward-clause-source_columns
-copy_cells-requires-in-upward-clause-source_columns g c = source_left (BlockFits-from _ _ _ _ _ _ c.self.invariant.all c.self.view_is c.requires.source c.requires.target c.requires.source_columns c.requires.target_columns) c.upward.invariant.size (c.upward.k - 1) (omega (arith, c.upward-test.true, c.upward.auto.k))
-
-pub copy_cells-requires-in-upward-clause-target_columns : goal.copy_cells-requires-in-upward-clause-target_columns
-copy_cells-requires-in-upward-clause-target_columns g c = target_left (BlockFits-from _ _ _ _ _ _ c.self.invariant.all c.self.view_is c.requires.source c.requires.target c.requires.source_columns c.requires.target_columns) c.upward.invariant.size (c.upward.k - 1) (omega (arith, c.upward-test.true, c.upward.auto.k))
-
-pub upward-preserved : goal.upward-preserved
-upward-preserved g c = let a = c.args in let i = c.upward.invariant in let e = c.copy_cells-in-upward.ensures in record {
-  shown = next-up g.T.Element.blank a.self.now a.sy a.sx a.dy a.dx a.columns c.upward.self c.copy_cells-in-upward.new.self (c.upward.k - 1) c.upward.k (a.dy + a.lines) (omega (arith, c.upward-test.true))
-      (omega (arith, c.if-dy-sy.false)) (omega (arith, c.upward-test.true, c.upward.auto.k)) i.shown e.shown;
+pub loop-i-preserved : goal.loop-i-preserved
+loop-i-preserved g c = let a = c.args in let i = c.loop-i.invariant in let e = c.copy_cells.ensures in record {
+  shown = next g.T.Element.blank a.self.now a.sy a.sx a.dy a.dx a.columns (nat_lt a.sy a.dy) c.loop-i.self c.copy_cells.new.self a.lines c.loop-i.i c.loop-i-test.true (grind (arith, nat_tests))
+      (grind (arith, nat_tests)) i.shown (rw c.start_of-k.ensures at e.shown);
   height = e.height ∙ i.height;
   size = λ lines columns h. e.size lines columns (i.size lines columns h);
   cells = λ h. e.cells (i.cells h);

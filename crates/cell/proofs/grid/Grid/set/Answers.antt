@@ -1,36 +1,19 @@
--- `set`: the lines of a grid whose cells are one after another: each line, a change of one cell, and equal sizes (`GridLemmas`); the blanks
--- that are missing after them (`Blanks`).
-use Rattle.cell.specs.{refl, ap, ◌∙◌, arith, rows}
-use Rattle.cell.proofs.GridLemmas.{HasLine-from_length, column_below, rows-set}
-use Rattle.cell.proofs.Blanks.{IsGrid-set, blanks-set}
+-- `set`: one cell of a line is filled, and all others stay.
+use Rattle.cell.specs.{arith}
+use Rattle.cell.proofs.GridLemmas.{HasLine-from_length, column_below}
+use Rattle.cell.proofs.Moves.{each_width}
+use Rattle.cell.proofs.PictureLemmas.{one-cell}
 use Rattle.cell.proofs.grid.Grid.set.Goals as goal
 
-pub reach-line-requires-clause-line : goal.reach-line-requires-clause-line
-reach-line-requires-clause-line g c = (HasLine-from_length c.self.invariant.all c.self.view_is c.requires.line).below
+pub prove-unreachable-requires : goal.prove-unreachable-requires
+prove-unreachable-requires g c = let left = column_below c.self.invariant.all c.self.view_is c.requires.line c.requires.column in omega (arith, c.if-prove.true, left)
 
-pub overflow_add-line : goal.overflow_add-line
-overflow_add-line g c =
-    let line = HasLine-from_length c.self.invariant.all c.self.view_is c.requires.line in
-    let left = column_below c.self.invariant.all c.self.view_is c.requires.line c.requires.column in
-    omega (arith, c.reach-line.ensures.line, line.end, line.few)
-
-pub index_mut-requires : goal.index_mut-requires
-index_mut-requires g c =
-    let left = column_below c.self.invariant.all c.self.view_is c.requires.line c.requires.column in
-    let there = c.reach-line.ensures.reached.there in
-    grind (arith, c.reach-line.ensures.line)
-
-pub invariant_of-self : goal.invariant_of-self
-invariant_of-self g c =
-    let below = (HasLine-from_length c.self.invariant.all c.self.view_is c.requires.line).below in
-    let left = column_below c.self.invariant.all c.self.view_is c.requires.line c.requires.column in
-    rw c.reach-line.ensures.line (IsGrid-set c.args.y c.args.x c.reach-line.ensures.grid c.reach-line.ensures.reached below refl c.args.cell left c.character.ensures.sound)
+pub overflow_add-x : goal.overflow_add-x
+overflow_add-x g c = omega (arith, c.if-prove.false, c.self.invariant.all.few_columns)
 
 pub returns : goal.returns
 returns g c =
-    let below = (HasLine-from_length c.self.invariant.all c.self.view_is c.requires.line).below in
-    let left = column_below c.self.invariant.all c.self.view_is c.requires.line c.requires.column in
-    let s = c.self.inside in
-    rw (← c.self.view_is, c.reach-line.ensures.line)
-    (ap (rows s.lines s.columns) (blanks-set c.args.y c.args.x c.reach-line.ensures.grid c.reach-line.ensures.reached below refl c.args.cell left)
-    ∙ rows-set s.lines s.columns _ c.args.y c.args.x c.args.cell below left)
+    let i = c.self.invariant.all in
+    let size = rw c.self.view_is at (each_width _ _ _ i) in
+    one-cell g.T.Element.blank c.args.cell c.args.y c.args.x size (c.fill.ensures.size _ _ size) (HasLine-from_length i c.self.view_is c.requires.line).below
+    c.if-prove.false c.fill.ensures.shown

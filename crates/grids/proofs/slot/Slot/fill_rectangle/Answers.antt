@@ -10,7 +10,7 @@ returns-clause-place c =
     elim c.match-self.branch [
       | in-Own w ↦
           rw (← c.self.view_is, w.self-inside-is)
-          (StaysInPlace-grid k w.in-Own.grid w.fill_in.new.grid c.self.invariant w.in-Own.is (w.fill_in.ensures.size k.lines k.columns) w.fill_in.ensures.cells)
+          (StaysInPlace-grid k w.in-Own.grid w.fill_rectangle.new.self c.self.invariant w.in-Own.is (w.fill_rectangle.ensures.size k.lines k.columns) w.fill_rectangle.ensures.cells)
       | in_default w ↦ rw (← c.self.view_is, w.self-inside-is) (StaysInPlace-same k c.self.invariant)
     ]
 

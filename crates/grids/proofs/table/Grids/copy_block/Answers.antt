@@ -3,7 +3,7 @@ use Rattle.std.specs.Prelude.{◌+◌, ◌-◌}
 use Rattle.grids.specs.{ap, sym, ◌∙◌, refl, arith, rules, common_steps, windows, Windows, with_change, with_touched_lines, with_block_copied, grid_place}
 use Rattle.grids.proofs.Showing.{leads_shown}
 use Rattle.grids.proofs.Writes.{from_to, put-block}
-use Rattle.grids.proofs.CopyFrames.{rectangle-frame}
+use Rattle.grids.proofs.Copies.{rectangle-frame}
 use Rattle.grids.proofs.Blocks.{one-grid, root-shown, block-fits, grid-there}
 use Rattle.grids.proofs.table.Grids.copy_block.Goals as goal
 

@@ -1,34 +1,11 @@
 -- The row that was read is one write in the other window, which touches the columns written.
-use Rattle.std.specs.Prelude.{◌+◌, ◌-◌}
+use Rattle.std.specs.Prelude.{◌+◌}
 use Rattle.grids.specs.{ap, ◌∙◌, arith, rules, windows, listed_cells, with_drawing, common_steps}
 use Rattle.grids.specs.contracts.table.Grids.{the_view}
-use Rattle.grids.proofs.Showing.{piece-read, column_below}
+use Rattle.grids.proofs.Showing.{piece-read}
 use Rattle.grids.proofs.Writes.{drawn_over, put-copied}
-use Rattle.grids.proofs.CopyFrames.{whole-frame}
+use Rattle.grids.proofs.Copies.{whole-frame}
 use Rattle.grids.proofs.table.Grids.copy_cells.Goals as goal
-
-pub copy_from_slice-requires : goal.copy_from_slice-requires
-copy_from_slice-requires c =
-    let a = c.args in
-    let t = the_view c.self.inside in
-    let o = c.origin_of-source in
-    grind (
-      arith,
-      common_steps,
-      piece-read t.slots a.from.win.0 a.from.line a.from.column a.n (record { grid = o.result.grid; line = o.result.line; column = o.result.column }) c.row_in.result.now,
-      column_below t.slots a.from.win.0 a.from.line (a.from.column + a.n - 1),
-    )
-
-pub change-requires-clause-taken : goal.change-requires-clause-taken
-change-requires-clause-taken c =
-    let a = c.args in
-    let t = the_view c.self.inside in
-    let o = c.origin_of-source in
-    grind (
-      arith,
-      common_steps,
-      piece-read t.slots a.from.win.0 a.from.line a.from.column a.n (record { grid = o.result.grid; line = o.result.line; column = o.result.column }) c.row_in.result.now,
-    )
 
 pub returns : goal.returns
 returns c =

@@ -1,24 +1,15 @@
 use Rattle.std.specs.Prelude.{◌+◌, ◌-◌, ◌≤◌}
-use Rattle.grids.specs.{RowCopied, windows}
+use Rattle.grids.specs.{RowCopied, start_of, windows}
 use Rattle.grids.proofs.table.Grids.copy_line.Given as goal
 
--- the first k cells are copied
-abbrev pub invariant-forward : goal.invariant-forward
-invariant-forward l = record {
-  within : l.k ≤ l.n;
-  copied : RowCopied (windows l.fn.self) l.from l.to l.k l.overlay l.frame (windows l.self);
-}
+-- so many cells are copied, from the first on or back from the last
+abbrev pub invariant-pieces : goal.invariant-pieces
+invariant-pieces l =
+    let first = start_of l.back l.n 0 l.done in
+    record {
+      within : l.done ≤ l.n;
+      copied : RowCopied (windows l.fn.self) (record l.from { column = l.from.column + first }) (record l.to { column = l.to.column + first }) l.done l.overlay l.frame (windows l.self);
+    }
 
-abbrev pub decreases-forward : goal.decreases-forward
-decreases-forward l = l.n - l.k
-
--- the cells from k on are copied
-abbrev pub invariant-backward : goal.invariant-backward
-invariant-backward l = record {
-  within : l.k ≤ l.n;
-  copied : RowCopied (windows l.fn.self) (record l.from { column = l.from.column + l.k }) (record l.to { column = l.to.column + l.k }) (l.n - l.k) l.overlay l.frame
-      (windows l.self);
-}
-
-abbrev pub decreases-backward : goal.decreases-backward
-decreases-backward l = l.k
+abbrev pub decreases-pieces : goal.decreases-pieces
+decreases-pieces l = l.n - l.done

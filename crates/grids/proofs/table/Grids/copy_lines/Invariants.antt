@@ -1,12 +1,9 @@
-use Rattle.std.specs.Prelude.{◌+◌, ◌-◌}
-use Rattle.grids.specs.{RectangleCopied, windows}
+use Rattle.std.specs.Prelude.{◌+◌}
+use Rattle.grids.specs.{RectangleCopied, start_of, windows}
 use Rattle.grids.proofs.table.Grids.copy_lines.Given as goal
 
--- the first k lines are copied
-abbrev pub invariant-downward : goal.invariant-downward
-invariant-downward l = RectangleCopied (windows l.fn.self) l.from l.to l.k l.columns l.overlay l.frame (windows l.self)
-
--- the lines from k on are copied
-abbrev pub invariant-upward : goal.invariant-upward
-invariant-upward l =
-    RectangleCopied (windows l.fn.self) (record l.from { line = l.from.line + l.k }) (record l.to { line = l.to.line + l.k }) (l.lines - l.k) l.columns l.overlay l.frame (windows l.self)
+-- so many lines are copied, from the first on or back from the last
+abbrev pub invariant-loop-k : goal.invariant-loop-k
+invariant-loop-k l =
+    let first = start_of l.upward l.lines 0 l.k in
+    RectangleCopied (windows l.fn.self) (record l.from { line = l.from.line + first }) (record l.to { line = l.to.line + first }) l.k l.columns l.overlay l.frame (windows l.self)

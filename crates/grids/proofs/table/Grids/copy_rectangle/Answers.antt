@@ -1,7 +1,6 @@
 -- A copy of no line or column is an empty drawing; another is that of its lines.
 use Rattle.grids.specs.{arith, inl, inr, windows}
-use Rattle.grids.proofs.Copies.{rectangle-none}
-use Rattle.grids.proofs.CopySteps.{Drawn-nothing}
+use Rattle.grids.proofs.Copies.{rectangle-none, Drawn-nothing}
 use Rattle.grids.proofs.table.Grids.copy_rectangle.Goals as goal
 use Rattle.grids.proofs.table.Grids.copy_rectangle.Goals.{then-lines-gt0+then-columns-gt0, else-lines-gt0, else-lines-gt0-via-then-lines-gt0+else-columns-gt0, else-lines-gt0-via-else-lines-gt0}
 

@@ -18,10 +18,10 @@ invariant_of-self c =
     elim c.if-word-eq0.branch [
       | then-word-eq0 w ↦ rw w.self-inside-is (
         length-set _ _ _ ∙ c.self.invariant.0,
-        rw (c.from.ensures, c.from-2.ensures) (numbers-emptied words some c.args.number c.self.invariant.0 within c.self.invariant.1 _ (rw c.from.ensures at w.if-word-eq0.true)),
+        rw (c.from.ensures, c.from-2.ensures) (numbers-emptied words some (c.args.number / 64) c.self.invariant.0 within c.self.invariant.1 _ (rw c.from.ensures at w.if-word-eq0.true)),
       )
       | else-word-eq0 w ↦ rw w.self-inside-is (
         length-set _ _ _ ∙ c.self.invariant.0,
-        rw (c.from.ensures, c.from-2.ensures) (numbers-left words some c.args.number c.self.invariant.0 within c.self.invariant.1 _ (rw c.from.ensures at w.if-word-eq0.false)),
+        rw (c.from.ensures, c.from-2.ensures) (numbers-left words some (c.args.number / 64) c.self.invariant.0 within c.self.invariant.1 _ (rw c.from.ensures at w.if-word-eq0.false)),
       )
     ]

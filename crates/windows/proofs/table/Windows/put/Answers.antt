@@ -22,6 +22,6 @@ returns c =
     let s = c.in_ok-state.ensures.state in
     let old = windows a.self.now.table in
     let row = map given_cell a.numbers.now in
-    drew (search rules) (c.put_cells.ensures.written ∙ sym (drawn-there old a.win.0 s.window (listed_cells a.y a.x row) s.there))
+    drew (search rules) (c.put.ensures.written ∙ sym (drawn-there old a.win.0 s.window (listed_cells a.y a.x row) s.there))
     (row-frame old a.win.0 c.in_ok-state.state s _ a.y a.x row (grind (arith, nat_tests, length-map)) (grind (arith, nat_tests)) (grind (arith, nat_tests, length-map)) (grind (arith, length-map)))
-    c.put_cells.ensures.state.sound
+    c.put.ensures.sound

@@ -1,6 +1,6 @@
 -- The window is erased, and its settings have the flag.
 use Rattle.windows.specs.{rules, ◌∙◌, after_clear}
-use Rattle.windows.proofs.Everywhere.{cleared-is, erased_frame}
+use Rattle.windows.proofs.Drawings.{cleared-is, erased_frame}
 use Rattle.windows.proofs.Calls.{drew}
 use Rattle.windows.proofs.States.{set-known}
 use Rattle.windows.proofs.table.Windows.wclear.Goals as goal

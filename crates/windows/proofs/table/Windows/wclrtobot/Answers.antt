@@ -1,6 +1,6 @@
 -- The lines below are cleared, and with them the rest of the cursor's line.
 use Rattle.windows.specs.{arith, rules}
-use Rattle.windows.proofs.ToBottom.{clrtobot_frame-last, clrtobot_frame-more}
+use Rattle.windows.proofs.Drawings.{clrtobot_frame-last, clrtobot_frame-more}
 use Rattle.windows.proofs.Calls.{drew}
 use Rattle.windows.proofs.table.Windows.wclrtobot.Goals as goal
 

@@ -1,6 +1,6 @@
 -- The rest of the cursor's line is cleared.
 use Rattle.windows.specs.{rules}
-use Rattle.windows.proofs.ToEndOfLine.{clrtoeol_frame-is}
+use Rattle.windows.proofs.Drawings.{clrtoeol_frame-is}
 use Rattle.windows.proofs.Calls.{drew}
 use Rattle.windows.proofs.table.Windows.wclrtoeol.Goals as goal
 

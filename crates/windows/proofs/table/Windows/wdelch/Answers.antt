@@ -1,7 +1,7 @@
 -- `wdelch`: what a call does to a window of a known state, and the rectangle that it answers (`Calls`).
 use Rattle.windows.specs.{refl, sym, ◌∙◌, rules, put, delch_drawing, windows}
 use Rattle.windows.proofs.Calls.{call-is, drew}
-use Rattle.windows.proofs.CharacterDeleted.{character_deleted_frame}
+use Rattle.windows.proofs.Drawings.{character_deleted_frame}
 use Rattle.windows.proofs.table.Windows.wdelch.Goals as goal
 
 pub returns : goal.returns

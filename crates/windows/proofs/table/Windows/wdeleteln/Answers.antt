@@ -1,6 +1,6 @@
 -- The lines from the cursor's on move up by one.
 use Rattle.windows.specs.{rules}
-use Rattle.windows.proofs.LinesUp.{line_deleted, line_deleted_frame}
+use Rattle.windows.proofs.Drawings.{line_deleted, line_deleted_frame}
 use Rattle.windows.proofs.Calls.{drew}
 use Rattle.windows.proofs.table.Windows.wdeleteln.Goals as goal
 

@@ -1,6 +1,6 @@
 -- Every line is cleared, and the cursor is at home.
 use Rattle.windows.specs.{rules}
-use Rattle.windows.proofs.Everywhere.{erased, erased_frame}
+use Rattle.windows.proofs.Drawings.{erased, erased_frame}
 use Rattle.windows.proofs.Calls.{drew}
 use Rattle.windows.proofs.table.Windows.werase.Goals as goal
 

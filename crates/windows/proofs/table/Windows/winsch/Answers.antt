@@ -1,7 +1,7 @@
 -- `winsch`: what a call does to a window of a known state, and the rectangle that it answers (`Calls`).
 use Rattle.windows.specs.{refl, sym, ◌∙◌, rules, put, insch_drawing, windows}
 use Rattle.windows.proofs.Calls.{call-is, drew}
-use Rattle.windows.proofs.CharacterInserted.{character_inserted_frame}
+use Rattle.windows.proofs.Drawings.{character_inserted_frame}
 use Rattle.windows.proofs.table.Windows.winsch.Goals as goal
 
 pub returns : goal.returns

@@ -1,6 +1,6 @@
 -- The lines from the cursor's on move down by one.
 use Rattle.windows.specs.{rules}
-use Rattle.windows.proofs.LinesDown.{line_inserted, line_inserted_frame}
+use Rattle.windows.proofs.Drawings.{line_inserted, line_inserted_frame}
 use Rattle.windows.proofs.Calls.{drew}
 use Rattle.windows.proofs.table.Windows.winsertln.Goals as goal
 
