@@ -54,15 +54,18 @@ size_t curspan_recolour(struct curspan_palette *palette, const uint8_t *bytes, s
     return (size_t)(append(to, bytes, (size_t)(last - bytes)) - out);
 }
 
-/* Takes what the screen sent. Where there is no memory for it, it stays there for the next time. */
-static bool take(curspan *screen, struct curspan_outgoing *all, size_t *length) {
-    for (uint8_t none;;) {
-        uint8_t *to = all->room > 0 ? all->bytes + CURSPAN_RECOLOURED * all->room : &none;
-        if ((*length = curspan_take(screen, to, all->room)) <= all->room) return true;
-        uint8_t *more = realloc(all->bytes, (CURSPAN_RECOLOURED + 1) * *length);
-        if (!more) return false;
+/* Takes what the screen sent, behind so many times the room for it. Where there is no memory for it, it stays there for
+   the next time, and the answer is NULL. */
+static uint8_t *take(curspan *screen, size_t times, struct curspan_outgoing *all, size_t *length) {
+    static uint8_t none;
+    for (;;) {
+        size_t room = all->room / (times + 1);
+        uint8_t *to = room > 0 ? all->bytes + times * room : &none;
+        if ((*length = curspan_take(screen, to, room)) <= room) return to;
+        uint8_t *more = realloc(all->bytes, (times + 1) * *length);
+        if (!more) return NULL;
         all->bytes = more;
-        all->room = *length;
+        all->room = (times + 1) * *length;
     }
 }
 
@@ -70,8 +73,9 @@ static bool take(curspan *screen, struct curspan_outgoing *all, size_t *length) 
 bool curspan_hand_on(const struct curspan_tty *tty, curspan *screen, struct curspan_palette *palette,
                      struct curspan_outgoing *outgoing) {
     size_t length;
-    if (!take(screen, outgoing, &length)) return false;
-    length = curspan_recolour(palette, outgoing->bytes + CURSPAN_RECOLOURED * outgoing->room, length, outgoing->bytes);
+    uint8_t *bytes = take(screen, palette->changes ? CURSPAN_RECOLOURED : 0, outgoing, &length);
+    if (!bytes) return false;
+    length = curspan_recolour(palette, bytes, length, outgoing->bytes);
     if (curspan_write_all(tty, outgoing->bytes, length)) return true;
     for (int own = 0; own < OWN_PAIRS; own++) palette->is_alternate |= palette->are_alternate[own];
     curspan_invalidate(screen);
