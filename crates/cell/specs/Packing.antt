@@ -2,7 +2,7 @@
 -- cell; of a shown cell the foreground in bits 16 to 19, and from bit 20 on the background. How a cell is kept is
 -- Curspan's own choice.
 use Rattle.std.specs.Prelude.{◌+◌, ◌-◌, ◌*◌, ◌/◌, ◌%◌, ◌==◌, ◌&&◌, if◌then◌else◌}
-use Rattle.cell.specs.Names.{ℕ, nat_le, Option, Some, None}
+use Rattle.cell.specs.Names.{ℕ, Bool, nat_le, Option, Some, None}
 use Rattle.cell.specs.Attributes.{valid_attributes}
 use Rattle.cell.specs.Glyphs.{Glyph, blank, is_printable}
 use Rattle.cell.specs.ShownCells.{Rendition, Shown, rendition_with, shown_with}
@@ -20,11 +20,15 @@ attributes_of bits = bits / 256 % 256
 abbrev pub glyph_of : ℕ → Glyph
 glyph_of bits = record { character = character_of bits; attributes = attributes_of bits; pair = bits / 65536 }
 
+-- some cell has the character and the pair that a number gives
+abbrev pub gives_cell : ℕ → Bool
+gives_cell number = is_printable (character_of number) && nat_le (number / 65536) LAST_PAIR
+
 -- the cell that a program gives by any number: without bits beyond the six attributes, and a blank where no cell has the
 -- character or the pair
 abbrev pub given_cell : ℕ → Glyph
 given_cell number =
-    if is_printable (character_of number) && nat_le (number / 65536) LAST_PAIR
+    if gives_cell number
     then record { character = character_of number; attributes = valid_attributes (attributes_of number); pair = number / 65536 } else blank
 
 -- the default colour is 0, and a colour one more than its number

@@ -1,7 +1,7 @@
 //! A cell: a character with attributes and a colour pair.
 
 ghost use Rattle.std.specs.Prelude.{◌≡◌, ◌+◌, ◌*◌, ◌&&◌, ◌<◌, if◌then◌else◌};
-ghost use Rattle.cell.specs.{nat_le, true, bits_of, valid_attributes, given_cell, IsCell, is_printable, same_glyph, partial_equiv_from_equiv, list_all};
+ghost use Rattle.cell.specs.{nat_le, true, bits_of, valid_attributes, given_cell, gives_cell, IsCell, is_printable, same_glyph, partial_equiv_from_equiv, list_all};
 ghost use Rattle.cell.specs.declared.limits.TheConstants.{LAST_PAIR};
 
 use crate::attr::Attr;
@@ -66,14 +66,15 @@ impl Cell {
         }
     }
 
-    /// The cell that a number gives, without bits beyond the six attributes; a blank where no cell has its character or
-    /// its pair.
+    /// The cell that a number gives, without bits beyond the six attributes.
     pub fn of_number(number: u32) -> Cell
+        requires { gives_cell number ≡ true }
         ensures value { result ≡ given_cell number }
         ensures sound { IsCell result }
     {
-        let attrs = Attr::from_bits_retain((number / 256 % 256) as u8);
-        Cell::new((number % 256) as u8, attrs, (number / 65_536) as u16).unwrap_or(Cell::BLANK)
+        Cell {
+            bits: number - number / 16_384 % 4 * 16_384,
+        }
     }
 
     /// The cell with another pair.
@@ -151,6 +152,26 @@ pub fn are_printable(text: &[u8]) -> bool
     let mut all = true;
     for ch in text {
         all &= is_printable(*ch);
+    }
+    all
+}
+
+/// Whether a cell can hold the character and the pair that a number gives: where its other bits are left out, it is the
+/// character.
+pub fn gives_cell(number: u32) -> bool
+    ensures { result ≡ gives_cell number }
+{
+    let rest = number - number / 256 % 16_384 * 256;
+    (u32::from(FIRST_CHARACTER)..=u32::from(LAST_CHARACTER)).contains(&rest)
+}
+
+/// Whether each of some numbers gives a cell, by a loop of the same form.
+pub fn all_give_cells(numbers: &[u32]) -> bool
+    ensures { result ≡ list_all gives_cell numbers.now }
+{
+    let mut all = true;
+    for number in numbers {
+        all &= gives_cell(*number);
     }
     all
 }

@@ -2,7 +2,7 @@
 
 ghost use Rattle.std.specs.Prelude.{◌≡◌, ◌≤◌, ◌<◌, ◌==◌, ◌&&◌, ◌+◌, ◌-◌, ◌*◌, if◌then◌else◌};
 ghost use Rattle.cell.specs.{ℕ, nat_le, nat_lt, length, map, replicate, slice_index_or, IfOk, true, AllByRecursion, splice, blank, IsCell, with_blanks, moved, IsGrid, IsReached, shown};
-ghost use Rattle.cell.specs.{shown_blank, start_of, IsShown, vec_capacity, EachCell, HasSize, all_of, cell_or, line_of, shown_at, size_of, with_cell, given_cell, rows};
+ghost use Rattle.cell.specs.{shown_blank, start_of, IsShown, vec_capacity, EachCell, HasSize, all_of, cell_or, line_of, shown_at, size_of, with_cell, given_cell, gives_cell, list_all, rows};
 
 use crate::cell::Cell;
 use crate::colour::Pairs;
@@ -301,6 +301,7 @@ pub fn show_cells(cells: &[Cell], pairs: &Pairs, y: u16, x: u16, picture: &mut G
 pub fn give_cells(numbers: &[u32], y: usize, x: usize, grid: &mut Grid<Cell>)
     requires line { y < length grid.old }
     requires columns { x + length numbers.now ≤ length (line_of grid.old y) }
+    requires given { list_all gives_cell numbers.now ≡ true }
     ensures shown { (v u : ℕ) → cell_or blank grid.new (v, u) ≡ (if (v == y) && (nat_le x u && nat_lt u (x + length numbers.now)) then
         slice_index_or (map given_cell numbers.now) (u - x) blank else cell_or blank grid.old (v, u)) }
     ensures height { length grid.new ≡ length grid.old }
@@ -313,7 +314,8 @@ pub fn give_cells(numbers: &[u32], y: usize, x: usize, grid: &mut Grid<Cell>)
 
 /// Puts the cells that numbers give among others, from a place on, by a loop that the compiler vectorizes.
 fn give_piece(numbers: &[u32], cells: &mut Vec<Cell>, start: usize)
-    requires { start + length numbers.now ≤ length cells.old.items }
+    requires there { start + length numbers.now ≤ length cells.old.items }
+    requires given { list_all gives_cell numbers.now ≡ true }
     ensures cells { cells.new.items ≡ splice cells.old.items start (start + length numbers.now) (map given_cell numbers.now) }
     ensures sound { AllByRecursion IsCell (map given_cell numbers.now) }
     ensures room { vec_capacity cells.new ≡ vec_capacity cells.old }
@@ -324,7 +326,8 @@ fn give_piece(numbers: &[u32], cells: &mut Vec<Cell>, start: usize)
 
 /// Writes the cells that numbers give into as many places.
 fn give_each(numbers: &[u32], places: &mut [Cell])
-    requires { length places.old ≡ length numbers.now }
+    requires long { length places.old ≡ length numbers.now }
+    requires given { list_all gives_cell numbers.now ≡ true }
     ensures given { places.new ≡ map given_cell numbers.now }
     ensures sound { AllByRecursion IsCell places.new }
 {

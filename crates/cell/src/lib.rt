@@ -31,7 +31,7 @@ mod window;
 mod written_refusals;
 
 pub use attr::{Attr, hex_digits};
-pub use cell::{Cell, are_printable, is_printable};
+pub use cell::{Cell, all_give_cells, are_printable, gives_cell, is_printable};
 pub use colour::{Colour, ColourPair, PairId, Pairs};
 pub use difference::{first_diff, last_diff};
 pub use grid::{Element, Grid, give_cells, show_cells};

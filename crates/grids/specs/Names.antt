@@ -1,7 +1,7 @@
 -- The names from below: definitions take them from here, proofs and code from `specs`.
 pub use Rattle.cell.specs.Glyphs.{Glyph, IsCell, blank, is_printable}
 pub use Rattle.cell.specs.Grids.{start_of}
-pub use Rattle.cell.specs.Packing.{given_cell}
+pub use Rattle.cell.specs.Packing.{given_cell, gives_cell}
 pub use Rattle.cell.specs.Pictures.{AreCells, EachCell, HasSize, Place, Sheet, blank_sheet, cell_or, glyph_at, line_of}
 pub use Rattle.cell.specs.Refusals.{RefusedBy, first_of}
 pub use Rattle.cell.specs.declared.limits.TheConstants.{LARGEST_PAD, LARGEST_SCREEN, MOST_WINDOWS}
@@ -22,7 +22,7 @@ pub use Rattle.std.proofs.lemmas.List.Folds.{list_any_at}
 pub use Rattle.std.proofs.lemmas.List.FromFn.{get_or-map-range_with_len, length-map-range_with_len}
 pub use Rattle.std.proofs.lemmas.Map.Steps.{le-length_from_below}
 pub use Rattle.std.specs.Fn.{FnOnceReturnsAtMut, FnOnceTakesAtMut}
-pub use Rattle.std.specs.List.{AllByRecursion, list_any, range_with_len}
+pub use Rattle.std.specs.List.{AllByRecursion, list_all, list_any, range_with_len}
 pub use Rattle.std.specs.Option.{option_map_or}
 pub use Rattle.std.specs.Prelude.{⊤}
 pub use Rattle.std.specs.Result.{result_err}

@@ -3,7 +3,7 @@
 ghost use Rattle.std.specs.Prelude.{◌≡◌, ◌<◌, ◌≤◌, ◌+◌, ◌-◌, ◌==◌, ◌&&◌};
 ghost use Rattle.grids.specs.{ℕ, is_some, length, map, nat_lt, slice_index, slice_index_or, blank, EachIndex, true, false, AllByRecursion, IsCell, is_printable, printed_cell, set, with_cursor};
 ghost use Rattle.grids.specs.{HasPlace, cell_at, put, AreSoundWindows, filled_cells, rectangle_filled, listed_cells, overlaid_cell, copied_cells, line_shown, AreAlike, AreRowsThere, RowCopied};
-ghost use Rattle.grids.specs.{start_of, windows, given_cell};
+ghost use Rattle.grids.specs.{start_of, windows, given_cell, gives_cell, list_all};
 ghost use Rattle.grids.specs.declared.rows.TheConstants.{PIECE};
 
 use crate::frame::frame_of_two;
@@ -82,6 +82,7 @@ impl Grids {
     /// Puts the cells that numbers give into line `y` of a window, from column `left` on. The places must exist.
     pub fn put(&mut self, win: WinId, y: u16, left: u16, numbers: &[u32])
         requires some { 0 < length numbers.now }
+        requires given { list_all gives_cell numbers.now ≡ true }
         requires there { HasPlace (windows self.old).window win.0 y (left + length numbers.now - 1) }
         ensures written { windows self.new ≡ put (windows self.old) win.0 (listed_cells y left (map given_cell numbers.now)) }
         ensures sound { AreSoundWindows (windows self.new) }

@@ -2,7 +2,7 @@
 
 ghost use Rattle.std.specs.Prelude.{◌≡◌, ◌<◌, ◌≤◌, ◌+◌, ◌^◌, ◌&&◌};
 ghost use Rattle.grids.specs.{EachIndex, IfOk, IsSome, is_some, Some, None, length, map, slice_index, true, AllByRecursion, range_with_len, IsCell, is_printable, lines_marked, without_marks};
-ghost use Rattle.grids.specs.{with_place, with_part, filled_cells, given_cell, listed_cells, rectangle_filled, nat_le, set_in, with_cursor, with_settings, new_window, first_settings, blank_grid, any_below};
+ghost use Rattle.grids.specs.{with_place, with_part, filled_cells, given_cell, gives_cell, list_all, listed_cells, rectangle_filled, nat_le, set_in, with_cursor, with_settings, new_window, first_settings, blank_grid, any_below};
 ghost use Rattle.grids.specs.{cell_of, part_of, window_of};
 ghost use Rattle.grids.specs.{IsKept, Kept, HasShape, printed_cell, part_in, names_parent, with_touched, with_touched_lines, with_drawing, SameShape, with_new_offset, StaysInPlace, is_among};
 ghost use Rattle.grids.specs.{unmarked_lines, with_block_copied};
@@ -394,6 +394,7 @@ impl Slot {
         requires own { part_in self.old.cells ≡ None }
         requires line_in { line < self.old.lines }
         requires columns_in { left + length numbers.now ≤ self.old.columns }
+        requires given { list_all gives_cell numbers.now ≡ true }
         ensures window { window_of self.new ≡ with_drawing (listed_cells line left (map given_cell numbers.now)) (window_of self.old) }
         ensures place { StaysInPlace self.old self.new }
     {

@@ -1,11 +1,22 @@
--- Given cells: the rectangles of their drawings.
-use Rattle.std.specs.Prelude.{◌≡◌, ◌+◌, ◌-◌, ◌<◌, ◌≤◌}
+-- Given cells: which are refused, and the rectangles of their drawings.
+use Rattle.std.specs.Prelude.{◌≡◌, ◌+◌, ◌-◌, ◌<◌, ◌≤◌, ◌∷◌, ◌||◌}
 use Rattle.windows.specs.{ℕ, List, None, Some, length, arith, cases_eq, nat_tests, Glyph, Rect, Window, Windows, Drawing, put, frame_of, drawing_frame, listed_cells, rectangle_filled}
-use Rattle.windows.specs.{Option, ap, sym, ◌∙◌, IsStateOf}
+use Rattle.windows.specs.{Option, ap, sym, ◌∙◌, refl, not, [], list_all, list_any, true, false, cases_Bool, gives_cell, gives_no_character, gives_no_pair, IsStateOf}
 use Rattle.world.proofs.FrameLaws.{frame_of-none}
 use Rattle.windows.specs.declared.state.WindowState.{WindowState}
 use Rattle.windows.proofs.NextWrites.{nothing}
 use Rattle.grids.proofs.Copies.{block}
+
+-- some give no cells where some give no character, or no pair
+lacking : (numbers : List ℕ) → list_all gives_cell numbers ≡ not (list_any gives_no_character numbers || list_any gives_no_pair numbers)
+lacking [] = refl
+lacking (first ∷ numbers) = grind (arith, nat_tests, (lacking numbers))
+
+pub none_lack : (numbers : List ℕ) → list_all gives_cell numbers ≡ true → (list_any gives_no_character numbers ≡ false) × (list_any gives_no_pair numbers ≡ false)
+none_lack numbers all = grind (arith, (lacking numbers), cases_Bool (list_any gives_no_character numbers), cases_Bool (list_any gives_no_pair numbers))
+
+pub some_lack : (numbers : List ℕ) → list_all gives_cell numbers ≡ false → list_any gives_no_character numbers ≡ false → list_any gives_no_pair numbers ≡ true
+some_lack numbers some characters = grind (arith, (lacking numbers), cases_Bool (list_any gives_no_pair numbers))
 
 module _ (a : Window) where
   pub frame-rectangle : (r : Rect) (c : Glyph) → r.top ≤ r.bottom → r.bottom < a.lines → r.left ≤ r.right → r.right < a.columns → frame_of a (rectangle_filled r c) ≡ Some r

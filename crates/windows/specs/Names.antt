@@ -1,7 +1,7 @@
 -- The names from below: definitions take them from here, proofs and code from `specs`.
 pub use Rattle.cell.specs.Attributes.{bits_of, valid_attributes, without}
 pub use Rattle.cell.specs.Glyphs.{Glyph, IsCell, blank, is_printable}
-pub use Rattle.cell.specs.Packing.{given_cell}
+pub use Rattle.cell.specs.Packing.{given_cell, gives_cell}
 pub use Rattle.cell.specs.Pictures.{Place, origin}
 pub use Rattle.cell.specs.Refusals.{RefusedBy, first_of}
 pub use Rattle.cell.specs.declared.limits.TheConstants.{LARGEST_PAD}
@@ -11,8 +11,8 @@ pub use Rattle.grids.specs.Calls.{Asked}
 pub use Rattle.grids.specs.Inks.{printed_cell}
 pub use Rattle.grids.specs.Tables.{WindowTable, windows}
 pub use Rattle.std.proofs.Common.{Bool, EachIndex, IfOk, IsSome, IsSomeAnd, List, MatchResult, None, Ok, OnErr, OnOk, Option, Result, Some, [], ap, arith, codes, drop, eq-eqb, false, get_or, inl, inr, length-drop, length-take}
-pub use Rattle.std.proofs.Common.{is_some, length, map, max, min, nat_le, nat_lt, negsuc, option_and_then, pos, refl, rules, slice_index, slice_index_or, subst, suc, sym, take, true, zero, ℕ, ℤ, ◌∙◌}
-pub use Rattle.std.proofs.lemmas.Bool.{and_parts, cases_eq, cases_lt, eqb-true, ne_eqb}
+pub use Rattle.std.proofs.Common.{is_some, length, map, max, min, nat_le, nat_lt, negsuc, not, option_and_then, pos, refl, rules, slice_index, slice_index_or, subst, suc, sym, take, true, zero, ℕ, ℤ, ◌∙◌}
+pub use Rattle.std.proofs.lemmas.Bool.{and_parts, cases_Bool, cases_eq, cases_lt, eqb-true, ne_eqb}
 pub use Rattle.std.proofs.lemmas.Bool.Decides.{nat_tests}
 pub use Rattle.std.proofs.lemmas.Grind.{common_steps}
 pub use Rattle.std.proofs.lemmas.Int.{to_z-of_z}

@@ -1,12 +1,12 @@
 //! Cells that a program gives as numbers, written as they are.
 
-ghost use Rattle.std.specs.Prelude.{◌≡◌, ◌+◌, ◌&&◌};
-ghost use Rattle.windows.specs.{length, list_any, nat_le, nat_lt, first_of, edits, fill_edit, fill_tests, put_edit, put_tests, gives_no_character, gives_no_pair};
+ghost use Rattle.std.specs.Prelude.{◌≡◌, ◌+◌, ◌&&◌, ◌∷◌};
+ghost use Rattle.windows.specs.{[], Some, false, length, list_all, list_any, gives_cell, nat_le, nat_lt, first_of, edits, fill_edit, fill_tests, put_edit, put_tests, gives_no_character, gives_no_pair};
 ghost use Rattle.windows.specs.{windows, Drew, its_frame};
 
 use crate::state::{WindowState, state_of};
 use crate::table::Windows;
-use cell::{Cell, LAST_PAIR, Rect, Refusal, WinId, is_printable};
+use cell::{Cell, Rect, Refusal, WinId, all_give_cells, gives_cell, is_printable};
 
 impl Windows {
     /// Sets the cells of a rectangle of a window to one cell.
@@ -25,11 +25,8 @@ impl Windows {
         if rect.bottom >= state.lines || rect.right >= state.columns {
             return Err(Refusal::OutsideWindow);
         }
-        if gives_no_character(number) {
-            return Err(Refusal::BadCharacter);
-        }
-        if gives_no_pair(number) {
-            return Err(Refusal::BadPair);
+        if !gives_cell(number) {
+            return Err(refusal_of(&[number]));
         }
         self.table
             .fill_rectangle(win, rect, Cell::of_number(number));
@@ -55,11 +52,8 @@ impl Windows {
         if !has_row(&state, y, x, numbers.len()) {
             return Err(Refusal::OutsideWindow);
         }
-        if some_give_no_character(numbers) {
-            return Err(Refusal::BadCharacter);
-        }
-        if some_give_no_pair(numbers) {
-            return Err(Refusal::BadPair);
+        if !all_give_cells(numbers) {
+            return Err(refusal_of(numbers));
         }
         if numbers.is_empty() {
             return Ok(None);
@@ -81,38 +75,25 @@ fn has_row(state: &WindowState, y: u16, x: u16, n: usize) -> bool
     y < state.lines && x <= state.columns && n <= usize::from(state.columns - x)
 }
 
-/// Whether a number has a character that no cell has.
-fn gives_no_character(number: u32) -> bool
-    ensures { result ≡ gives_no_character number }
+/// Why numbers are refused of which some give no cells.
+#[cold]
+fn refusal_of(numbers: &[u32]) -> Refusal
+    requires { list_all gives_cell numbers.now ≡ false }
+    ensures { Some result ≡ first_of ((list_any gives_no_character numbers.now, Refusal.BadCharacter)
+        ∷ (list_any gives_no_pair numbers.now, Refusal.BadPair) ∷ []) }
 {
-    !is_printable((number % 256) as u8)
+    if some_give_no_character(numbers) {
+        Refusal::BadCharacter
+    } else {
+        Refusal::BadPair
+    }
 }
 
-/// Whether a number has a pair that no cell has.
-fn gives_no_pair(number: u32) -> bool
-    ensures { result ≡ gives_no_pair number }
-{
-    number / 65_536 > u32::from(LAST_PAIR)
-}
-
-/// Whether some number has such a character, by a loop with one exit, which the compiler vectorizes.
+/// Whether some number has a character that no cell has.
 fn some_give_no_character(numbers: &[u32]) -> bool
     ensures { result ≡ list_any gives_no_character numbers.now }
 {
-    let mut some = false;
-    for number in numbers {
-        some |= gives_no_character(*number);
-    }
-    some
-}
-
-/// Whether some number has such a pair, by a loop of the same form.
-fn some_give_no_pair(numbers: &[u32]) -> bool
-    ensures { result ≡ list_any gives_no_pair numbers.now }
-{
-    let mut some = false;
-    for number in numbers {
-        some |= gives_no_pair(*number);
-    }
-    some
+    numbers
+        .iter()
+        .any(|number| !is_printable((*number % 256) as u8))
 }

@@ -12,8 +12,8 @@ pub overflow_add-line : goal.overflow_add-line
 overflow_add-line c = let piece = PieceFits-from c.grid.invariant.all c.grid.view_is c.requires.line c.requires.columns in
     omega (arith, c.reach-line.ensures.line, piece.end, piece.few)
 
-pub give_piece-requires : goal.give_piece-requires
-give_piece-requires c = let piece = PieceFits-from c.grid.invariant.all c.grid.view_is c.requires.line c.requires.columns in
+pub give_piece-requires-clause-there : goal.give_piece-requires-clause-there
+give_piece-requires-clause-there c = let piece = PieceFits-from c.grid.invariant.all c.grid.view_is c.requires.line c.requires.columns in
     omega (arith, c.reach-line.ensures.line, c.reach-line.ensures.reached.there, piece.fits)
 
 pub invariant_of-grid : goal.invariant_of-grid
