@@ -1,6 +1,6 @@
 -- Lines of which some places are filled with one cell.
-use Rattle.std.specs.Prelude.{◌≡◌, ◌+◌, ◌-◌, ◌*◌, ◌<◌, ◌≤◌, ◌==◌, ◌&&◌, if◌then◌else◌}
-use Rattle.cell.specs.{IsGrid, IsReached, with_blanks, cell_or, refl, AllByRecursion, ℕ, nat_le, nat_lt, List, length, replicate, get_or, ap, sym, arith, eq-eqb, ne_eqb, splice, cases_eq, nat_tests, length-replicate, get_or-replicate, rows, IsWhole}
+use Rattle.std.specs.Prelude.{◌≡◌, ◌+◌, ◌-◌, ◌*◌, ◌<◌, ◌≤◌, ◌==◌, ◌&&◌, if◌then◌else◌, ◌∷◌}
+use Rattle.cell.specs.{[], set, IsGrid, IsReached, with_blanks, cell_or, refl, AllByRecursion, ℕ, nat_le, nat_lt, List, length, replicate, get_or, ap, sym, arith, eq-eqb, ne_eqb, splice, cases_eq, nat_tests, length-replicate, get_or-replicate, rows, IsWhole}
 use Rattle.cell.specs.{line_of}
 use Rattle.cell.proofs.Blanks.{IsGrid-piece, blanks-piece}
 use Rattle.cell.proofs.GridLemmas.{line_end}
@@ -22,6 +22,12 @@ pub shown-filled : {A : Type 0} (none cell other : A) (y start end v u : ℕ) �
     → (if (v == y) && (nat_le start u && nat_lt u (start + length (replicate (end - start) cell))) then get_or (replicate (end - start) cell) (u - start) none else other)
     ≡ (if (v == y) && (nat_le start u && nat_lt u end) then cell else other)
 shown-filled none cell other y start end v u ordered = grind (arith, length-replicate, cases_eq v y, eq-eqb, ne_eqb, nat_tests, get_or-replicate)
+
+-- one place is filled
+pub fill_one : {A : Type 0} (cells : List A) (cell : A) → length cells ≡ 1 → set cells 0 cell ≡ replicate (length cells) cell
+fill_one [] cell one = absurd (omega arith)
+fill_one (first ∷ []) cell one = refl
+fill_one (first ∷ (second ∷ rest)) cell one = absurd (omega arith)
 
 -- ---- line after line
 

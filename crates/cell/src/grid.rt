@@ -418,10 +418,15 @@ fn fill_piece<T: Copy>(cells: &mut Vec<T>, start: usize, count: usize, cell: T)
     fill_each(&mut cells[start..start + count], cell);
 }
 
-/// Puts one cell in all of some places, by a loop that the compiler vectorizes.
+/// Puts one cell in all of some places, in more than one by a loop that the compiler vectorizes.
+#[tactic(auto, using(crate::proofs::Fills::fill_one))]
 fn fill_each<T: Copy>(places: &mut [T], cell: T)
     ensures { places.new ≡ replicate (length places.old) cell }
 {
+    if places.len() == 1 {
+        places[0] = cell;
+        return;
+    }
     for x in 0..places.len() {
         places[x] = cell;
     }

@@ -469,10 +469,6 @@ impl Slot {
         ensures place { StaysInPlace self.old self.new }
     {
         let origin = self.origin;
-        if rect.right - rect.left + 1 == self.columns {
-            self.mark(rect.top, rect.bottom - rect.top + 1, true);
-            return origin;
-        }
         self.touched
             .touch_lines(rect.top, rect.bottom, rect.left, rect.right);
         origin
