@@ -121,6 +121,10 @@ put-rectangle old win place r c there l leads =
     let touched = touched-lines a.0 (rectangle_filled r c) (in_lines r) r.left r.right l a.3 (λ z x. grind (arith, nat_tests)) in
     rw (put-any old.window win place a.0 (rectangle_filled r c) (rectangle_filled (moved_by place r) c) (lines_marks (in_lines r) r.left r.right) a.1 leads (grind (arith, nat_tests)) touched) refl
 
+-- of one line
+pub one_line : (y left right : ℕ) (c : Glyph) → rectangle_filled (record { top = y; left = left; bottom = y; right = right }) c ≡ filled_cells y left right c
+one_line y left right c = fun_ext (λ v. fun_ext (λ u. grind (arith, nat_tests)))
+
 -- cells of a line, in columns side by side
 
 abbrev side_by_side : ℕ → ℕ → ℕ → (ℕ → Glyph) → Drawing

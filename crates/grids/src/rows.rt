@@ -53,11 +53,13 @@ impl Grids {
         ensures written { windows self.new ≡ put (windows self.old) win.0 (filled_cells y left right cell) }
         ensures sound { AreSoundWindows (windows self.new) }
     {
-        let origin = self.touch(win, y, left, right);
-        let line = origin.line + y;
-        let start = origin.column + left;
-        let end = origin.column + right;
-        self.change(WinId(origin.grid), |slot| slot.fill(line, start, end, cell));
+        let line = Rect {
+            top: y,
+            left,
+            bottom: y,
+            right,
+        };
+        self.fill_rectangle(win, line, cell);
     }
 
     /// Sets the cells of a rectangle of a window to one cell. The places must exist, and no first line or column be after
@@ -106,10 +108,13 @@ impl Grids {
         let origin = self.touch_to(win, y, x, x + 1);
         let line = origin.line + y;
         let column = origin.column + x;
-        self.change(
-            WinId(origin.grid),
-            |slot| slot.fill(line, column, column, cell),
-        );
+        let place = Rect {
+            top: line,
+            left: column,
+            bottom: line,
+            right: column,
+        };
+        self.change(WinId(origin.grid), |slot| slot.fill_rectangle(place, cell));
     }
 
     /// Prints characters from 32 to 126 in line `y` of a window, from column `left` on, each with the attributes and

@@ -2,7 +2,7 @@
 
 ghost use Rattle.std.specs.Prelude.{◌≡◌, ◌<◌, ◌≤◌, ◌+◌, ◌^◌, ◌&&◌};
 ghost use Rattle.grids.specs.{EachIndex, IfOk, IsSome, is_some, Some, None, length, map, slice_index, true, AllByRecursion, range_with_len, IsCell, is_printable, lines_marked, without_marks};
-ghost use Rattle.grids.specs.{with_place, with_part, filled_cells, given_cell, gives_cell, list_all, listed_cells, rectangle_filled, nat_le, set_in, with_cursor, with_settings, new_window, first_settings, blank_grid, any_below};
+ghost use Rattle.grids.specs.{with_place, with_part, given_cell, gives_cell, list_all, listed_cells, rectangle_filled, nat_le, set_in, with_cursor, with_settings, new_window, first_settings, blank_grid, any_below};
 ghost use Rattle.grids.specs.{cell_of, part_of, window_of};
 ghost use Rattle.grids.specs.{IsKept, Kept, HasShape, printed_cell, part_in, names_parent, with_touched, with_touched_lines, with_drawing, SameShape, with_new_offset, StaysInPlace, is_among};
 ghost use Rattle.grids.specs.{unmarked_lines, with_block_copied};
@@ -291,26 +291,8 @@ impl Slot {
         self.origin = origin;
     }
 
-    /// Sets the cells of a line of the grid from `left` to `right` to one cell.
-    #[inline(always)]
-    pub fn fill(&mut self, line: u16, left: u16, right: u16, cell: Cell)
-        requires line_in { line < self.old.lines }
-        requires ordered { left ≤ right }
-        requires right_in { right < self.old.columns }
-        ensures window { window_of self.new ≡ with_drawing (filled_cells line left right cell) (window_of self.old) }
-        ensures place { StaysInPlace self.old self.new }
-    {
-        if let Cells::Own(grid) = &mut self.cells {
-            grid.fill(
-                usize::from(line),
-                usize::from(left),
-                usize::from(right) + 1,
-                cell,
-            );
-        }
-    }
-
     /// Sets the cells of a rectangle of the grid to one cell.
+    #[inline(always)]
     pub fn fill_rectangle(&mut self, rect: Rect, cell: Cell)
         requires own { part_in self.old.cells ≡ None }
         requires lines { rect.top ≤ rect.bottom }
