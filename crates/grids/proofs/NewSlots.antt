@@ -59,14 +59,11 @@ window-blank lines columns depth place origin =
     let none : (λ y. get_or (replicate lines (let o : Option Columns = None in o)) y None) ≡ (λ y. None) = fun_ext (λ y. touched-none lines y) in
     λ i. record (new_window lines columns place blank_grid) { touched = none i; backing = grid-blank lines columns i }
 
--- a slot stays where it is, with another grid of its own or as it was
+-- a slot stays where it is, with another grid of its own
 
 pub StaysInPlace-grid : (k : Kept) (sheet new : Sheet) → IsKept k → k.cells ≡ Own sheet → (HasSize k.lines k.columns sheet → HasSize k.lines k.columns new) → (AreCells sheet → AreCells new)
     → StaysInPlace k (record k { cells = Own new })
 StaysInPlace-grid k sheet new s is size cells = grind arith
-
-pub StaysInPlace-same : (k : Kept) → IsKept k → StaysInPlace k k
-StaysInPlace-same k s = grind arith
 
 -- a block of the grid is copied
 

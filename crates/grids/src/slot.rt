@@ -302,14 +302,15 @@ impl Slot {
         ensures window { window_of self.new ≡ with_drawing (rectangle_filled rect cell) (window_of self.old) }
         ensures place { StaysInPlace self.old self.new }
     {
-        if let Cells::Own(grid) = &mut self.cells {
-            grid.fill_rectangle(
+        match &mut self.cells {
+            Cells::Own(grid) => grid.fill_rectangle(
                 usize::from(rect.top),
                 usize::from(rect.bottom),
                 usize::from(rect.left),
                 usize::from(rect.right) + 1,
                 cell,
-            );
+            ),
+            Cells::Shared(_) => unreachable!(),
         }
     }
 
@@ -366,8 +367,9 @@ impl Slot {
         ensures window { window_of self.new ≡ with_drawing (listed_cells line left row.now) (window_of self.old) }
         ensures place { StaysInPlace self.old self.new }
     {
-        if let Cells::Own(grid) = &mut self.cells {
-            grid.put_cells(usize::from(line), usize::from(left), row);
+        match &mut self.cells {
+            Cells::Own(grid) => grid.put_cells(usize::from(line), usize::from(left), row),
+            Cells::Shared(_) => unreachable!(),
         }
     }
 
@@ -380,8 +382,9 @@ impl Slot {
         ensures window { window_of self.new ≡ with_drawing (listed_cells line left (map given_cell numbers.now)) (window_of self.old) }
         ensures place { StaysInPlace self.old self.new }
     {
-        if let Cells::Own(grid) = &mut self.cells {
-            give_cells(numbers, usize::from(line), usize::from(left), grid);
+        match &mut self.cells {
+            Cells::Own(grid) => give_cells(numbers, usize::from(line), usize::from(left), grid),
+            Cells::Shared(_) => unreachable!(),
         }
     }
 
@@ -397,15 +400,16 @@ impl Slot {
         ensures window { window_of self.new ≡ with_block_copied sy sx dy dx lines columns (window_of self.old) }
         ensures place { StaysInPlace self.old self.new }
     {
-        if let Cells::Own(grid) = &mut self.cells {
-            grid.copy_block(
+        match &mut self.cells {
+            Cells::Own(grid) => grid.copy_block(
                 usize::from(sy),
                 usize::from(sx),
                 usize::from(dy),
                 usize::from(dx),
                 usize::from(lines),
                 usize::from(columns),
-            );
+            ),
+            Cells::Shared(_) => unreachable!(),
         }
     }
 
@@ -418,8 +422,9 @@ impl Slot {
         ensures window { window_of self.new ≡ with_drawing (listed_cells line left (map (printed_cell pen) text.now)) (window_of self.old) }
         ensures place { StaysInPlace self.old self.new }
     {
-        if let Cells::Own(grid) = &mut self.cells {
-            print_in(grid, usize::from(line), usize::from(left), text, pen);
+        match &mut self.cells {
+            Cells::Own(grid) => print_in(grid, usize::from(line), usize::from(left), text, pen),
+            Cells::Shared(_) => unreachable!(),
         }
     }
 
