@@ -121,6 +121,7 @@ pub fn free_slot(slots: &mut Vec<Option<Slot>>, at: u16)
 }
 
 /// Changes a slot's window where it is.
+#[inline(always)]
 pub fn change_slot<R, F: FnOnce(&mut Slot) -> R>(
     slots: &mut Vec<Option<Slot>>,
     at: u16,
