@@ -89,7 +89,7 @@ impl TouchedLines {
     {
         let start = usize::from(first);
         set_lines(&mut self.lines, start, start + usize::from(n), columns);
-        self.some = self.some || columns.columns().is_some();
+        self.some = columns.columns().is_some() || self.some && usize::from(n) < self.lines.len();
     }
 
     /// Untouches all lines.
