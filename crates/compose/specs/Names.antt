@@ -15,6 +15,7 @@ pub use Rattle.cell.specs.declared.window.Rect.{Rect}
 pub use Rattle.cell.specs.declared.window.WinId.{WinId}
 pub use Rattle.extents.specs.Extents.{AddsChanges, columns_of, has_columns, is_among}
 pub use Rattle.grids.specs.Calls.{Changed}
+pub use Rattle.grids.specs.Questions.{grid_of}
 pub use Rattle.grids.specs.Tables.{WindowTable, windows}
 pub use Rattle.picture.specs.Damaging.{Damages, cells_above, cells_of_line}
 pub use Rattle.picture.specs.Parts.{IsFrameWithin, frame_holds, part_holds}
@@ -23,8 +24,8 @@ pub use Rattle.picture.specs.Spans.{HasPanelWindows, IsSpan}
 pub use Rattle.stack.specs.Calls.{Arranged, no_windows}
 pub use Rattle.stack.specs.Tables.{PanelTable, panels}
 pub use Rattle.std.proofs.Common.{Bool, Err, IfOk, IsSome, IsSomeAnd, List, MatchOption, None, Ok, OnErr, OnOk, Option, Result, Some, [], ap, arith, false, find, inl, inr, is_none, is_some, length}
-pub use Rattle.std.proofs.Common.{max, nat_le, nat_lt, option_and_then, refl, replicate, reverse, rules, slice_index_or, subst, suc, sym, true, unwrap_or, w16, zero, ℕ, ◌∙◌}
-pub use Rattle.std.proofs.lemmas.Bool.{and_from, and_parts, cases_eq, cases_lt, eq-eqb, le-leb, leb-true, lt-ltb, ltb-true, ne_eqb, true≢false}
+pub use Rattle.std.proofs.Common.{map, max, nat_le, nat_lt, option_and_then, refl, replicate, reverse, rules, slice_index_or, subst, suc, sym, true, unwrap_or, w16, zero, ℕ, ◌∙◌}
+pub use Rattle.std.proofs.lemmas.Bool.{and_from, and_parts, cases_eq, cases_lt, eq-eqb, false_from_ne_true, le-leb, leb-true, lt-ltb, ltb-true, ne_eqb, true≢false}
 pub use Rattle.std.proofs.lemmas.Bool.Decides.{nat_tests}
 pub use Rattle.std.proofs.lemmas.Grind.{common_steps}
 pub use Rattle.std.proofs.lemmas.Int.{to_z-of_z}

@@ -2,7 +2,7 @@
 
 ghost use Rattle.std.specs.Prelude.{◌≡◌, ◌<◌, ◌+◌, ◌==◌};
 ghost use Rattle.compose.specs.{ℕ, MatchOption, Some, ⊤, length, true, list_any, windows_from_top, frame_shows_at, with_change, windows as windows_of, panels, IsFrameWithin, part_holds, Damages};
-ghost use Rattle.compose.specs.{IsPossible, affected_shows_at, any_shows_at};
+ghost use Rattle.compose.specs.{IsGridOf, IsPossible, affected_shows_at, any_shows_at, shows_at};
 
 use cell::{Rect, WinId};
 use extents::Extents;
@@ -34,7 +34,7 @@ pub(crate) fn damage_affected(
     match affected {
         Some(Affected::Written { win, frame }) => damage_written(damage, table, stack, win, frame),
         Some(Affected::Moved { win }) => {
-            damage_visible(damage, table, stack, Affected::Moved { win });
+            damage_visible(damage, table, stack, Affected::Moved { win }, None);
         }
         None => {}
     }
@@ -72,47 +72,68 @@ fn damage_shown(damage: &mut Extents, table: &Grids, stack: &Stack, win: WinId, 
     ensures damaged { Damages table.now.columns (frame_shows_at (windows_of table.now).window (panels stack.now) win.0 (Some frame)) damage.old damage.new }
 {
     let affected = Affected::Written { win, frame };
-    damage_change(damage, table, affected, WinId::STANDARD);
-    damage_visible(damage, table, stack, affected);
+    let grid = table.grid(win);
+    damage_change(damage, table, affected, grid, WinId::STANDARD);
+    damage_visible(damage, table, stack, affected, grid);
 }
 
-/// Damages what the windows of visible panels show of a change.
+/// Damages what the windows of visible panels show of a change: of a write, those that have the grid of its window.
 #[inline(always)]
-fn damage_visible(damage: &mut Extents, table: &Grids, stack: &Stack, affected: Affected)
+fn damage_visible(
+    damage: &mut Extents,
+    table: &Grids,
+    stack: &Stack,
+    affected: Affected,
+    grid: Option<u16>,
+)
     requires height { length damage.old ≡ table.now.lines }
     requires possible { IsPossible (windows_of table.now).window affected }
+    requires grid { IsGridOf (windows_of table.now).window affected grid }
     ensures damaged { Damages table.now.columns (λ y x. list_any (affected_shows_at (windows_of table.now).window affected y x)
         (windows_from_top (panels stack.now))) damage.old damage.new }
 {
-    for panel in stack.visible_from_top() {
-        if let Ok(u) = stack.window(panel) {
-            damage_change(damage, table, affected, u);
+    for (_, u) in stack.visible_from_top() {
+        damage_change(damage, table, affected, grid, u);
+    }
+}
+
+/// Damages what window `u` shows of a change: nothing of a write in another grid.
+#[inline(always)]
+fn damage_change(
+    damage: &mut Extents,
+    table: &Grids,
+    affected: Affected,
+    grid: Option<u16>,
+    u: WinId,
+)
+    requires height { length damage.old ≡ table.now.lines }
+    requires possible { IsPossible (windows_of table.now).window affected }
+    requires grid { IsGridOf (windows_of table.now).window affected grid }
+    ensures damaged { Damages table.now.columns (λ y x. affected_shows_at (windows_of table.now).window affected y x u.0) damage.old damage.new }
+{
+    match affected {
+        Affected::Written { win, frame } => {
+            if table.grid(u) == grid {
+                damage_shared(damage, table, win, frame, u);
+            }
+        }
+        Affected::Moved { win } => {
+            prove!(table.has_window(WinId::STANDARD));
+            damage_part(damage, following_part(table, win, u));
         }
     }
 }
 
-/// Damages what window `u` shows of a change.
-#[inline(always)]
-fn damage_change(damage: &mut Extents, table: &Grids, affected: Affected, u: WinId)
+/// Damages what window `u` shows of a write. It is not inlined, so that a look at windows that show nothing of it needs
+/// few registers.
+#[inline(never)]
+fn damage_shared(damage: &mut Extents, table: &Grids, win: WinId, frame: Rect, u: WinId)
     requires height { length damage.old ≡ table.now.lines }
-    requires possible { IsPossible (windows_of table.now).window affected }
-    ensures damaged { Damages table.now.columns (λ y x. affected_shows_at (windows_of table.now).window affected y x u.0) damage.old damage.new }
+    requires inside { IsPossible (windows_of table.now).window (Affected.Written win frame) }
+    ensures damaged { Damages table.now.columns (λ y x. shows_at (windows_of table.now).window win.0 frame y x u.0) damage.old damage.new }
 {
     prove!(table.has_window(WinId::STANDARD));
-    damage_part(damage, changed_part(table, affected, u));
-}
-
-/// The rectangle of the screen on which window `u` shows something of a change.
-#[inline(always)]
-fn changed_part(table: &Grids, affected: Affected, u: WinId) -> Option<Rect>
-    requires { IsPossible (windows_of table.now).window affected }
-    ensures holds { (y x : ℕ) → part_holds result y x ≡ affected_shows_at (windows_of table.now).window affected y x u.0 }
-    ensures within { MatchOption result ⊤ (IsFrameWithin table.now.lines table.now.columns) }
-{
-    match affected {
-        Affected::Written { win, frame } => shared_part(table, win, frame, u),
-        Affected::Moved { win } => following_part(table, win, u),
-    }
+    damage_part(damage, shared_part(table, win, frame, u));
 }
 
 /// Damages a part of the screen, if there is one.

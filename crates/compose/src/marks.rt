@@ -37,10 +37,8 @@ pub(crate) fn unmark_composed<M: Marks>(marks: &mut M, stack: &Stack) -> bool
     } }
 {
     let mut asked = marks.unmark(WinId::STANDARD);
-    for panel in stack.visible_from_top() {
-        if let Ok(win) = stack.window(panel) {
-            asked |= marks.unmark(win);
-        }
+    for (_, win) in stack.visible_from_top() {
+        asked |= marks.unmark(win);
     }
     asked
 }

@@ -1,6 +1,6 @@
 -- Which places of a window show cells of a rectangle of another, in lines and columns of a grid.
 use Rattle.std.specs.Prelude.{◌≡◌, ◌+◌, ◌-◌, ◌≤◌}
-use Rattle.grids.specs.{ℕ, true, Some, arith, sym, ◌∙◌, Rect, GridPlace, WindowMap, onward, own, is_same_place, shows_part_of}
+use Rattle.grids.specs.{ℕ, true, Option, None, Some, ap, arith, option_map, sym, ◌∙◌, Rect, GridPlace, WindowMap, onward, own, is_same_place, shows_part_of, grid_of}
 use Rattle.world.proofs.Below.{any_in-some, any_in-true}
 use Rattle.world.proofs.SharingLaws.{same-true, true-same}
 use Rattle.world.proofs.WindowLaws.{own-onward}
@@ -41,3 +41,14 @@ module _ (window : WindowMap) (s t : ℕ) (p q : GridPlace) (leads_s : own windo
       (record { top = omega (arith, h.top); bottom = omega (arith, h.bottom); left = omega (arith, h.left); right = omega (arith, h.right) })
       (same-is (q.line + y - p.line) (q.column + x - p.column) y x
       ∙ true-same (onward (q.line + y - p.line) (q.column + x - p.column) p) (onward y x q) (record { grid = h.grid; line = line; column = column }))
+
+-- windows that show cells of one another show cells of one grid
+same-grid : (o q : Option GridPlace) (v z y x : ℕ) → is_same_place (option_map (onward v z) o) (option_map (onward y x) q) ≡ true → option_map (λ p. p.grid) q ≡ option_map (λ p. p.grid) o
+same-grid (Some p) (Some q) v z y x h = let same = same-true (onward v z p) (onward y x q) h in ap Some (sym same.grid)
+same-grid (Some p) None v z y x h = cc
+same-grid None q v z y x h = cc
+
+pub shares-grid : (window : WindowMap) (s t : ℕ) (r : Rect) (y x : ℕ) → shows_part_of window s r t y x ≡ true → grid_of window t ≡ grid_of window s
+shares-grid window s t r y x h =
+    let found = any_in-true r (λ v z. is_same_place (own window s v z) (own window t y x)) h in
+    same-grid (own window s 0 0) (own window t 0 0) found.line found.column y x (rw (← own-onward window s found.line found.column, ← own-onward window t y x) found.passes)

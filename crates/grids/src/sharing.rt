@@ -1,7 +1,7 @@
 //! Which windows show cells of one another.
 
 ghost use Rattle.std.specs.Prelude.{◌≡◌, ◌<◌, ◌≤◌};
-ghost use Rattle.grids.specs.{IsSome, IsSomeAnd, MatchOption, ⊤, option_map, AreRectangle, SharesPart, AreSoundWindows, HasPlace, derives, windows, depth_at, in_parent, part_in_parent};
+ghost use Rattle.grids.specs.{IsSome, IsSomeAnd, MatchOption, ⊤, option_map, AreRectangle, SharesPart, AreSoundWindows, HasPlace, derives, grid_of, windows, depth_at, in_parent, part_in_parent};
 
 use crate::list::origin_of;
 use crate::parents::place_in_parent;
@@ -47,6 +47,16 @@ impl Grids {
             bottom: down.last,
             right: along.last,
         })
+    }
+
+    /// The number of the window that has the cells of a window, if there is such a window: its own number, or that of an
+    /// ancestor. Windows of two such numbers show no cell of one another.
+    #[inline(always)]
+    pub fn grid(&self, win: WinId) -> Option<u16>
+        ensures { result ≡ grid_of (windows self.now).window win.0 }
+    {
+        let _ = &self.slots;
+        Some(self.slot(win).ok()?.origin().grid)
     }
 
     /// Whether window `u` derives from window `w` at any depth. Window `u` must exist.

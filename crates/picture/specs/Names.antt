@@ -10,7 +10,7 @@ pub use Rattle.small_set.specs.Sets.{IsNext, contains}
 pub use Rattle.stack.specs.Nodes.{AreOnce, IsOut}
 pub use Rattle.stack.specs.Tables.{panels}
 pub use Rattle.std.proofs.Common.{All, AllPairs, Bool, IsSome, IsSomeAnd, List, MatchOption, None, Option, Some, [], add_assoc, ap, arith, drop, false, find, get_or-set_other, get_or-set_same, inl}
-pub use Rattle.std.proofs.Common.{inr, is_some, length, nat_le, nat_lt, not, option_and_then, refl, reverse, rules, slice_index, slice_index_or, slice_set, subst, suc, sym, take, true, zero, ℕ, ◌∙◌}
+pub use Rattle.std.proofs.Common.{inr, is_some, length, map, nat_le, nat_lt, not, option_and_then, refl, reverse, rules, slice_index, slice_index_or, slice_set, subst, suc, sym, take, true, zero, ℕ, ◌∙◌}
 pub use Rattle.std.proofs.Math.Nat.{mod-add-mod, mul-le-mul_left, mul-le-mul_right}
 pub use Rattle.std.proofs.lemmas.Bool.{and_from, and_parts, cases_eq, cases_lt, eq-eqb, eqb-true, le-leb, leb-true, lt-ltb, ltb-true, ne_eqb, or_cases, or_left, or_right}
 pub use Rattle.std.proofs.lemmas.Bool.Decides.{nat_tests}

@@ -91,13 +91,11 @@ impl Owners {
         ensures known { KnowsOwners (R.windows rows.now).window (panels stack.now) self.new }
     {
         self.begin(y, u16::MAX);
-        for panel in stack.visible_from_top() {
+        for (panel, win) in stack.visible_from_top() {
             if edge <= self.right && self.left <= x {
                 return;
             }
-            if let Ok(win) = stack.window(panel) {
-                self.lay(y, x, edge, panel, rows.rect(win));
-            }
+            self.lay(y, x, edge, panel, rows.rect(win));
         }
         self.left = 0;
         self.right = u16::MAX;

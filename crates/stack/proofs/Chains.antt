@@ -1,6 +1,6 @@
 -- Chains of nodes that name one another, over the two functions that say which is above and which below.
 use Rattle.std.specs.Prelude.{◌≡◌, ◌<◌, ◌≤◌, ◌∷◌, ◌++◌}
-use Rattle.stack.specs.{ℕ, zero, suc, List, [], length, reverse, sym, ap, subst, ◌∙◌, arith, AllByRecursion, eq-eqb, ne_eqb, AreOnce, IsChain, IsOut, way}
+use Rattle.stack.specs.{ℕ, zero, suc, List, [], length, reverse, refl, sym, ap, subst, ◌∙◌, arith, AllByRecursion, eq-eqb, ne_eqb, AreOnce, IsChain, IsOut, way}
 use mathlib.Core.List.{reverse_aux}
 use Rattle.stack.proofs.DistinctNumbers.{out-back, out-prefix}
 
@@ -48,6 +48,18 @@ way-chain above below a [] zero h each le = grind arith
 way-chain above below a [] (suc n) h each le = grind (arith, eq-eqb)
 way-chain above below a (x ∷ xs) zero h each le = absurd (omega arith)
 way-chain above below a (x ∷ xs) (suc n) h each le = grind (arith, ne_eqb, (way-chain above below x xs n h.1 each.1 (omega arith)))
+
+-- one that ends after n panels at most doesn't go on
+ended : (n : ℕ) (next : ℕ → ℕ) (p : ℕ) → way n next p ≡ way (suc n) next p → way (suc n) next p ≡ way (suc (suc n)) next p
+ended n next zero is = refl
+ended zero next (suc p) is = grind (arith, ne_eqb)
+ended (suc n) next (suc p) is = grind (arith, ne_eqb, (ended n next (next (suc p))))
+
+pub way-first : (n : ℕ) (next : ℕ → ℕ) (p : ℕ) → way n next p ≡ way (suc n) next p → 0 < p → way n next p ≡ p ∷ way n next (next p)
+way-first n next p is some = grind (arith, ne_eqb)
+
+pub way-on : (n : ℕ) (next : ℕ → ℕ) (p : ℕ) → way n next p ≡ way (suc n) next p → 0 < p → way n next (next p) ≡ way (suc n) next (next p)
+way-on n next p is some = grind (arith, ne_eqb, (ended n next p is))
 
 -- ---- a chain that is changed
 

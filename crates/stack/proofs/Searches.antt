@@ -6,7 +6,7 @@ use Rattle.world.proofs.PanelLaws.{in_panel-some, in_panel-true}
 use Rattle.stack.specs.declared.nodes.Node.{Node}
 use Rattle.stack.proofs.Tables.{is-panel}
 use Rattle.stack.proofs.Threads.{panel-below}
-use Rattle.stack.proofs.Windows.{window-is}
+use Rattle.stack.proofs.Threads.{window-is}
 
 limit-is : panel_limit ≡ MOST_PANELS + 1
 unfolding panel_limit

@@ -6,8 +6,8 @@ use Rattle.stack.specs.{with_panel, with_entry, no_node, node_at, window_at, win
 use Rattle.stack.specs.{NodeMade, Windowed, Reordered}
 use Rattle.stack.specs.declared.nodes.Node.{Node}
 use Rattle.stack.proofs.DistinctNumbers.{distinct-once, each-weaker, out-each}
-use Rattle.stack.proofs.Threads.{from_bottom-is, panel-below, panel-same}
-use Rattle.stack.proofs.Windows.{given-other, panels-are, threaded-windowed, window-is, threaded-pushed, window-free, given-same}
+use Rattle.stack.proofs.Threads.{from_bottom-is, panel-below, panel-same, window-is}
+use Rattle.stack.proofs.Windows.{given-other, panels-are, threaded-windowed, threaded-pushed, window-free, given-same}
 
 -- ---- what is known of each
 

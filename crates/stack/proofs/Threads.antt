@@ -1,11 +1,28 @@
 -- The order through the nodes, before and after a panel leaves or enters it.
 use Rattle.std.specs.Prelude.{◌≡◌, ◌<◌, ◌≤◌, ◌==◌, if◌then◌else◌, ◌∷◌, ◌++◌}
-use Rattle.stack.specs.{ℕ, Option, IsSome, List, [], length, reverse, sym, ap, subst, ◌∙◌, inl, inr, arith, AllByRecursion, cases_eq, eq-eqb, ne_eqb, cases_lt, get_or_past, length-reverse, without}
-use Rattle.stack.specs.{node_at, above_at, below_at, IsAlone, IsOut, IsPanel, IsThreaded, from_bottom, from_top, Linked, Reordered, SameWindows}
+use Rattle.stack.specs.{ℕ, zero, suc, Option, None, Some, IsSome, map, slice_index_or, unwrap_or, refl, List, [], length, reverse, sym, ap, subst, ◌∙◌, inl, inr, arith, AllByRecursion, cases_eq, eq-eqb, ne_eqb, cases_lt, get_or_past, length-reverse, without}
+use Rattle.stack.specs.{node_at, above_at, below_at, IsAlone, IsOut, IsPanel, IsThreaded, IsWay, from_bottom, shown_from, way, window_at, window_in, AreWithWindows, Panels, panels, table_of, Linked, Reordered, SameWindows}
 use Rattle.stack.specs.declared.nodes.Node.{Node}
-use Rattle.stack.proofs.Chains.{Inserted, Removed, chain-back, chain-prefix, chain-pushed, chain-put, chain-removed, chain-reverse, chain-same, first-each, last-each, not-first, not-last, way-chain}
+use Rattle.stack.proofs.Chains.{Inserted, Removed, chain-back, chain-prefix, chain-pushed, chain-put, chain-removed, chain-reverse, chain-same, first-each, last-each, not-first, not-last, way-chain, way-first, way-on}
 use Rattle.stack.proofs.DistinctNumbers.{each-append, each-back, each-prefix, each-reverse, each-weaker, length-once, once-after, once-before, once-push, once-without, out-append, out-back, out-each}
 use Rattle.stack.proofs.DistinctNumbers.{out-prefix, out_or_in, without-out, without-split}
+
+-- ---- panels with their windows
+
+pub window-is : (nodes : List Node) (p : ℕ) → slice_index_or (map window_in nodes) p None ≡ window_at nodes p
+window-is [] p = refl
+window-is (node ∷ nodes) zero = refl
+window-is (node ∷ nodes) (suc p) = window-is nodes p
+
+first-shown : (ps : Panels) (p : ℕ) (o : Option ℕ) (order : List ℕ) (shown : List (ℕ × ℕ)) → ps.window p ≡ o → IsSome o → AreWithWindows ps order shown
+    → AreWithWindows ps (p ∷ order) ((p, unwrap_or o 0) ∷ shown)
+first-shown ps p None order shown is some h = cc
+first-shown ps p (Some w) order shown is some h = record { numbers = ap (λ l. p ∷ l) h.numbers; windows = rw is (ap (λ l. w ∷ l) h.windows); each = (is, h.each) }
+
+with-windows : (nodes : List Node) (order : List ℕ) → AllByRecursion (IsPanel nodes) order
+    → AreWithWindows (panels (table_of nodes)) order (map (λ q. (q, unwrap_or (window_at nodes q) 0)) order)
+with-windows nodes [] h = record { numbers = refl; windows = refl; each = tt }
+with-windows nodes (p ∷ order) h = first-shown (panels (table_of nodes)) p (window_at nodes p) order _ (window-is nodes p) h.0.1 (with-windows nodes order h.1)
 
 -- ---- the order is what is threaded
 
@@ -31,15 +48,45 @@ module _ (nodes : List Node) (order : List ℕ) (h : IsThreaded nodes order) whe
   few-order : length order ≤ length nodes
   few-order = length-once (length nodes) order h.once each-node
 
+  is-up : (n : ℕ) → length order ≤ n → way n (above_at nodes) (above_at nodes 0) ≡ order
+  is-up n le = way-chain (above_at nodes) (below_at nodes) 0 order n h.chain positive le
+
+  is-down : (n : ℕ) → length order ≤ n → way n (below_at nodes) (below_at nodes 0) ≡ reverse order
+  is-down n le =
+      let e : length (reverse order) ≡ length order = length-reverse order in
+      way-chain _ _ 0 _ n (chain-reverse _ _ 0 order 0 h.chain) (each-reverse _ order positive) (omega (arith, le))
+
   pub from_bottom-is : from_bottom nodes ≡ order
   unfolding from_bottom
-  from_bottom-is = way-chain (above_at nodes) (below_at nodes) 0 order (length nodes) h.chain positive few-order
+  from_bottom-is = is-up _ few-order
 
-  pub from_top-is : from_top nodes ≡ reverse order
-  unfolding from_top
-  from_top-is =
-      let e : length (reverse order) ≡ length order = length-reverse order in
-      let le = few-order in way-chain _ _ 0 _ _ (chain-reverse _ _ 0 order 0 h.chain) (each-reverse _ order positive) (omega arith)
+  module _ (next : ℕ → ℕ) (shown : List ℕ) (is : (n : ℕ) → length order ≤ n → way n next (next 0) ≡ shown) (each : AllByRecursion (IsPanel nodes) shown) where
+    is-way : IsWay nodes next (next 0)
+    is-way = let le = few-order in record { ends = is (length nodes) le ∙ sym (is (suc (length nodes)) (omega (arith, le))); panels = subst (AllByRecursion (IsPanel nodes)) (sym (is _ le)) each }
+
+  pub way-up : IsWay nodes (above_at nodes) (above_at nodes 0)
+  way-up = is-way (above_at nodes) order is-up h.panels
+
+  pub way-down : IsWay nodes (below_at nodes) (below_at nodes 0)
+  way-down = is-way (below_at nodes) (reverse order) is-down (each-reverse _ order h.panels)
+
+  pub shown-up : AreWithWindows (panels (table_of nodes)) order (shown_from nodes (above_at nodes) (above_at nodes 0))
+  shown-up = rw (is-up _ few-order) (with-windows nodes order h.panels)
+
+  pub shown-down : AreWithWindows (panels (table_of nodes)) (reverse order) (shown_from nodes (below_at nodes) (below_at nodes 0))
+  shown-down = rw (is-down _ few-order) (with-windows nodes (reverse order) (each-reverse _ order h.panels))
+
+-- ---- the way through the order
+
+module _ (nodes : List Node) (next : ℕ → ℕ) (p : ℕ) (h : IsWay nodes next p) (some : 0 < p) where
+  pub goes-on : IsWay nodes next (next p)
+  goes-on = record {
+    ends = way-on (length nodes) next p h.ends some;
+    panels = (subst (AllByRecursion (IsPanel nodes)) (way-first (length nodes) next p h.ends some) h.panels).1;
+  }
+
+  pub first-panel : IsPanel nodes p
+  first-panel = (subst (AllByRecursion (IsPanel nodes)) (way-first (length nodes) next p h.ends some) h.panels).0
 
 -- the neighbours of each are among the nodes
 module _ (nodes : List Node) (order : List ℕ) (h : IsThreaded nodes order) (some : 0 < length nodes) where

@@ -1,17 +1,12 @@
 -- The windows of panels, and where one of them changes.
 use Rattle.std.specs.Prelude.{◌≡◌, ◌<◌, ◌∷◌, ◌++◌, ◌⊎◌}
-use Rattle.stack.specs.{ℕ, zero, suc, Option, None, IsSome, List, [], length, map, slice_index_or, sym, ap, ◌∙◌, refl, inl, inr, arith, AllByRecursion, cases_eq, cases_order, eq-eqb, ne_eqb}
+use Rattle.stack.specs.{ℕ, Option, None, IsSome, List, [], length, sym, ap, ◌∙◌, refl, inl, inr, arith, AllByRecursion, cases_eq, cases_order, eq-eqb, ne_eqb}
 use Rattle.stack.specs.{get_or_append_left, get_or_past, get_or_push, length_push, with_entry, no_node, node_at, above_at, below_at, window_at, window_in, from_bottom, IsOut, IsPanel, IsThreaded}
 use Rattle.stack.specs.{panels, table_of, Windowed}
 use Rattle.stack.specs.declared.nodes.Node.{Node}
 use Rattle.stack.proofs.Chains.{chain-same}
 use Rattle.stack.proofs.DistinctNumbers.{each-weaker}
-use Rattle.stack.proofs.Threads.{panel-below, threaded-kept}
-
-pub window-is : (nodes : List Node) (p : ℕ) → slice_index_or (map window_in nodes) p None ≡ window_at nodes p
-window-is [] p = refl
-window-is (node ∷ nodes) zero = refl
-window-is (node ∷ nodes) (suc p) = window-is nodes p
+use Rattle.stack.proofs.Threads.{panel-below, threaded-kept, window-is}
 
 -- panels with this order and these windows
 pub panels-are : (nodes : List Node) (visible : List ℕ) (window : ℕ → Option ℕ) → from_bottom nodes ≡ visible → ((p : ℕ) → window_at nodes p ≡ window p)

@@ -1,6 +1,6 @@
 -- A call on panels, made on a table of panels.
 use Rattle.std.specs.Prelude.{◌≡◌}
-use Rattle.stack.specs.Names.{ℕ, Bool, IfOk, List, None, OnErr, OnOk, Option, Result, Some, result_err, WinId, first_of, Refusal, order_reply, order_takes_memory, Refused, Windows, IsSoundOrder}
+use Rattle.stack.specs.Names.{ℕ, AllByRecursion, Bool, IfOk, List, None, OnErr, OnOk, Option, Result, Some, filter_map, map, result_err, Panels, WinId, first_of, Refusal, order_reply, order_takes_memory, Refused, Windows, IsSoundOrder}
 use Rattle.stack.specs.Names.{after_stacking, stacking_order, stacking_refusal, Reply, Stacking}
 use Rattle.stack.specs.Tables.{PanelTable, panels}
 
@@ -29,3 +29,9 @@ window_number win = Some win.0
 
 abbrev pub as_is : Bool → Bool
 as_is flag = flag
+
+-- these are the panels of an order, each with its window
+pub record AreWithWindows (panels : Panels) (visible : List ℕ) (shown : List (ℕ × ℕ)) : Type 0 where
+  pub numbers : map (λ s. s.0) shown ≡ visible
+  pub windows : map (λ s. s.1) shown ≡ filter_map panels.window visible
+  pub each : AllByRecursion (λ s. panels.window s.0 ≡ Some s.1) shown

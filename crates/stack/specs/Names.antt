@@ -10,13 +10,13 @@ pub use Rattle.std.proofs.Common.{inr, is_none, is_ok, is_some, length, length-s
 pub use Rattle.std.proofs.Common.{zero, ℕ, ◌∙◌}
 pub use Rattle.std.proofs.lemmas.Bool.{cases_eq, cases_lt, cases_order, eq-eqb, eqb-false, eqb-true, false_from_ne_true, false≢true, ne_eqb, or_cases}
 pub use Rattle.std.proofs.lemmas.Grind.{common_steps}
-pub use Rattle.std.proofs.lemmas.List.{append_assoc, get_or_append_left, get_or_past, get_or_push, length-reverse, length_push, reverse-append, take_all}
+pub use Rattle.std.proofs.lemmas.List.{append_assoc, get_or_append_left, get_or_past, get_or_push, length-map, length-reverse, length_push, reverse-append, take_all}
 pub use Rattle.std.proofs.lemmas.List.Elements.{All-from_recursion}
 pub use Rattle.std.proofs.lemmas.Map.Keys.{apart_from_distinct}
 pub use Rattle.std.proofs.lemmas.Map.Steps.{length-le_from_distinct_below}
 pub use Rattle.std.proofs.lemmas.Option.{same_Some}
 pub use Rattle.std.specs.Iterator.{YieldsFirstBy, item_count}
-pub use Rattle.std.specs.List.{AllByRecursion, last_or, list_any, range_with_len}
+pub use Rattle.std.specs.List.{AllByRecursion, filter_map, last_or, list_any, range_with_len}
 unfoldable pub use Rattle.std.specs.List.{IsDistinct}
 pub use Rattle.std.specs.Option.{option_map}
 pub use Rattle.std.specs.Prelude.{⊤}

@@ -2,7 +2,7 @@
 -- above and below. The node 0 is the end of both ways, in the place of the standard screen: above it is the bottom
 -- panel, below it the top one.
 use Rattle.std.specs.Prelude.{◌≡◌, ◌<◌, if◌then◌else◌, ◌==◌, ◌∷◌}
-use Rattle.stack.specs.Names.{ℕ, zero, suc, Bool, Option, None, IsSome, List, [], length, slice_index_or, ⊤, option_map, AllByRecursion}
+use Rattle.stack.specs.Names.{ℕ, zero, suc, Bool, Option, None, IsSome, List, [], length, slice_index_or, ⊤, map, option_map, unwrap_or, AllByRecursion}
 use Rattle.stack.specs.declared.nodes.Node.{Node}
 
 -- a node of no panel
@@ -34,12 +34,13 @@ way (suc n) next p = if p == 0 then [] else p ∷ way n next (next p)
 abbrev pub neighbour_at : Bool → List Node → ℕ → ℕ
 neighbour_at upwards nodes p = if upwards then above_at nodes p else below_at nodes p
 
--- the way from the bottom up, and from the top down
+-- the way from the bottom up
 unfoldable pub from_bottom : List Node → List ℕ
 from_bottom nodes = way (length nodes) (above_at nodes) (above_at nodes 0)
 
-unfoldable pub from_top : List Node → List ℕ
-from_top nodes = way (length nodes) (below_at nodes) (below_at nodes 0)
+-- the panels on the way from p on, each with its window
+abbrev pub shown_from : List Node → (ℕ → ℕ) → ℕ → List (ℕ × ℕ)
+shown_from nodes next p = map (λ q. (q, unwrap_or (window_at nodes q) 0)) (way (length nodes) next p)
 
 -- ---- what is threaded
 
@@ -72,3 +73,8 @@ pub record IsThreaded (nodes : List Node) (order : List ℕ) : Type 0 where
   pub once : AreOnce order
   pub panels : AllByRecursion (IsPanel nodes) order
   pub others : (p : ℕ) → 0 < p → p < length nodes → IsOut p order → IsAlone nodes p
+
+-- the way from p on ends among the nodes, and comes to panels alone
+pub record IsWay (nodes : List Node) (next : ℕ → ℕ) (p : ℕ) : Type 0 where
+  pub ends : way (length nodes) next p ≡ way (suc (length nodes)) next p
+  pub panels : AllByRecursion (IsPanel nodes) (way (length nodes) next p)

@@ -2,7 +2,7 @@
 
 ghost use Rattle.std.specs.Prelude.{◌≡◌, ◌<◌, ◌≤◌, ◌-◌, ◌++◌, ◌∷◌, ◌==◌, if◌then◌else◌};
 ghost use Rattle.stack.specs.{[], ℕ, false, true, None, Some, MatchOption, length, slice_set, is_ok, ⊤, option_map, MOST_PANELS, contains, is_taken, no_node, node_at, window_at, window_in};
-ghost use Rattle.stack.specs.{Windowed};
+ghost use Rattle.stack.specs.{IsPanel, Windowed};
 
 use crate::holders::Holders;
 use cell::{MOST_PANELS, MOST_WINDOWS, WinId};
@@ -79,6 +79,15 @@ impl Nodes {
             Some(node) => *node,
             None => Node::NONE,
         }
+    }
+
+    /// The node of a panel.
+    #[inline(always)]
+    pub fn of_panel(&self, at: u16) -> Node
+        requires { IsPanel self.now at }
+        ensures { result ≡ node_at self.now at }
+    {
+        self.panels[usize::from(at) - 1]
     }
 
     /// The panel that a window is in, or 0.

@@ -1,7 +1,7 @@
 //! Queries about panels. None changes the stack.
 
 ghost use Rattle.std.specs.Prelude.{◌≡◌, ◌≤◌};
-ghost use Rattle.stack.specs.{Some, IfSome, is_some, reverse, length, MOST_PANELS, is_in_panel, is_hidden, panel_above, panel_below, panel_number, IsSoundOrder, Stacking, Asked, as_is};
+ghost use Rattle.stack.specs.{Some, IfSome, is_some, reverse, length, MOST_PANELS, is_in_panel, is_hidden, panel_above, panel_below, panel_number, IsSoundOrder, Stacking, Asked, AreWithWindows, as_is};
 ghost use Rattle.stack.specs.{window_number, panels};
 
 use crate::entries::{holder, panel_at, require_panel, require_visible};
@@ -73,18 +73,19 @@ impl Stack {
         holder(&self.nodes, win)
     }
 
-    /// The visible panels from bottom to top.
+    /// The visible panels from bottom to top, each with its window.
     pub fn visible(&self) -> Visible<'_>
-        ensures all { result ≡ (panels self.now).visible }
+        ensures all { AreWithWindows (panels self.now) (panels self.now).visible result }
         ensures few { length result ≤ MOST_PANELS }
         ensures sound { IsSoundOrder (panels self.now) }
     {
         Visible::from_bottom(&self.nodes)
     }
 
-    /// The visible panels from top to bottom.
+    /// The visible panels from top to bottom, each with its window.
+    #[inline(always)]
     pub fn visible_from_top(&self) -> Visible<'_>
-        ensures all { result ≡ reverse (panels self.now).visible }
+        ensures all { AreWithWindows (panels self.now) (reverse (panels self.now).visible) result }
         ensures few { length result ≤ MOST_PANELS }
         ensures sound { IsSoundOrder (panels self.now) }
     {

@@ -6,8 +6,8 @@ fn new_panel(stack: &mut Stack, win: u16) -> Result<PanelId, Refusal> {
     stack.new_panel(WinId(win))
 }
 
-/// How many panels are visible, and the first and the last of them.
-type Ends = (usize, Option<PanelId>, Option<PanelId>);
+/// How many panels are visible, and the first and the last of them with their windows.
+type Ends = (usize, Option<(PanelId, WinId)>, Option<(PanelId, WinId)>);
 
 fn ends(stack: &Stack) -> Ends {
     let (mut upwards, mut downwards) = (stack.visible(), stack.visible_from_top());
@@ -31,7 +31,8 @@ fn thousand_panels_are_the_most(rt: HostRuntime) {
     assert!(rt; stack.del(PanelId(500)) == Ok(()));
     let free = new_panel(&mut stack, 1001);
     assert!(rt; free == Ok(PanelId(500)) && stack.panel_of(WinId(1001)) == Some(PanelId(500)));
-    assert_eq!(rt; ends(&stack), (1000, Some(PanelId(1)), Some(PanelId(500))));
+    let (bottom, top) = ((PanelId(1), WinId(1)), (PanelId(500), WinId(1001)));
+    assert_eq!(rt; ends(&stack), (1000, Some(bottom), Some(top)));
 }
 
 /// Whether the panels are those that were made, of which it answers how many.

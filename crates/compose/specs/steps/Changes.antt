@@ -1,7 +1,7 @@
 -- What a call affects of what windows show, and where one of them shows something of it.
-use Rattle.std.specs.Prelude.{◌≤◌}
+use Rattle.std.specs.Prelude.{◌≡◌, ◌≤◌}
 use Rattle.compose.specs.Names.{ℕ, Bool, false, Option, Some, None, ⊤, option_map, Panels, Windows, HasPlace, WindowMap, Change, edits, shifts, edit_frame, edit_window, frame_shows_at, move_shows_at}
-use Rattle.compose.specs.Names.{follows_at, shows_at, window_if_topmost, Stacking, NewPanel, DelPanel, ShowPanel, HidePanel, TopPanel, BottomPanel, MovePanel, ReplacePanel, Reply, Panel, panel_number}
+use Rattle.compose.specs.Names.{follows_at, grid_of, shows_at, window_if_topmost, Stacking, NewPanel, DelPanel, ShowPanel, HidePanel, TopPanel, BottomPanel, MovePanel, ReplacePanel, Reply, Panel, panel_number}
 use Rattle.compose.specs.declared.damaging.Affected.{Affected}
 use Rattle.compose.specs.declared.damaging.Affected.TheVariants.{Written, Moved}
 
@@ -9,6 +9,11 @@ use Rattle.compose.specs.declared.damaging.Affected.TheVariants.{Written, Moved}
 abbrev pub IsPossible : WindowMap → Affected → Type 0
 IsPossible window (Written win r) = (r.top ≤ r.bottom) × (r.left ≤ r.right) × HasPlace window win.0 r.bottom r.right
 IsPossible window (Moved win) = ⊤
+
+-- the grid in which a write is
+abbrev pub IsGridOf : WindowMap → Affected → Option ℕ → Type 0
+IsGridOf window (Written win r) grid = grid ≡ grid_of window win.0
+IsGridOf window (Moved win) grid = ⊤
 
 -- window u shows something of it at the place
 abbrev pub affected_shows_at : WindowMap → Affected → ℕ → ℕ → ℕ → Bool

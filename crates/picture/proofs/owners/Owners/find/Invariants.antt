@@ -1,5 +1,5 @@
 use Rattle.std.specs.Prelude.{◌≡◌, ◌≤◌}
-use Rattle.picture.specs.{MatchOption, ⊤, true, AllByRecursion, is_no_pad, panels}
+use Rattle.picture.specs.{AllByRecursion, Some, map, true, is_no_pad, panels}
 use Rattle.picture.proofs.OwnerLaws.{AreLaid}
 use Rattle.picture.proofs.owners.Owners.find.Given as goal
 
@@ -8,8 +8,8 @@ abbrev pub invariant-loop-panel : goal.invariant-loop-panel
 invariant-loop-panel g l = record {
   can_next : (goal.iterator-loop-panel g).can_next l.panel-iterator;
   is_finite : (goal.iterator-loop-panel g).is_finite l.panel-iterator;
-  there : AllByRecursion (λ p. MatchOption ((panels l.stack).window p) ⊤ (λ w. is_no_pad (g.R.Rows.windows l.rows).window w ≡ true)) l.panel-iterator;
+  there : AllByRecursion (λ s. ((panels l.stack).window s.0 ≡ Some s.1) × (is_no_pad (g.R.Rows.windows l.rows).window s.1 ≡ true)) l.panel-iterator;
   top : l.self.top ≡ l.y;
   begun : l.y ≤ l.self.bottom;
-  laid : AreLaid (g.R.Rows.windows l.rows).window (panels l.stack) l.panel-iterator l.self;
+  laid : AreLaid (g.R.Rows.windows l.rows).window (panels l.stack) (map (λ s. s.0) l.panel-iterator) l.self;
 }

@@ -1,10 +1,10 @@
--- The way down is the way up, reversed.
-use Rattle.stack.specs.{arith, length-reverse}
-use Rattle.stack.proofs.Threads.{few, from_top-is}
+-- The way down comes to the panels of the reversed order.
+use Rattle.stack.specs.{ap, arith, length, length-map, length-reverse}
+use Rattle.stack.proofs.Threads.{few, shown-down}
 use Rattle.stack.proofs.table.Stack.visible_from_top.Goals as goal
 
 pub returns-clause-all : goal.returns-clause-all
-returns-clause-all c = grind (arith, from_top-is)
+returns-clause-all c = rw (← c.self.view_is, c.from_top.ensures) (shown-down c.self.inside.nodes _ c.self.invariant.threaded)
 
 pub returns-clause-few : goal.returns-clause-few
-returns-clause-few c = grind (arith, few, from_top-is, length-reverse)
+returns-clause-few c = grind (arith, few, length-map, length-reverse, (ap length (shown-down c.self.inside.nodes _ c.self.invariant.threaded).numbers))
