@@ -51,9 +51,8 @@ pub(crate) fn write_damaging(
     Ok(outcome.reply)
 }
 
-/// Makes a call that copies cells or touches places, or asks what is touched, and adds what it damages. It is not inlined, so that other calls
-/// make no room for what it answers.
-#[inline(never)]
+/// Makes a call that copies cells or touches places, or asks what is touched, and adds what it damages.
+#[inline(always)]
 #[tactic(auto, unfolding(crate::specs::steps::Outcomes::Affects))]
 pub(crate) fn copy_damaging(
     windows: &mut Windows,

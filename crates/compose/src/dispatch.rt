@@ -63,6 +63,7 @@ pub(crate) fn write(windows: &mut Windows, writing: Writing<'_>) -> Result<Outco
 }
 
 /// Makes a call that copies cells or touches places, or asks what is touched.
+#[inline(always)]
 #[rattlefmt::skip]
 #[tactic(auto, using(crate::proofs::OutcomeLaws::outcomes))]
 pub(crate) fn copy(windows: &mut Windows, copying: Copying) -> Result<Outcome, Refusal>
