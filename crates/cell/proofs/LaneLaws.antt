@@ -141,6 +141,16 @@ xor_none : (a b : ℕ) → bit_xor a b ≡ 0 → a ≡ b
 xor_none a b none = same_from_bits a b (λ i.
     omega (arith, bit_at_xor a b i, ap (λ n. bit_at n i) none ∙ bit_at-zero i, bit_at-lt a i, bit_at-lt b i))
 
+-- one more cell that is shown in its place, where none of the bits of those before differs
+pub one_more_shown : {A B : Type 0} (f : A → B) (held : ℕ → B) (cells : List A) (places : List B) (x : ℕ) (cell : A) (place : B) (found a b : ℕ) → x < length cells → x < length places
+    → cell ≡ get_or cells x cell → place ≡ get_or places x place → f cell ≡ held a → place ≡ held b → (found ≡ 0 → take x places ≡ map f (take x cells))
+    → bit_or found (bit_xor a b) ≡ 0 → take (x + 1) places ≡ map f (take (x + 1) cells)
+one_more_shown f held cells places x cell place found a b inside long is at one other before none =
+    let same : a ≡ b = xor_none a b (omega (arith, le_or_r found (bit_xor a b), none)) in
+    let shown : place ≡ f cell = other ∙ ap held (sym same) ∙ sym one in
+    let rest = before (omega (arith, le_or_l found (bit_xor a b), none)) in
+    grind (arith, take_more cells x cell, take_more places x place, map-append)
+
 xor_same : (a : ℕ) → bit_xor a a ≡ 0
 xor_same a = same_from_bits (bit_xor a a) 0 (λ i. omega (arith, bit_at_xor a a i, bit_at-zero i))
 

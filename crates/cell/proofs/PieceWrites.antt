@@ -1,6 +1,6 @@
 -- A piece of a line of a grid that is written at once.
 use Rattle.std.specs.Prelude.{◌≡◌, ◌∷◌, ◌+◌, ◌-◌, ◌*◌, ◌<◌, ◌≤◌, ◌==◌, ◌&&◌, if◌then◌else◌, ◌⊎◌}
-use Rattle.cell.specs.{ℕ, suc, nat_le, nat_lt, true, false, List, [], length, map, take, get_or, ap, sym, ◌∙◌, arith, length-append, eq-eqb, ne_eqb, AllByRecursion, splice, get_or-append}
+use Rattle.cell.specs.{ℕ, suc, nat_le, nat_lt, true, false, List, [], length, map, take, drop, get_or, ap, sym, ◌∙◌, arith, length-append, eq-eqb, ne_eqb, AllByRecursion, splice, get_or-append}
 use Rattle.cell.specs.{get_or-append_right, cases_lt, cases_order, cond-true, cond-false, nat_tests, get_or-map, get_or-take, get_or-drop, get_or_past, nil_from_length, length-map, length-take-le}
 use Rattle.cell.specs.{length-drop, All-from_recursion, recursion_from_All, All-take, All-drop, All-append, line_of, cell_or, HasSize, rows, IsWhole}
 use Rattle.cell.proofs.GridLemmas.{HasLine-from_length, length-rows, length-line_of-rows, line_of-rows, line_end}
@@ -77,6 +77,18 @@ module _ {A B : Type 0} (f : A → B) (none : A) (other : B) {Is : B → Type 0}
   pub shown-made : (v u : ℕ) → cell_or other (rows lines columns (splice cells (y * columns + x) (y * columns + x + length piece) (map f piece))) (v, u)
       ≡ (if (v == y) && (nat_le x u && nat_lt u (x + length piece)) then f (get_or piece (u - x) none) else cell_or other (rows lines columns cells) (v, u))
   shown-made v u = grind (arith, same_length, shown-piece, below, fits, get_or-map, outside)
+
+-- a piece that is there already
+module _ {A B : Type 0} (f : A → B) (none : A) (other : B) (lines : List (List B)) (piece : List A) (y x : ℕ) (same : take (length piece) (drop x (line_of lines y)) ≡ map f piece) where
+  there : (u : ℕ) → x ≤ u → u < x + length piece → get_or (line_of lines y) u other ≡ f (get_or piece (u - x) none)
+  there u from to =
+      let short : u - x < length piece = omega (arith, from, to) in
+      let at : x + (u - x) ≡ u = omega (arith, from) in
+      ap (λ n. get_or (line_of lines y) n other) (sym at) ∙ sym (get_or-drop x (line_of lines y) (u - x) other) ∙ sym (get_or-take (length piece) (drop x (line_of lines y)) (u - x) other short)
+      ∙ ap (λ l. get_or l (u - x) other) same ∙ get_or-map f piece (u - x) none other short
+
+  pub shown-kept : (v u : ℕ) → cell_or other lines (v, u) ≡ (if (v == y) && (nat_le x u && nat_lt u (x + length piece)) then f (get_or piece (u - x) none) else cell_or other lines (v, u))
+  shown-kept v u = grind (arith, there, cases_order, cases_lt, inside, outside, cond-true, cond-false)
 
 -- grids of one size
 

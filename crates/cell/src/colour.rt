@@ -1,6 +1,6 @@
 //! Colours, and pairs of them.
 
-ghost use Rattle.std.specs.Prelude.{◌≡◌, ◌==◌, ◌&&◌, ◌≤◌, if◌then◌else◌};
+ghost use Rattle.std.specs.Prelude.{◌≡◌, ◌==◌, ◌&&◌, ◌<◌, ◌≤◌, if◌then◌else◌};
 ghost use Rattle.cell.specs.{is_none, nat_le, length, map, slice_set, true, AllByRecursion, list_all, ArePairs, default_pair, IsColour, IsShown, first_pairs, pair_at, shown, shown_in};
 ghost use Rattle.cell.specs.declared.lanes.TheConstants.{BLOCK, LANES};
 
@@ -201,6 +201,37 @@ impl Pairs {
         self.pairs[usize::from(pair.number())]
     }
 
+    /// Whether places show so many cells already. It may answer no where they do: where many have several pairs.
+    #[inline(always)]
+    pub(crate) fn are_shown(&self, cells: &[Cell], places: &[Shown]) -> bool
+        requires { length places.now ≡ length cells.now }
+        ensures { result ≡ true → places.now ≡ map (shown self.now) cells.now }
+    {
+        if cells.len() >= LANES {
+            return self.are_many_shown(cells, places);
+        }
+        for x in 0..cells.len() {
+            if self.show_cell(cells[x]) != places[x] {
+                return false;
+            }
+        }
+        true
+    }
+
+    /// The same of some cells: the first is looked at before the others.
+    #[inline(never)]
+    fn are_many_shown(&self, cells: &[Cell], places: &[Shown]) -> bool
+        requires some { 0 < length cells.now }
+        requires places { length places.now ≡ length cells.now }
+        ensures { result ≡ true → places.now ≡ map (shown self.now) cells.now }
+    {
+        if self.show_cell(cells[0]) != places[0] {
+            return false;
+        }
+        let pair = cells[0].pair();
+        have_pair(cells, pair) && are_shown_in(self.colours_of(pair), cells, places)
+    }
+
     /// Writes shown cells into as many places, so many together where there are at least so many.
     #[inline(always)]
     pub(crate) fn show(&self, cells: &[Cell], places: &mut [Shown])
@@ -335,6 +366,18 @@ fn show_in(colours: ColourBits, cells: &[Cell]) -> [Shown; LANES]
         shown[x] = cell;
     }
     shown
+}
+
+/// Whether places show so many cells in colours, whatever their pairs are, by a loop that the compiler vectorizes.
+fn are_shown_in(colours: ColourBits, cells: &[Cell], places: &[Shown]) -> bool
+    requires { length places.now ≡ length cells.now }
+    ensures { result ≡ true → places.now ≡ map (shown_in colours) cells.now }
+{
+    let mut different = 0;
+    for x in 0..cells.len() {
+        different |= Shown::of_cell(cells[x], colours).bits() ^ places[x].bits();
+    }
+    different == 0
 }
 
 /// Always true: what it ensures is what is known of each colour.

@@ -2,7 +2,7 @@
 
 ghost use Rattle.std.specs.Prelude.{◌≡◌, ◌≤◌, ◌<◌, ◌==◌, ◌&&◌, ◌+◌, ◌-◌, ◌*◌, if◌then◌else◌};
 ghost use Rattle.cell.specs.{ℕ, nat_le, nat_lt, length, map, replicate, slice_index_or, IfOk, true, AllByRecursion, splice, blank, IsCell, with_blanks, moved, IsGrid, IsReached, shown};
-ghost use Rattle.cell.specs.{shown_blank, start_of, IsShown, vec_capacity, EachCell, HasSize, all_of, cell_or, line_of, shown_at, size_of, with_cell, given_cell, gives_cell, list_all, rows};
+ghost use Rattle.cell.specs.{shown_blank, start_of, IsShown, vec_capacity, EachCell, HasSize, all_of, cell_or, line_of, shown_at, size_of, with_cell, given_cell, gives_cell, list_all, rows, false};
 
 use crate::cell::Cell;
 use crate::colour::Pairs;
@@ -278,8 +278,16 @@ fn start_of(back: bool, n: usize, done: usize, len: usize) -> usize
     if back { n - (done + len) } else { done }
 }
 
-/// Puts cells into line `y` of a picture from column `x` on, in the colours that their pairs have.
-pub fn show_cells(cells: &[Cell], pairs: &Pairs, y: u16, x: u16, picture: &mut Grid<Shown>)
+/// Puts cells into line `y` of a picture from column `x` on, in the colours that their pairs have, and answers whether the
+/// line may have changed. It looks whether it shows them already, unless the line has changed anyway.
+pub fn show_cells(
+    cells: &[Cell],
+    pairs: &Pairs,
+    y: u16,
+    x: u16,
+    changed: bool,
+    picture: &mut Grid<Shown>,
+) -> bool
     requires line { y < length picture.old }
     requires columns { x + length cells.now ≤ length (line_of picture.old y) }
     ensures shown { (v u : ℕ) → shown_at picture.new (v, u) ≡ (if (v == y) && (nat_le x u && nat_lt u (x + length cells.now)) then shown pairs.now
@@ -287,14 +295,15 @@ pub fn show_cells(cells: &[Cell], pairs: &Pairs, y: u16, x: u16, picture: &mut G
     ensures size { (lines columns : ℕ) → HasSize lines columns picture.old → HasSize lines columns picture.new }
     ensures height { length picture.new ≡ length picture.old }
     ensures width { (v : ℕ) → length (line_of picture.new v) ≡ length (line_of picture.old v) }
+    ensures kept { result ≡ false → (changed ≡ false) × (picture.new ≡ picture.old) }
 {
-    let line = reach(
-        &mut picture.cells,
-        picture.lines,
-        picture.columns,
-        usize::from(y),
-    );
-    show_piece(cells, pairs, &mut picture.cells, line + usize::from(x));
+    let (y, x) = (usize::from(y), usize::from(x));
+    if !changed && pairs.are_shown(cells, &picture.row(y)[x..x + cells.len()]) {
+        return false;
+    }
+    let line = reach(&mut picture.cells, picture.lines, picture.columns, y);
+    show_piece(cells, pairs, &mut picture.cells, line + x);
+    true
 }
 
 /// Puts the cells that numbers give into line `y` of a grid, from column `x` on.

@@ -1,7 +1,7 @@
 -- What steps do to the damage, one after another; and what is damaged of a rectangle.
-use Rattle.std.specs.Prelude.{◌≡◌, ◌+◌, ◌<◌, ◌≤◌, ◌&&◌, ◌||◌, if◌then◌else◌}
-use Rattle.picture.specs.{ℕ, Bool, true, false, nat_lt, Option, Some, None, is_some, List, length, inl, inr, refl, ap, arith, get_or-set_other, get_or-set_same, rules, MatchOption, slice_set, ⊤}
-use Rattle.picture.specs.{option_map, and_parts, and_from, or_left, or_right, or_cases, cases_eq, cases_lt, leb-true, le-leb, nat_tests, length-set, Rect, Columns, any_below, joined_columns, among}
+use Rattle.std.specs.Prelude.{◌≡◌, ◌<◌, ◌≤◌, ◌||◌, if◌then◌else◌}
+use Rattle.picture.specs.{ℕ, Bool, true, false, Option, Some, None, is_some, List, length, inl, inr, refl, arith, get_or-set_other, get_or-set_same, rules, MatchOption, slice_set, ⊤}
+use Rattle.picture.specs.{option_map, and_parts, and_from, or_left, or_right, or_cases, cases_eq, cases_lt, leb-true, le-leb, nat_tests, length-set, Rect, Columns, any_below, joined_columns}
 use Rattle.picture.specs.{columns_of, has_columns, is_among, AreEnds, Damages, IsFrameWithin, frame_has_line, frame_holds}
 use Rattle.world.proofs.Below.{any_below-some}
 
@@ -54,32 +54,24 @@ damages-widened columns y first last old below ordered inside =
     (length-set old y (joined_columns (columns_of old y) first last))
     (λ v. grind (arith, cases_eq, nat_tests, get_or-set_same, get_or-set_other)) ordered inside
 
--- ---- columns of lines, added to others line after line
+-- ---- columns that may be added to those of a line
 
-abbrev pub AddedBefore : ℕ → List (Option Columns) → List (Option Columns) → ℕ → List (Option Columns) → Type 0
-AddedBefore columns added old n now = Damages columns (λ v u. nat_lt v n && is_among added v u) old now
+-- none were
+pub ends-same : (columns : ℕ) (o : Option Columns) (test : ℕ → Bool) → AreEnds columns o test o
+ends-same columns o test = grind arith
 
-module _ (columns : ℕ) (added old : List (Option Columns)) where
-  bare : (v u : ℕ) → columns_of added v ≡ None → is_among added v u ≡ false
-  bare v u none = ap (λ o. among o u) none
+-- some were, whose ends pass the test
+ends-joined : (columns : ℕ) (before o : Option Columns) (test : ℕ → Bool) (r : Columns) → AreEnds columns before test o → r.first ≤ r.last → r.last < columns → test r.first ≡ true
+    → test r.last ≡ true → AreEnds columns before test (joined_columns o r.first r.last)
+ends-joined columns before None test r h ordered inside first last = search (rules, cases_lt)
+ends-joined columns before (Some c) test r h ordered inside first last = search (rules, cases_lt)
 
-  pub added-none : (n : ℕ) → ((v : ℕ) → v < n → columns_of added v ≡ None) → AddedBefore columns added old n old
-  added-none n none = damages-none columns _ old (λ v u below on. grind (arith, nat_tests, (bare v u), (none v)))
-
-  pub added-to : (n to : ℕ) (now : List (Option Columns)) → AddedBefore columns added old n now → n ≤ to → ((v : ℕ) → n ≤ v → v < to → columns_of added v ≡ None)
-      → AddedBefore columns added old to now
-  added-to n to now h upto none = damages-as columns _ _ old now h
-      (λ v u below on is. grind (arith, nat_tests, (bare v u), (none v))) (λ v u on is. grind (arith, nat_tests))
-
-  pub added-more : (y : ℕ) (r : Columns) (now : List (Option Columns)) → AddedBefore columns added old y now → columns_of added y ≡ Some r → y < length now → r.first ≤ r.last → r.last < columns
-      → AddedBefore columns added old (y + 1) (slice_set now y (joined_columns (columns_of now y) r.first r.last))
-  added-more y r now h some below ordered inside =
-      let here : (u : ℕ) → is_among added y u ≡ among (Some r) u = λ u. ap (λ o. among o u) some in
-      damages-as columns (λ v u. (nat_lt v y && is_among added v u) || frame_holds (record { top = y; left = r.first; bottom = y; right = r.last }) v u)
-      (λ v u. nat_lt v (y + 1) && is_among added v u) old _
-      (damages-then columns _ _ old now _ h (damages-widened columns y r.first r.last now below ordered inside))
-      (λ v u above on is. grind (arith, nat_tests, (here u))) (λ v u on is. grind (arith, nat_tests, (here u)))
-
-  pub added-all : (n : ℕ) (now : List (Option Columns)) → AddedBefore columns added old n now → ((v : ℕ) → n ≤ v → columns_of added v ≡ None) → Damages columns (is_among added) old now
-  added-all n now h none = damages-as columns _ _ old now h
-      (λ v u below on is. grind (arith, nat_tests, (bare v u), (none v))) (λ v u on is. grind (arith, nat_tests))
+-- those of a line were
+pub ends-more : (columns : ℕ) (added old now : List (Option Columns)) (y : ℕ) (r : Columns) → ((v : ℕ) → AreEnds columns (columns_of old v) (is_among added v) (columns_of now v))
+    → columns_of added y ≡ Some r → y < length now → r.first ≤ r.last → r.last < columns → (v : ℕ)
+    → AreEnds columns (columns_of old v) (is_among added v) (columns_of (slice_set now y (joined_columns (columns_of now y) r.first r.last)) v)
+ends-more columns added old now y r h some below ordered inside v =
+    let first : is_among added y r.first ≡ true = grind (arith, nat_tests, some) in
+    let last : is_among added y r.last ≡ true = grind (arith, nat_tests, some) in
+    let here = ends-joined columns (columns_of old y) (columns_of now y) (is_among added y) r (h y) ordered inside first last in
+    grind (arith, cases_eq, get_or-set_same, get_or-set_other, here)

@@ -1,7 +1,7 @@
 //! A part of a line of the picture, composed of pieces of windows.
 
 ghost use Rattle.std.specs.Prelude.{◌≡◌, ◌<◌, ◌≤◌, ◌+◌, ◌-◌, ◌==◌, ◌&&◌, if◌then◌else◌};
-ghost use Rattle.picture.specs.{ℕ, true, length, nat_le, nat_lt, HasSize, line_of, shown_at, shown, found_from_top, holds, standard_screen, panels, GrewBy, HasPanelWindows, KnowsOwners};
+ghost use Rattle.picture.specs.{ℕ, true, false, length, nat_le, nat_lt, HasSize, line_of, shown_at, shown, found_from_top, holds, standard_screen, panels, GrewBy, HasPanelWindows, KnowsOwners};
 
 use crate::owners::Owners;
 use crate::rows::Rows;
@@ -41,11 +41,13 @@ pub fn compose_row<'a, R: Rows<'a>>(
         y,
         left,
         right,
+        true,
         picture,
     );
 }
 
-/// The same, with what is known of lines.
+/// The same, with what is known of lines. It answers whether the line may have changed. It looks whether the picture
+/// shows the columns already, span by span until it doesn't, unless the line counts as changed anyway.
 pub(crate) fn compose_columns<'a, R: Rows<'a>>(
     rows: &mut R,
     stack: &Stack,
@@ -54,8 +56,9 @@ pub(crate) fn compose_columns<'a, R: Rows<'a>>(
     y: u16,
     left: u16,
     right: u16,
+    changed: bool,
     picture: &mut Grid<Shown>,
-)
+) -> bool
     requires standard { (u : ℕ) → left ≤ u → u ≤ right → holds (R.windows rows.old).window standard_screen y u ≡ true }
     requires panels { HasPanelWindows (R.windows rows.old).window (panels stack.now) }
     requires ordered { left ≤ right }
@@ -68,16 +71,18 @@ pub(crate) fn compose_columns<'a, R: Rows<'a>>(
     ensures count { GrewBy (right - left + 1) (R.cells_read rows.old) (R.cells_read rows.new) }
     ensures same { R.windows rows.new ≡ R.windows rows.old }
     ensures known { KnowsOwners (R.windows rows.old).window (panels stack.now) owners.new }
+    ensures kept { result ≡ false → picture.new ≡ picture.old }
 {
+    let mut changed = changed;
     let mut x = left;
     loop {
         let span = owners.span(rows, stack, y, x, right);
         let win = window_of(stack, span.panel);
         let rect = rows.rect(win);
         let cells = rows.read(win, y - rect.top, x - rect.left, span.end - rect.left);
-        show_cells(cells, pairs, y, x, picture);
+        changed = show_cells(cells, pairs, y, x, changed, picture);
         if span.end == right {
-            return;
+            return changed;
         }
         x = span.end + 1;
     }

@@ -44,5 +44,5 @@ pub fn show_piece(
         source.column,
         usize::from(n),
     );
-    show_cells(cells, pairs, y, x, picture);
+    show_cells(cells, pairs, y, x, true, picture);
 }

@@ -1,7 +1,7 @@
 //! Composes the damaged part of the picture of windows and panels again.
 
 ghost use Rattle.std.specs.Prelude.{◌≡◌, ◌≤◌};
-ghost use Rattle.picture.specs.{ℕ, None, length, AreShown, picture_of, shown, found_from_top, panels, GrewBy, AddsChanges, columns_of, is_among, Damages, cells_above, IsRepairable};
+ghost use Rattle.picture.specs.{ℕ, None, length, AreShown, picture_of, shown, found_from_top, panels, GrewBy, AddsChanges, columns_of, is_among, AreEnds, cells_above, IsRepairable};
 
 use crate::line::compose_columns;
 use crate::owners::Owners;
@@ -12,8 +12,9 @@ use stack::Stack;
 use world::Columns;
 
 /// Puts what a search from the top finds at each damaged place of so many lines into a picture, and clears the damage.
-/// The damaged columns are added to the picture's changes. It answers how many cells of windows it read. The owners of
-/// any lines may be passed: they only save the room.
+/// The damaged columns are added to the picture's changes, but for those of the first lines that show what they showed:
+/// it looks whether they do until one doesn't. It answers how many cells of windows it read. The owners of any lines may
+/// be passed: they only save the room.
 pub fn show_damaged<'a, R: Rows<'a>>(
     rows: &mut R,
     stack: &Stack,
@@ -34,18 +35,21 @@ pub fn show_damaged<'a, R: Rows<'a>>(
     ensures none { (y : ℕ) → columns_of damage.new y ≡ None }
     ensures read { result ≡ cells_above damage.old (R.windows rows.old).lines }
     ensures changes { AddsChanges changes.old picture.old changes.new picture.new }
-    ensures few { Damages (R.windows rows.old).columns (is_among damage.old) changes.old changes.new }
+    ensures few { (y : ℕ) → AreEnds (R.windows rows.old).columns (columns_of changes.old y) (is_among damage.old y) (columns_of changes.new y) }
     ensures count { GrewBy result (R.cells_read rows.old) (R.cells_read rows.new) }
     ensures same { R.windows rows.new ≡ R.windows rows.old }
 {
     owners.start_over();
     let mut cells = 0;
+    let mut changed = false;
     let mut y = damage.next(0);
     while y < lines {
         if let Some(Columns { first, last }) = damage.line(y) {
-            compose_columns(rows, stack, pairs, owners, y, first, last, picture);
+            changed = compose_columns(rows, stack, pairs, owners, y, first, last, changed, picture);
             cells += u32::from(last - first) + 1;
-            changes.widen(y, first, last);
+            if changed {
+                changes.widen(y, first, last);
+            }
             damage.clear_line(y);
         }
         y = damage.next(y + 1);

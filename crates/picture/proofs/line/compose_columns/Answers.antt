@@ -13,6 +13,7 @@ loop-span-init g c = record {
   count = search rules;
   known = c.requires.known;
   line = search rules;
+  kept = λ _. refl;
 }
 
 pub rect-rect-requires : goal.rect-rect-requires
@@ -49,14 +50,14 @@ returns-then-span-right-clause-shown g c =
     let is_read : IsRead _ _ _ a.y l.x a.right _ _ c.rect-rect.result c.read-cells.result.now =
     record { held = held; place = c.rect-rect.ensures.place; rectangle = c.rect-rect.ensures.holds; piece = c.read-cells.ensures.piece } in
     let f : ℕ → Shown = λ u. shown a.pairs.now (found_from_top (g.R.Rows.windows a.rows.now).window (panels a.stack.now) a.y u) in
-    let line = run-line is_read a.pairs.now a.left a.picture.now l.picture c.show_cells.new.picture l.invariant.line l.invariant.from
-    c.show_cells.ensures.shown c.show_cells.ensures.size c.show_cells.ensures.height (c.show_cells.ensures.width a.y) in
-    let all : LineShown f a.y a.left (a.right + 1) a.picture.now c.show_cells.new.picture = subst (λ k. LineShown f a.y a.left (k + 1) a.picture.now c.show_cells.new.picture) c.if-span-right.true
+    let line = run-line is_read a.pairs.now a.left a.picture.now l.picture c.show_cells-changed.new.picture l.invariant.line l.invariant.from
+    c.show_cells-changed.ensures.shown c.show_cells-changed.ensures.size c.show_cells-changed.ensures.height (c.show_cells-changed.ensures.width a.y) in
+    let all : LineShown f a.y a.left (a.right + 1) a.picture.now c.show_cells-changed.new.picture = subst (λ k. LineShown f a.y a.left (k + 1) a.picture.now c.show_cells-changed.new.picture) c.if-span-right.true
     line in
     all.shown
 
 pub returns-then-span-right-clause-size : goal.returns-then-span-right-clause-size
-returns-then-span-right-clause-size g c = λ lines columns h. c.show_cells.ensures.size lines columns (c.loop-span.invariant.line.size lines columns h)
+returns-then-span-right-clause-size g c = λ lines columns h. c.show_cells-changed.ensures.size lines columns (c.loop-span.invariant.line.size lines columns h)
 
 pub returns-then-span-right-clause-count : goal.returns-then-span-right-clause-count
 returns-then-span-right-clause-count g c =
@@ -72,6 +73,9 @@ returns-then-span-right-clause-count g c =
     let after = g.R.Rows.cells_read c.read-cells.new.self in
     let more = run-grew is_read a.left before (g.R.Rows.cells_read l.rows) after begun l.invariant.count c.read-cells.ensures.count in
     subst (λ n. GrewBy n before after) (ap (λ k. k + 1 - a.left) c.if-span-right.true ∙ sum) more
+
+pub returns-then-span-right-clause-kept : goal.returns-then-span-right-clause-kept
+returns-then-span-right-clause-kept g c is = let kept = c.show_cells-changed.ensures.kept is in kept.1 ∙ c.loop-span.invariant.kept kept.0
 
 pub loop-span-preserved : goal.loop-span-preserved
 loop-span-preserved g c =
@@ -91,6 +95,7 @@ loop-span-preserved g c =
       same = c.read-cells.ensures.same ∙ l.invariant.same;
       known = subst (λ (ws : Windows). KnowsOwners ws.window (panels a.stack.now) c.span-span.new.self) l.invariant.same c.span-span.ensures.known;
       count = run-grew is_read a.left (g.R.Rows.cells_read a.rows.now) (g.R.Rows.cells_read l.rows) (g.R.Rows.cells_read c.read-cells.new.self) begun l.invariant.count c.read-cells.ensures.count;
-      line = run-line is_read a.pairs.now a.left a.picture.now l.picture c.show_cells.new.picture l.invariant.line begun
-          c.show_cells.ensures.shown c.show_cells.ensures.size c.show_cells.ensures.height (c.show_cells.ensures.width a.y);
+      line = run-line is_read a.pairs.now a.left a.picture.now l.picture c.show_cells-changed.new.picture l.invariant.line begun
+          c.show_cells-changed.ensures.shown c.show_cells-changed.ensures.size c.show_cells-changed.ensures.height (c.show_cells-changed.ensures.width a.y);
+      kept = λ is. let kept = c.show_cells-changed.ensures.kept is in kept.1 ∙ l.invariant.kept kept.0;
     }

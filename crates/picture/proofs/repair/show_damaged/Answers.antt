@@ -1,18 +1,18 @@
 -- Each round composes the damaged columns of one line more; the others were those of the picture before.
 use Rattle.std.specs.Prelude.{◌≡◌, ◌+◌, ◌<◌, ◌≤◌, ◌==◌, ◌&&◌, if◌then◌else◌}
 use Rattle.picture.specs.{rules, ℕ, suc, true, nat_le, nat_lt, None, Some, refl, subst, ap, sym, ◌∙◌, arith, add_assoc, shown_at, Shown, shown, found_from_top, holds, standard_screen}
-use Rattle.picture.specs.{AreColumnsWithin, Windows, panels, AddsChanges, columns_of, cells_above, cells_of_line, HasPanelWindows, KnowsOwners, mod-add-mod, get_or_past}
+use Rattle.picture.specs.{AreColumnsWithin, Windows, panels, AddsChanges, columns_of, cells_above, cells_of_line, HasPanelWindows, KnowsOwners, AreEnds, is_among, mod-add-mod}
 use Rattle.cell.proofs.PictureLemmas.{length-line}
 use Rattle.extents.proofs.Changing.{changes-more, changes-none}
-use Rattle.picture.proofs.DamageLaws.{AddedBefore, added-all, added-more, added-none, added-to}
+use Rattle.picture.proofs.DamageLaws.{ends-more, ends-same}
 use Rattle.picture.proofs.Composing.{ComposedAbove, composed-bare, composed-more, composed-none, composed-to, fits-more, no-more-to}
 use Rattle.picture.proofs.Lines.{shown-all}
 use Rattle.picture.proofs.Standard.{sound-windows, standard-holds}
-use Rattle.picture.proofs.repair.show_damaged.Goals.{in-Some, in_default}
+use Rattle.picture.proofs.repair.show_damaged.Goals.{in-Some, in_default, then-changed, else-changed}
 use Rattle.picture.proofs.repair.show_damaged.Goals as goal
 
-pub compose_columns-requires : goal.compose_columns-requires
-compose_columns-requires g c κs =
+pub compose_columns-changed-requires : goal.compose_columns-changed-requires
+compose_columns-changed-requires g c κs =
     let old = g.R.Rows.windows c.args.rows.now in
     let ps = panels c.args.stack.now in
     let y = c.loop-y.y in
@@ -54,7 +54,7 @@ loop-y-init g c =
       known = c.start_over.ensures old.window (panels c.args.stack.now);
       read = sym (no-more-to before 0 c.next-y.result (omega arith) none);
       changes = changes-none c.args.changes.now c.args.picture.now;
-      few = added-none old.columns before c.args.changes.now c.next-y.result (λ v upto. none v (omega arith) upto);
+      few = λ v. ends-same old.columns (columns_of c.args.changes.now v) (is_among before v);
       count = search rules;
       composed = composed-to f old.lines old.columns before c.args.picture.now c.requires.repairable.covered 0 c.next-y.result before c.args.picture.now
           (composed-none f old.lines old.columns before c.args.picture.now c.requires.repairable.covered c.requires.repairable.height c.requires.repairable.size)
@@ -78,36 +78,43 @@ loop-y-preserved g c =
       | in-Some s ↦
           let r = s.in-Some.field-0 in
           rw (s.damage-is, s.picture-is, s.clear_line.ensures)
-          (composed-more f old.lines old.columns before c.args.picture.now c.requires.repairable.covered y r c.loop-y.damage c.loop-y.picture s.compose_columns.new.picture h.composed below
+          (composed-more f old.lines old.columns before c.args.picture.now c.requires.repairable.covered y r c.loop-y.damage c.loop-y.picture s.compose_columns-changed.new.picture h.composed below
           (sym c.line.ensures ∙ s.in-Some.is)
-          (λ v u. s.compose_columns.ensures.shown v u
+          (λ v u. s.compose_columns-changed.ensures.shown v u
           ∙ ap (λ (ws : Windows). if (v == y) && (nat_le r.first u && nat_lt u (r.last + 1)) then shown c.args.pairs.now (found_from_top ws.window ps y u) else shown_at c.loop-y.picture (v, u))
           h.windows)
-          (s.compose_columns.ensures.size old.lines old.columns h.composed.above.size))
+          (s.compose_columns-changed.ensures.size old.lines old.columns h.composed.above.size))
       | in_default s ↦ rw (s.damage-is, s.picture-is)
           (composed-bare f old.lines old.columns before c.args.picture.now c.requires.repairable.covered y c.loop-y.damage c.loop-y.picture h.composed below (sym c.line.ensures ∙ s.in_default.is))
     ] in
     let known : KnowsOwners old.window ps c.match-line.owners = elim c.match-line.branch [
-      | in-Some s ↦ rw s.owners-is (subst (λ (ws : Windows). KnowsOwners ws.window ps s.compose_columns.new.owners) h.windows s.compose_columns.ensures.known)
+      | in-Some s ↦ rw s.owners-is (subst (λ (ws : Windows). KnowsOwners ws.window ps s.compose_columns-changed.new.owners) h.windows s.compose_columns-changed.ensures.known)
       | in_default s ↦ rw s.owners-is h.known
     ] in
     let changes : AddsChanges c.args.changes.now c.args.picture.now c.match-line.changes c.match-line.picture = elim c.match-line.branch [
       | in-Some s ↦
           let r = s.in-Some.field-0 in
-          rw (s.changes-is, s.picture-is, s.widen.ensures)
-          (changes-more c.args.changes.now c.args.picture.now c.loop-y.changes c.loop-y.picture s.compose_columns.new.picture y r.first (r.last + 1)
-          (λ u. shown c.args.pairs.now (found_from_top (g.R.Rows.windows c.loop-y.rows).window ps y u)) h.changes (let same = h.changes.height in omega (arith, same, c.requires.height, below)) s.compose_columns.ensures.shown r.last refl)
+          rw (s.changes-is, s.picture-is)
+          (elim s.if-changed.branch [
+            | then-changed t ↦ rw (t.changes-is, t.widen.ensures)
+                (changes-more c.args.changes.now c.args.picture.now c.loop-y.changes c.loop-y.picture s.compose_columns-changed.new.picture y r.first (r.last + 1)
+                (λ u. shown c.args.pairs.now (found_from_top (g.R.Rows.windows c.loop-y.rows).window ps y u)) h.changes (let same = h.changes.height in omega (arith, same, c.requires.height, below)) s.compose_columns-changed.ensures.shown r.last refl)
+            | else-changed t ↦ rw (t.changes-is, s.compose_columns-changed.ensures.kept t.if-changed.false) h.changes
+          ])
       | in_default s ↦ rw (s.changes-is, s.picture-is) h.changes
     ] in
-    let few : AddedBefore old.columns before c.args.changes.now (y + 1) c.match-line.changes = elim c.match-line.branch [
+    let few : (v : ℕ) → AreEnds old.columns (columns_of c.args.changes.now v) (is_among before v) (columns_of c.match-line.changes v) = elim c.match-line.branch [
       | in-Some s ↦
           let r = s.in-Some.field-0 in
           let some = sym (h.composed.left y (omega arith)) ∙ sym c.line.ensures ∙ s.in-Some.is in
           let within : AreColumnsWithin old.columns (Some r) = subst (AreColumnsWithin old.columns) some (c.requires.repairable.within y) in
-          rw (s.changes-is, s.widen.ensures)
-          (added-more old.columns before c.args.changes.now y r c.loop-y.changes h.few some (let same = h.changes.height in omega (arith, same, c.requires.height, below)) within.0 within.1)
-      | in_default s ↦ rw s.changes-is (added-to old.columns before c.args.changes.now y (y + 1) c.loop-y.changes h.few (omega arith)
-          (λ v a b. subst (λ n. columns_of before n ≡ None) (let d = b in omega (arith, a, d)) (sym (h.composed.left y (omega arith)) ∙ sym c.line.ensures ∙ s.in_default.is)))
+          rw s.changes-is
+          (elim s.if-changed.branch [
+            | then-changed t ↦ rw (t.changes-is, t.widen.ensures)
+                (ends-more old.columns before c.args.changes.now c.loop-y.changes y r h.few some (let same = h.changes.height in omega (arith, same, c.requires.height, below)) within.0 within.1)
+            | else-changed t ↦ rw t.changes-is h.few
+          ])
+      | in_default s ↦ rw s.changes-is h.few
     ] in
     let next = c.next-y-in-loop-y.result in
     let from : y + 1 ≤ next = c.next-y-in-loop-y.ensures.from in
@@ -120,7 +127,7 @@ loop-y-preserved g c =
       known = known;
       read = grind arith;
       changes = changes;
-      few = added-to old.columns before c.args.changes.now (y + 1) next c.match-line.changes few from (λ v a b. sym (composed.left v a) ∙ none v a b);
+      few = few;
       count = grind (arith, mod-add-mod, add_assoc);
       composed = grind (arith, composed-to);
       inside = omega (arith, inside, height);
@@ -133,10 +140,3 @@ returns-clause-shown g c =
     let all = c.requires.lines in
     shown-all (λ v u. shown c.args.pairs.now (found_from_top old.window (panels c.args.stack.now) v u)) old.lines old.columns c.loop-y.y c.loop-y.picture
     (omega (arith, end, all)) c.loop-y.invariant.composed.above
-
-pub returns-clause-few : goal.returns-clause-few
-returns-clause-few g c =
-    let old = g.R.Rows.windows c.args.rows.now in
-    let end = c.loop-y-test.false in
-    added-all old.columns c.args.damage.now c.args.changes.now c.loop-y.y c.loop-y.changes c.loop-y.invariant.few
-    (λ v from. get_or_past c.args.damage.now v None (omega (arith, from, end, c.requires.lines, c.requires.repairable.height)))
