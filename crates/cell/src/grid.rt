@@ -278,8 +278,8 @@ fn start_of(back: bool, n: usize, done: usize, len: usize) -> usize
     if back { n - (done + len) } else { done }
 }
 
-/// Puts cells into line `y` of a picture from column `x` on, in the colours that their pairs have, and answers whether the
-/// line may have changed. It looks whether it shows them already, unless the line has changed anyway.
+/// Puts cells into line `y` of a picture from column `x` on, in the colours that their pairs have, and answers whether
+/// the line may have changed. It looks whether it shows them already, unless the line has changed anyway.
 pub fn show_cells(
     cells: &[Cell],
     pairs: &Pairs,
