@@ -130,7 +130,14 @@ fn many_cells_are_shown_each_in_the_colours_of_its_pair(rt: HostRuntime) -> Resu
     let letter = letter()?;
     let coloured = letter.with_pair(pair);
     let mut picture = Grid::new(rt.alloc(), 1, 50)?;
-    show_cells(&line_with(letter, coloured), &pairs, 0, 0, false, &mut picture);
+    show_cells(
+        &line_with(letter, coloured),
+        &pairs,
+        0,
+        0,
+        false,
+        &mut picture,
+    );
     let wanted = line_with(pairs.show_cell(letter), pairs.show_cell(coloured));
     assert!(rt; picture.row(0) == wanted.as_slice());
     Ok(())
