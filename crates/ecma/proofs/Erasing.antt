@@ -3,6 +3,7 @@ use Rattle.std.specs.Prelude.{◌≡◌, ◌+◌, ◌-◌, ◌<◌, ◌≤◌, �
 use Rattle.ecma.specs.{ℕ, zero, suc, Bool, List, [], length, get_or, set, take, drop, map, inl, inr, refl, sym, ap, ◌∙◌, arith, append_assoc, length-append, nat_le, nat_lt, cases_eq, eq-eqb, ne_eqb}
 use Rattle.ecma.specs.{le-leb, lt-leb, lt-ltb, le-ltb, drop_more, get_or_append_left, get_or-append_right, get_or-drop, get_or-set_other, get_or-set_same, get_or-take, get_or_at, length-drop}
 use Rattle.ecma.specs.{length-map, length-take, length-take-le, map_push, set_at, take_more, Shown, shown_blank, Picture, HasSize, cell_or, line_of, blank_line, erased_line, erased_at}
+use Rattle.ecma.specs.{append-nil, common_steps, take-append-drop}
 use Rattle.cell.proofs.PictureLemmas.{length-line, same_pictures}
 use Rattle.ecma.specs.declared.token.Erase.{Erase}
 use Rattle.ecma.specs.declared.token.Erase.TheVariants.{ToEnd, FromStart, All}
@@ -90,3 +91,5 @@ lines_blanked-more first i picture old h k is =
     ∙ sym (append_assoc prefix (blank_line line ∷ []) (drop (i + 1) old))
     ∙ ap (λ (rows : Picture). rows ++ drop (i + 1) old) (append_assoc (take first old) (map blank_line (take (i - first) (drop first old))) (blank_line line ∷ [])
     ∙ ap (λ (rows : Picture). take first old ++ rows) (sym mapped))
+
+pub ruleset erased_lines = (common_steps, append-nil, take-append-drop, size-erased_at, lines_blanked, lines_blanked-more)

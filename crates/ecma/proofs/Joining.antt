@@ -49,10 +49,10 @@ Leads-append stream more t u v h k = record {
 pub bytes_of_some : (item : Item) → IsItem item → 0 < length (bytes_of item)
 bytes_of_some item h = grind arith
 
-Splits_some : (bytes : List ℕ) (item : Item) (items : List Item) (rest : List ℕ) → Splits bytes (item ∷ items) rest → 0 < length bytes
+pub Splits_some : (bytes : List ℕ) (item : Item) (items : List Item) (rest : List ℕ) → Splits bytes (item ∷ items) rest → 0 < length bytes
 Splits_some bytes item items rest h = grind (arith, bytes_of_some, length-append)
 
-MayPrecede-then : (item : Item) (bytes more : List ℕ) → 0 < length bytes → MayPrecede item bytes → MayPrecede item (bytes ++ more)
+pub MayPrecede-then : (item : Item) (bytes more : List ℕ) → 0 < length bytes → MayPrecede item bytes → MayPrecede item (bytes ++ more)
 MayPrecede-then item bytes more some h = grind arith
 
 pub Splits-ends_then : (bytes : List ℕ) (items : List Item) (more : List ℕ) → Splits bytes items [] → EndsFinished items → Splits (bytes ++ more) items more

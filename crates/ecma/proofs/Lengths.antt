@@ -16,8 +16,8 @@ length-codes : (codes : List ℕ) → AllByRecursion (λ code. code < 10) codes 
 length-codes [] h = omega arith
 length-codes (code ∷ codes) h = grind (arith, length-append, length-decimal-le, (length-codes codes h.1))
 
-pub three_digits : (n : ℕ) (text : List ℕ) → n < LARGEST_SCREEN → text ≡ decimal (n + 1) → length text ≤ 3
-three_digits n text few is = grind (arith, length-decimal-le)
+pub three_digits : (n : ℕ) → n < LARGEST_SCREEN → length (decimal (n + 1)) ≤ 3
+three_digits n few = grind (arith, length-decimal-le)
 
 -- what is sent of a rendition, part by part
 pub selection-codes_of : (rendition : Rendition) → selection (codes_of rendition)
@@ -56,12 +56,6 @@ module _ (n : ℕ) where
   decimal-three many few =
       let first : n / 10 / 10 ≡ n / 100 = omega arith in
       rw (decimal_step n (omega arith) (omega arith), decimal_step (n / 10) (omega arith) (omega arith), decimal_digit (n / 10 / 10) (omega arith), first) refl
-
-  -- the same as digits are computed one after another
-  pub one-digit : n < 10 → (48 + n % 10) ∷ [] ≡ decimal n
-  one-digit few = (λ i. (48 + same i) ∷ []) ∙ sym (decimal-one few) where
-    same : n % 10 ≡ n
-    same = omega arith
 
 -- the code of a colour after a separator, where the first one ends in 0
 pub colour-code : (first number : ℕ) → 10 ≤ first → first ≤ 90 → first % 10 ≡ 0 → number ≤ LAST_COLOUR → 59 ∷ (48 + first / 10) ∷ (48 + number) ∷ [] ≡ selection ((first + number) ∷ [])
@@ -108,3 +102,5 @@ length-sgr_exact rendition =
 pub no-attributes : codes_of_attributes 0 ≡ []
 unfolding codes_of_attributes
 no-attributes = refl
+
+pub ruleset lengths = (decimal-one, decimal-two, decimal-three, length-cup_exact, length-sgr_exact, length-attributes, few-attributes, length-colour)

@@ -35,3 +35,5 @@ pub mod Selecting
 pub mod Erasing
 -- What a reader has after one more byte; for `fault`, `one_terminal_shown`, `read_digit` and others
 pub mod Readers
+-- The lemmas that are laws as they stand
+pub mod LawLemmas

@@ -6,6 +6,7 @@ use Rattle.ecma.specs.{Unfinished, IsDigit, AreParameters, IsBeginning, EndsOrEs
 use Rattle.ecma.specs.{Leads, Parameter, parameter_of, no_digits, longer, function_of, Reader, saturating_u64, InText, InItem, InParameters, HasFailed, HasReadIn, Follows}
 use Rattle.ecma.specs.declared.reader.State.{State}
 use Rattle.ecma.specs.declared.reader.State.TheVariants.{Text, Escape, Parameters, Failed}
+use Rattle.ecma.specs.{ltb-true, ltb-false, length-take, take_more_set}
 use Rattle.ecma.proofs.Each.{each-append, each-back, each-prefix}
 use Rattle.ecma.proofs.Beginnings.{NoEffect-text, NoEffect-escape, NoEffect-parameters, join-more, no-more_digits, no-more_parameters, no-colon, final-no_digit, final-no_separator}
 use Rattle.ecma.proofs.Joining.{InProfile-append, LeadsWithBreaks-append, LeadsWithBreaks-in_profile, Leads-repairs, Reaches-in_profile}
@@ -269,3 +270,12 @@ when-true b p x o h e = grind arith
 pub when-false : {A : Type 0} (b p : Bool) (x : A) (o : Option A) → b ≡ false → (let one : Option A = if b then Some x else None in one) ≡ (let other : Option A = if p then o else None in other)
     → p ≡ true → o ≡ None
 when-false b p x o h e k = grind arith
+
+-- what each way to read a byte rests on
+pub ruleset in_escape = (Follows-from, reader_of, escape-follows, bracket-follows, other-follows)
+
+pub ruleset in_digits = (Follows-from, reader_of, digit-follows, full-follows, ltb-true, ltb-false)
+
+pub ruleset at_separator = (Follows-from, reader_of, separator-follows, too_many-follows, length-take, take_more_set)
+
+pub ruleset otherwise = (Follows-from, reader_of, broken-follows, failed-follows, reader-in_profile)

@@ -32,6 +32,8 @@ with_off-made rendition made old others bits pair few same left colours is =
     let less : without rendition.attributes others < 64 = omega (arith, and_le_l rendition.attributes (255 - others)) in
     made-with rendition made bits (without rendition.attributes others) pair less (left ∙ ap (λ (n : ℕ). without n others) same) colours is
 
+pub ruleset made = (with_on-made, with_off-made)
+
 -- ---- numbers of parameters
 
 numbers-kept : (digits : List (List ℕ)) → map (number_or 0) digits ≡ map (number_of 0) (map parameter_of digits)

@@ -2,7 +2,7 @@
 use Rattle.std.specs.Prelude.{◌≡◌, ◌+◌, ◌-◌, ◌<◌, ◌≤◌, ◌∷◌, ◌++◌}
 use Rattle.ecma.specs.{ℕ, List, [], length, Option, Some, None, inl, inr, refl, sym, ap, ◌∙◌, subst, arith, append_assoc, length-append, rules, cases_lt, append-nil, Item, Printable, Control}
 use Rattle.ecma.specs.{Unfinished, IsItem, IsBeginning, bytes_of, MayPrecede, EndsOrEscapes, Splits, Terminal, effect, effects, FailsAt, IsInProfile, LeadsWithBreaks}
-use Rattle.ecma.proofs.Joining.{bytes_of_some, effects_first, effects-then, effects-append, Splits-append, Splits-then_escape, Splits-ends_then}
+use Rattle.ecma.proofs.Joining.{MayPrecede-then, Splits_some, bytes_of_some, effects_first, effects-then, effects-append, Splits-append, Splits-then_escape, Splits-ends_then}
 use Rattle.ecma.proofs.Unique.{Splits-prefix}
 
 -- no item at the start of these bytes has an effect on the terminal
@@ -74,16 +74,13 @@ Splits-more bytes (item ∷ items) rest more some h = (
   h.0 ++ more,
   ap (λ (prefix : List ℕ). prefix ++ more) h.1 ∙ append_assoc (bytes_of item) h.0 more,
   h.2,
-  MayPrecede-more item h.0
+  MayPrecede-then item h.0 more
       (Splits-some h.0 items rest some h.4) h.3,
   Splits-more h.0 items rest more some h.4,
 ) where
   Splits-some : (bytes : List ℕ) (items : List Item) (rest : List ℕ) → 0 < length rest → Splits bytes items rest → 0 < length bytes
   Splits-some bytes [] rest some h = grind arith
-  Splits-some bytes (item ∷ items) rest some h = grind (arith, bytes_of_some, length-append)
-
-  MayPrecede-more : (item : Item) (following : List ℕ) → 0 < length following → MayPrecede item following → MayPrecede item (following ++ more)
-  MayPrecede-more item following some h = grind arith
+  Splits-some bytes (item ∷ items) rest some h = Splits_some bytes item items rest h
 
 -- nothing beyond the failure has an effect
 NoEffect-failed : (stream : List ℕ) (offset : ℕ) (first last : Terminal) (h : FailsAt stream first offset last) → NoEffect h.reaches.rest last

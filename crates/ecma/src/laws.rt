@@ -1,5 +1,7 @@
 //! What holds of streams and terminals by definition. Each function does nothing, and its contract is the law.
 
+#![tactic(auto, using(crate::proofs::LawLemmas::laws))]
+
 ghost use Rattle.std.specs.Prelude.{◌≡◌, ◌↔◌, ◌<◌, ◌≤◌, ◌++◌};
 ghost use Rattle.ecma.specs.{ℕ, List, [], length, take, HasSize, Picture, difference, EndsOrEscapes, Item, Splits, Reader, HasRead, Terminal, spelling, IsToken, IsItemOf, FailsAt, Leads};
 ghost use Rattle.ecma.specs.{LeadsWithBreaks, IsInProfile, Reaches};

@@ -181,6 +181,7 @@ fn erase_in_line(picture: &mut Cells, how: Erase, line: u16, column: u16, column
 }
 
 /// Erases the lines from a first one on, up to an end, which is left out.
+#[tactic(auto, using(crate::proofs::Erasing::erased_lines))]
 fn erase_lines(picture: &mut Cells, first: u16, end: u16, columns: u16)
     requires first { first ≤ end }
     requires end { end ≤ length picture.old }

@@ -1,5 +1,7 @@
 //! What is kept of a stream that is read byte by byte.
 
+#![tactic(auto, using(crate::proofs::Readers::otherwise))]
+
 ghost use Rattle.std.specs.Prelude.{◌≡◌, ◌+◌, ◌≤◌, ◌∷◌};
 ghost use Rattle.ecma.specs.{ℕ, IfNone, IfOk, IfSome, List, [], LARGEST_SCREEN, IsDigit, separator, HasRead, Follows, HasFailed, blank_terminal, saturating_u64, IsInProfile};
 ghost use Rattle.ecma.specs.Terminals;
@@ -131,6 +133,7 @@ impl Reader {
     }
 
     /// Reads the byte at an offset after an escape.
+    #[tactic(auto, using(crate::proofs::Readers::in_escape))]
     fn read_escaped(&mut self, at: u64, byte: u8)
         requires state { self.old.state ≡ State.Escape }
         requires read { self.old.read ≡ saturating_u64 (at + 1) }
@@ -166,6 +169,7 @@ impl Reader {
     }
 
     /// Reads a digit of a parameter.
+    #[tactic(auto, using(crate::proofs::Readers::in_digits))]
     fn read_digit(&mut self, digit: u8)
         requires state { self.old.state ≡ State.Parameters }
         requires digit { IsDigit digit }
@@ -178,6 +182,7 @@ impl Reader {
     }
 
     /// Reads the separator after a parameter.
+    #[tactic(auto, using(crate::proofs::Readers::at_separator))]
     fn read_separator(&mut self)
         requires { self.old.state ≡ State.Parameters }
         ensures { (at : ℕ) → self.old.read ≡ saturating_u64 (at + 1) → Follows (separator ∷ []) (record self.old { read = at }) self.new }

@@ -48,6 +48,7 @@ fn select(rendition: Rendition, code: u16) -> Option<Rendition>
 }
 
 /// The rendition with these attributes on.
+#[tactic(auto, using(crate::proofs::Selecting::made))]
 fn with_on(rendition: Rendition, attrs: Attr) -> Rendition
     requires { bits_of attrs < 64 }
     ensures { result ≡ with_on (bits_of attrs) rendition }
@@ -56,6 +57,7 @@ fn with_on(rendition: Rendition, attrs: Attr) -> Rendition
 }
 
 /// The rendition with these attributes off.
+#[tactic(auto, using(crate::proofs::Selecting::made))]
 fn with_off(rendition: Rendition, attrs: Attr) -> Rendition
     ensures { result ≡ with_off (bits_of attrs) rendition }
 {

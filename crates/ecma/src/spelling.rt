@@ -53,6 +53,7 @@ fn append_number(out: &mut [u8; LONGEST_SPELLING], at: usize, number: u16) -> us
 }
 
 /// How many digits a number below 1,000 has.
+#[tactic(auto, using(crate::proofs::Lengths::lengths))]
 pub(crate) fn digits(number: u16) -> usize
     requires { number < 1000 }
     ensures value { result ≡ length (decimal number) }
@@ -68,6 +69,7 @@ pub(crate) fn digits(number: u16) -> usize
 }
 
 /// How many bytes the spelling of a position has.
+#[tactic(auto, using(crate::proofs::Lengths::lengths))]
 pub fn position_length(line: u16, column: u16) -> usize
     requires line { line < LARGEST_SCREEN }
     requires column { column < LARGEST_SCREEN }
@@ -78,6 +80,7 @@ pub fn position_length(line: u16, column: u16) -> usize
 }
 
 /// How many bytes the spelling of a selection has.
+#[tactic(auto, using(crate::proofs::Lengths::lengths))]
 pub fn selection_length(rendition: Rendition) -> usize
     ensures exact { result ≡ length (spelling (Token.Sgr rendition)) }
     ensures short { result ≤ 22 }
@@ -88,6 +91,7 @@ pub fn selection_length(rendition: Rendition) -> usize
 }
 
 /// How many bytes the code of a colour has, with the separator before it.
+#[tactic(auto, using(crate::proofs::Lengths::lengths))]
 fn colour_length(colour: Option<Colour>) -> usize
     ensures foreground { result ≡ length (selection (code_of_colour 30 colour)) }
     ensures background { result ≡ length (selection (code_of_colour 40 colour)) }
@@ -103,7 +107,7 @@ fn colour_length(colour: Option<Colour>) -> usize
 }
 
 /// Writes the spelling of a token to the start of the buffer, and says how many bytes it has.
-#[tactic(auto, unfolding(crate::specs::Spelling::spelling))]
+#[tactic(auto, using(crate::proofs::Tokens::is_item_of_bytes), unfolding(crate::specs::Spelling::spelling))]
 pub fn spell(token: &Token, out: &mut [u8; LONGEST_SPELLING]) -> usize
     requires { IsToken token.now }
     ensures length { result ≡ length (spelling token.now) }
@@ -120,7 +124,7 @@ pub fn spell(token: &Token, out: &mut [u8; LONGEST_SPELLING]) -> usize
     }
 }
 
-#[tactic(auto, unfolding(crate::specs::Spelling::spelling))]
+#[tactic(auto, using(crate::proofs::Lengths::three_digits), unfolding(crate::specs::Spelling::spelling))]
 fn spell_place(line: u16, column: u16, out: &mut [u8; LONGEST_SPELLING]) -> usize
     requires line { line < LARGEST_SCREEN }
     requires column { column < LARGEST_SCREEN }
