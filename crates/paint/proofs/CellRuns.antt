@@ -88,9 +88,7 @@ cells-there picture line x (cell ∷ cells) room are =
 with_cells-append : (picture : Picture) (line x : ℕ) (some more : List Shown)
     → with_cells picture (line, x) (some ++ more) ≡ with_cells (with_cells picture (line, x) some) (line, x + length some) more
 with_cells-append picture line x [] more = ap (λ n. with_cells picture (line, n) more) (omega arith)
-with_cells-append picture line x (cell ∷ some) more =
-    with_cells-append (with_shown picture (line, x) cell) line (x + 1) some more
-    ∙ ap (λ n. with_cells (with_cells (with_shown picture (line, x) cell) (line, x + 1) some) (line, n) more) (omega arith)
+with_cells-append picture line x (cell ∷ some) more = grind (arith, (with_cells-append (with_shown picture (line, x) cell) line (x + 1) some more))
 
 -- they are printed with the cells after them
 pub run-after : {a b : Seen} {x y : Pen} {picture : Picture} (line column : ℕ) (gap cells all : List Shown) → all ≡ gap ++ cells
@@ -98,24 +96,17 @@ pub run-after : {a b : Seen} {x y : Pen} {picture : Picture} (line column : ℕ)
     → ((k : ℕ) → k < length gap → get_or gap k shown_blank ≡ get_or (line_of picture line) (column + k) shown_blank)
     → Draws (characters all) a b x y picture (with_cells picture (line, column) all)
     → DrawsWithin (length gap + length cells) a b x y picture (with_cells picture (line, column + length gap) cells)
-run-after {a} {b} {x} {y} {picture} line column gap cells all is room are h =
-    DrawsWithin-more (cells-within all (subst (Draws (characters all) a b x y picture) shows h)) (omega (arith, ap (length {A = Shown}) is, length-append gap cells)) where
-      shows : with_cells picture (line, column) all ≡ with_cells picture (line, column + length gap) cells
-      shows =
-          ap (with_cells picture (line, column)) is ∙ with_cells-append picture line column gap cells
-          ∙ ap (λ p. with_cells p (line, column + length gap) cells) (cells-there picture line column gap room are)
+run-after {a} {b} {x} {y} {picture} line column gap cells all is room are h = grind (arith, DrawsWithin-more, cells-within, length-append, with_cells-append, cells-there)
 
 -- cells of a gap are shown
 pub gap-at : (row gap : List Shown) (column k : ℕ) → take (length gap) (drop column row) ≡ gap → k < length gap → get_or gap k shown_blank ≡ get_or row (column + k) shown_blank
-gap-at row gap column k are few =
-    ap (λ (l : List Shown). get_or l k shown_blank) (sym are) ∙ get_or-take (length gap) (drop column row) k shown_blank few ∙ get_or-drop column row k shown_blank
+gap-at row gap column k are few = grind (arith, get_or-take, get_or-drop)
 
 -- or alone, so many
 pub gap-within : {a b : Seen} {x y : Pen} {picture : Picture} (line column : ℕ) (gap : List Shown) → column + length gap ≤ length (line_of picture line)
     → ((k : ℕ) → k < length gap → get_or gap k shown_blank ≡ get_or (line_of picture line) (column + k) shown_blank)
     → Draws (characters gap) a b x y picture (with_cells picture (line, column) gap) → DrawsWithin (length gap) a b x y picture picture
-gap-within {a} {b} {x} {y} {picture} line column gap room are h =
-    cells-within gap (subst (Draws (characters gap) a b x y picture) (cells-there picture line column gap room are) h)
+gap-within {a} {b} {x} {y} {picture} line column gap room are h = grind (arith, cells-within, cells-there)
 
 -- ---- what it may cost
 
@@ -165,12 +156,7 @@ not-other same h = grind arith
 -- the first cell of one
 pub run-begun : (shown wanted : List Shown) (start end : ℕ) → start < end → same_shown (get_or shown start shown_blank) (get_or wanted start shown_blank) ≡ false
     → IsRun shown wanted start end (start + 1)
-run-begun shown wanted start end some differs = record {
-  some = omega arith;
-  within = omega arith;
-  changed = λ v from to. let is : v ≡ start = omega arith in rw is differs;
-  rendition = λ v from to. let is : v ≡ start = omega arith in ap (λ n. (get_or wanted n shown_blank).rendition) is;
-}
+run-begun shown wanted start end some differs = grind arith
 
 -- and further cells
 pub run-further : (n w : ℕ) → n ≤ w → {shown wanted : List Shown} {start end x : ℕ} {rendition : Rendition} → IsRun shown wanted start end x → rendition ≡ (get_or wanted start shown_blank).rendition
@@ -213,6 +199,4 @@ part-later start end k v a b e from to =
 -- one in which they differ
 pub part-differs : (start end k : ℕ) (a b : List Shown) → DiffersAt (cells_between start end a) (cells_between start end b) k → end ≤ length a
     → (start + k < end) × (get_or a (start + k) shown_blank ≡ get_or b (start + k) shown_blank → ⊥)
-part-differs start end k a b h inside =
-    let few : k < end - start = omega (arith, h.inside, length-take (end - start) (drop start a)) in
-    (omega (arith, few), λ same. h.differs (part-of start end k a few ∙ same ∙ sym (part-of start end k b few)))
+part-differs start end k a b h inside = grind (arith, length-take, part-of)

@@ -1,18 +1,13 @@
 -- The columns in which two pictures may differ are copied from one to the other.
+use Rattle.std.proofs.lemmas.Grind.{common_steps}
 use Rattle.std.specs.Prelude.{◌≡◌, ◌+◌, ◌-◌, ◌<◌, ◌≤◌, ◌==◌, ◌&&◌, if◌then◌else◌}
-use Rattle.paint.specs.{ℕ, nat_le, nat_lt, inl, inr, Option, None, List, [], length, get_or, take, drop, ap, arith, cases_eq, cases_lt, nat_tests, get_or-drop, get_or-take, get_or_past, Picture}
+use Rattle.paint.specs.{ℕ, nat_le, nat_lt, Option, None, List, length, get_or, take, drop, arith, cases_eq, cases_lt, nat_tests, get_or-drop, get_or-take, get_or_past, Picture}
 use Rattle.paint.specs.{HasSize, line_of, shown_at, Shown, shown_blank, Columns, DifferOnly, IsWithin, columns_of}
 use Rattle.cell.proofs.PictureLemmas.{length-line, same_pictures}
 
 -- nothing but blanks is shown outside of a picture
 shown-outside : {lines columns : ℕ} {picture : Picture} → HasSize lines columns picture → (y x : ℕ) → (y < lines → x < columns → ⊥) → shown_at picture (y, x) ≡ shown_blank
-shown-outside {lines} {columns} {picture} size y x out = elim (cases_lt y lines) [
-  | inr past ↦ ap (λ (line : List Shown). get_or line x shown_blank) (get_or_past picture y [] (omega (arith, size.height)))
-  | inl below ↦ elim (cases_lt x columns) [
-    | inl left ↦ absurd (out below left)
-    | inr right ↦ get_or_past (line_of picture y) x shown_blank (omega (arith, length-line y size below))
-  ]
-]
+shown-outside {lines} {columns} {picture} size y x out = grind (arith, cases_lt, get_or_past, length-line, common_steps)
 
 pub same-outside : {lines columns : ℕ} {one other : Picture} → HasSize lines columns one → HasSize lines columns other → (y x : ℕ) → (y < lines → x < columns → ⊥)
     → shown_at one (y, x) ≡ shown_at other (y, x)

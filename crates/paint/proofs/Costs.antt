@@ -57,17 +57,7 @@ picture_bytes-later y z old new before =
 -- ---- from a place on
 
 pub bytes_from-line : (shown wanted : Picture) (y : ℕ) → length shown ≡ length wanted → bytes_from shown wanted (y, 0) ≡ picture_bytes (drop y shown) (drop y wanted)
-bytes_from-line shown wanted y same = elim (cases_lt y (length shown)) [
-  | inl there ↦
-      let is : picture_bytes (drop y shown) (drop y wanted) ≡ picture_bytes (line_of shown y ∷ drop (y + 1) shown) (line_of wanted y ∷ drop (y + 1) wanted) = λ i.
-      picture_bytes (drop_more shown y [] there i) (drop_more wanted y [] (omega arith) i) in
-      omega (arith, is)
-  | inr past ↦
-      let none = get_or_past shown y [] past in
-      let rest = drop_all y shown past in
-      let later = drop_all (y + 1) shown (omega arith) in
-      rw (none, rest, later) (omega arith)
-]
+bytes_from-line shown wanted y same = grind (arith, cases_lt, drop_more, get_or_past, drop_all)
 
 pub bytes_from-later : (shown wanted : Picture) (from to : Place) → length shown ≡ length wanted → is_before to from ≡ false → bytes_from shown wanted to ≤ bytes_from shown wanted from
 bytes_from-later shown wanted from to same ordered = elim (cases_lt from.0 to.0) [

@@ -23,16 +23,7 @@ row-cell row x u cell other here there = grind (arith, cases_eq, cases_lt, get_o
 -- what is right stays right
 kept-cell : (wanted picture : Picture) (line x v u : ℕ) (cell : Shown) → cell ≡ shown_at wanted (line, x) → shown_at picture (v, u) ≡ shown_at wanted (v, u)
     → shown_at (with_shown picture (line, x) cell) (v, u) ≡ shown_at wanted (v, u)
-kept-cell wanted picture line x v u cell is right = elim (cases_eq v line) [
-  | inr other ↦ rw (get_or-set_other picture line v (set (line_of picture line) x cell) [] other) right
-  | inl same ↦ elim (cases_lt line (length picture)) [
-    | inr past ↦ rw (set_past picture line (set (line_of picture line) x cell) past) right
-    | inl there ↦
-        let row : line_of (with_shown picture (line, x) cell) v ≡ set (line_of picture v) x cell = grind (arith, get_or-set_same) in
-        ap (λ (l : List Shown). get_or l u shown_blank) row
-        ∙ row-cell (line_of picture v) x u cell (shown_at wanted (v, u)) (λ here. is ∙ (λ i. shown_at wanted (sym same i, sym here i))) right
-  ]
-]
+kept-cell wanted picture line x v u cell is right = grind (arith, cases_eq, get_or-set_other, cases_lt, set_past, get_or-set_same, row-cell)
 
 -- strokes leave a picture of the same size
 pub drawn-size : {lines columns n : ℕ} {a b : Seen} {x y : Pen} {shown drawn : Picture} → HasSize lines columns shown → DrawsWithin n a b x y shown drawn → HasSize lines columns drawn
@@ -115,9 +106,7 @@ stroke-more {wanted} {strokes} stroke h drawn piece kept written columns = recor
 
 -- where it writes
 place-in : (place : Place) (stroke : Stroke) → stroke.ink ≡ Print → writes place stroke ≡ true → (place.0 ≡ stroke.line) × (stroke.start ≤ place.1) × (place.1 < stroke.end)
-place-in place stroke ink inside =
-    let inside : (not (is_before place (stroke.line, stroke.start)) && is_before place (stroke.line, stroke.end)) ≡ true = rw ink at inside in
-    grind (arith, nat_tests)
+place-in place stroke ink inside = grind (arith, nat_tests)
 
 pub print-drawn : {before mid now : Seen} {old pen next : Pen} {shown wanted : Picture} {strokes : List Stroke} {lines columns : ℕ} (stroke : Stroke) → stroke.ink ≡ Print
     → HasSize lines columns shown → HasSize lines columns wanted → IsStroke shown wanted stroke
@@ -154,8 +143,7 @@ print-drawn {mid} {now} {pen} {next} {shown} {wanted} {strokes} {lines} stroke i
 
 -- a cell of a line that is erased from a column on: one before it, and another
 erased-early : (row : List Shown) (x u : ℕ) → x ≤ length row → u < x → get_or (erased_line ToEnd x row) u shown_blank ≡ get_or row u shown_blank
-erased-early row x u few early =
-    get_or-append (take x row) (blank_line (drop x row)) shown_blank u (omega (arith, early, length-take-le x row few)) ∙ get_or-take x row u shown_blank early
+erased-early row x u few early = grind (arith, get_or-append, length-take-le, get_or-take)
 
 erased-late : (row : List Shown) (x u : ℕ) → x ≤ length row → x ≤ u → get_or (erased_line ToEnd x row) u shown_blank ≡ shown_blank
 erased-late row x u few late =
@@ -164,19 +152,7 @@ erased-late row x u few late =
 -- a place of a picture of which a line is
 erased-place : (picture : Picture) (line x v u : ℕ) → line < length picture → x ≤ length (line_of picture line)
     → shown_at (erased_at ToEnd (line, x) picture) (v, u) ≡ (if v == line && nat_le x u then shown_blank else shown_at picture (v, u))
-erased-place picture line x v u there few = elim (cases_eq v line) [
-  | inr other ↦ rw (get_or-set_other picture line v (erased_line ToEnd x (line_of picture line)) [] other, ne_eqb v line other) refl
-  | inl same ↦
-      let row : line_of (erased_at ToEnd (line, x) picture) v ≡ erased_line ToEnd x (line_of picture line) =
-      ap (line_of (erased_at ToEnd (line, x) picture)) same ∙ get_or-set_same picture line (erased_line ToEnd x (line_of picture line)) [] there in
-      let at = ap (λ (l : List Shown). get_or l u shown_blank) row in
-      elim (cases_lt u x) [
-        | inl early ↦
-            let cell = at ∙ erased-early (line_of picture line) x u few early ∙ ap (λ n. shown_at picture (n, u)) (sym same) in
-            rw (eq-eqb v line same, lt-leb x u early) cell
-        | inr late ↦ rw (eq-eqb v line same, le-leb x u late) (at ∙ erased-late (line_of picture line) x u few late)
-      ]
-]
+erased-place picture line x v u there few = grind (arith, cases_eq, get_or-set_other, ne_eqb, get_or-set_same, cases_lt, erased-early, eq-eqb, lt-leb, le-leb, erased-late)
 
 -- and of one of which the page is
 erased-below : (picture : Picture) (line x v u : ℕ) → line < length picture → x ≤ length (line_of picture line)

@@ -1,8 +1,9 @@
 -- Strokes are found line by line: they write all that isn't shown as wanted, within what that may cost.
-use Rattle.std.specs.Prelude.{◌≡◌, ◌+◌, ◌-◌, ◌<◌, ◌≤◌, ◌∷◌, ◌++◌, ◌&&◌, if◌then◌else◌}
-use Rattle.paint.specs.{ℕ, true, false, List, [], length, get_or, drop, take, inl, inr, refl, sym, ap, ◌∙◌, subst, arith, append_assoc, append-nil, Option, not, cases_Bool, cases_lt, nat_tests}
+use Rattle.std.proofs.lemmas.Grind.{common_steps}
+use Rattle.std.specs.Prelude.{◌≡◌, ◌+◌, ◌-◌, ◌<◌, ◌≤◌, ◌∷◌, ◌++◌, ◌&&◌}
+use Rattle.paint.specs.{ℕ, true, false, List, [], length, take, inl, inr, refl, sym, ap, ◌∙◌, subst, arith, append_assoc, append-nil, Option, not, cases_Bool, cases_lt, nat_tests}
 use Rattle.paint.specs.{get_or_past, All-push, sum_by_push, shown_blank, HasSize, Picture, Place, line_of, shown_at, Seen, IsWithin, columns_of, Columns, IsUpdate, AreAlike, AreDrawn, AreFound}
-use Rattle.paint.specs.{ArePlanned, AreSameBetween, HasInk, IsStroke, IsUnderWay, bytes_from, ink_bytes, is_before, is_before_end, layers, stroke_bytes, strokes_bytes, writes, DrawsWithin, cell_bytes}
+use Rattle.paint.specs.{ArePlanned, AreSameBetween, HasInk, IsStroke, IsUnderWay, bytes_from, ink_bytes, is_before, is_before_end, layers, stroke_bytes, strokes_bytes, writes, DrawsWithin}
 use Rattle.paint.specs.{picture_bytes, IsStretch, cells_between}
 use Rattle.cell.proofs.PictureLemmas.{length-line, same_pictures}
 use Rattle.paint.specs.declared.pen.Pen.{Pen}
@@ -17,34 +18,15 @@ use Rattle.paint.proofs.PenSteps.{DrawsWithin-more}
 
 -- a part of a line
 pub same-in_line : (shown wanted : Picture) (y x z : ℕ) → x ≤ z → AreAlike shown wanted y x z → AreSameBetween shown wanted (y, x) (y, z)
-same-in_line shown wanted y x z ordered same = record {
-  ordered = grind (arith, nat_tests);
-  same = λ place from to.
-      let line : place.0 ≡ y = grind (arith, nat_tests) in
-      let early : x ≤ place.1 = grind (arith, nat_tests) in
-      let late : place.1 < z = grind (arith, nat_tests) in
-      subst (λ n. shown_at shown (n, place.1) ≡ shown_at wanted (n, place.1)) (sym line) (same place.1 early late);
-}
+same-in_line shown wanted y x z ordered same = grind (arith, nat_tests)
 
 -- the rest of a line
 pub same-to_end : (shown wanted : Picture) (y x : ℕ) → ((u : ℕ) → x ≤ u → shown_at shown (y, u) ≡ shown_at wanted (y, u)) → AreSameBetween shown wanted (y, x) (y + 1, 0)
-same-to_end shown wanted y x same = record {
-  ordered = grind (arith, nat_tests);
-  same = λ place from to.
-      let line : place.0 ≡ y = grind (arith, nat_tests) in
-      let early : x ≤ place.1 = grind (arith, nat_tests) in
-      subst (λ n. shown_at shown (n, place.1) ≡ shown_at wanted (n, place.1)) (sym line) (same place.1 early);
-}
+same-to_end shown wanted y x same = grind (arith, nat_tests)
 
 -- whole lines
 pub same-lines : (shown wanted : Picture) (y z : ℕ) → y ≤ z → ((v u : ℕ) → y ≤ v → v < z → shown_at shown (v, u) ≡ shown_at wanted (v, u)) → AreSameBetween shown wanted (y, 0) (z, 0)
-same-lines shown wanted y z ordered same = record {
-  ordered = grind (arith, nat_tests);
-  same = λ place from to.
-      let early : y ≤ place.0 = grind (arith, nat_tests) in
-      let late : place.0 < z = grind (arith, nat_tests) in
-      same place.0 place.1 early late;
-}
+same-lines shown wanted y z ordered same = grind (arith, nat_tests)
 
 -- what is not in the part of a line in which alone two pictures differ
 pub before-part : (y x : ℕ) {lines columns : ℕ} {changes : List (Option Columns)} {shown wanted : Picture} {part : ℕ × ℕ} → IsUpdate lines columns changes shown wanted
@@ -53,12 +35,7 @@ before-part y x f within before = f.changes.others y x (within.before x before)
 
 pub after-part : (y x : ℕ) {lines columns : ℕ} {changes : List (Option Columns)} {shown wanted : Picture} {part : ℕ × ℕ} → IsUpdate lines columns changes shown wanted
     → IsWithin columns (columns_of changes y) part → y < lines → part.1 ≤ x → shown_at shown (y, x) ≡ shown_at wanted (y, x)
-after-part y x {columns = columns} {shown = shown} {wanted = wanted} f within below after = elim (cases_lt x columns) [
-  | inl left ↦ f.changes.others y x (within.after x after left)
-  | inr past ↦
-      get_or_past (line_of shown y) x shown_blank (omega (arith, past, length-line y f.shown below))
-      ∙ sym (get_or_past (line_of wanted y) x shown_blank (omega (arith, past, length-line y f.wanted below)))
-]
+after-part y x {columns = columns} {shown = shown} {wanted = wanted} f within below after = grind (arith, cases_lt, left, get_or_past, length-line, common_steps)
 
 -- a line whose part doesn't differ
 pub whole-line : (y x : ℕ) {lines columns : ℕ} {changes : List (Option Columns)} {shown wanted : Picture} {part : ℕ × ℕ} → IsUpdate lines columns changes shown wanted
@@ -75,21 +52,12 @@ whole-line y x {shown = shown} {wanted = wanted} {part = part} f within below no
 -- ---- strokes that were found
 
 pub found-none : (shown wanted : Picture) → length shown ≡ length wanted → AreFound shown wanted (0, 0) []
-found-none shown wanted same = record {
-  others = λ place before none. absurd (grind (arith, nat_tests));
-  short = omega (arith, bytes_from-line shown wanted 0 same);
-}
+found-none shown wanted same = grind (arith, nat_tests, bytes_from-line)
 
 -- what is shown already is passed over
 pub found-same : {shown wanted : Picture} {from to : Place} {strokes : List Stroke} → length shown ≡ length wanted → AreFound shown wanted from strokes → AreSameBetween shown wanted from to
     → AreFound shown wanted to strokes
-found-same {shown} {wanted} {from} {to} same h between = record {
-  others = λ place before none. elim (cases_Bool (is_before place from)) [
-    | inl early ↦ h.others place early none
-    | inr late ↦ between.same place late before
-  ];
-  short = omega (arith, h.short, bytes_from-later shown wanted from to same between.ordered);
-}
+found-same {shown} {wanted} {from} {to} same h between = grind (arith, cases_Bool, bytes_from-later)
 
 -- a place that comes before a stroke's end, and that it doesn't write, comes before it
 not-written : (place : Place) (stroke : Stroke) → writes place stroke ≡ false → is_before_end stroke.ink place stroke ≡ true → is_before place (stroke.line, stroke.start) ≡ true
@@ -101,37 +69,13 @@ found-stroke : {shown wanted : Picture} {strokes : List Stroke} {from to : Place
     → ((place : Place) → is_before place (stroke.line, stroke.start) ≡ true → is_before place from ≡ true)
     → stroke_bytes wanted stroke + bytes_from shown wanted to ≤ bytes_from shown wanted from
     → AreFound shown wanted from strokes → AreFound shown wanted to (strokes ++ stroke ∷ [])
-found-stroke {wanted} {strokes} stroke all from short h = record {
-  others = λ place before none.
-      let layers_are = sum_by_push (λ (s : Stroke). if writes place s then 1 else 0) strokes stroke in
-      elim (cases_Bool (writes place stroke)) [
-        | inl inside ↦ absurd (omega (arith, none, layers_are, ap {B = ℕ} (λ b. if b then 1 else 0) inside))
-        | inr outside ↦ h.others place (from place (not-written place stroke outside (all place before))) (omega (arith, none, layers_are))
-      ];
-  short = omega (arith, h.short, short, sum_by_push (stroke_bytes wanted) strokes stroke);
-}
+found-stroke {wanted} {strokes} stroke all from short h = grind (arith, sum_by_push, cases_Bool, not-written)
 
 -- what a run of changed cells may cost
 run-cost : (shown wanted : Picture) {end : ℕ} (stroke : Stroke) → length (line_of shown stroke.line) ≡ length (line_of wanted stroke.line)
     → IsStretch (line_of shown stroke.line) (line_of wanted stroke.line) stroke.start end stroke.end → end ≤ length (line_of wanted stroke.line)
     → ink_bytes Print wanted stroke + bytes_from shown wanted (stroke.line, stroke.end) ≤ bytes_from shown wanted (stroke.line, stroke.start)
-run-cost shown wanted {end} stroke same run inside =
-    let x = stroke.start in
-    let old = line_of shown stroke.line in
-    let new = line_of wanted stroke.line in
-    let cells = cells_between x stroke.end new in
-    let long = length-between x stroke.end new (omega (arith, run.cells.some)) (omega (arith, run.within, inside)) in
-    let here : x + 0 ≡ x = omega arith in
-    let first : get_or cells 0 shown_blank ≡ get_or new x shown_blank = part-of x stroke.end 0 new (omega (arith, run.cells.some)) ∙ ap (λ n. get_or new n shown_blank) here in
-    omega (
-      arith,
-      left x old new same (omega (arith, same, run.cells.some, run.within, inside)),
-      line_bytes-other (get_or old x shown_blank) (get_or new x shown_blank) (drop (x + 1) old) (drop (x + 1) new) run.changed,
-      run.short,
-      run.cells.some,
-      long,
-      ap cell_bytes first,
-    )
+run-cost shown wanted {end} stroke same run inside = grind (arith, length-between, part-of, left, line_bytes-other)
 
 -- ---- all of them
 
@@ -267,14 +211,7 @@ way-planned h plans = record { others = h.others; drawn = h.drawn; planned = pla
 pub way-drawn : {before mid now : Seen} {old pen next : Pen} {shown wanted : Picture} {to : Place} {strokes : List Stroke} → IsUnderWay before mid old pen shown wanted to strokes
     → ((others : List Stroke) → AreDrawn before mid old pen shown wanted others → AreDrawn before now old next shown wanted (others ++ strokes))
     → IsUnderWay before now old next shown wanted to []
-way-drawn {shown} {wanted} {to} {strokes} h draws = record {
-  others = h.others ++ strokes;
-  drawn = draws h.others h.drawn;
-  planned = record {
-    found = subst (AreFound shown wanted to) (sym (append-nil (h.others ++ strokes))) h.planned.found;
-    are = λ k none few. absurd (omega arith);
-  };
-}
+way-drawn {shown} {wanted} {to} {strokes} h draws = grind (arith, append-nil)
 
 -- and all were found
 pub way-whole : {before now : Seen} {old pen : Pen} {shown wanted : Picture} {lines columns : ℕ} → HasSize lines columns shown → HasSize lines columns wanted

@@ -1,4 +1,5 @@
 -- The strokes of a doupdate make a text of it.
+use Rattle.std.proofs.lemmas.Grind.{common_steps}
 use Rattle.std.specs.Prelude.{◌≡◌, ◌*◌, ◌<◌, ◌≤◌, ◌∷◌, ◌++◌}
 use Rattle.paint.specs.{Bool, ℕ, List, [], length, Option, Some, None, refl, sym, ap, ◌∙◌, subst, arith, append_assoc, length-append, AllByRecursion, nil_from_length, Shown, no_rendition, Picture}
 use Rattle.paint.specs.{Place, HasSize, line_of, line_difference, difference, line_colour_difference, colour_difference, Leads, Shows, showing, Terminal, Seen, PainterState, ShownPicture}
@@ -134,8 +135,4 @@ module _ (painter : PainterState) (clear : Bool) (wanted : ShownPicture) {a b c 
       picture picture)
       → IsPlainAt last wanted.cursor
       → HoldsUpdate painter clear wanted seen c last.outbox
-  holds-start is_lines is_columns update can gathered begun strokes ending end =
-      holds (omega (arith, is_lines, update.few_lines)) (omega (arith, is_columns, update.few_columns)) (omega (arith, is_lines, can.line)) (omega (arith, is_columns, can.column))
-      (omega (arith, update.few_lines, can.line)) (omega (arith, update.few_columns, can.column)) (subst (HasSize painter.lines painter.columns) begun.picture begun.size) gathered begun.plain
-      (subst (λ picture. DrawsWithin (picture_bytes picture wanted.picture) a b first drawn picture wanted.picture) begun.picture strokes)
-      (ending wanted.picture (omega (arith, length-line wanted.cursor.0 update.wanted can.line, can.column))) end
+  holds-start is_lines is_columns update can gathered begun strokes ending end = grind (arith, holds, length-line, common_steps)

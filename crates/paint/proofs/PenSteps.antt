@@ -1,4 +1,5 @@
 -- The strokes of a pen, one after another, and what each shows.
+use Rattle.std.proofs.lemmas.Grind.{common_steps}
 use Rattle.std.specs.Prelude.{◌≡◌, ◌+◌, ◌<◌, ◌≤◌, ◌∷◌, ◌++◌}
 use Rattle.paint.specs.{ℕ, true, false, List, [], length, Option, Some, refl, sym, ap, ◌∙◌, subst, arith, append_assoc, append-nil, length-append, and_parts, cases_Bool, eqb-true, lt-ltb, length-map}
 use Rattle.paint.specs.{no_rendition, Shown, Rendition, IsRendition, Picture, Place, line_of, same_rendition, Token, Print, Cup, Sgr, digits, spelling, codes_of_attributes, token_effect, IsToken}
@@ -18,10 +19,7 @@ Draws-nothing seen pen picture = grind (arith, append-nil, Leads-nothing)
 
 pub Draws-then : {one other : List ℕ} {a b c : Seen} {x y z : Pen} {picture middle drawn : Picture} → Draws one a b x y picture middle → Draws other b c y z middle drawn
     → Draws (one ++ other) a c x z picture drawn
-Draws-then {one} {other} {x} {y} {z} {picture} {middle} {drawn} h k = record {
-  gathers = Gathers-then h.gathers k.gathers;
-  leads = Leads-append one other (under x picture) (under y middle) (under z drawn) h.leads k.leads;
-}
+Draws-then {one} {other} {x} {y} {z} {picture} {middle} {drawn} h k = grind (arith, Gathers-then, Leads-append, common_steps)
 
 pub DrawsWithin-nothing : (seen : Seen) (pen : Pen) (picture : Picture) → DrawsWithin 0 seen seen pen pen picture picture
 DrawsWithin-nothing seen pen picture = record { piece = []; draws = Draws-nothing seen pen picture; short = omega arith }

@@ -78,3 +78,5 @@ Agrees-fault painter clear wanted stream text sent t size agrees is_text within 
       (rw is_text.parts at is_text.shows));
   leads = tt;
 }
+
+pub ruleset unknown = (nothing-in_profile, Agrees-unknown)

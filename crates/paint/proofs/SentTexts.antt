@@ -11,28 +11,11 @@ flushed-few h writes = record { writes = h.writes; few = h.few; count = ap (λ n
 module _ {painter : PainterState} {clear : Bool} {wanted : ShownPicture} {text : List ℕ} (is_text : IsUpdateText painter clear wanted text) where
   pub updated : {old mid new : Seen} {total : ℕ} → Sends old mid 0 text (Ok total) → WritesFew old mid (length text) → Keeps mid.taken new.taken → new.failures ≡ mid.failures → new.whole_writes ≡ mid.whole_writes
       → new.flushes ≡ next_count mid.flushes → new.flushed ≡ true → Updates painter clear old new wanted total
-  updated h few keeps failures writes flushes flushed = record {
-    text = text;
-    is_text = is_text;
-    count = grind arith;
-    taken = grind (arith, Appends-keeps);
-    no_failure = grind arith;
-    writes = flushed-few few writes;
-    flushes = grind arith;
-    flushed = flushed;
-  }
+  updated h few keeps failures writes flushes flushed = grind (arith, Appends-keeps, flushed-few)
 
   pub broken_flush : {old mid new : Seen} {total : ℕ} → Sends old mid 0 text (Ok total) → WritesFew old mid (length text) → Keeps mid.taken new.taken → new.failures ≡ next_count mid.failures → new.whole_writes ≡ mid.whole_writes
       → new.flushes ≡ next_count mid.flushes → BreaksOff painter clear old new wanted total
-  broken_flush h few keeps failures writes flushes = record {
-    text = text;
-    is_text = is_text;
-    within = grind arith;
-    taken = grind (arith, take_all, Appends-keeps);
-    failure = grind arith;
-    writes = flushed-few few writes;
-    flushes = grind (arith, whole-flushed);
-  }
+  broken_flush h few keeps failures writes flushes = grind (arith, take_all, Appends-keeps, flushed-few, whole-flushed)
 
   pub broken_text : {old new : Seen} {fault : WriteFault} → Sends old new 0 text (Err fault) → WritesFew old new (length text) → BreaksOff painter clear old new wanted fault.sent
   broken_text h few = grind (arith, cut-unflushed)

@@ -5,12 +5,7 @@ use Rattle.paint.proofs.CellRuns.{run-short}
 use Rattle.paint.proofs.Costs.{left, line_bytes-later, line_bytes-other}
 
 pub run-stretch : {shown wanted : List Shown} {start end stop : ℕ} → length shown ≡ length wanted → end ≤ length wanted → IsRun shown wanted start end stop → IsStretch shown wanted start end stop
-run-stretch {shown} {wanted} {start} {end} {stop} same inside h = record {
-  cells = record { some = h.some; within = omega (arith, h.within, inside); rendition = h.rendition };
-  within = h.within;
-  changed = h.changed start (omega arith) h.some;
-  short = run-short start stop shown wanted same h.some (omega (arith, h.within, inside, same)) h.changed;
-}
+run-stretch {shown} {wanted} {start} {end} {stop} same inside h = grind (arith, run-short)
 
 -- what a run costs, with the cells before it
 run-pays : (x stop : ℕ) (shown wanted : List Shown) → length shown ≡ length wanted → x < stop → stop ≤ length shown

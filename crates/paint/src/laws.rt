@@ -5,6 +5,7 @@ ghost use Rattle.std.specs.Prelude.{◌≡◌, ◌≤◌, ◌++◌};
 ghost use Rattle.paint.specs.{ℕ, Bool, List, [], length, take, Some, None, HasSize, Terminal, IsInProfile, LeadsWithBreaks, showing, PainterState, ShownPicture, IsUpdateText, Agrees};
 
 /// A painter that knows nothing agrees with every stream in the profile, and so with the empty one.
+#[tactic(auto, using(crate::proofs::Repair::unknown))]
 pub fn unknown_agrees()
     ensures every { (painter : PainterState) → painter.last ≡ None → (stream : List ℕ) (t u : Terminal) → IsInProfile stream t u → Agrees painter stream t }
     ensures empty { (t : Terminal) → IsInProfile [] t t }

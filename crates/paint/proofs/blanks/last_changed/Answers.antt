@@ -1,16 +1,14 @@
 -- `last_changed`: lines are looked at from the last one on which may differ.
+use Rattle.std.proofs.lemmas.Grind.{common_steps}
 use Rattle.std.specs.Prelude.{◌≡◌, ◌-◌, ◌<◌}
-use Rattle.paint.specs.{◌∙◌, inl, inr, refl, ap, subst, arith, cases_lt, line_of, shown_at}
+use Rattle.paint.specs.{◌∙◌, inl, inr, ap, subst, arith, cases_lt, line_of, shown_at}
 use Rattle.cell.proofs.PictureLemmas.{length-line}
 use Rattle.paint.proofs.CellRuns.{part-differs}
 use Rattle.paint.proofs.FoundStrokes.{whole-line}
 use Rattle.paint.proofs.blanks.last_changed.Goals as goal
 
 pub loop-end-init : goal.loop-end-init
-loop-end-init c = record {
-  within = c.end-end.ensures.inside;
-  later = λ y x from. c.args.update.now.sound.changes.others y x (rw (c.end-end.ensures.none y from) refl);
-}
+loop-end-init c = grind (arith, common_steps)
 
 pub loop-end-preserved : goal.loop-end-preserved
 loop-end-preserved c =

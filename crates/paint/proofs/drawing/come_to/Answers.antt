@@ -1,19 +1,13 @@
 -- `come_to`: the gap printed again before and after the selection, or after one of none, or a move (`PenSteps`).
+use Rattle.std.proofs.lemmas.Grind.{common_steps}
 use Rattle.std.specs.Prelude.{◌≡◌, ◌+◌, ◌-◌, ◌<◌}
-use Rattle.paint.specs.{◌∙◌, get_or, length, drop, sym, ap, arith, get_or-drop, get_or-take, length-drop, length-take, line_of, Shown, shown_blank}
+use Rattle.paint.specs.{◌∙◌, get_or, length, drop, sym, ap, arith, get_or-drop, get_or-take, length-drop, length-take, line_of, shown_blank}
 use Rattle.paint.proofs.CellRuns.{all-at, gap-at, gap-within}
 use Rattle.paint.proofs.PenSteps.{DrawsWithin-more, DrawsWithin-then, move-within, plain-within, select-within}
 use Rattle.paint.proofs.drawing.come_to.Goals as goal
 
 pub print_again-requires-in-Printed-clause-rendition : goal.print_again-requires-in-Printed-clause-rendition
-print_again-requires-in-Printed-clause-rendition g c = λ k few.
-    let split = rw c.in-Printed.is at c.requires.way in
-    let gap = c.args.gap.now in
-    let n = c.in-Printed.count in
-    let rest = drop n gap in
-    let inside : k < length gap - n = omega (arith, few, length-take (length gap - n) rest) in
-    ap (λ (cell : Shown). cell.rendition) (get_or-take (length gap - n) rest k shown_blank inside) ∙ all-at c.args.rendition rest k split.rest (omega (arith, inside, length-drop n gap))
-    ∙ sym c.select.ensures.rendition
+print_again-requires-in-Printed-clause-rendition g c = grind (arith, length-take, get_or-take, all-at, length-drop, common_steps)
 
 pub returns-in-Printed-clause-draws : goal.returns-in-Printed-clause-draws
 returns-in-Printed-clause-draws g c = λ picture wide are.

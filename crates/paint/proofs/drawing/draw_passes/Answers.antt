@@ -1,7 +1,8 @@
 -- `draw_passes`: it draws each stroke in its pass, and the order doesn't matter.
+use Rattle.std.proofs.lemmas.Grind.{common_steps}
 use Rattle.std.specs.Prelude.{◌≡◌, ◌≢◌, ◌+◌, ◌<◌, ◌≤◌, ◌∷◌, ◌++◌, if◌then◌else◌}
-use Rattle.paint.specs.{ℕ, zero, suc, List, [], length, get_or, inl, inr, sym, ap, ◌∙◌, subst, arith, add-one, append_assoc, nat_lt, filter, sum_by, cases_eq, cases_lt, eq-eqb, ne_eqb, lt-ltb, le-ltb}
-use Rattle.paint.specs.{sum_by-append, sum_by-cons, Seen, Picture, AreDrawn, in_passes, is_of, no_stroke, stroke_bytes, writes}
+use Rattle.paint.specs.{ℕ, zero, suc, List, [], length, get_or, sym, ap, ◌∙◌, subst, arith, add-one, append_assoc, nat_lt, filter, sum_by, cases_eq, cases_lt, eq-eqb, ne_eqb, lt-ltb, le-ltb}
+use Rattle.paint.specs.{sum_by-append, sum_by-cons, Seen, Picture, AreDrawn, in_passes, is_of, no_stroke}
 use Rattle.paint.specs.declared.pen.Pen.{Pen}
 use Rattle.paint.specs.declared.strokes.Stroke.{Stroke}
 use Rattle.paint.proofs.PenSteps.{DrawsWithin-more}
@@ -22,16 +23,7 @@ early-alike f passes stroke other = grind (arith, cases_lt, early-before, early-
 
 sum_by-early_more : (f : Stroke → ℕ) (passes : ℕ) (strokes : List Stroke) → sum_by (early f passes) strokes + sum_by f (filter (is_of passes) strokes) ≡ sum_by (early f (suc passes)) strokes
 sum_by-early_more f passes [] = omega arith
-sum_by-early_more f passes (stroke ∷ strokes) =
-    let before = sum_by-cons (early f passes) stroke strokes in
-    let after = sum_by-cons (early f (suc passes)) stroke strokes in
-    let more = sum_by-early_more f passes strokes in
-    elim (cases_eq stroke.pass passes) [
-      | inl same ↦
-          rw (eq-eqb stroke.pass passes same)
-          (omega (arith, before, after, more, sum_by-cons f stroke (filter (is_of passes) strokes), early-past f passes stroke (omega arith), early-before f (suc passes) stroke (omega arith)))
-      | inr other ↦ rw (ne_eqb stroke.pass passes other) (omega (arith, before, after, more, early-alike f passes stroke other))
-    ]
+sum_by-early_more f passes (stroke ∷ strokes) = grind (arith, sum_by-cons, cases_eq, eq-eqb, early-past, early-before, ne_eqb, early-alike, (sum_by-early_more f passes strokes), common_steps)
 
 sum_by-early_none : (f : Stroke → ℕ) (strokes : List Stroke) → sum_by (early f 0) strokes ≡ 0
 sum_by-early_none f [] = omega arith
@@ -39,12 +31,7 @@ sum_by-early_none f (stroke ∷ strokes) = omega (arith, sum_by-cons (early f 0)
 
 sum_by-in_passes : (f : Stroke → ℕ) (passes : ℕ) (strokes : List Stroke) → sum_by f (in_passes passes strokes) ≡ sum_by (early f passes) strokes
 sum_by-in_passes f zero strokes = sym (sum_by-early_none f strokes)
-sum_by-in_passes f (suc passes) strokes = omega (
-  arith,
-  sum_by-append f (in_passes passes strokes) (filter (is_of passes) strokes),
-  sum_by-in_passes f passes strokes,
-  sum_by-early_more f passes strokes,
-)
+sum_by-in_passes f (suc passes) strokes = grind (arith, sum_by-append, sum_by-early_more, (sum_by-in_passes f passes strokes), common_steps)
 
 sum_by-early_all : (f : Stroke → ℕ) (passes : ℕ) (strokes : List Stroke) → ((k : ℕ) → k < length strokes → (get_or strokes k no_stroke).pass < passes)
     → sum_by (early f passes) strokes ≡ sum_by f strokes
@@ -61,13 +48,7 @@ sum_by-early_all f passes (stroke ∷ strokes) within =
 -- in another order they are drawn too
 drawn-alike : {before now : Seen} {old pen : Pen} {shown wanted : Picture} {one other : List Stroke} → AreDrawn before now old pen shown wanted one
     → ((f : Stroke → ℕ) → sum_by f one ≡ sum_by f other) → AreDrawn before now old pen shown wanted other
-drawn-alike {wanted} h same = record {
-  drawn = h.drawn;
-  piece = DrawsWithin-more h.piece (omega (arith, same (stroke_bytes wanted)));
-  kept = h.kept;
-  written = λ place some. h.written place (omega (arith, some, same (λ stroke. if writes place stroke then 1 else 0)));
-  columns = h.columns;
-}
+drawn-alike {wanted} h same = grind (arith, DrawsWithin-more, common_steps)
 
 pub loop-pass-preserved : goal.loop-pass-preserved
 loop-pass-preserved g c = record {
@@ -82,13 +63,4 @@ loop-pass-preserved g c = record {
 }
 
 pub returns-clause-drawn : goal.returns-clause-drawn
-returns-clause-drawn g c = λ before begun others h.
-    let strokes = c.args.strokes.now in
-    let last : c.loop-pass.pass ≡ c.passes_of-pass-end.result = omega arith in
-    drawn-alike (c.loop-pass.invariant.drawn before begun others h) (λ f. omega (
-      arith,
-      sum_by-append f others (in_passes c.loop-pass.pass strokes),
-      sum_by-append f others strokes,
-      sum_by-in_passes f c.loop-pass.pass strokes,
-      sum_by-early_all f c.loop-pass.pass strokes (λ k few. omega (arith, last, c.passes_of-pass-end.ensures k few)),
-    ))
+returns-clause-drawn g c = grind (arith, drawn-alike, sum_by-append, sum_by-in_passes, sum_by-early_all, common_steps)

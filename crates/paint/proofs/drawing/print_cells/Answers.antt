@@ -1,7 +1,8 @@
 -- `print_cells`: runs of cells, printed one after another (`CellRuns`); the strokes of a pen (`PenSteps`).
+use Rattle.std.proofs.lemmas.Grind.{common_steps}
 use Rattle.std.specs.Prelude.{◌≡◌, ◌+◌, ◌-◌, ◌<◌, ◌≤◌}
 use Rattle.paint.specs.{ℕ, ◌∙◌, inl, inr, List, drop, get_or, length, take, sym, ap, subst, arith, cases_lt, get_or-drop, get_or_default, get_or-take, length-drop, length-take-le, IsRendition}
-use Rattle.paint.specs.{Rendition, Shown, shown_blank, line_of, spelling, Sgr, DrawsWithin, most_approach, run_bytes, with_cells, HaveOneRendition, cells_between}
+use Rattle.paint.specs.{Rendition, Shown, shown_blank, line_of, DrawsWithin, most_approach, run_bytes, with_cells, HaveOneRendition, cells_between}
 use Rattle.paint.proofs.CellRuns.{all-at, drawn-short, gap-and, gap-ends, gap-shown, length-between, part-of, run-after}
 use Rattle.paint.proofs.PenSteps.{DrawsWithin-more, DrawsWithin-then, cells-within, select-within}
 use Rattle.paint.proofs.drawing.print_cells.Goals as goal
@@ -10,17 +11,10 @@ use Rattle.paint.proofs.drawing.print_cells.Goals as goal
 module _ (start end : ℕ) (wanted : List Shown) (cell : Shown) (rendition : Rendition) (run : HaveOneRendition wanted start end)
     (there : cell ≡ get_or wanted start cell) (is : rendition ≡ cell.rendition) (sound : IsRendition cell.rendition) where
   cells-first : (get_or (cells_between start end wanted) 0 shown_blank).rendition ≡ rendition
-  cells-first =
-      let here : start + 0 ≡ start = omega arith in
-      ap (λ (c : Shown). c.rendition) (part-of start end 0 wanted (omega (arith, run.some)) ∙ ap (λ n. get_or wanted n shown_blank) here
-      ∙ sym (there ∙ get_or_default wanted start cell shown_blank (omega (arith, run.some, run.within)))) ∙ sym is
+  cells-first = grind (arith, part-of, get_or_default, common_steps)
 
   cells-short : most_approach rendition + length (cells_between start end wanted) ≤ run_bytes (cells_between start end wanted)
-  cells-short =
-      let cells = cells_between start end wanted in
-      let long = length-between start end wanted (omega (arith, run.some)) run.within in
-      drawn-short (most_approach rendition) cells (subst IsRendition (sym (cells-first ∙ is)) sound) (omega (arith, long, run.some))
-      (omega (arith, ap (λ r. length (spelling (Sgr r))) cells-first))
+  cells-short = grind (arith, length-between, drawn-short, cells-first, common_steps)
 
 pub returns-clause-draws : goal.returns-clause-draws
 returns-clause-draws g c = λ picture wide are.

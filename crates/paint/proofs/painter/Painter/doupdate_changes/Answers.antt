@@ -1,6 +1,8 @@
 -- `doupdate_changes`: it looks where the picture may differ from what is shown when the text begins.
+use Rattle.std.proofs.Common.{arith}
+use Rattle.std.proofs.lemmas.Grind.{common_steps}
 use Rattle.std.specs.Prelude.{◌≡◌, if◌then◌else◌}
-use Rattle.paint.specs.{ℕ, ◌∙◌, Bool, true, false, List, length, Option, None, Some, ap, subst, sym, ⊤, IfNone, MatchOption, option_map_or, unwrap_or, HasSize, Picture, Place, DifferOnly, Columns}
+use Rattle.paint.specs.{ℕ, ◌∙◌, Bool, true, false, List, length, Option, None, Some, subst, sym, ⊤, IfNone, MatchOption, option_map_or, unwrap_or, HasSize, Picture, Place, DifferOnly, Columns}
 use Rattle.paint.specs.{ShownPicture, first_painter, start_from, last_shown}
 use Rattle.paint.proofs.painter.Painter.doupdate_changes.Goals as goal
 
@@ -23,17 +25,9 @@ taken : {X : Type 0} (now : X → List (Option Columns)) (lines columns : ℕ) (
     → IfNone given ((a b : Picture) → HasSize lines columns a → HasSize lines columns b → DifferOnly (now own) a b)
     → MatchOption changes ⊤ (λ (c : X). length (now c) ≡ lines) → MatchOption changes ⊤ (λ (c : X). MatchOption known ⊤ (λ (_ : Place). DifferOnly (now c) picture wanted))
     → (length (now picked) ≡ lines) × DifferOnly (now picked) shown wanted
-taken now lines columns None changes own picture {picked = picked} {shown = shown} {wanted = wanted} e p size wanted_size is long all height only =
-    let own_is : picked ≡ own = p ∙ ap (λ g. unwrap_or g own) e in
-    let differ = subst (λ g. IfNone g ((a b : Picture) → HasSize lines columns a → HasSize lines columns b → DifferOnly (now own) a b)) e all shown wanted size wanted_size in
-    (ap (λ x. length (now x)) own_is ∙ long, subst (λ x. DifferOnly (now x) shown wanted) (sym own_is) differ)
-taken now lines columns (Some place) None own picture {picked = picked} {shown = shown} {wanted = wanted} e p size wanted_size is long all height only =
-    let own_is : picked ≡ own = p ∙ ap (λ g. unwrap_or g own) e in
-    let differ = subst (λ g. IfNone g ((a b : Picture) → HasSize lines columns a → HasSize lines columns b → DifferOnly (now own) a b)) e all shown wanted size wanted_size in
-    (ap (λ x. length (now x)) own_is ∙ long, subst (λ x. DifferOnly (now x) shown wanted) (sym own_is) differ)
-taken now lines columns (Some place) (Some c) own picture {picked = picked} {shown = shown} {wanted = wanted} e p size wanted_size is long all height only =
-    let given_is : picked ≡ c = p ∙ ap (λ g. unwrap_or g own) e in
-    (ap (λ x. length (now x)) given_is ∙ height, subst (λ x. DifferOnly (now x) shown wanted) (sym given_is) (subst (λ q. DifferOnly (now c) q wanted) (sym is) only))
+taken now lines columns None changes own picture {picked = picked} {shown = shown} {wanted = wanted} e p size wanted_size is long all height only = grind (arith, common_steps)
+taken now lines columns (Some place) None own picture {picked = picked} {shown = shown} {wanted = wanted} e p size wanted_size is long all height only = grind (arith, common_steps)
+taken now lines columns (Some place) (Some c) own picture {picked = picked} {shown = shown} {wanted = wanted} e p size wanted_size is long all height only = grind (arith, common_steps)
 
 pub invariant_of-update : goal.invariant_of-update
 invariant_of-update g c =
