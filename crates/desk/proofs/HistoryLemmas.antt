@@ -8,35 +8,9 @@ use Rattle.paint.proofs.Repair.{Agrees-unknown, nothing-in_profile}
 use Rattle.desk.specs.declared.screen.Fault.{Fault}
 use Rattle.desk.specs.declared.screen.Fault.TheVariants.{Refused, Write}
 use Rattle.desk.specs.declared.history.RunAllEnd.{RunAllEnd}
-use Rattle.desk.proofs.ShowingLemmas.{EndsShown, VirtualIsKnown, after_update_panels, shows-shown, then-keeps_size}
+use Rattle.desk.proofs.ShowingLemmas.{EndsShown, VirtualIsKnown, shows-last, shows-whole, then-keeps_size}
 
--- ---- the last calls of a history
-
--- a history that ends in one more call
-pub record SplitsLast {W : Type 0} (steps : List (Step W)) (calls : List Call) (call : Call) : Type 0 where
-  pub front : List (Step W)
-  pub last : Step W
-  pub parts : steps ≡ front ++ last ∷ []
-  pub calls_are : calls_in front ≡ calls
-  pub call_is : last.call ≡ call
-
-split-last : {W : Type 0} (steps : List (Step W)) (calls : List Call) (call : Call) → calls_in steps ≡ calls ++ call ∷ [] → SplitsLast steps calls call
-split-last [] [] call h = cc
-split-last [] (c ∷ cs) call h = cc
-split-last (step ∷ []) [] call h = record { front = []; last = step; parts = refl; calls_are = refl; call_is = cc }
-split-last (step ∷ next ∷ steps) [] call h = cc
-split-last (step ∷ steps) (c ∷ cs) call h =
-    let tail : calls_in steps ≡ cs ++ call ∷ [] = cc in
-    let head : step.call ≡ c = cc in
-    let rest = split-last steps cs call tail in
-    record {
-      front = step ∷ rest.front;
-      last = rest.last;
-      parts = ap (λ s. step ∷ s) rest.parts;
-      calls_are = λ i.
-          head i ∷ rest.calls_are i;
-      call_is = rest.call_is;
-    }
+-- ---- a history goes on by one call
 
 fault-after_one : {W : Type 0} (fault : Option WriteFault) (steps : List (Step W)) (step : Step W)
     → fault_after fault (steps ++ step ∷ []) ≡ (if is_doupdate step.call then cut_of step.end else fault_after fault steps)
@@ -56,11 +30,6 @@ module _ {W : Type 0} (seen : W → Seen) (name : W → ℕ) where
   made-front screen [] rest made = tt
   made-front screen (s ∷ ss) rest made = (made.0, made-front s.screen ss rest made.1)
 
-  made-last : (screen : ScreenOver W) (steps : List (Step W)) (step : Step W) → AreMade seen name screen (steps ++ step ∷ [])
-      → CallMade seen name (screen_after screen steps) step.call step.end step.screen
-  made-last screen [] step made = made.0
-  made-last screen (s ∷ ss) step made = made-last s.screen ss step made.1
-
   made-with_one : (screen : ScreenOver W) (steps : List (Step W)) (step : Step W) → AreMade seen name screen steps
       → CallMade seen name (screen_after screen steps) step.call step.end step.screen → AreMade seen name screen (steps ++ step ∷ [])
   made-with_one screen [] step made last = (last, tt)
@@ -75,17 +44,6 @@ module _ {W : Type 0} (seen : W → Seen) (name : W → ℕ) where
         → Agrees old.painter stream t → Agrees new.painter (stream ++ bytes) t
     pub size : KeepsSize old.desk new.desk
 
-  agreed-nothing : (old : ScreenOver W) → Agreed old old
-  agreed-nothing old = record {
-    bytes = [];
-    taken = Appends-nil _;
-    agrees = λ stream t fits h. rw append-nil h;
-    size = record { lines = refl; columns = refl };
-  }
-
-  agreed-call : (old new : ScreenOver W) (call : Call) (end : Result Reply Fault) → CallMade seen name old call end new → Agreed old new
-  agreed-call old new call end made = record { bytes = made.shown.bytes; taken = made.shown.taken; agrees = made.shown.agrees; size = made.size }
-
   agreed-then : (old mid new : ScreenOver W) → Agreed old mid → Agreed mid new → Agreed old new
   agreed-then old mid new first next = record {
     bytes = first.bytes ++ next.bytes;
@@ -97,9 +55,11 @@ module _ {W : Type 0} (seen : W → Seen) (name : W → ℕ) where
   }
 
   agreed : (old : ScreenOver W) (steps : List (Step W)) → AreMade seen name old steps → Agreed old (screen_after old steps)
-  agreed old [] made = agreed-nothing old
+  agreed old [] made = record { bytes = []; taken = Appends-nil _; agrees = λ stream t fits h. rw append-nil h; size = record { lines = refl; columns = refl } }
   agreed old (step ∷ steps) made =
-      agreed-then old step.screen (screen_after step.screen steps) (agreed-call old step.screen step.call step.end made.0) (agreed step.screen steps made.1)
+      let shown = made.0.shown in
+      agreed-then old step.screen (screen_after step.screen steps) (record { bytes = shown.bytes; taken = shown.taken; agrees = shown.agrees; size = made.0.size })
+      (agreed step.screen steps made.1)
 
   -- ---- a doupdate that succeeded
 
@@ -118,58 +78,27 @@ module _ {W : Type 0} (seen : W → Seen) (name : W → ℕ) where
   shown-after first mid new one (Err (Refused e)) h k whole = absurd (never-refused (world mid.desk) (Refresh Doupdate) e refl refl k.0)
   shown-after first mid new one (Err (Write fault)) h k whole = cc
 
-  known-split : (old : ScreenOver W) (front : List (Step W)) (last : Step W) → AreMade seen name old (front ++ last ∷ []) → last.call ≡ Refresh Doupdate
-      → last_fault (front ++ last ∷ []) ≡ None → VirtualIsKnown (state_of (screen_after old (front ++ last ∷ [])))
-  known-split old front last made is none =
-      let ends = made-last old front last made in
-      subst (λ s. VirtualIsKnown (state_of s)) (sym (screen-after_one old front last))
-      (known-after (screen_after old front) last.screen last.end (subst (λ c. CallEnds seen (screen_after old front) c last.end last.screen) is ends.ends)
-      (sym (fault-after_one None front last ∙ ap (λ c. if is_doupdate c then cut_of last.end else last_fault front) is) ∙ none))
+  known : (old : ScreenOver W) (fault : Option WriteFault) (steps : List (Step W)) (others : List Call) → AreMade seen name old steps
+      → calls_in steps ≡ others ++ Refresh Doupdate ∷ [] → fault_after fault steps ≡ None → VirtualIsKnown (state_of (screen_after old steps))
+  known old fault (last ∷ []) [] made ends none =
+      let is : last.call ≡ Refresh Doupdate = cc in
+      known-after old last.screen last.end (subst (λ c. CallEnds seen old c last.end last.screen) is made.0.ends) (rw is at none)
+  known old fault (step ∷ steps) (c ∷ cs) made ends none = known step.screen _ steps cs made.1 (cc) none
+  known old fault steps [] made ends none = cc
+  known old fault [] others made ends none = cc
 
-  known : (old : ScreenOver W) (steps : List (Step W)) → AreMade seen name old steps → EndsInDoupdate (calls_in steps) → last_fault steps ≡ None
-      → VirtualIsKnown (state_of (screen_after old steps))
-  known old steps made ends none =
-      let split = split-last steps ends.0 (Refresh Doupdate) ends.1 in
-      subst (λ s. AreMade seen name old s → last_fault s ≡ None → VirtualIsKnown (state_of (screen_after old s))) (sym split.parts)
-      (λ made none. known-split old split.front split.last made split.call_is none) made none
-
-  shown-split : (old : ScreenOver W) (front : List (Step W)) (one last : Step W) → AreMade seen name old ((front ++ one ∷ []) ++ last ∷ [])
-      → one.call ≡ Refresh UpdatePanels
-      → last.call ≡ Refresh Doupdate → last_fault ((front ++ one ∷ []) ++ last ∷ []) ≡ None
-      → EndsShown (state_of (screen_after old ((front ++ one ∷ []) ++ last ∷ [])))
-  shown-split old front one last made is_one is none =
-      let before = front ++ one ∷ [] in
-      let first = made-last old front one (made-front old before (last ∷ []) made) in
-      let second = made-last old before last made in
-      subst (λ s. EndsShown (state_of s)) (sym (screen-after_one old before last))
-      (shown-after (screen_after old front) one.screen last.screen one.end last.end
-      (subst (λ c. CallEnds seen (screen_after old front) c one.end one.screen) is_one first.ends)
-      (subst (λ s. CallEnds seen s (Refresh Doupdate) last.end last.screen) (screen-after_one old front one)
-      (subst (λ c. CallEnds seen (screen_after old before) c last.end last.screen) is second.ends))
-      (sym (fault-after_one None before last ∙ ap (λ c. if is_doupdate c then cut_of last.end else last_fault before) is) ∙ none))
-
-  shown : (old : ScreenOver W) (steps : List (Step W)) → AreMade seen name old steps → EndsInUpdate (calls_in steps) → last_fault steps ≡ None
-      → EndsShown (state_of (screen_after old steps))
-  shown old steps made ends none =
-      let split = split-last steps (ends.0 ++ Refresh UpdatePanels ∷ []) (Refresh Doupdate) (ends.1
-      ∙ sym (append_assoc ends.0 (Refresh UpdatePanels ∷ []) (Refresh Doupdate ∷ []))) in
-      let before = split-last split.front ends.0 (Refresh UpdatePanels) split.calls_are in
-      subst (λ s. AreMade seen name old s → last_fault s ≡ None → EndsShown (state_of (screen_after old s)))
-      (sym (split.parts ∙ ap (λ s. s ++ split.last ∷ []) before.parts))
-      (λ made none. shown-split old before.front before.last split.last made before.call_is split.call_is none) made none
+  shown : (old : ScreenOver W) (fault : Option WriteFault) (steps : List (Step W)) (others : List Call) → AreMade seen name old steps
+      → calls_in steps ≡ others ++ Refresh UpdatePanels ∷ Refresh Doupdate ∷ [] → fault_after fault steps ≡ None → EndsShown (state_of (screen_after old steps))
+  shown old fault (one ∷ last ∷ []) [] made ends none =
+      let is_one : one.call ≡ Refresh UpdatePanels = cc in
+      let is : last.call ≡ Refresh Doupdate = cc in
+      shown-after old one.screen last.screen one.end last.end (subst (λ c. CallEnds seen old c one.end one.screen) is_one made.0.ends)
+      (subst (λ c. CallEnds seen one.screen c last.end last.screen) is made.1.0.ends) (rw is at none)
+  shown old fault (step ∷ steps) (c ∷ cs) made ends none = shown step.screen _ steps cs made.1 (cc) none
+  shown old fault steps [] made ends none = cc
+  shown old fault [] others made ends none = cc
 
   -- ---- the theorem
-
-  shows-last : (new : ScreenOver W) (shown : ShownPicture) → new.painter.last ≡ Some shown → (stream : List ℕ) (t : Terminal) → Agrees new.painter stream t
-      → LeadsWithBreaks stream t (showing shown.picture shown.cursor)
-  shows-last new shown last stream t h =
-      subst (λ o. MatchOption o ⊤ (λ shown. LeadsWithBreaks stream t (showing shown.picture shown.cursor))) last h.leads
-
-  shows-whole : (new : ScreenOver W) → EndsShown (state_of new) → (stream : List ℕ) (t : Terminal) → Agrees new.painter stream t
-      → (u : Terminal) × LeadsWithBreaks stream t u × ShowsWorld (world new.desk) u
-  shows-whole new e stream t h =
-      let wanted = wanted (after_update_panels e.before) in
-      (showing wanted.picture wanted.cursor, shows-last new wanted e.last_is stream t h, shows-shown (state_of new) e)
 
   pub history-shows : (old : ScreenOver W) (steps : List (Step W)) → AreMade seen name old steps
       → HistoryShows seen old (screen_after old steps) (calls_in steps) (last_fault steps)
@@ -184,11 +113,11 @@ module _ {W : Type 0} (seen : W → Seen) (name : W → ℕ) where
         taken = a.taken;
         agrees = a.agrees;
         shows_virtual = λ ends none stream t fits h.
-            shows-last new (wanted (world new.desk)) (known old steps made ends none) (stream ++ a.bytes) t (a.agrees stream t fits h);
+            shows-last new.painter (wanted (world new.desk)) (known old None steps ends.0 made ends.1 none) (stream ++ a.bytes) t (a.agrees stream t fits h);
         shows_virtual_on_any = λ ends none nothing t fits.
-            shows-last new (wanted (world new.desk)) (known old steps made ends none) a.bytes t (from_nothing nothing t fits);
-        shows = λ ends none stream t fits h. shows-whole new (shown old steps made ends none) (stream ++ a.bytes) t (a.agrees stream t fits h);
-        shows_on_any = λ ends none nothing t fits. shows-whole new (shown old steps made ends none) a.bytes t (from_nothing nothing t fits);
+            shows-last new.painter (wanted (world new.desk)) (known old None steps ends.0 made ends.1 none) a.bytes t (from_nothing nothing t fits);
+        shows = λ ends none stream t fits h. shows-whole (state_of new) (shown old None steps ends.0 made ends.1 none) (stream ++ a.bytes) t (a.agrees stream t fits h);
+        shows_on_any = λ ends none nothing t fits. shows-whole (state_of new) (shown old None steps ends.0 made ends.1 none) a.bytes t (from_nothing nothing t fits);
       }
 
   -- ---- a list of calls that are all made

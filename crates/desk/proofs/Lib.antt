@@ -15,8 +15,6 @@ pub mod RunLemmas
 pub mod ShowingLemmas
 -- Histories: what terminals show after one, and how one goes on by a call; for `run_all`, `make_all`
 pub mod HistoryLemmas
--- A call of a script is the call that its line says, wherever its text lies, and what it answered; for `run_line`, `LineEndLemmas`
-pub mod AnswerLemmas
 -- How a line of a script ends; for `run_line`
 pub mod LineEndLemmas
 -- A script is run a line at a time; for `run_lines`, `run_script`, `close_log`

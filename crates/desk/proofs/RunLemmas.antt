@@ -1,11 +1,9 @@
 -- A run goes on by one call.
 use Rattle.std.specs.Prelude.{◌≡◌, ◌+◌, ◌≤◌, ◌++◌, ◌∷◌, ◌<◌, ◌%◌, ◌^◌}
-use Rattle.desk.specs.{ℕ, List, [], length, take, drop, get_or, None, Some, Ok, Err, refl, sym, ap, ◌∙◌, subst, count_by, sum_by, cond, add-zero, Option, append-nil, take-append-drop, take_all}
+use Rattle.desk.specs.{ℕ, List, Result, call_end, cells_of_answer, is_ok, not, [], length, take, drop, get_or, None, Some, Ok, Err, refl, sym, ap, ◌∙◌, subst, count_by, sum_by, cond, add-zero, Option, append-nil, take-append-drop, take_all}
 use Rattle.desk.specs.{drop_more, take_more, sum_by_push, Refusal, Seen, WriteFault, Outcome, cells_read, is_accepted, is_refused, cells_of_reply, CountGrew, ReadsFew, with_acceptance, CallEnds}
 use Rattle.desk.specs.{Makes, RunEnds, Stops, Writes, begins_with_doupdate, Call, Reply, ScreenOver, state_of}
-use Rattle.desk.proofs.ReadLemmas.{call-grew, same-grew}
 use Rattle.desk.proofs.MakesLemmas.{Makes-append, Makes-nothing, Makes-one}
-use Rattle.desk.proofs.StateLemmas.{is-kept}
 use Rattle.desk.proofs.WriterLemmas.{Writes-refused}
 use Rattle.desk.specs.declared.screen.Fault.TheVariants.{Refused, Write}
 use Rattle.desk.specs.declared.screen.RunEnd.{RunEnd}
@@ -23,34 +21,19 @@ module _ {W : Type 0} (seen : W → Seen) where
   pub so_far_none : (old : ScreenOver W) → SoFar old [] old 0 0 0
   so_far_none old = record { outcomes = []; makes = Makes-nothing seen old; is_done = refl; is_refused = refl; is_composed = refl }
 
-  -- one more call was accepted
-  pub accepted_next : (old mid new : ScreenOver W) (calls : List Call) (d r c i : ℕ) (call : Call) (reply : Reply) → SoFar old (take i calls) mid d r c → i < length calls
-      → CallEnds seen mid (get_or calls i call) (Ok reply) new → SoFar old (take (i + 1) calls) new (d + 1) r (c + cells_of_reply reply)
-  accepted_next old mid new calls d r c i call reply so_far h ends =
-      let outcome : Outcome = record { answer = Ok reply; sent = ends.sent } in
+  -- one more call was made, and not cut short
+  pub so_far_next : (old mid new : ScreenOver W) (calls : List Call) (d r c i : ℕ) (call : Call) (answer : Result Reply Refusal) → SoFar old (take i calls) mid d r c → i < length calls
+      → CallEnds seen mid (get_or calls i call) (call_end (Ok answer)) new
+      → SoFar old (take (i + 1) calls) new (d + cond (is_ok answer) 1 0) (r + cond (not (is_ok answer)) 1 0) (c + cells_of_answer answer)
+  so_far_next old mid new calls d r c i call answer so_far h ends =
+      let one = Makes-one seen mid new (get_or calls i call) answer ends in
+      let outcome : Outcome = record { answer = answer; sent = one.0 } in
       rw (take_more calls i call h) (record {
         outcomes = so_far.outcomes ++ outcome ∷ [];
-        makes = Makes-append seen so_far.makes (Makes-one seen mid new (get_or calls i call) (Ok reply) ends.sent ends.answer ends.state ends.writes
-            (call-grew (state_of mid) (get_or calls i call) reply ends.sent mid.desk new.desk ends.answer ends.counted));
-        is_done = ap (λ n. n + 1) so_far.is_done ∙ sym (sum_by_push (λ (o : Outcome). cond (is_accepted o) 1 0) so_far.outcomes outcome);
-        is_refused = so_far.is_refused ∙ sym (sum_by_push (λ (o : Outcome). cond (is_refused o) 1 0) so_far.outcomes outcome ∙ add-zero _);
-        is_composed = ap (λ n. n + cells_of_reply reply) so_far.is_composed ∙ sym (sum_by_push cells_read so_far.outcomes outcome);
-      })
-
-  -- one more call was refused
-  pub refused_next : (old mid new : ScreenOver W) (calls : List Call) (d r c i : ℕ) (call : Call) (refusal : Refusal) → SoFar old (take i calls) mid d r c → i < length calls
-      → CallEnds seen mid (get_or calls i call) (Err (Refused refusal)) new → SoFar old (take (i + 1) calls) new d (r + 1) c
-  refused_next old mid new calls d r c i call refusal so_far h ends =
-      let made = get_or calls i call in
-      let outcome : Outcome = record { answer = Err refusal; sent = [] } in
-      rw (take_more calls i call h) (record {
-        outcomes = so_far.outcomes ++ outcome ∷ [];
-        makes = Makes-append seen so_far.makes (Makes-one seen mid new made (Err refusal) [] (ends.0, refl) (is-kept ends.1)
-            (subst (λ s. Writes seen mid s (made ∷ []) []) (sym ends.1) (Writes-refused seen mid made refusal ends.0))
-            (subst (λ s. CountGrew 0 mid.desk s.desk) (sym ends.1) (same-grew mid.desk)));
-        is_done = so_far.is_done ∙ sym (sum_by_push (λ (o : Outcome). cond (is_accepted o) 1 0) so_far.outcomes outcome ∙ add-zero _);
-        is_refused = ap (λ n. n + 1) so_far.is_refused ∙ sym (sum_by_push (λ (o : Outcome). cond (is_refused o) 1 0) so_far.outcomes outcome);
-        is_composed = so_far.is_composed ∙ sym (sum_by_push cells_read so_far.outcomes outcome ∙ add-zero _);
+        makes = Makes-append seen so_far.makes one.1;
+        is_done = ap (λ n. n + cond (is_ok answer) 1 0) so_far.is_done ∙ sym (sum_by_push (λ (o : Outcome). cond (is_accepted o) 1 0) so_far.outcomes outcome);
+        is_refused = ap (λ n. n + cond (not (is_ok answer)) 1 0) so_far.is_refused ∙ sym (sum_by_push (λ (o : Outcome). cond (is_refused o) 1 0) so_far.outcomes outcome);
+        is_composed = ap (λ n. n + cells_of_answer answer) so_far.is_composed ∙ sym (sum_by_push cells_read so_far.outcomes outcome);
       })
 
   -- what ends a run reads nothing

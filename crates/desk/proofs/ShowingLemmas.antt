@@ -1,19 +1,17 @@
 -- What a terminal shows after a run of calls.
 use Rattle.std.specs.Prelude.{◌≡◌, ◌∷◌, ◌++◌}
-use Rattle.desk.specs.{arith, ℕ, List, [], take, Option, Some, None, Result, Ok, Err, is_some, refl, sym, ap, ◌∙◌, subst, append_assoc, append-nil, Appends-trans, ⊤, MatchOption, shown, shown_blank}
+use Rattle.desk.specs.{arith, ℕ, Bool, IsUpdateText, List, [], take, Option, Some, None, Result, Ok, Err, is_some, refl, sym, ap, ◌∙◌, subst, append_assoc, append-nil, Appends-trans, ⊤, MatchOption, shown, shown_blank}
 use Rattle.desk.specs.{HasSize, IsSound, World, picture, world_after, composed_windows, Refusal, never-refused, Terminal, Leads, LeadsWithBreaks, showing, count_after, Seen, Agrees, PainterState}
 use Rattle.desk.specs.{ShownPicture, WriteFault, IsWithin, State, after, wanted, state_of, HasOneSize, KeepsSize, ScreenOver, Outcome, MayAnswer, Run, all_sent, state_after, state_at_end, DeskTable}
 use Rattle.desk.specs.{world, CallEnds, IsCut, Makes, RunEnds, Stops, cut_of, CallMade, EndsInDoupdate, EndsInUpdate, ShowsWorld, RunShows, Call, UpdatePanels, Doupdate, each-call, quiet-reply, Reply}
-use Rattle.desk.proofs.WriterLemmas.{Writes-refused}
 use Rattle.cell.proofs.PictureLemmas.{HasSize-lines_from, cell_or-lines_from}
 use Rattle.world.proofs.RefreshLaws.{found-unmarked, cursor-unmarked}
 use Rattle.ecma.proofs.Joining.{Leads-append}
 use Rattle.ecma.proofs.Leading.{Leads-nothing}
 use Rattle.ecma.proofs.PictureSizes.{size-effects}
 use Rattle.paint.proofs.Repair.{Agrees-update, Agrees-fault, IsKnown, reads-known}
-use Rattle.desk.proofs.ReadLemmas.{call-grew, same-grew}
 use Rattle.desk.proofs.MakesLemmas.{Makes-nothing, Makes-one}
-use Rattle.desk.proofs.StateLemmas.{IsWithin-refl, painter-quiet}
+use Rattle.desk.proofs.StateLemmas.{painter-quiet}
 use Rattle.world.proofs.Sizes.{size-call}
 use Rattle.world.specs.declared.call.Call.TheVariants as calls
 use Rattle.desk.specs.declared.screen.RunEnd.{RunEnd}
@@ -49,68 +47,43 @@ size-at_end lines columns s [] outcomes h = h
 size-at_end lines columns s (c ∷ cs) [] h = h
 size-at_end lines columns s (c ∷ cs) (o ∷ os) h = size-at_end lines columns (state_after s c o.answer) cs os (size-after lines columns s c o.answer h)
 
--- ---- all that was sent agrees with the painter
+-- ---- over a run
 
-nothing-sent : (painter : PainterState) (stream sent : List ℕ) (t : Terminal) → sent ≡ [] → Agrees painter stream t → Agrees painter (stream ++ sent) t
-nothing-sent painter stream sent t e h = grind (arith, append-nil)
+-- What holds of a painter and of all that was sent holds after a run, if it goes on over each doupdate.
+module _ (lines columns : ℕ) (P : PainterState → List ℕ → Type 0)
+    (update : (painter : PainterState) (clear : Bool) (shown : ShownPicture) (bytes text : List ℕ) → painter.lines ≡ lines → painter.columns ≡ columns → IsUpdateText painter clear shown text
+        → P painter bytes → P (record painter { last = Some shown }) (bytes ++ text)) where
+  unsent : (painter : PainterState) (bytes sent : List ℕ) → sent ≡ [] → P painter bytes → P painter (bytes ++ sent)
+  unsent painter bytes sent none h = grind (arith, append-nil)
 
-agrees-call : (lines columns : ℕ) (s : State) (call : Call) (answer : Result Reply Refusal) (sent stream : List ℕ) (t : Terminal) → HasScreenSize lines columns s → HasSize lines columns t.picture
-    → MayAnswer s call answer sent → Agrees s.painter stream t → Agrees (state_after s call answer).painter (stream ++ sent) t
-agrees-call lines columns s call (Err e) sent stream t size fits may h = nothing-sent s.painter stream sent t may.1 h
-agrees-call lines columns s call (Ok r) sent stream t size fits may h =
-    each-call (λ call. MayAnswer s call (Ok r) sent → Agrees (after s call).painter (stream ++ sent) t)
-    (λ call other may.
-    subst (λ p. Agrees p (stream ++ sent) t) (sym (painter-quiet s call other))
-    (nothing-sent s.painter stream sent t ((quiet-reply s r sent call other).0 may.1).0 h))
-    (λ may. Agrees-update s.painter s.world.virtual.clear (wanted s.world) stream sent t (rw (size.painter_lines, size.painter_columns) fits) h may.1.0)
-    call may
+  over-call : (s : State) (call : Call) (answer : Result Reply Refusal) (bytes sent : List ℕ) → HasScreenSize lines columns s → MayAnswer s call answer sent → P s.painter bytes
+      → P (state_after s call answer).painter (bytes ++ sent)
+  over-call s call (Err e) bytes sent size may h = unsent s.painter bytes sent may.1 h
+  over-call s (calls.Refresh Doupdate) (Ok r) bytes sent size may h =
+      update s.painter s.world.virtual.clear (wanted s.world) bytes sent size.painter_lines size.painter_columns may.1.0 h
+  over-call s call (Ok r) bytes sent size may h = unsent s.painter bytes sent may.1.0 h
 
-pub agrees-run : (lines columns : ℕ) (s : State) (cs : List Call) (outcomes : List Outcome) (stream : List ℕ) (t : Terminal) → HasScreenSize lines columns s → HasSize lines columns t.picture
-    → Run s cs outcomes → Agrees s.painter stream t → Agrees (state_at_end s cs outcomes).painter (stream ++ all_sent outcomes) t
-agrees-run lines columns s [] [] stream t size fits run h = rw append-nil h
-agrees-run lines columns s (c ∷ cs) (o ∷ os) stream t size fits run h =
-    subst (λ bytes. Agrees (state_at_end (state_after s c o.answer) cs os).painter bytes t) (append_assoc stream o.sent (all_sent os))
-    (agrees-run lines columns (state_after s c o.answer) cs os (stream ++ o.sent) t (size-after lines columns s c o.answer size) fits run.1
-    (agrees-call lines columns s c o.answer o.sent stream t size fits run.0 h))
-agrees-run lines columns s cs outcomes stream t size fits run h = absurd run
+  over-run : (s : State) (cs : List Call) (outcomes : List Outcome) (bytes : List ℕ) → HasScreenSize lines columns s → Run s cs outcomes → P s.painter bytes
+      → P (state_at_end s cs outcomes).painter (bytes ++ all_sent outcomes)
+  over-run s [] [] bytes size run h = unsent s.painter bytes [] refl h
+  over-run s (c ∷ cs) (o ∷ os) bytes size run h =
+      subst (P (state_at_end (state_after s c o.answer) cs os).painter) (append_assoc bytes o.sent (all_sent os))
+      (over-run (state_after s c o.answer) cs os (bytes ++ o.sent) (size-after lines columns s c o.answer size) run.1 (over-call s c o.answer bytes o.sent size run.0 h))
+  over-run s cs outcomes bytes size run h = absurd run
 
--- ---- the bytes of a run alone, read by a terminal
-
-pub record LeadsOn (lines columns : ℕ) (painter : PainterState) (bytes : List ℕ) (t : Terminal) : Type 0 where
+-- the bytes of a run alone, read by a terminal
+pub record LeadsOn (lines columns : ℕ) (t : Terminal) (painter : PainterState) (bytes : List ℕ) : Type 0 where
   pub last : Terminal
   pub leads : Leads bytes t last
   pub fits : HasSize lines columns last.picture
   pub known : IsKnown painter.last last
 
-leads-nothing : (lines columns : ℕ) (painter : PainterState) (sent : List ℕ) (t : Terminal) → sent ≡ [] → HasSize lines columns t.picture → IsKnown painter.last t
-    → LeadsOn lines columns painter sent t
-leads-nothing lines columns painter sent t e fits known = grind (arith, Leads-nothing)
-
-leads-call : (lines columns : ℕ) (s : State) (call : Call) (answer : Result Reply Refusal) (sent : List ℕ) (t : Terminal) → HasScreenSize lines columns s → HasSize lines columns t.picture
-    → MayAnswer s call answer sent → IsKnown s.painter.last t → LeadsOn lines columns (state_after s call answer).painter sent t
-leads-call lines columns s call (Err e) sent t size fits may h = leads-nothing lines columns s.painter sent t may.1 fits h
-leads-call lines columns s call (Ok r) sent t size fits may h =
-    each-call (λ call. MayAnswer s call (Ok r) sent → LeadsOn lines columns (after s call).painter sent t)
-    (λ call other may.
-    subst (λ p. LeadsOn lines columns p sent t) (sym (painter-quiet s call other))
-    (leads-nothing lines columns s.painter sent t ((quiet-reply s r sent call other).0 may.1).0 fits h))
-    (λ may. let leads = may.1.0.shows t (reads-known s.painter s.world.virtual.clear t (rw (size.painter_lines, size.painter_columns) fits) h) in
-    record {
-      last = showing s.world.virtual.picture s.world.virtual.cursor;
-      leads = leads;
-      fits = size-effects lines columns leads.items t (showing s.world.virtual.picture s.world.virtual.cursor) fits leads.have_effect;
-      known = refl;
-    })
-    call may
-
-pub leads-run : (lines columns : ℕ) (s : State) (cs : List Call) (outcomes : List Outcome) (t : Terminal) → HasScreenSize lines columns s → HasSize lines columns t.picture
-    → Run s cs outcomes → IsKnown s.painter.last t → LeadsOn lines columns (state_at_end s cs outcomes).painter (all_sent outcomes) t
-leads-run lines columns s [] [] t size fits run h = leads-nothing lines columns s.painter [] t refl fits h
-leads-run lines columns s (c ∷ cs) (o ∷ os) t size fits run h =
-    let first = leads-call lines columns s c o.answer o.sent t size fits run.0 h in
-    let rest = leads-run lines columns (state_after s c o.answer) cs os first.last (size-after lines columns s c o.answer size) first.fits run.1 first.known in
-    record { last = rest.last; leads = Leads-append o.sent (all_sent os) t first.last rest.last first.leads rest.leads; fits = rest.fits; known = rest.known }
-leads-run lines columns s cs outcomes t size fits run h = absurd run
+leads-update : (lines columns : ℕ) (t : Terminal) (painter : PainterState) (clear : Bool) (shown : ShownPicture) (bytes text : List ℕ) → painter.lines ≡ lines → painter.columns ≡ columns
+    → IsUpdateText painter clear shown text → LeadsOn lines columns t painter bytes → LeadsOn lines columns t (record painter { last = Some shown }) (bytes ++ text)
+leads-update lines columns t painter clear shown bytes text same_lines same_columns is_text h =
+    let u = showing shown.picture shown.cursor in
+    let leads = is_text.shows h.last (reads-known painter clear h.last (rw (same_lines, same_columns) h.fits) h.known) in
+    record { last = u; leads = Leads-append bytes text t h.last u h.leads leads; fits = size-effects lines columns leads.items h.last u h.fits leads.have_effect; known = refl }
 
 -- ---- a run that ends in doupdate
 
@@ -173,6 +146,16 @@ shows-shown s e =
 
 -- ---- the theorem of the screen
 
+-- what the painter showed last is shown by a terminal that agrees with it
+pub shows-last : (painter : PainterState) (shown : ShownPicture) → painter.last ≡ Some shown → (stream : List ℕ) (t : Terminal) → Agrees painter stream t
+    → LeadsWithBreaks stream t (showing shown.picture shown.cursor)
+shows-last painter shown last stream t h = subst (λ o. MatchOption o ⊤ (λ shown. LeadsWithBreaks stream t (showing shown.picture shown.cursor))) last h.leads
+
+pub shows-whole : (s : State) → EndsShown s → (stream : List ℕ) (t : Terminal) → Agrees s.painter stream t → (u : Terminal) × LeadsWithBreaks stream t u × ShowsWorld s.world u
+shows-whole s e stream t h =
+    let shown = wanted (after_update_panels e.before) in
+    (showing shown.picture shown.cursor, shows-last s.painter shown e.last_is stream t h, shows-shown s e)
+
 pub screen-size : {W : Type 0} (s : ScreenOver W) → HasOneSize s.desk s.painter → HasScreenSize s.desk.windows.lines s.desk.windows.columns (state_of s)
 screen-size s h = record { lines_of = refl; columns_of = refl; painter_lines = h.lines; painter_columns = h.columns }
 
@@ -185,7 +168,9 @@ module _ {W : Type 0} (seen : W → Seen) (old at_stop new : ScreenOver W) (cs m
       → Agrees at_stop.painter (stream ++ all_sent outcomes) t
   agrees-stop stream t fits h =
       subst (λ p. Agrees p (stream ++ all_sent outcomes) t) (sym makes.state.painter)
-      (agrees-run old.desk.windows.lines old.desk.windows.columns (state_of old) made outcomes stream t (screen-size old one_size) fits makes.run h)
+      (over-run old.desk.windows.lines old.desk.windows.columns (λ painter bytes. Agrees painter bytes t)
+      (λ painter clear shown bytes text lines columns is_text h. Agrees-update painter clear shown bytes text t (rw (lines, columns) fits) h is_text)
+      (state_of old) made outcomes stream (screen-size old one_size) makes.run h)
 
   ended : EndsInUpdate made → EndsShown (state_of at_stop)
   ended ends = still-shown makes.state
@@ -198,27 +183,18 @@ module _ {W : Type 0} (seen : W → Seen) (old at_stop new : ScreenOver W) (cs m
       (virtual-known (state_of old) ends.0 outcomes (subst (λ l. Run (state_of old) l outcomes) ends.1 makes.run)))
 
   leads-stop : old.painter.last ≡ None → (t : Terminal) → HasSize old.desk.windows.lines old.desk.windows.columns t.picture
-      → LeadsOn old.desk.windows.lines old.desk.windows.columns at_stop.painter (all_sent outcomes) t
-  leads-stop nothing t fits = grind (arith, leads-run, screen-size)
+      → LeadsOn old.desk.windows.lines old.desk.windows.columns t at_stop.painter (all_sent outcomes)
+  leads-stop nothing t fits =
+      subst (λ p. LeadsOn old.desk.windows.lines old.desk.windows.columns t p (all_sent outcomes)) (sym makes.state.painter)
+      (over-run old.desk.windows.lines old.desk.windows.columns (LeadsOn old.desk.windows.lines old.desk.windows.columns t) (leads-update old.desk.windows.lines old.desk.windows.columns t)
+      (state_of old) made outcomes [] (screen-size old one_size) makes.run (record { last = t; leads = Leads-nothing t; fits = fits; known = rw nothing tt }))
 
   -- every call was made, and no write failed: a terminal shows what the painter showed last
-  shows-last : (shown : ShownPicture) → at_stop.painter.last ≡ Some shown → (stream : List ℕ) (t : Terminal) → HasSize old.desk.windows.lines old.desk.windows.columns t.picture
-      → Agrees old.painter stream t → LeadsWithBreaks (stream ++ all_sent outcomes) t (showing shown.picture shown.cursor)
-  shows-last shown last stream t fits h =
-      subst (λ o. MatchOption o ⊤ (λ shown. LeadsWithBreaks (stream ++ all_sent outcomes) t (showing shown.picture shown.cursor))) last (agrees-stop stream t fits h).leads
-
   shows-last_on_any : (shown : ShownPicture) → at_stop.painter.last ≡ Some shown → old.painter.last ≡ None → (t : Terminal)
       → HasSize old.desk.windows.lines old.desk.windows.columns t.picture → Leads (all_sent outcomes) t (showing shown.picture shown.cursor)
   shows-last_on_any shown last nothing t fits =
       let r = leads-stop nothing t fits in
       subst (Leads (all_sent outcomes) t) (subst (λ o. MatchOption o ⊤ (λ shown. r.last ≡ showing shown.picture shown.cursor)) last r.known) r.leads
-
-  shows-whole : EndsInUpdate made → (stream : List ℕ) (t : Terminal) → HasSize old.desk.windows.lines old.desk.windows.columns t.picture → Agrees old.painter stream t
-      → (u : Terminal) × LeadsWithBreaks (stream ++ all_sent outcomes) t u × ShowsWorld (world at_stop.desk) u
-  shows-whole ends stream t fits h =
-      let e = ended ends in
-      let shown = wanted (after_update_panels e.before) in
-      (showing shown.picture shown.cursor, shows-last shown e.last_is stream t fits h, shows-shown (state_of at_stop) e)
 
   shows-whole_on_any : EndsInUpdate made → old.painter.last ≡ None → (t : Terminal) → HasSize old.desk.windows.lines old.desk.windows.columns t.picture
       → (u : Terminal) × Leads (all_sent outcomes) t u × ShowsWorld (world at_stop.desk) u
@@ -232,9 +208,9 @@ module _ {W : Type 0} (seen : W → Seen) (old at_stop new : ScreenOver W) (cs m
     bytes = all_sent outcomes;
     taken = makes.writes.taken;
     agrees = agrees-stop;
-    shows_virtual = λ ends none. shows-last (wanted (world at_stop.desk)) (known (ends.0, sym whole ∙ ends.1));
+    shows_virtual = λ ends none stream t fits h. shows-last at_stop.painter _ (known (ends.0, sym whole ∙ ends.1)) (stream ++ all_sent outcomes) t (agrees-stop stream t fits h);
     shows_virtual_on_any = λ ends none. shows-last_on_any (wanted (world at_stop.desk)) (known (ends.0, sym whole ∙ ends.1));
-    shows = λ ends none. shows-whole (ends.0, sym whole ∙ ends.1);
+    shows = λ ends none stream t fits h. shows-whole (state_of at_stop) (ended (ends.0, sym whole ∙ ends.1)) (stream ++ all_sent outcomes) t (agrees-stop stream t fits h);
     shows_on_any = λ ends none. shows-whole_on_any (ends.0, sym whole ∙ ends.1);
   })
 
@@ -266,12 +242,8 @@ run-shows seen old new cs end one_size h = grind (arith, run-stops)
 
 pub call-shows : {W : Type 0} (seen : W → Seen) (old new : ScreenOver W) (call : Call) (r : Result Reply Fault) → HasOneSize old.desk old.painter → CallEnds seen old call r new
     → RunShows seen old new (call ∷ []) (cut_of r)
-call-shows seen old new call (Ok reply) one_size h =
-    shows-unbroken seen old new new (call ∷ []) (call ∷ []) (record { answer = Ok reply; sent = h.sent } ∷ []) (Makes-one seen old new call (Ok reply) h.sent h.answer h.state h.writes
-    (call-grew (state_of old) call reply h.sent old.desk new.desk h.answer h.counted)) one_size refl refl
-call-shows seen old new call (Err (Refused e)) one_size h =
-    shows-unbroken seen old old new (call ∷ []) (call ∷ []) (record { answer = Err e; sent = [] } ∷ [])
-    (Makes-one seen old old call (Err e) [] (h.0, refl) (IsWithin-refl (state_of old)) (Writes-refused seen old call e h.0) (same-grew old.desk)) one_size refl h.1
+call-shows seen old new call (Ok reply) one_size h = let made = Makes-one seen old new call (Ok reply) h in shows-unbroken seen old new new (call ∷ []) (call ∷ []) _ made.1 one_size refl refl
+call-shows seen old new call (Err (Refused e)) one_size h = let made = Makes-one seen old new call (Err e) h in shows-unbroken seen old new new (call ∷ []) (call ∷ []) _ made.1 one_size refl refl
 call-shows seen old new call (Err (Write fault)) one_size h =
     shows-broken seen old old new (call ∷ []) [] [] (Makes-nothing seen old) one_size fault h.1
 

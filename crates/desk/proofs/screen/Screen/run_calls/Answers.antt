@@ -1,6 +1,6 @@
 -- `run_calls`: a run goes on by one call (`RunLemmas`).
-use Rattle.desk.specs.{arith, ◌∙◌}
-use Rattle.desk.proofs.RunLemmas.{accepted_next, ends_cut, ends_whole, refused_next}
+use Rattle.desk.specs.{arith, ◌∙◌, Ok, Err, add-zero}
+use Rattle.desk.proofs.RunLemmas.{ends_cut, ends_whole, so_far_next}
 use Rattle.desk.proofs.screen.Screen.run_calls.Goals as goal
 use Rattle.desk.proofs.screen.Screen.run_calls.Goals.{in-Ok, in-Err-Refused}
 
@@ -9,7 +9,7 @@ loop-call-preserved g c =
     let so_far = c.loop-call.invariant.so_far in
     elim c.match-call.branch [
       | in-Ok w ↦ rw (w.end-is, w.from.ensures, w.cells_of.ensures) (record {
-        so_far = accepted_next _ _ _ _ _ _ _ _ _ _ _ so_far c.loop-call-test.true w.in-Ok.ensures.ends;
+        so_far = rw add-zero at (so_far_next g.W.Sink.seen _ _ _ _ _ _ _ _ _ (Ok w.in-Ok.reply) so_far c.loop-call-test.true w.in-Ok.ensures.ends);
         count = omega arith;
         composed = omega arith;
         fault = c.loop-call.invariant.fault;
@@ -17,7 +17,7 @@ loop-call-preserved g c =
         same = w.in-Ok.ensures.same ∙ c.loop-call.invariant.same;
       })
       | in-Err-Refused w ↦ rw w.end-is (record {
-        so_far = refused_next _ _ _ _ _ _ _ _ _ _ _ so_far c.loop-call-test.true (rw w.in-Err-Refused.field-0-is at w.in-Err-Refused.ensures.ends);
+        so_far = rw (add-zero, add-zero) at (so_far_next g.W.Sink.seen _ _ _ _ _ _ _ _ _ (Err w.in-Err-Refused.field-0-0) so_far c.loop-call-test.true (rw w.in-Err-Refused.field-0-is at w.in-Err-Refused.ensures.ends));
         count = omega arith;
         composed = omega arith;
         fault = c.loop-call.invariant.fault;

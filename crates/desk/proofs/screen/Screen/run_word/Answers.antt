@@ -2,8 +2,7 @@
 use Rattle.std.specs.Prelude.{◌≡◌}
 use Rattle.desk.specs.{ℕ, [], None, Some, Ok, Err, Result, append-nil, is_some, refl, subst, sym, Appends, log_line, Log, Refusal, count_after, Reply, cut_of, call_end}
 use Rattle.desk.specs.declared.screen.Fault.TheVariants.{Write}
-use Rattle.desk.proofs.AnswerLemmas.{placeless_ends}
-use Rattle.desk.proofs.LineEndLemmas.{line_is_cut, line_of_call}
+use Rattle.desk.proofs.LineEndLemmas.{line_is_cut, line_of_call, placeless_ends}
 use Rattle.desk.proofs.screen.Screen.run_word.Goals as goal
 
 pub returns-in-Ok-log_answer-clause-line : goal.returns-in-Ok-log_answer-clause-line
