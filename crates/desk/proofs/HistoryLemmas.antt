@@ -1,8 +1,8 @@
 -- Histories: what terminals show after one, and how one goes on by a call.
 use Rattle.std.specs.Prelude.{◌≡◌, ◌<◌, ◌+◌, ◌∷◌, ◌++◌, if◌then◌else◌}
-use Rattle.desk.specs.{arith, ℕ, List, [], Option, None, Some, Result, Ok, Err, length, take, get_or, cond, is_ok, is_some, refl, sym, ap, ◌∙◌, subst, append_assoc, append-nil, ⊤, MatchOption}
-use Rattle.desk.specs.{Appends-nil, Appends-trans, take_more, sum_by_push, Appends, HasSize, Terminal, LeadsWithBreaks, showing, Seen, WriteFault, Agrees, ShownPicture, is_doupdate, Call, Refresh}
-use Rattle.desk.specs.{Doupdate, UpdatePanels, Reply, world, KeepsSize, ScreenOver, state_of, wanted, CallEnds, cut_of, CallMade, EndsInDoupdate, EndsInUpdate, ShowsWorld, AreMade, HistoryEnds}
+use Rattle.desk.specs.{arith, map-append, ℕ, List, [], Option, None, Result, Ok, Err, length, take, get_or, cond, is_ok, is_some, refl, sym, ap, ◌∙◌, subst, append_assoc, append-nil}
+use Rattle.desk.specs.{Appends-nil, Appends-trans, take_more, sum_by_push, Appends, HasSize, Terminal, Seen, WriteFault, Agrees, is_doupdate, Call, Refresh}
+use Rattle.desk.specs.{Doupdate, UpdatePanels, Reply, world, KeepsSize, ScreenOver, state_of, wanted, CallEnds, cut_of, CallMade, AreMade, HistoryEnds}
 use Rattle.desk.specs.{HistoryShows, RunsAll, Step, calls_in, cells_in, fault_after, is_cut, is_done, is_refused_step, last_fault, refuses, screen_after, counted, never-refused}
 use Rattle.paint.proofs.Repair.{Agrees-unknown, nothing-in_profile}
 use Rattle.desk.specs.declared.screen.Fault.{Fault}
@@ -20,10 +20,6 @@ fault-after_one fault (s ∷ ss) step = fault-after_one (if is_doupdate s.call t
 screen-after_one : {W : Type 0} (screen : ScreenOver W) (steps : List (Step W)) (step : Step W) → screen_after screen (steps ++ step ∷ []) ≡ step.screen
 screen-after_one screen [] step = refl
 screen-after_one screen (s ∷ ss) step = screen-after_one s.screen ss step
-
-calls-with_one : {W : Type 0} (steps : List (Step W)) (step : Step W) → calls_in (steps ++ step ∷ []) ≡ calls_in steps ++ step.call ∷ []
-calls-with_one [] step = refl
-calls-with_one (s ∷ ss) step = ap (λ cs. s.call ∷ cs) (calls-with_one ss step)
 
 module _ {W : Type 0} (seen : W → Seen) (name : W → ℕ) where
   made-front : (screen : ScreenOver W) (steps rest : List (Step W)) → AreMade seen name screen (steps ++ rest) → AreMade seen name screen steps
@@ -147,7 +143,7 @@ module _ {W : Type 0} (seen : W → Seen) (name : W → ℕ) where
       let step : Step W = record { call = get_or calls i call; end = end; screen = new } in
       record {
         steps = run.steps ++ step ∷ [];
-        calls_are = calls-with_one run.steps step ∙ ap (λ cs. cs ++ step.call ∷ []) run.calls_are ∙ sym (take_more calls i call h);
+        calls_are = map-append _ run.steps (step ∷ []) ∙ ap (λ cs. cs ++ step.call ∷ []) run.calls_are ∙ sym (take_more calls i call h);
         made = made-with_one old run.steps step run.made (subst (λ s. CallMade seen name s step.call end new) (sym run.left) made);
         left = screen-after_one old run.steps step;
         done = ap (λ n. n + cond (is_ok end) 1 0) run.done ∙ sym (sum_by_push (λ (s : Step W). cond (is_done s) 1 0) run.steps step);

@@ -1,13 +1,14 @@
 -- How a line of a script ends.
 use Rattle.std.specs.Prelude.{◌≡◌, ◌∷◌}
 use Rattle.desk.specs.{arith, ℕ, [], Bool, true, false, Option, None, Some, Ok, Err, Result, is_err, is_ok, not, refl, sym, ◌∙◌, Appends-nil, or-false, count_after, Seen, is_doupdate, CallEnds}
-use Rattle.desk.specs.{call_end, TextFault, log_line, LineEnds, LineSays, Logs, StopsAt, log_failed, Call, Refresh, Doupdate, Reply, Refusal, WriteFault, ScreenOver, each-call, placeless, ScriptFault, Write}
+use Rattle.desk.specs.{call_end, TextFault, log_line, LineEnds, LineSays, Logs, StopsAt, log_failed, Call, Refresh, Doupdate, Reply, Refusal, WriteFault, ScreenOver, placeless, ScriptFault, Write}
 use Rattle.desk.proofs.MakesLemmas.{Makes-nothing, Makes-one}
 use Rattle.desk.specs.declared.screen.Fault.{Fault}
 use Rattle.desk.specs.declared.screen.Fault.TheVariants.{Write as Cut}
 
 the_doupdate : (call : Call) → is_doupdate call ≡ true → call ≡ Refresh Doupdate
-the_doupdate call h = grind (arith, each-call)
+the_doupdate (Refresh Doupdate) h = refl
+the_doupdate call h = cc
 
 refused_is : (answer : Result Reply Refusal) (r : Bool) → r ≡ is_err answer → r ≡ not (is_ok answer)
 refused_is answer r e = grind arith

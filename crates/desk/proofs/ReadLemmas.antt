@@ -1,25 +1,19 @@
 -- How many cells a run reads.
 use Rattle.std.specs.Prelude.{◌≡◌, ◌≤◌, ◌+◌, ◌∷◌, ◌%◌, ◌^◌}
-use Rattle.desk.specs.{ℕ, List, [], Bool, false, Option, Result, Ok, refl, sym, subst, ap, ◌∙◌, sum_by, is_ok, arith, add_assoc, add-le-add, mod-add-mod, mod-mod, sum_by-cons, option_map_or, Glyph}
-use Rattle.desk.specs.{Place, Refusal, World, most_cells, is_update_panels, reply_of, both_numbers, cell_at_cursor, CountsReads, cells_of_reply, DeskTable, State, MayAnswer, Outcome, Run}
-use Rattle.desk.specs.{cells_of_answer, cells_read, state_after, CountGrew, ReadsFew, places_redrawn, with_acceptance, Call, Syncup, Delwin, Inch, UpdatePanels, Doupdate, Reply, Nothing, Cell}
+use Rattle.desk.specs.{ℕ, List, [], Bool, false, Result, Ok, refl, sym, subst, ap, ◌∙◌, sum_by, is_ok, arith, add_assoc, add-le-add, mod-add-mod, mod-mod, sum_by-cons}
+use Rattle.desk.specs.{Refusal, World, most_cells, is_update_panels, reply_of, CountsReads, cells_of_reply, DeskTable, State, MayAnswer, Outcome, Run}
+use Rattle.desk.specs.{cells_of_answer, cells_read, state_after, CountGrew, ReadsFew, places_redrawn, with_acceptance, Call, Syncup, Delwin, Inch, UpdatePanels, Doupdate, Reply}
 use Rattle.desk.specs.{DelPanel}
 use Rattle.world.specs.declared.call.Call.TheVariants as calls
 
 -- ---- only update_panels answers a number of cells
 
-both_numbers-no_cells : (place : Option Place) → cells_of_reply (both_numbers place) ≡ 0
-both_numbers-no_cells place = grind arith
-
-cell-no_cells : (cell : Option Glyph) → cells_of_reply (option_map_or (λ c. Cell c) cell Nothing) ≡ 0
-cell-no_cells cell = grind arith
-
 -- what the effect of a call answers; a row with a call lets the last go through its group
 reply_of-no_cells : (w : World) (call : Call) → cells_of_reply (reply_of w call) ≡ 0
 reply_of-no_cells w (calls.Making (Delwin win)) = refl
 reply_of-no_cells w (calls.Copying (Syncup win)) = refl
-reply_of-no_cells w (calls.Query (Inch win)) = cell-no_cells (cell_at_cursor w.windows.window win.0)
-reply_of-no_cells w (calls.Query query) = both_numbers-no_cells _
+reply_of-no_cells w (calls.Query (Inch win)) = grind arith
+reply_of-no_cells w (calls.Query query) = grind arith
 reply_of-no_cells w (calls.Stacking (DelPanel panel)) = refl
 reply_of-no_cells w (calls.Refresh Doupdate) = refl
 reply_of-no_cells w call = refl

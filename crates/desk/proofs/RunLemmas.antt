@@ -1,11 +1,10 @@
 -- A run goes on by one call.
 use Rattle.std.specs.Prelude.{◌≡◌, ◌+◌, ◌≤◌, ◌++◌, ◌∷◌, ◌<◌, ◌%◌, ◌^◌}
-use Rattle.desk.specs.{ℕ, List, Result, call_end, cells_of_answer, is_ok, not, [], length, take, drop, get_or, None, Some, Ok, Err, refl, sym, ap, ◌∙◌, subst, count_by, sum_by, cond, add-zero, Option, append-nil, take-append-drop, take_all}
-use Rattle.desk.specs.{drop_more, take_more, sum_by_push, Refusal, Seen, WriteFault, Outcome, cells_read, is_accepted, is_refused, cells_of_reply, CountGrew, ReadsFew, with_acceptance, CallEnds}
-use Rattle.desk.specs.{Makes, RunEnds, Stops, Writes, begins_with_doupdate, Call, Reply, ScreenOver, state_of}
+use Rattle.desk.specs.{ℕ, List, Result, call_end, cells_of_answer, is_ok, not, [], length, take, drop, get_or, None, Some, Ok, Err, refl, sym, ap, ◌∙◌, subst, count_by, sum_by, cond, Option, append-nil, take-append-drop, take_all}
+use Rattle.desk.specs.{drop_more, take_more, sum_by_push, Refusal, Seen, WriteFault, Outcome, cells_read, is_accepted, is_refused, CountGrew, ReadsFew, with_acceptance, CallEnds}
+use Rattle.desk.specs.{Makes, RunEnds, Stops, begins_with_doupdate, Call, Reply, ScreenOver, state_of}
 use Rattle.desk.proofs.MakesLemmas.{Makes-append, Makes-nothing, Makes-one}
-use Rattle.desk.proofs.WriterLemmas.{Writes-refused}
-use Rattle.desk.specs.declared.screen.Fault.TheVariants.{Refused, Write}
+use Rattle.desk.specs.declared.screen.Fault.TheVariants.{Write}
 use Rattle.desk.specs.declared.screen.RunEnd.{RunEnd}
 
 module _ {W : Type 0} (seen : W → Seen) where

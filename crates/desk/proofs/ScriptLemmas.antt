@@ -185,10 +185,6 @@ module _ {W : Type 0} (seen : W → Seen) where
   says_at_end made n said call ended text z (Some Log) ls says last =
       λ more h. ((z more).calls, ap (λ (r : Reading). r.calls) (says more h ∙ says_call made n said call (z more) ls))
 
-  all_logged : (old : State) (a b : List (ℕ × Call)) (xs ys : List Outcome) (log l1 l2 : Seen) → Run old (calls_of a) xs → Appends log.taken l1.taken (log_text (log_lines a xs))
-      → Appends l1.taken l2.taken (log_text (log_lines b ys)) → Appends log.taken l2.taken (log_text (log_lines (a ++ b) (xs ++ ys)))
-  all_logged old a b xs ys log l1 l2 run first second = grind (arith, log_text-append, Appends-trans)
-
   logs_after : (old : State) (a b : List (ℕ × Call)) (xs ys : List Outcome) (log l1 l2 : Seen) (fault : Option ScriptFault) → Run old (calls_of a) xs
       → Appends log.taken l1.taken (log_text (log_lines a xs)) → Logs l1 l2 (log_lines b ys) fault → Logs log l2 (log_lines (a ++ b) (xs ++ ys)) fault
   logs_after old a b xs ys log l1 l2 (Some Log) run first second = record {
@@ -202,7 +198,7 @@ module _ {W : Type 0} (seen : W → Seen) where
         ∙ append_assoc (log_text (log_lines a xs)) (log_text second.whole) (take second.sent second.last)))
         (Appends-trans _ _ _ _ _ first second.taken);
   }
-  logs_after old a b xs ys log l1 l2 fault run first second = all_logged old a b xs ys log l1 l2 run first second
+  logs_after old a b xs ys log l1 l2 fault run first second = grind (arith, log_text-append, Appends-trans)
 
   -- The script ends at a line.
   ends_at_line : (old mid now : ScreenOver W) (input r1 r2 : SourceSeen) (log l1 l2 : Seen) (unused line bytes : List ℕ) (n : ℕ) (b : Bool) (end : ScriptEnd) (z : List ℕ → Reading)
@@ -228,36 +224,22 @@ module _ {W : Type 0} (seen : W → Seen) where
     read_once = still_once input r1 r2 s.met s.read_once once;
   }
 
-  -- A line has a fault, and a newline ends it.
-  ends_in_line : (old mid now : ScreenOver W) (input r1 r2 : SourceSeen) (log l1 l2 : Seen) (unused left line : List ℕ) (n : ℕ) (b : Bool) (end : ScriptEnd)
-      → SoFar old mid input r1 log l1 unused n b → ReadsLine r1 r2 unused left line (Some Newline) → ReadsOnce r1 r2 → LineEnds seen mid now n (parse_line line) l1 l2 end
-      → (end.fault ≡ None → ⊥)
-      → RunsLines seen old now input r2 log l2 (record { refused = b || end.refused; fault = end.fault })
-  ends_in_line old mid now input r1 r2 log l1 l2 unused left line n b end s r once e some =
-      ends_at_line old mid now input r1 r2 log l1 l2 unused line r.bytes n b end (λ more. reading_of false (next_number n) (slice_split is_newline (left ++ more)))
-      s r.read once e (λ more h. line_says s r false more) (λ none. absurd (some none)) (λ none. absurd (some none))
-
-  -- the last line
-  ends_in_last_line : (old mid now : ScreenOver W) (input r1 r2 : SourceSeen) (log l1 l2 : Seen) (unused left line : List ℕ) (n : ℕ) (b : Bool) (end : ScriptEnd)
-      → SoFar old mid input r1 log l1 unused n b → ReadsLine r1 r2 unused left line (Some Script_end) → ReadsOnce r1 r2 → LineEnds seen mid now n (parse_line line) l1 l2 end → r2.met_end ≡ true
-      → RunsLines seen old now input r2 log l2 (record { refused = b || end.refused; fault = end.fault })
-  ends_in_last_line old mid now input r1 r2 log l1 l2 unused left line n b end s r once e ended =
-      ends_at_line old mid now input r1 r2 log l1 l2 unused line r.bytes n b end (λ more. ends_with None) s r.read once e
-      (λ more h.
-      ap (reading false) (append_assoc s.text r.bytes more) ∙ s.says false (r.bytes ++ more)
-      ∙ ap (λ l. prepend s.made (reading_of false n (slice_split is_newline l))) (ap (λ m. unused ++ (r.bytes ++ m)) (h ended) ∙ ap (λ l. unused ++ l) (append-nil r.bytes) ∙ r.is_line.0.0)
-      ∙ ap (λ ps. prepend s.made (reading_of false n ps)) (slice_split_none is_newline line (no_newlines line r.no_newline)))
-      (λ none. (ended, refl)) (λ none. r.at_end refl)
-
   -- the last line that is run, be it the last of all or one with a fault
   pub ends_after_last : (old mid now : ScreenOver W) (input r1 r2 : SourceSeen) (log l1 l2 : Seen) (unused left line : List ℕ) (n : ℕ) (b : Bool) (end : ScriptEnd) (line_end : LineEnd)
       → SoFar old mid input r1 log l1 unused n b → ReadsLine r1 r2 unused left line (Some line_end) → ReadsOnce r1 r2 → LineEnds seen mid now n (parse_line line) l1 l2 end
       → r2.met_end ≡ (met_end line_end || r1.met_end) → false ≡ end_failed line_end → true ≡ (met_end line_end || is_some end.fault)
       → RunsLines seen old now input r2 log l2 (record { refused = b || end.refused; fault = end.fault })
   ends_after_last old mid now input r1 r2 log l1 l2 unused left line n b end Newline s r once e met read last =
-      ends_in_line old mid now input r1 r2 log l1 l2 unused left line n b end s r once e (λ none. grind arith)
+      let some : end.fault ≡ None → ⊥ = λ none. grind arith in
+      ends_at_line old mid now input r1 r2 log l1 l2 unused line r.bytes n b end (λ more. reading_of false (next_number n) (slice_split is_newline (left ++ more)))
+      s r.read once e (λ more h. line_says s r false more) (λ none. absurd (some none)) (λ none. absurd (some none))
   ends_after_last old mid now input r1 r2 log l1 l2 unused left line n b end Script_end s r once e met read last =
-      ends_in_last_line old mid now input r1 r2 log l1 l2 unused left line n b end s r once e met
+      ends_at_line old mid now input r1 r2 log l1 l2 unused line r.bytes n b end (λ more. ends_with None) s r.read once e
+      (λ more h.
+      ap (reading false) (append_assoc s.text r.bytes more) ∙ s.says false (r.bytes ++ more)
+      ∙ ap (λ l. prepend s.made (reading_of false n (slice_split is_newline l))) (ap (λ m. unused ++ (r.bytes ++ m)) (h met) ∙ ap (λ l. unused ++ l) (append-nil r.bytes) ∙ r.is_line.0.0)
+      ∙ ap (λ ps. prepend s.made (reading_of false n ps)) (slice_split_none is_newline line (no_newlines line r.no_newline)))
+      (λ none. (met, refl)) (λ none. r.at_end refl)
   ends_after_last old mid now input r1 r2 log l1 l2 unused left line n b end ReadFailed s r once e met read last = cc
 
   -- The script ends after the lines that were run.
@@ -327,16 +309,9 @@ module _ {W : Type 0} (seen : W → Seen) where
       → Makes seen old calls outcomes at_stop → HasOneSize old.desk old.painter → StopsAt seen at_stop fault new → RunShows seen old new calls (write_fault fault)
   lines_show old at_stop new calls outcomes fault makes one_size stop = grind (arith, shows-unbroken, shows-broken)
 
-  same_size : (at_stop new : ScreenOver W) → new ≡ at_stop → KeepsSize at_stop.desk new.desk
-  same_size at_stop new e = grind arith
-
-  stops_keep_size : (at_stop new : ScreenOver W) (fault : Option ScriptFault) → StopsAt seen at_stop fault new
-      → KeepsSize at_stop.desk new.desk
-  stops_keep_size at_stop new fault stop = grind (arith, same_size, cut-keeps_size)
-
   pub lines_keep_size : {old now : ScreenOver W} {input rest : SourceSeen} {log logged : Seen} {end : ScriptEnd} → HasOneSize old.desk old.painter → RunsLines seen old now input rest log logged end
       → KeepsSize old.desk now.desk
-  lines_keep_size {old} {now} {rest} {end} one_size s = grind (arith, then-keeps_size, makes-keep_size, stops_keep_size)
+  lines_keep_size {old} {now} {rest} {end} one_size s = grind (arith, then-keeps_size, makes-keep_size, cut-keeps_size)
 
   pub script_ends : {old now : ScreenOver W} {input rest : SourceSeen} {log logged written : Seen} {ended end : ScriptEnd} → HasOneSize old.desk old.painter
       → RunsLines seen old now input rest log logged ended → LogCloses ended.fault logged written end.fault → end.refused ≡ ended.refused → write_fault end.fault ≡ write_fault ended.fault

@@ -1,9 +1,9 @@
 -- What a terminal shows after a run of calls.
 use Rattle.std.specs.Prelude.{◌≡◌, ◌∷◌, ◌++◌}
-use Rattle.desk.specs.{arith, ℕ, Bool, IsUpdateText, List, [], take, Option, Some, None, Result, Ok, Err, is_some, refl, sym, ap, ◌∙◌, subst, append_assoc, append-nil, Appends-trans, ⊤, MatchOption, shown, shown_blank}
+use Rattle.desk.specs.{arith, ℕ, Bool, IsUpdateText, List, [], take, Some, None, Result, Ok, Err, is_some, refl, sym, ap, ◌∙◌, subst, append_assoc, append-nil, Appends-trans, ⊤, MatchOption, shown, shown_blank}
 use Rattle.desk.specs.{HasSize, IsSound, World, picture, world_after, composed_windows, Refusal, never-refused, Terminal, Leads, LeadsWithBreaks, showing, count_after, Seen, Agrees, PainterState}
 use Rattle.desk.specs.{ShownPicture, WriteFault, IsWithin, State, after, wanted, state_of, HasOneSize, KeepsSize, ScreenOver, Outcome, MayAnswer, Run, all_sent, state_after, state_at_end, DeskTable}
-use Rattle.desk.specs.{world, CallEnds, IsCut, Makes, RunEnds, Stops, cut_of, CallMade, EndsInDoupdate, EndsInUpdate, ShowsWorld, RunShows, Call, UpdatePanels, Doupdate, each-call, quiet-reply, Reply}
+use Rattle.desk.specs.{world, CallEnds, IsCut, Makes, RunEnds, cut_of, CallMade, EndsInDoupdate, EndsInUpdate, ShowsWorld, RunShows, Call, UpdatePanels, Doupdate, Reply}
 use Rattle.cell.proofs.PictureLemmas.{HasSize-lines_from, cell_or-lines_from}
 use Rattle.world.proofs.RefreshLaws.{found-unmarked, cursor-unmarked}
 use Rattle.ecma.proofs.Joining.{Leads-append}
@@ -11,7 +11,6 @@ use Rattle.ecma.proofs.Leading.{Leads-nothing}
 use Rattle.ecma.proofs.PictureSizes.{size-effects}
 use Rattle.paint.proofs.Repair.{Agrees-update, Agrees-fault, IsKnown, reads-known}
 use Rattle.desk.proofs.MakesLemmas.{Makes-nothing, Makes-one}
-use Rattle.desk.proofs.StateLemmas.{painter-quiet}
 use Rattle.world.proofs.Sizes.{size-call}
 use Rattle.world.specs.declared.call.Call.TheVariants as calls
 use Rattle.desk.specs.declared.screen.RunEnd.{RunEnd}
@@ -37,7 +36,8 @@ still-sized : {lines columns : ℕ} {s t : State} → IsWithin s t → HasScreen
 still-sized same h = grind arith
 
 size-painter : (s : State) (call : Call) → ((after s call).painter.lines ≡ s.painter.lines) × ((after s call).painter.columns ≡ s.painter.columns)
-size-painter s call = grind (arith, each-call, painter-quiet)
+size-painter s (calls.Refresh Doupdate) = (refl, refl)
+size-painter s call = (refl, refl)
 
 size-after : (lines columns : ℕ) (s : State) (call : Call) (answer : Result Reply Refusal) → HasScreenSize lines columns s → HasScreenSize lines columns (state_after s call answer)
 size-after lines columns s call answer h = grind (arith, size-call, size-painter)
@@ -52,7 +52,7 @@ size-at_end lines columns s (c ∷ cs) (o ∷ os) h = size-at_end lines columns 
 -- What holds of a painter and of all that was sent holds after a run, if it goes on over each doupdate.
 module _ (lines columns : ℕ) (P : PainterState → List ℕ → Type 0)
     (update : (painter : PainterState) (clear : Bool) (shown : ShownPicture) (bytes text : List ℕ) → painter.lines ≡ lines → painter.columns ≡ columns → IsUpdateText painter clear shown text
-        → P painter bytes → P (record painter { last = Some shown }) (bytes ++ text)) where
+    → P painter bytes → P (record painter { last = Some shown }) (bytes ++ text)) where
   unsent : (painter : PainterState) (bytes sent : List ℕ) → sent ≡ [] → P painter bytes → P painter (bytes ++ sent)
   unsent painter bytes sent none h = grind (arith, append-nil)
 
@@ -230,13 +230,9 @@ module _ {W : Type 0} (seen : W → Seen) (old at_stop new : ScreenOver W) (cs m
     shows_on_any = λ ends none. absurd (let never : Some fault ≡ None = none in cc);
   }
 
-run-stops : {W : Type 0} (seen : W → Seen) (old at_stop new : ScreenOver W) (cs made left : List Call) (outcomes : List Outcome) (fault : Option WriteFault) → Makes seen old made outcomes at_stop
-    → HasOneSize old.desk old.painter → cs ≡ made ++ left → Stops seen at_stop left fault new → RunShows seen old new cs fault
-run-stops seen old at_stop new cs made left outcomes fault makes one_size parts stop = grind (arith, shows-unbroken, shows-broken, append-nil)
-
 pub run-shows : {W : Type 0} (seen : W → Seen) (old new : ScreenOver W) (cs : List Call) (end : RunEnd) → HasOneSize old.desk old.painter → RunEnds seen old cs end new
     → RunShows seen old new cs end.fault
-run-shows seen old new cs end one_size h = grind (arith, run-stops)
+run-shows seen old new cs end one_size h = grind (arith, shows-unbroken, shows-broken, append-nil)
 
 -- ---- one call
 
@@ -270,12 +266,9 @@ makes-keep_size seen old new cs outcomes one_size h = grind (arith, size-of, sti
 pub then-keeps_size : (old mid new : DeskTable) → KeepsSize old mid → KeepsSize mid new → KeepsSize old new
 then-keeps_size old mid new h k = grind arith
 
-stop-keeps_size : {W : Type 0} (seen : W → Seen) (at_stop new : ScreenOver W) (left : List Call) (fault : Option WriteFault) → Stops seen at_stop left fault new → KeepsSize at_stop.desk new.desk
-stop-keeps_size seen at_stop new left fault h = grind (arith, cut-keeps_size)
-
 pub run-keeps_size : {W : Type 0} (seen : W → Seen) (old new : ScreenOver W) (cs : List Call) (end : RunEnd) → HasOneSize old.desk old.painter → RunEnds seen old cs end new
     → KeepsSize old.desk new.desk
-run-keeps_size seen old new cs end one_size h = grind (arith, then-keeps_size, makes-keep_size, stop-keeps_size)
+run-keeps_size seen old new cs end one_size h = grind (arith, then-keeps_size, makes-keep_size, cut-keeps_size)
 
 -- all that is known of it follows
 pub call-made : {W : Type 0} (seen : W → Seen) (name : W → ℕ) (old new : ScreenOver W) (call : Call) (r : Result Reply Fault) → HasOneSize old.desk old.painter → CallEnds seen old call r new

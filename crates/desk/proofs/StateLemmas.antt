@@ -45,20 +45,10 @@ is-kept {old} same = grind arith
 pub IsWithin-trans : {s t u : State} → IsWithin s t → IsWithin t u → IsWithin s u
 IsWithin-trans h k = grind arith
 
--- A property of states that grows with the lines goes over.
-grows : (P : State → Type 0) → ((w : World) (painter : PainterState) (few more : ℕ → Bool) → AreAmong few more
-    → P (record { world = w; painter = painter; damaged = few }) → P (record { world = w; painter = painter; damaged = more })) → (s t : State) → IsWithin s t → P s → P t
-grows P step s t h p =
-    step t.world t.painter s.damaged t.damaged h.damaged (subst P (λ i. record { world = h.world i; painter = h.painter i; damaged = s.damaged }) p)
-
-answer-among : (w : World) (painter : PainterState) (few more : ℕ → Bool) (call : Call) (answer : Result Reply Refusal) (sent : List ℕ) → AreAmong few more
-    → MayAnswer (record { world = w; painter = painter; damaged = few }) call answer sent → MayAnswer (record { world = w; painter = painter; damaged = more }) call answer sent
-answer-among w painter few more call (Err e) sent h may = may
-answer-among w painter few more (calls.Refresh UpdatePanels) (Ok r) sent h may = (may.0, (may.1.0, (may.1.1.0, read-among w few more may.1.1.0 h may.1.1.1, may.1.1.2)))
-answer-among w painter few more call (Ok r) sent h may = may
-
 pub MayAnswer-within : {s t : State} (call : Call) (answer : Result Reply Refusal) (sent : List ℕ) → IsWithin s t → MayAnswer s call answer sent → MayAnswer t call answer sent
-MayAnswer-within {s} {t} call answer sent h may = grows (λ s. MayAnswer s call answer sent) (λ w painter few more. answer-among w painter few more call answer sent) s t h may
+MayAnswer-within {s} {t} (calls.Refresh UpdatePanels) (Ok r) sent h may =
+    let told = rw h.world at may in (told.0, (told.1.0, (told.1.1.0, read-among t.world s.damaged t.damaged told.1.1.0 h.damaged told.1.1.1, told.1.1.2)))
+MayAnswer-within call answer sent h may = grind arith
 
 pub state_after-within : {s t : State} (call : Call) (answer : Result Reply Refusal) → IsWithin s t → IsWithin (state_after s call answer) (state_after t call answer)
 state_after-within call answer h = grind (arith, lines-among)

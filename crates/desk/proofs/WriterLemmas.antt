@@ -1,7 +1,7 @@
 -- What calls do to the writer of a screen.
 use Rattle.std.specs.Prelude.{◌≡◌, ◌||◌, ◌∷◌, ◌++◌}
 use Rattle.desk.specs.{arith, ℕ, Bool, false, List, [], Ok, Err, refl, sym, Appends-nil, Appends-trans, list_any-append, Refusal, count_after, Seen, is_doupdate, world_after, Call, Doupdate, Reply}
-use Rattle.desk.specs.{DeskTable, world, IsWithin, ScreenOver, after, state_of, Called, DamagesFew, MayRefuse, never-refused, flushes_after, each-call, quiet-reply, CallEnds, Writes}
+use Rattle.desk.specs.{DeskTable, world, IsWithin, ScreenOver, after, state_of, Called, DamagesFew, MayRefuse, never-refused, flushes_after, quiet-reply, CallEnds, Writes}
 use Rattle.world.specs.declared.call.Call.TheVariants as calls
 use Rattle.desk.proofs.StateLemmas.{painter-quiet}
 use Rattle.compose.proofs.DeskLemmas.{world-left}
@@ -27,10 +27,8 @@ module _ {W : Type 0} (seen : W → Seen) where
 
   -- a refused call
   pub Writes-refused : (old : ScreenOver W) (call : Call) (e : Refusal) → MayRefuse (world old.desk) call e → Writes seen old old (call ∷ []) []
-  Writes-refused old call e h =
-      each-call (λ call. MayRefuse (world old.desk) call e → Writes seen old old (call ∷ []) [])
-      (λ call other h. quiet old old call other refl)
-      (λ h. absurd (never-refused (world old.desk) (calls.Refresh Doupdate) e refl refl h)) call h
+  Writes-refused old (calls.Refresh Doupdate) e h = absurd (never-refused (world old.desk) (calls.Refresh Doupdate) e refl refl h)
+  Writes-refused old call e h = quiet old old call refl refl
 
   -- ---- one call
 

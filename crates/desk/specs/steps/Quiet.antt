@@ -1,14 +1,9 @@
 -- Doupdate is the only call that sends, and the others may answer what a desk answers.
 use Rattle.std.specs.Prelude.{◌≡◌}
-use Rattle.desk.specs.Names.{ℕ, false, List, [], refl, MayTell, is_doupdate, Call, Doupdate, Reply}
+use Rattle.desk.specs.Names.{ℕ, false, List, [], MayTell, is_doupdate, Call, Doupdate, Reply}
 use Rattle.world.specs.declared.call.Call.TheVariants as calls
 use Rattle.desk.specs.Runs.{MayReply}
 use Rattle.desk.specs.States.{State}
-
--- what holds of each other call, and of doupdate, holds of each call
-pub each-call : (P : Call → Type 0) → ((call : Call) → is_doupdate call ≡ false → P call) → P (calls.Refresh Doupdate) → (call : Call) → P call
-each-call P others doupdate (calls.Refresh Doupdate) = doupdate
-each-call P others doupdate call = others call refl
 
 -- such a call sends nothing
 abbrev pub IsQuiet : State → Reply → List ℕ → Call → Type 0
