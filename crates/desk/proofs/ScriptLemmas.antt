@@ -16,12 +16,6 @@ use Rattle.script.specs.declared.bytes.LineEnd.TheVariants.{ScriptEnd as Script_
 abbrev pub prepend : List (ℕ × Call) → Reading → Reading
 prepend calls r = record { calls = calls ++ r.calls; fault = r.fault }
 
-prepend_numbered : (n : ℕ) (call : Option Call) (r : Reading) → before_others n (Ok call) r ≡ prepend (numbered_call n call) r
-prepend_numbered n call r = grind arith
-
-prepend_twice : (a b : List (ℕ × Call)) (r : Reading) → prepend a (prepend b r) ≡ prepend (a ++ b) r
-prepend_twice a b r = grind (arith, append_assoc)
-
 -- a line before others
 line_first : (failed : Bool) (n : ℕ) (line : List ℕ) (pieces : List (List ℕ)) → 0 < length pieces
     → reading_of failed n (line ∷ pieces) ≡ before_others n (parse_line line) (reading_of failed (next_number n) pieces)
@@ -134,7 +128,7 @@ module _ {W : Type 0} (seen : W → Seen) where
 
   says_call : (made : List (ℕ × Call)) (n : ℕ) (said : Result (Option Call) TextFault) (call : Option Call) (others : Reading) → said ≡ Ok call
       → prepend made (before_others n said others) ≡ prepend (made ++ numbered_call n call) others
-  says_call made n said call others e = grind (arith, prepend_numbered, prepend_twice)
+  says_call made n said call others e = grind (arith, append_assoc)
 
   -- one more line
   pub so_far_next : (old mid now : ScreenOver W) (input r1 r2 : SourceSeen) (log l1 l2 : Seen) (unused left line : List ℕ) (n : ℕ) (b : Bool) (end : ScriptEnd)

@@ -94,12 +94,9 @@ VirtualIsKnown s = s.painter.last ≡ Some (wanted s.world)
 still-known : {s t : State} → IsWithin s t → VirtualIsKnown t → VirtualIsKnown s
 still-known same h = grind arith
 
-one-doupdate : (s : State) (answer : Result Reply Refusal) (sent : List ℕ) → MayAnswer s (calls.Refresh Doupdate) answer sent → VirtualIsKnown (state_after s (calls.Refresh Doupdate) answer)
-one-doupdate s answer sent h = grind (arith, never-refused)
-
 pub virtual-known : (s : State) (others : List Call) (outcomes : List Outcome) → Run s (others ++ calls.Refresh Doupdate ∷ []) outcomes
     → VirtualIsKnown (state_at_end s (others ++ calls.Refresh Doupdate ∷ []) outcomes)
-virtual-known s [] (o ∷ []) run = one-doupdate s o.answer o.sent run.0
+virtual-known s [] (o ∷ []) run = grind (arith, never-refused)
 virtual-known s [] (o ∷ p ∷ os) run = absurd run.1
 virtual-known s (c ∷ cs) (o ∷ os) run = virtual-known (state_after s c o.answer) cs os run.1
 virtual-known s others outcomes run = absurd run
@@ -115,15 +112,10 @@ pub record EndsShown (s : State) : Type 0 where
 still-shown : {s t : State} → IsWithin s t → EndsShown t → EndsShown s
 still-shown same h = grind arith
 
-two-calls : (s : State) (one other : Result Reply Refusal) (sent more : List ℕ) → MayAnswer s (calls.Refresh UpdatePanels) one sent
-    → MayAnswer (state_after s (calls.Refresh UpdatePanels) one) (calls.Refresh Doupdate) other more
-    → EndsShown (state_after (state_after s (calls.Refresh UpdatePanels) one) (calls.Refresh Doupdate) other)
-two-calls s one other sent more h k = grind (arith, never-refused)
-
 pub ends-shown : (s : State) (others : List Call) (outcomes : List Outcome) → Run s (others ++ calls.Refresh UpdatePanels ∷ calls.Refresh Doupdate ∷ []) outcomes
     → EndsShown (state_at_end s (others ++ calls.Refresh UpdatePanels ∷ calls.Refresh Doupdate ∷ []) outcomes)
 ends-shown s [] (o ∷ []) run = absurd run.1
-ends-shown s [] (o ∷ p ∷ []) run = two-calls s o.answer p.answer o.sent p.sent run.0 run.1.0
+ends-shown s [] (o ∷ p ∷ []) run = grind (arith, never-refused)
 ends-shown s [] (o ∷ p ∷ q ∷ os) run = absurd run.1.1
 ends-shown s (c ∷ cs) (o ∷ os) run = ends-shown (state_after s c o.answer) cs os run.1
 ends-shown s others outcomes run = absurd run

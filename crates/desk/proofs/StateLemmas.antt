@@ -1,8 +1,8 @@
 -- States with more lines damaged: the outcomes that calls may have in one, they may have in the other.
-use Rattle.std.specs.Prelude.{◌≡◌, ◌≤◌, ◌||◌, if◌then◌else◌, ◌∷◌}
-use Rattle.desk.specs.{ℕ, Bool, true, false, cond, List, [], Result, Ok, Err, subst, sym, ◌∙◌, arith, mul-le-mul_right, sum_by-le-sum_by, count_by, MatchOption, None, Some, ⊤, Picture, Refusal}
+use Rattle.std.specs.Prelude.{◌≡◌, ◌≤◌, if◌then◌else◌, ◌∷◌}
+use Rattle.desk.specs.{ℕ, Bool, true, false, List, [], Result, Ok, Err, subst, sym, ◌∙◌, arith, mul-le-mul_right, sum_by-le-sum_by, count_by, MatchOption, None, Some, ⊤, Picture, Refusal}
 use Rattle.desk.specs.{PainterState, ShownPicture, IsSound, World, affected_after, is_doupdate, Called, MayRead, DifferOnly, DeskTable, world, HasOneSize, IsScreen, IsWithin, ScreenOver, State, after}
-use Rattle.desk.specs.{state_of, MayAnswer, Outcome, Run, state_after, state_at_end, Call, UpdatePanels, Reply}
+use Rattle.desk.specs.{MayAnswer, Outcome, Run, state_after, state_at_end, Call, UpdatePanels, Reply}
 use Rattle.desk.specs.{ap, CellsGiven, Edit, KeepsSize, arranges, changes, edits}
 use Rattle.world.proofs.Sizes.{size-effect}
 use Rattle.compose.proofs.DeskLemmas.{size-called, sound-called}
@@ -14,17 +14,11 @@ use Rattle.world.specs.declared.call.Call.TheVariants as calls
 abbrev pub AreAmong : (ℕ → Bool) → (ℕ → Bool) → Type 0
 AreAmong few more = (line : ℕ) → few line ≡ true → more line ≡ true
 
-after-among : (ends few more affected : Bool) → (few ≡ true → more ≡ true) → (if ends then false else few || affected) ≡ true → (if ends then false else more || affected) ≡ true
-after-among ends few more affected h e = grind arith
-
 lines-among : (w : World) (few more : ℕ → Bool) (call : Call) → AreAmong few more → AreAmong (affected_after w few call) (affected_after w more call)
-lines-among w few more call h = grind (arith, after-among)
-
-bit-among : (few more : Bool) → (few ≡ true → more ≡ true) → cond few 1 0 ≤ cond more 1 0
-bit-among few more h = grind arith
+lines-among w few more call h = grind arith
 
 count-among : (few more : ℕ → Bool) → AreAmong few more → (xs : List ℕ) → count_by few xs ≤ count_by more xs
-count-among few more h xs = grind (arith, sum_by-le-sum_by, bit-among)
+count-among few more h xs = grind (arith, sum_by-le-sum_by)
 
 read-among : (w : World) (few more : ℕ → Bool) (cells : ℕ) → AreAmong few more → MayRead w few cells → MayRead w more cells
 read-among w few more cells h may = grind (arith, mul-le-mul_right, count-among)
@@ -37,10 +31,6 @@ painter-quiet s call other = grind arith
 
 pub IsWithin-refl : (s : State) → IsWithin s s
 IsWithin-refl s = grind arith
-
--- a screen that a refused call left as it was
-pub is-kept : {W : Type 0} {old new : ScreenOver W} → new ≡ old → IsWithin (state_of new) (state_of old)
-is-kept {old} same = grind arith
 
 pub IsWithin-trans : {s t u : State} → IsWithin s t → IsWithin t u → IsWithin s u
 IsWithin-trans h k = grind arith

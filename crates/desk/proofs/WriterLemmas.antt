@@ -1,6 +1,6 @@
 -- What calls do to the writer of a screen.
-use Rattle.std.specs.Prelude.{◌≡◌, ◌||◌, ◌∷◌, ◌++◌}
-use Rattle.desk.specs.{arith, ℕ, Bool, false, List, [], Ok, Err, refl, sym, Appends-nil, Appends-trans, list_any-append, Refusal, count_after, Seen, is_doupdate, world_after, Call, Doupdate, Reply}
+use Rattle.std.specs.Prelude.{◌≡◌, ◌∷◌, ◌++◌}
+use Rattle.desk.specs.{arith, ℕ, false, List, [], Ok, Err, refl, sym, Appends-nil, Appends-trans, list_any-append, Refusal, count_after, Seen, is_doupdate, world_after, Call, Doupdate, Reply}
 use Rattle.desk.specs.{DeskTable, world, IsWithin, ScreenOver, after, state_of, Called, DamagesFew, MayRefuse, never-refused, flushes_after, quiet-reply, CallEnds, Writes}
 use Rattle.world.specs.declared.call.Call.TheVariants as calls
 use Rattle.desk.proofs.StateLemmas.{painter-quiet}
@@ -11,16 +11,13 @@ flushes_after-append : (flushes : ℕ) (calls more : List Call) → flushes_afte
 flushes_after-append flushes [] more = refl
 flushes_after-append flushes (call ∷ calls) more = flushes_after-append (count_after (is_doupdate call) flushes) calls more
 
-or_turned : (a b c : Bool) → (b || (a || c)) ≡ ((a || b) || c)
-or_turned a b c = grind arith
-
 module _ {W : Type 0} (seen : W → Seen) where
   pub Writes-nothing : (old : ScreenOver W) → Writes seen old old [] []
   Writes-nothing old = grind (arith, Appends-nil)
 
   pub Writes-trans : (old mid new : ScreenOver W) (calls more : List Call) (bytes others : List ℕ) → Writes seen old mid calls bytes → Writes seen mid new more others
       → Writes seen old new (calls ++ more) (bytes ++ others)
-  Writes-trans old mid new calls more bytes others h k = grind (arith, Appends-trans, flushes_after-append, or_turned, list_any-append)
+  Writes-trans old mid new calls more bytes others h k = grind (arith, Appends-trans, flushes_after-append, list_any-append)
 
   quiet : (old new : ScreenOver W) (call : Call) → is_doupdate call ≡ false → new.writer ≡ old.writer → Writes seen old new (call ∷ []) []
   quiet old new call other same = grind (arith, Appends-nil)
