@@ -22,11 +22,6 @@ pub record ClearedBefore (lines : List ℕ) (next : Option ℕ) (extents : List 
 abbrev pub lines-left : Option ℕ → ℕ
 lines-left next = option_map_or (λ y. 1024 - y) next 0
 
-module _ (lines : List ℕ) (extents : List (Option Columns)) (others : (v : ℕ) → contains lines v ≡ false → columns_of extents v ≡ None) where
-  -- where those before one have none
-  cleared-on : (from : ℕ) → ((v : ℕ) → v < from → columns_of extents v ≡ None) → (next : Option ℕ) → IsNext lines from next → ClearedBefore lines next extents
-  cleared-on from before y none = grind (arith, cases_lt)
-
 -- the line that is looked at
 pub looked-at : (lines : List ℕ) (extents : List (Option Columns)) (next : Option ℕ) (y : ℕ) → next ≡ Some y → ClearedBefore lines next extents → ClearedBefore lines (Some y) extents
 looked-at lines extents next y is = grind arith
@@ -37,7 +32,7 @@ none-next lines extents next is h v = (subst (λ (o : Option ℕ). ClearedBefore
 
 module _ (lines : List ℕ) (extents : List (Option Columns)) (y : ℕ) (inside : y < length extents) (h : ClearedBefore lines (Some y) extents) where
   pub cleared-more : (next : Option ℕ) → IsNext lines (y + 1) next → ClearedBefore lines next (set extents y None)
-  cleared-more = grind (arith, cleared-on, cases_eq, get_or-set_same, get_or-set_other)
+  cleared-more = grind (arith, cases_lt, cases_eq, get_or-set_same, get_or-set_other)
 
 -- lines of which none has any
 pub none-left : (n : ℕ) (extents : List (Option Columns)) → length extents ≡ n → ((y : ℕ) → columns_of extents y ≡ None) → extents ≡ replicate n None
@@ -62,14 +57,10 @@ pub widened-more : (r : Rect) (n : ℕ) (old now : List (Option Columns)) → Wi
     → Widened r (n + 1) old (slice_set now n (joined_columns (columns_of now n) r.left r.right))
 widened-more r n old now h from to below = search (rules, length-set, cases_eq, nat_tests, get_or-set_same, and_from, le-leb, lt-ltb, get_or-set_other, cases_lt)
 
-all-lines : {A : Type 0} (top bottom n v : ℕ) (a b : A) → bottom < n
-    → (if (nat_le top v && nat_le v bottom) && nat_lt v n then a else b) ≡ (if nat_le top v && nat_le v bottom then a else b)
-all-lines top bottom n v a b h = grind (arith, nat_tests)
-
 -- all of it was
 pub widened-all : (r : Rect) (n : ℕ) (old now : List (Option Columns)) → Widened r n old now → r.bottom < n → (v : ℕ) → columns_of now v
     ≡ (if nat_le r.top v && nat_le v r.bottom then joined_columns (columns_of old v) r.left r.right else columns_of old v)
-widened-all r n old now h past v = grind (arith, all-lines)
+widened-all r n old now h past v = grind (arith, nat_tests)
 
 -- a line that others were added to has some
 pub has_joined : (o : Option Columns) (first last : ℕ) → is_some (joined_columns o first last) ≡ true

@@ -1,5 +1,5 @@
 -- The numbers of a set by its words, and which words have any: where one is added or removed, and where the least one from another on is.
-use Rattle.std.proofs.Common.{◌≡◌, ◌≢◌, ℕ, ◌+◌, ◌*◌, ◌/◌, ◌%◌, ◌^◌, ◌<◌, ◌≤◌, ◌==◌, ◌&&◌, ◌||◌, ◌∙◌, refl, eqb, length-set, List, length, inl, inr}
+use Rattle.std.proofs.Common.{◌≡◌, ◌≢◌, ℕ, ◌+◌, ◌*◌, ◌/◌, ◌%◌, ◌^◌, ◌<◌, ◌≤◌, ◌==◌, ◌&&◌, ◌||◌, ◌∙◌, refl, length-set, List, length, inl, inr}
 use Rattle.std.proofs.Common.{get_or, set, bit_and, bit_or, w64, if◌then◌else◌, false, arith, get_or-set_same, get_or-set_other}
 use Rattle.std.specs.Int.{bit_at, bit_not}
 use Rattle.std.specs.Int.Bits.{and_zero_l}
@@ -13,23 +13,14 @@ module _ (words : List ℕ) (number : ℕ) (within : number / 64 < length words)
   abbrev word : ℕ
   word = get_or words (number / 64) 0
 
-  -- a word of which one bit is another
-  contains-set : (new : ℕ) (bit : ℕ) → bit_at new (number % 64) ≡ bit → ((i : ℕ) → i < 64 → i ≢ number % 64 → bit_at new i ≡ bit_at word i)
-      → (n : ℕ) → contains (set words (number / 64) new) n ≡ (if n == number then bit == 1 else contains words n)
-  contains-set new bit here kept n = grind (arith, cases_eq, eq-eqb, ne_eqb, get_or-set_same, within, get_or-set_other)
-
   pub contains-removed : (n : ℕ) → contains (set words (number / 64) (bit_and word (bit_not w64 (1 * 2 ^ (number % 64) % 2 ^ 64)))) n
       ≡ (if n == number then false else contains words n)
-  contains-removed = grind (arith, contains-set, bit_at_clear_same w64, bit_at_clear_other w64)
+  contains-removed = grind (arith, cases_eq, eq-eqb, ne_eqb, get_or-set_same, within, get_or-set_other, bit_at_clear_same w64, bit_at_clear_other w64)
 
 -- a word to which bits are added
 pub contains-added : (words : List ℕ) (at bits : ℕ) → at < length words → (n : ℕ)
     → contains (set words at (bit_or (get_or words at 0) bits)) n ≡ (n / 64 == at && bit_at bits (n % 64) == 1 || contains words n)
 contains-added words at bits within n = grind (arith, cases_eq, eq-eqb, ne_eqb, get_or-set_same, get_or-set_other, bit_at_or, bit_at-lt)
-
--- a word of which a bit is set isn't 0
-not-zero : (w i : ℕ) → bit_at w i ≡ 1 → eqb w 0 ≡ false
-not-zero w i one = ne_eqb w 0 (λ none. grind (arith, bit_at-zero i, one, none))
 
 -- which words have a number, where one is added, and where one is removed
 module _ (words : List ℕ) (some at : ℕ) (long : length words ≡ 16) (within : at < 16) (have : HaveNumbers words some) where
