@@ -1,11 +1,11 @@
 -- What the nodes say of the neighbours of a panel is what the order says.
 use Rattle.std.specs.Prelude.{◌≡◌, ◌<◌, ◌==◌, if◌then◌else◌, ◌∷◌, ◌++◌}
 use Rattle.stack.specs.{ℕ, false, not, Option, None, Some, List, [], reverse, sym, ap, subst, ◌∙◌, refl, arith, AllByRecursion, last_or, list_any, eq-eqb, ne_eqb, append_assoc, reverse-append}
-use Rattle.stack.specs.{first_in, next_in, above_at, below_at, AreOnce, IsChain, IsPanel, IsThreaded}
+use Rattle.stack.specs.{first_in, next_in, above_at, below_at, AreOnce, IsChain, IsOut, IsPanel, IsThreaded}
 use mathlib.Core.List.{reverse_aux}
 use Rattle.stack.specs.declared.nodes.Node.{Node}
-use Rattle.stack.proofs.Chains.{chain-back, chain-prefix, chain-reverse, not-first}
-use Rattle.stack.proofs.DistinctNumbers.{Split, any-split, any_is-out, each-back, each-prefix, each-reverse, next_in-split, once-after, once-before, out-reverse, out_or_in}
+use Rattle.stack.proofs.Chains.{chain-back, chain-reverse, not-first}
+use Rattle.stack.proofs.DistinctNumbers.{Split, any-split, any_is-out, each-back, each-reverse, next_in-split, once-after, once-before, out-reverse, out_or_in}
 use Rattle.stack.proofs.Threads.{panel-below, positive}
 
 -- a node's number, but for the end
@@ -15,6 +15,12 @@ panel_or_none p = if p == 0 then None else Some p
 -- above the start of a chain is its first
 chain-first : (above below : ℕ → ℕ) (a : ℕ) (xs : List ℕ) → IsChain above below a xs 0 → AllByRecursion (λ q. 0 < q) xs → panel_or_none (above a) ≡ first_in xs
 chain-first above below a xs h each = grind (arith, eq-eqb, ne_eqb)
+
+-- above a number of the chain is the next of it
+next-is : (above below : ℕ → ℕ) (p : ℕ) (xs ys : List ℕ) → IsChain above below 0 (xs ++ p ∷ ys) 0 → AllByRecursion (λ q. 0 < q) (xs ++ p ∷ ys) → IsOut p xs
+    → panel_or_none (above p) ≡ next_in p (xs ++ p ∷ ys)
+next-is above below p xs ys chain each out =
+    chain-first above below p ys (chain-back above below 0 p xs ys 0 chain) (each-back (λ q. 0 < q) xs (p ∷ ys) each).1 ∙ sym (next_in-split p xs ys out)
 
 -- ---- the last is the first from the other end
 
@@ -39,29 +45,19 @@ module _ (nodes : List Node) (order : List ℕ) (h : IsThreaded nodes order) whe
   pub above-is : (p : ℕ) → not (list_any (λ q. q == p) order) ≡ false → panel_or_none (above_at nodes p) ≡ next_in p order
   above-is p shown =
       let split = visible-split p shown in
-      let xs = split.before in
-      let ys = split.after in
-      let chain = subst (λ (l : List ℕ). IsChain (above_at nodes) (below_at nodes) 0 l 0) split.is h.chain in
-      let once = subst AreOnce split.is h.once in
-      let each = subst (λ (l : List ℕ). AllByRecursion (λ q. 0 < q) l) split.is (positive nodes order h) in
-      chain-first (above_at nodes) (below_at nodes) p ys
-      (chain-back (above_at nodes) (below_at nodes) 0 p xs ys 0 chain)
-      (each-back (λ q. 0 < q) xs (p ∷ ys) each).1
-      ∙ sym (ap (next_in p) split.is ∙ next_in-split p xs ys (once-before p xs ys once))
+      subst (λ (l : List ℕ). panel_or_none (above_at nodes p) ≡ next_in p l) (sym split.is)
+      (next-is (above_at nodes) (below_at nodes) p split.before split.after (subst (λ (l : List ℕ). IsChain (above_at nodes) (below_at nodes) 0 l 0) split.is h.chain)
+      (subst (AllByRecursion (λ q. 0 < q)) split.is (positive nodes order h)) (once-before p split.before split.after (subst AreOnce split.is h.once)))
 
   pub below-is : (p : ℕ) → not (list_any (λ q. q == p) order) ≡ false → panel_or_none (below_at nodes p) ≡ next_in p (reverse order)
   below-is p shown =
       let split = visible-split p shown in
-      let xs = split.before in
-      let ys = split.after in
-      let chain = subst (λ (l : List ℕ). IsChain (above_at nodes) (below_at nodes) 0 l 0) split.is h.chain in
-      let once = subst AreOnce split.is h.once in
-      let each = subst (λ (l : List ℕ). AllByRecursion (λ q. 0 < q) l) split.is (positive nodes order h) in
-      chain-first (below_at nodes) (above_at nodes) p (reverse xs)
-      (chain-reverse (above_at nodes) (below_at nodes) 0 xs p (chain-prefix (above_at nodes) (below_at nodes) 0 p xs ys 0 chain))
-      (each-reverse (λ q. 0 < q) xs (each-prefix (λ q. 0 < q) xs (p ∷ ys) each))
-      ∙ sym (ap (λ l. next_in p (reverse l)) split.is ∙ ap (next_in p) (reverse-split p xs ys)
-      ∙ next_in-split p (reverse ys) (reverse xs) (out-reverse p ys (once-after p xs ys once)))
+      let turned = ap (λ (l : List ℕ). reverse l) split.is ∙ reverse-split p split.before split.after in
+      subst (λ (l : List ℕ). panel_or_none (below_at nodes p) ≡ next_in p l) (sym turned)
+      (next-is (below_at nodes) (above_at nodes) p (reverse split.after) (reverse split.before)
+      (subst (λ (l : List ℕ). IsChain (below_at nodes) (above_at nodes) 0 l 0) turned (chain-reverse (above_at nodes) (below_at nodes) 0 order 0 h.chain))
+      (subst (AllByRecursion (λ q. 0 < q)) turned (each-reverse (λ q. 0 < q) order (positive nodes order h)))
+      (out-reverse p split.after (once-after p split.before split.after (subst AreOnce split.is h.once))))
 
   -- a hidden panel's node names itself, and no other panel's does
   pub hidden-is : (p : ℕ) → IsPanel nodes p → (above_at nodes p == p) ≡ not (list_any (λ q. q == p) order)
