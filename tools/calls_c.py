@@ -3,7 +3,7 @@ both manuals."""
 import re
 
 from calls_table import C, EXPORTED, FILES, HANDED, RATTLE, TYPES, calls_of, status
-from calls_text import code, ensures, fill, said_first
+from calls_text import code, ensures, fill, laid_out, said_first
 
 # How an argument of an export is passed, where that isn't as in a method.
 PASSED = {'number': 'u32', 'colour': 'u32', 'signed': 'i32', 'window': 'u32', 'panel': 'u32', 'panel_or_none': 'u32',
@@ -17,7 +17,7 @@ def export(call):
     said, does = ('Asked', 'ask') if call.asks else ('Called', 'call')
     told = f'{said} ⟦<Outlet as Sink>⟧ screen.old.value ({call.clause(EXPORTED)}) result screen.new.value'
     made = f'screen.{does}(alloc, &{call.data(call.each(HANDED))})'
-    return '\n'.join([fill(call.sentence, '/// '), '#[rattlefmt::skip]', '#[unsafe(no_mangle)]', code(head, ''),
+    return '\n'.join([fill(call.sentence, '/// '), *laid_out(call.arguments), '#[unsafe(no_mangle)]', code(head, ''),
                       ensures(told, '    '), '{', code(made, ' ' * 4), '}'])
 
 

@@ -4,7 +4,7 @@ import re
 import sys
 
 from calls_table import calls_of
-from calls_text import fill
+from calls_text import fill, laid_out
 
 # How many calls a row may name, as MOST_CALLS in crates/checks/src/said.rt, and how long a name may be, as NAME_ROOM in suggest.rt.
 MOST_CALLS, NAME_ROOM = 4, 32
@@ -112,7 +112,7 @@ def names(group, calls):
     for call in calls:
         of_names.setdefault(' '.join(name for name, _ in call.arguments), []).append(f'{group}Word::{call.variant}')
     arms = [fill(f'{" | ".join(words)} => b"{text}",'.replace('" | "', '"\xa0|\xa0"'), '        ', 150).replace('\xa0', ' ') for text, words in of_names.items()]
-    return '\n'.join(['#[rattlefmt::skip]', f'fn of_{group.lower()}(word: {group}Word) -> &\'static [u8]',
+    return '\n'.join([*laid_out(any(len(arm) > 100 for arm in arms)), f'fn of_{group.lower()}(word: {group}Word) -> &\'static [u8]',
                       f'    ensures {{ HasNames (words.{group} word) result.now }}', '{', '    match word {', *arms, '    }', '}'])
 
 

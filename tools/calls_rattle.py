@@ -3,23 +3,27 @@ dispatch of the calls that write."""
 import re
 
 from calls_table import ANSWERS, CLAUSE, FORM, RATTLE, TYPES, calls_of
-from calls_text import code, ensures, fill, said_first
+from calls_text import code, ensures, fill, laid_out, said_first
 
 WRITTEN = 'Written by tools/calls from calls.table.'
 
 
+def fields(call):
+    return ', '.join(f'{name}: {TYPES[kind][RATTLE]}' for name, kind in call.arguments)
+
+
 def variant(call):
     """The call as a variant of its group, with what it does in a sentence."""
-    fields = ', '.join(f'{name}: {TYPES[kind][RATTLE]}' for name, kind in call.arguments)
     sentence = fill(re.sub(r'(?<=\.) .*', '', call.sentence), '    /// ')
-    return f'{sentence}\n' + code(f'{call.variant} {{ {fields} }},' if fields else f'{call.variant},', '    ')
+    return f'{sentence}\n' + code(f'{call.variant} {{ {fields(call)} }},' if call.arguments else f'{call.variant},', '    ')
 
 
 def group_enum(group, what, calls):
     """A group as the enum of its calls."""
     texts = any(call.has('text') for call in calls)
     head = f'pub enum {group}' + ("<'a> {" if texts else ' {')
-    return '\n'.join([f'/// {said_first(what)}.', '#[rattlefmt::skip]', '#[derive(Clone, Copy)]', head, *map(variant, calls), '}'])
+    long = any(len(fields(call)) > 35 for call in calls)
+    return '\n'.join([f'/// {said_first(what)}.', *laid_out(long), '#[derive(Clone, Copy)]', head, *map(variant, calls), '}'])
 
 
 def group_enums(groups):

@@ -24,6 +24,11 @@ def ensures(text, indent):
     return code(f'ensures {{ {text} }}', indent)
 
 
+def laid_out(other):
+    """What keeps `rt fmt` from an item that is laid out otherwise than it would be."""
+    return ['#[rattlefmt::skip]'] if other else []
+
+
 def layout(head, items, tail, indent, most, braces='()'):
     """A list between braces on a line, or where it is long a line for each item, as `rt fmt` has it."""
     space = ' ' if braces == '{}' else ''

@@ -5,7 +5,6 @@ ghost use Rattle.script.specs.declared.words.Word.TheVariants as words;
 
 use script::{CopyingWord, MakingWord, QueryWord, RefreshWord, StackingWord, Word, WritingWord};
 
-#[rattlefmt::skip]
 fn of_making(word: MakingWord) -> &'static [u8]
     ensures { HasNames (words.Making word) result.now }
 {
@@ -74,7 +73,6 @@ fn of_stacking(word: StackingWord) -> &'static [u8]
     }
 }
 
-#[rattlefmt::skip]
 fn of_refresh(word: RefreshWord) -> &'static [u8]
     ensures { HasNames (words.Refresh word) result.now }
 {

@@ -26,7 +26,6 @@ pub enum Making {
 }
 
 /// The calls that write in a window or pad, or set how it is written in.
-#[rattlefmt::skip]
 #[derive(Clone, Copy)]
 pub enum Writing<'a> {
     /// Moves the cursor to line `y` and column `x`.
@@ -107,7 +106,6 @@ pub enum Copying {
 }
 
 /// The calls that ask about a window or pad.
-#[rattlefmt::skip]
 #[derive(Clone, Copy)]
 pub enum Query {
     /// The line and the column of the cursor.
@@ -123,7 +121,6 @@ pub enum Query {
 }
 
 /// The calls that make panels, delete them, order them and move them, and those that ask about them.
-#[rattlefmt::skip]
 #[derive(Clone, Copy)]
 pub enum Stacking {
     /// Puts a window into a new panel, visible on top.

@@ -43,7 +43,6 @@ pub extern "C" fn curspan_pnoutrefresh(alloc: Global, screen: &mut Handle, pad: 
 
 /// Takes the picture of windows and panels into the virtual screen, with the cursor of the top visible panel's window,
 /// or else of the standard screen. It answers how many cells it read.
-#[rattlefmt::skip]
 #[unsafe(no_mangle)]
 pub extern "C" fn curspan_update_panels(alloc: Global, screen: &mut Handle) -> Answer
     ensures { Called ⟦<Outlet as Sink>⟧ screen.old.value (Call.Refresh Refresh.UpdatePanels) result screen.new.value }
@@ -53,7 +52,6 @@ pub extern "C" fn curspan_update_panels(alloc: Global, screen: &mut Handle) -> A
 
 /// Sends the bytes that show the virtual screen on the terminal: little more than what changed, or all of it after a
 /// clear. It answers how many they are.
-#[rattlefmt::skip]
 #[unsafe(no_mangle)]
 pub extern "C" fn curspan_doupdate(alloc: Global, screen: &mut Handle) -> Answer
     ensures { Called ⟦<Outlet as Sink>⟧ screen.old.value (Call.Refresh Refresh.Doupdate) result screen.new.value }
