@@ -1,10 +1,10 @@
 -- Which cells windows show after a call: those that it wrote, and else those that were there.
 use Rattle.std.specs.Prelude.{◌≡◌, ◌<◌, if◌then◌else◌, ◌==◌, ◌||◌}
 use Rattle.world.specs.{ℕ, false, Option, Some, None, IsSome, arith, refl, ap, subst, sym, ◌∙◌, MatchOption, ⊤, option_map, cases_eq, eqb-false, eqb-true, ne_eqb, or_parts, Glyph, blank, Place}
-use Rattle.world.specs.{Backing, own_grid, part_of, Drawing, GridPlace, HasPlace, IsWrite, Window, WindowMap, Windows, cell_at, cell_in_grid, cell_of, derives, laid_over, own, put, put_from}
+use Rattle.world.specs.{Drawing, GridPlace, HasPlace, IsWrite, Window, WindowMap, Windows, cell_at, cell_in_grid, cell_of, derives, own, put, put_from}
 use Rattle.world.specs.{put_windows, touched_by, unwritten, window_limit, with_window, AreSoundWindows, IsSound, World, Covers, IsFrameOf, Panels, Change, after_change, asks, edits, marks, makes}
 use Rattle.world.specs.{deletes, moves, shifts, Edit, after_edit, edit_drawing, edit_frame, edit_window, Effect, after, arranges, refreshes, composes, shows, colours, effect_frame, changes, adds}
-use Rattle.world.specs.{orders, carries, shifted_to, effect_of, refusal, making_change, has_derived, Writes, WritesAt, leads_elsewhere, leads_elsewhere_by, windows_after_call}
+use Rattle.world.specs.{orders, carries, shifted_to, effect_of, refusal, has_derived, Writes, WritesAt, leads_elsewhere, leads_elsewhere_by, windows_after_call}
 use Rattle.world.proofs.Allowed.{IsAllowed}
 use Rattle.world.proofs.AncestorLaws.{own-beside, replaced-off}
 use Rattle.world.proofs.CallLaws.{IsReady, ready}
@@ -15,7 +15,6 @@ use Rattle.world.proofs.ViewLaws.{backing_of, cell_at-same, own-same}
 use Rattle.world.proofs.WindowLaws.{own-ends, own-put, put-keeps, put-takes}
 use Rattle.world.proofs.WritingLaws.{view-edit}
 use Rattle.world.specs.declared.call.Call.{Call}
-use Rattle.world.specs.declared.written_calls.Making.{Making}
 
 -- ---- an edit
 
@@ -41,12 +40,8 @@ module _ (windows : Windows) (sound : AreSoundWindows windows) where
   put-touches w u f (Some a) None is origin = let some : IsSome (own windows.window w 0 0) = has-origin w a is in grind arith
   put-touches w u f (Some a) (Some p) is origin = grind arith
 
-  blanked : (g : Drawing) (b : Backing) → laid_over (λ y x. Some blank) (laid_over g b) ≡ laid_over (λ y x. Some blank) b
-  blanked g (own_grid cells) = refl
-  blanked g (part_of parent line column) = refl
-
   put-leaves : (w u : ℕ) (f : Drawing) → option_map unwritten (put_windows windows.window w f u) ≡ option_map unwritten (windows.window u)
-  put-leaves w u f = grind (arith, blanked)
+  put-leaves w u f = grind arith
 
   edited-takes : (edit : Edit) (w y x : ℕ) (glyph : Glyph) (u v z : ℕ) → edit_window edit ≡ w → HasPlace windows.window w y x → edit_drawing windows edit y x ≡ Some glyph
       → own windows.window u v z ≡ own windows.window w y x → cell_at (after_edit windows edit).window u v z ≡ glyph
@@ -83,9 +78,6 @@ IsBlank a = (y x : ℕ) → cell_of a.backing y x ≡ blank
 abbrev StartsBlank : Change → Type 0
 StartsBlank (makes n o) = MatchOption o ⊤ IsBlank
 StartsBlank change = ⊤
-
-making-blank : (windows : Windows) (making : Making) → StartsBlank (making_change windows making)
-making-blank windows making = grind arith
 
 grid-made : (window : WindowMap) (n : ℕ) (o : Option Window) (p : Option GridPlace) → window n ≡ None → MatchOption o ⊤ IsBlank → cell_in_grid (with_window window n o) p ≡ cell_in_grid window p
 grid-made window n o p free new = grind (arith, eqb-true)
@@ -162,13 +154,10 @@ module _ (windows : Windows) (sound : AreSoundWindows windows) (u v z : ℕ) whe
       own-beside (with_window windows.window w None) windows.window w (replaced-off windows.window w None) u v z (eqb-false u w other)
       (underived windows.window w (no-part windows w sound none) window_limit u)
 
-  shifted-off : (w : ℕ) (place : Place) (t : ℕ) → (t ≡ w → ⊥) → (shifted_to windows w place).window t ≡ windows.window t
-  shifted-off w place t other = grind (arith, ne_eqb)
-
   lead-shifted : (w : ℕ) (place : Place) → (u == w || derives windows.window w u) ≡ false → Leads (shifted_to windows w place).window
   lead-shifted w place other =
       let apart = or_parts _ _ other in
-      own-beside (shifted_to windows w place).window windows.window w (shifted-off w place) u v z (eqb-false u w apart.0) apart.1
+      own-beside (shifted_to windows w place).window windows.window w (λ t off. grind (arith, ne_eqb)) u v z (eqb-false u w apart.0) apart.1
 
   change-leads : (panels : Panels) (change : Change) → IsAllowed windows panels change → leads_elsewhere_by windows change u ≡ false → Leads (after_change windows change).window
   change-leads panels (asks reply) allowed other = refl
@@ -201,7 +190,7 @@ module _ (world : World) (call : Call) where
       (λ led. edited-takes world.windows sound.windows at.edit w y x glyph u v z at.window at.place at.cell (sym ((view-edit world.windows at.edit).places u v z) ∙ led)) leads
 
   starts-blank : (change : Change) → effect_of world call ≡ arranges (changes change) → StartsBlank change
-  starts-blank change is = grind (arith, making-blank)
+  starts-blank change is = grind arith
 
   module _ (sound : IsSound world) (accepted : refusal world call ≡ None) where
     pub call-keeps : (u v z : ℕ) → Apart world.windows (effect_of world call) (own (windows_after_call world call) u v z)

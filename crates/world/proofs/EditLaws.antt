@@ -1,11 +1,11 @@
 -- What an edit leaves is one write of its drawing, but for settings; and its frame is that of the drawing.
 use Rattle.std.specs.Prelude.{◌≡◌, ◌+◌, ◌-◌, ◌==◌, if◌then◌else◌, ◌||◌, ◌∷◌}
 use Rattle.world.specs.{ℕ, Bool, true, false, nat_lt, Option, Some, None, List, [], arith, refl, option_and_then, option_map, option_map_or, Place, Drawing, GridPlace, Window, WindowMap, Windows}
-use Rattle.world.specs.{after_drawing, no_cells, over, put, put_from, put_windows, set, with_cursor, at_place, to_end_of_line, written_glyph, frame_of, after_character, after_text, backspace}
+use Rattle.world.specs.{no_cells, over, put, put_from, put_windows, set, with_cursor, at_place, to_end_of_line, written_glyph, frame_of, after_character, after_text, backspace}
 use Rattle.world.specs.{carriage_return, character_drawing, character_printed, drawn_to, is_last_line, line_ended, line_ended_drawing, newline, next_line_drawing, region_up, scrolls, text_drawing}
 use Rattle.world.specs.{to_next_line, typed_drawing, typed_in, DifferInSettings, Edit, after_edit, draws, edit_drawing, edit_frame, edit_window, sets, types, with_its_settings, first_settings}
 use Rattle.world.proofs.FrameLaws.{frame_of-none}
-use Rattle.world.proofs.ViewLaws.{SameCells, backing_of, outline_of, own-same}
+use Rattle.world.proofs.ViewLaws.{SameCells, own-same}
 use Rattle.world.proofs.WindowLaws.{put-nothing, put-put}
 use Rattle.world.specs.declared.settings.Settings.{Settings}
 
@@ -14,32 +14,19 @@ use Rattle.world.specs.declared.settings.Settings.{Settings}
 pub differ-then : (new middle old : WindowMap) → DifferInSettings new middle → DifferInSettings middle old → DifferInSettings new old
 differ-then new middle old one other = grind arith
 
-cells-by : (o p : Option Window) (settings : Settings) → option_map (with_its_settings settings) o ≡ option_map (with_its_settings settings) p
-    → (outline_of o ≡ outline_of p) × (backing_of o ≡ backing_of p)
-cells-by o p settings e = grind arith
-
 pub differ-cells : (new old : WindowMap) → DifferInSettings new old → SameCells new old
 differ-cells new old same = record {
-  outlines = λ u. (cells-by (new u) (old u) (first_settings 0) (same.same u (first_settings 0))).0;
-  backings = λ u. (cells-by (new u) (old u) (first_settings 0) (same.same u (first_settings 0))).1;
+  outlines = λ u. let same = same.same u (first_settings 0) in grind arith;
+  backings = λ u. let same = same.same u (first_settings 0) in grind arith;
 }
-
-set-differs : (windows : Windows) (w : ℕ) (change : Settings → Settings) → DifferInSettings (set windows w change).window windows.window
-set-differs windows w change = grind arith
 
 -- ---- a write looks at no settings
 
 module _ (w u : ℕ) (f : Drawing) (settings : Settings) where
-  through : (a : Window) (p : GridPlace) (o : Option Window)
-      → option_map (with_its_settings settings) (option_map (after_drawing w a p f u) o)
-      ≡ option_map (after_drawing w (with_its_settings settings a) p f u) (option_map (with_its_settings settings) o)
-  through a p None = refl
-  through a p (Some b) = refl
-
   put-by : (new old : WindowMap) (a b : Option Window) (p : Option GridPlace) → option_map (with_its_settings settings) a ≡ option_map (with_its_settings settings) b
       → option_map (with_its_settings settings) (new u) ≡ option_map (with_its_settings settings) (old u)
       → option_map (with_its_settings settings) (put_from new w a p f u) ≡ option_map (with_its_settings settings) (put_from old w b p f u)
-  put-by new old a b p e h = grind (arith, through)
+  put-by new old a b p e h = grind arith
 
 put-differs : (new old : WindowMap) (w : ℕ) (f : Drawing) → DifferInSettings new old → DifferInSettings (put_windows new w f) (put_windows old w f)
 put-differs new old w f same = record {
@@ -65,7 +52,7 @@ module _ (w : ℕ) where
 
   -- and then settings
   and-set : (old middle : Windows) (f : Drawing) (change : Settings → Settings) → Draws old f middle → Draws old f (set middle w change)
-  and-set old middle f change first = differ-then _ middle.window _ (set-differs middle w change) first
+  and-set old middle f change first = differ-then _ middle.window _ (grind arith) first
 
   settings-set : (old : Windows) (change : Settings → Settings) → Draws old no_cells (set old w change)
   settings-set old change = and-set old old no_cells change (as-it-was old)
@@ -138,14 +125,11 @@ edit-draws windows (types w text) = text-draws w text windows
 
 -- ---- its frame
 
-no-frame : (o : Option Window) → None ≡ option_and_then (λ a. frame_of a no_cells) o
-no-frame o = grind (arith, frame_of-none)
-
 pub frame-if-there : (o : Option Window) (drawing : Window → Drawing) → option_and_then (λ a. frame_of a (drawing a)) o ≡ option_and_then (λ a. frame_of a (option_map_or drawing o no_cells)) o
 frame-if-there None drawing = refl
 frame-if-there (Some a) drawing = refl
 
 pub frame-edit : (windows : Windows) (edit : Edit) → edit_frame windows edit ≡ option_and_then (λ a. frame_of a (edit_drawing windows edit)) (windows.window (edit_window edit))
-frame-edit windows (sets w change) = no-frame (windows.window w)
+frame-edit windows (sets w change) = grind (arith, frame_of-none)
 frame-edit windows (draws w drawing change) = frame-if-there (windows.window w) drawing
 frame-edit windows (types w text) = refl

@@ -4,14 +4,11 @@ use Rattle.world.specs.{ℕ, Bool, List, arith, WindowMap, Windows, with_change,
 use Rattle.world.specs.declared.call.Call.TheVariants as calls
 use Rattle.world.specs.declared.written_calls.Refresh.{Refresh}
 use Rattle.world.specs.declared.written_calls.Refresh.TheVariants.{UpdatePanels}
-use Rattle.world.proofs.ViewLaws.{SameCells, backing_of, changed-cells, found-dressed, outline_of, place-same, same-if}
+use Rattle.world.proofs.ViewLaws.{backing_of, changed-cells, found-dressed, outline_of, place-same, same-if}
 
 module _ (window : WindowMap) (ws : List ℕ) where
-  unmarked-cells : SameCells (with_unmarked window ws) window
-  unmarked-cells = grind (arith, same-if, outline_of, backing_of)
-
   pub found-unmarked : (panels : Panels) (y x : ℕ) → found_from_top (with_unmarked window ws) panels y x ≡ found_from_top window panels y x
-  found-unmarked panels y x = found-dressed (with_unmarked window ws) window unmarked-cells panels y x
+  found-unmarked panels y x = found-dressed (with_unmarked window ws) window (grind (arith, same-if, outline_of, backing_of)) panels y x
 
   pub cursor-unmarked : (panels : Panels) → cursor_of_topmost (with_unmarked window ws) panels ≡ cursor_of_topmost window panels
   cursor-unmarked panels = grind (arith, place-same, same-if)

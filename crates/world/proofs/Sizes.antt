@@ -1,15 +1,12 @@
 -- No effect changes the size of the screen, and so no call.
 use Rattle.std.specs.Prelude.{◌≡◌, ◌∷◌}
-use Rattle.world.specs.{arith, ℕ, Option, List, [], option_map_or, Window, Windows, Panels, World, after_text, Change, Edit, Effect, Order, after, after_change, after_edit, windows_after}
+use Rattle.world.specs.{arith, ℕ, List, [], Windows, Panels, World, after_text, Change, Edit, Effect, Order, after, after_change, after_edit, windows_after}
 use Rattle.world.specs.{world_after}
 use Rattle.world.specs.declared.call.Call.{Call}
 
 pub record SameSize (one other : Windows) : Type 0 where
   pub lines : one.lines ≡ other.lines
   pub columns : one.columns ≡ other.columns
-
-in_window : (windows : Windows) (o : Option Window) (change : Window → Windows) → ((a : Window) → SameSize (change a) windows) → SameSize (option_map_or change o windows) windows
-in_window windows o change h = grind arith
 
 -- ---- characters
 
@@ -20,7 +17,7 @@ size-text w (character ∷ text) windows = grind (arith, (size-text w text))
 -- ---- effects
 
 pub size-edit : (windows : Windows) (edit : Edit) → SameSize (after_edit windows edit) windows
-size-edit windows edit = grind (arith, in_window, size-text)
+size-edit windows edit = grind (arith, size-text)
 
 pub size-change : (windows : Windows) (change : Change) → SameSize (after_change windows change) windows
 size-change windows change = grind (arith, size-edit)

@@ -1,10 +1,10 @@
 -- Making, deleting, moving and shifting a window leave sound windows sound.
-use Rattle.std.specs.Prelude.{◌≡◌, ◌≢◌, ◌+◌, ◌-◌, ◌<◌, ◌≤◌, ◌==◌, ◌&&◌, ◌||◌}
+use Rattle.std.specs.Prelude.{◌≡◌, ◌≢◌, ◌+◌, ◌-◌, ◌<◌, ◌≤◌, ◌==◌}
 use Rattle.world.specs.{ℕ, zero, suc, Bool, true, false, Option, Some, None, List, map, arith, refl, sym, eqb, IsSome, IsSomeAnd, MatchOption, is_none, is_some, unwrap_or, ⊤, option_map_or}
 use Rattle.world.specs.{list_any, range_with_len, eq-eqb, eqb-false, eqb-true, ne_eqb, nat_tests, list_any_at, get_or-map-range_with_len, length-map-range_with_len, le-length_from_below, Place}
-use Rattle.world.specs.{is_no_size, LARGEST_PAD, MOST_WINDOWS, Window, WindowMap, Windows, own, own_within, parent_number, parent_of, window_limit, with_change, with_window, standard_screen}
-use Rattle.world.specs.{blank_grid, new_window, AreSoundWindows, HasCells, IsSoundWindow, deletes, makes, moves, shifts, moved_to, shifted_to, under_number, with_part, with_place, derived_from}
-use Rattle.world.specs.{free_among, is_full, is_inside, is_outside, is_part_of, making_change, making_refusal, new_number, next_window, window_on_screen}
+use Rattle.world.specs.{MOST_WINDOWS, Window, WindowMap, Windows, own, own_within, parent_number, parent_of, window_limit, with_change, with_window, standard_screen}
+use Rattle.world.specs.{AreSoundWindows, HasCells, IsSoundWindow, deletes, makes, moves, shifts, moved_to, shifted_to, under_number, with_part, with_place}
+use Rattle.world.specs.{free_among, is_full, is_part_of, making_change, making_refusal, new_number, next_window}
 use Rattle.world.specs.declared.written_calls.Making.{Making}
 use Rattle.world.proofs.Allowed.{free-number, passed}
 use Rattle.world.proofs.MoveLaws.{no-part}
@@ -59,12 +59,9 @@ module _ (window : WindowMap) (present : (u : ℕ) → MatchOption (parent_of wi
     has-deep u below =
         list_any_at (eqb (deep u)) depths u 0 (omega (arith, length-map-range_with_len deep 0 (suc m))) (eq-eqb _ _ (sym (get_or-map-range_with_len deep 0 (suc m) u u 0 (omega arith) (omega arith))))
 
-    deep-parent : (d u : ℕ) (o : Option ℕ) → parent_of window u ≡ o → deep u ≡ suc d → (u ≤ m) × MatchOption o (d ≡ 0) (λ p. deep p ≡ d)
-    deep-parent d u o up deeper = grind (arith, ended, depth-ended)
-
     has-below : (d u : ℕ) → deep u ≡ d → (q : ℕ) → q ≤ d → list_any (eqb q) depths ≡ true
     has-below zero u deeper q below = grind (arith, (has-deep n few))
-    has-below (suc d) u deeper q below = let up = deep-parent d u _ refl deeper in grind (arith, (has-deep n few), (has-deep u), (has-below d))
+    has-below (suc d) u deeper q below = grind (arith, ended, depth-ended, (has-deep n few), (has-deep u), (has-below d))
 
     own-parent : (u y x : ℕ) → IsSome (window u) → IsSome (own_within m window u y x)
     own-parent u y x there =
@@ -127,17 +124,6 @@ makes-fits windows o (Some n) is some new = (free-number _ 1 windows.window n is
 makes-next : (windows : Windows) (o : Option Window) → is_full windows.window ≡ false → IsSomeAnd o (IsNewWindow windows) → FitsChange windows (makes (next_window windows) o)
 makes-next windows o free new = makes-fits windows o _ refl free new
 
-new-window : (windows : Windows) (nlines ncols y x : ℕ) → AreSoundWindows windows → (is_inside nlines windows.lines y && is_inside ncols windows.columns x) ≡ true
-    → IsNewWindow windows (window_on_screen windows nlines ncols y x)
-new-window windows nlines ncols y x sound inside = grind (arith, nat_tests)
-
-new-pad : (windows : Windows) (nlines ncols : ℕ) → (is_no_size LARGEST_PAD nlines || is_no_size LARGEST_PAD ncols) ≡ false → IsNewWindow windows (new_window nlines ncols None blank_grid)
-new-pad windows nlines ncols size = grind (arith, nat_tests)
-
-new-part : (windows : Windows) (w nlines ncols y x : ℕ) (o : Option Window) → AreSoundWindows windows → windows.window w ≡ o → is_none o ≡ false → is_outside windows.window w nlines ncols y x ≡ false
-    → IsSomeAnd (derived_from windows w nlines ncols y x) (IsNewWindow windows)
-new-part windows w nlines ncols y x o sound is there inside = grind (arith, nat_tests, (sound-at windows sound))
-
 pub fits-making : (windows : Windows) (in_panel : ℕ → Bool) (making : Making) → AreSoundWindows windows → making_refusal windows in_panel making ≡ None
     → FitsChange windows (making_change windows making)
-fits-making windows in_panel making sound passes = grind (arith, passed, eqb-false, nat_tests, makes-next, new-window, new-pad, new-part, (sound-at windows sound))
+fits-making windows in_panel making sound passes = grind (arith, passed, eqb-false, nat_tests, makes-next, (sound-at windows sound))

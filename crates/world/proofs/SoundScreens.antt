@@ -1,8 +1,8 @@
 -- Refreshing leaves a sound virtual screen sound, and so does each other effect.
-use Rattle.std.specs.Prelude.{◌≡◌, ◌<◌, ◌∷◌, if◌then◌else◌, ◌&&◌}
+use Rattle.std.specs.Prelude.{◌≡◌, ◌<◌, ◌∷◌}
 use Rattle.world.specs.{ℕ, Bool, true, false, Option, Some, None, List, [], map, arith, zero-add, MatchOption, find, ⊤, option_map_or, AllByRecursion, range_with_len, nat_tests, length-set}
 use Rattle.world.specs.{All-from_recursion, All-from_get_or, All-get_or, recursion_from_All, length-map-range_with_len, get_or-map-range_with_len, Glyph, IsCell, Picture, Place, origin, AreShown}
-use Rattle.world.specs.{HasSize, picture_of, shown_at, ArePairs, IsShown, Pairs, Shown, shown, Window, WindowMap, Windows, World, picture, Panels, cursor_from, found_from_top, holds, panel_holds}
+use Rattle.world.specs.{HasSize, picture_of, shown_at, ArePairs, IsShown, Pairs, Shown, shown, Window, WindowMap, Windows, World, picture, Panels, cursor_from, holds, panel_holds}
 use Rattle.world.specs.{screen_place, standard_screen, window_or_standard, IsSound, IsSoundVirtual, IsSoundWindow, Effect, after, composes, refreshes, shown_over, refresh_effect, refresh_refusal}
 use Rattle.cell.proofs.PictureLemmas.{HasSize-lines_from, each-set, length-line}
 use Rattle.world.specs.declared.written_calls.Refresh.{Refresh}
@@ -48,10 +48,6 @@ found-holds : (window : WindowMap) (panels : Panels) (y x : ℕ) (ps : List ℕ)
 found-holds window panels y x [] h = h
 found-holds window panels y x (p ∷ ps) h = grind (arith, (found-holds window panels y x ps))
 
-found-cell : (world : World) → IsSound world → (y x : ℕ) → y < world.windows.lines → x < world.windows.columns
-    → IsCell (found_from_top world.windows.window world.panels y x)
-found-cell world h y x below left = grind (arith, held-cell, found-holds, standard-holds)
-
 -- ---- each effect
 
 pub sound-virtual : (world : World) (effect : Effect) → IsSound world → FitsEffect world effect
@@ -59,14 +55,11 @@ pub sound-virtual : (world : World) (effect : Effect) → IsSound world → Fits
 sound-virtual world (refreshes w test drawing cursor) h fits = screen-of world.windows (shown_over world.pairs world.virtual.picture drawing) cursor _
     (λ y x below left. over-is _ _ world.pairs world.virtual.picture (drawing y x) y x h.pairs h.virtual.size h.virtual.cells (fits.0 y x) below left) (fits.1, fits.2)
 sound-virtual world composes h fits = screen-of world.windows (picture world) _ _
-    (λ y x below left. shown-is world.pairs _ h.pairs (found-cell world h y x below left)) (grind (arith, cursor-in, there-true))
+    (λ y x below left. shown-is world.pairs _ h.pairs (grind (arith, held-cell, found-holds, standard-holds))) (grind (arith, cursor-in, there-true))
 sound-virtual world effect h fits = grind arith
 
 -- ---- each call
 
-cell-if : (here touched : Bool) (glyph : Glyph) → (here ≡ true → IsCell glyph) → MatchOption (if here && touched then Some glyph else None) ⊤ IsCell
-cell-if here touched glyph h = grind arith
-
 pub fits-refresh : (world : World) (refresh : Refresh) → IsSound world → refresh_refusal world refresh ≡ None → FitsEffect world (refresh_effect world refresh)
 fits-refresh world (Pnoutrefresh pad y x top left bottom right) h accepted = grind (arith, nat_tests, (copied-cells world.windows pad.0 y x top left bottom right false))
-fits-refresh world refresh h accepted = grind (arith, nat_tests, cursor-in, cell-if, held-cell, length-set, each-set)
+fits-refresh world refresh h accepted = grind (arith, nat_tests, cursor-in, held-cell, length-set, each-set)
