@@ -84,10 +84,6 @@ module _ (s : Shape) (has_help : s.disable_help_subcommand ≡ false) where
       → IfSome (step_name (word_met s.rules program_names t w position word h).1) IsKindsName
   word_stops t w position word h none = grind (arith, other_name, kind_is_met)
 
-  -- what a word does to what is held, and what it is
-  abbrev after_word : Walk → Text → Held × Step
-  after_word w word = word_met s.rules program_names w.is_trailing w.waiting w.position word w.held
-
   turn_stops : (w : Walk) (word : Text) → turn_fault s program_names w word ≡ [] → StopsAtKind w.stopped → StopsAtKind (walked s.rules program_names w word).stopped
   unfolding walked
   turn_stops w word none stops = grind (arith, both_none, step_stops, word_stops)

@@ -3,7 +3,7 @@
 ghost use Rattle.std.specs.Prelude.{◌≡◌, ◌≤◌, ◌+◌, ◌++◌};
 ghost use Rattle.commands.specs.{length, escaped_text, escaped_byte, PuttingEnds, TriesToLog, WritingEnds};
 
-use crate::writing::put;
+use crate::writing::{flush_after, put};
 use arrayvec::ArrayVec;
 use cell::{hex_digits, is_printable};
 use streams::{Sink, append};
@@ -62,10 +62,8 @@ pub fn put_escaped<W: Sink>(sink: &mut W, text: &[u8]) -> bool
 fn write_escaped<W: Sink>(sink: &mut W, text: &[u8]) -> bool
     ensures { WritingEnds result (W.seen sink.old) (W.seen sink.new) (escaped_text text.now) }
 {
-    if !put_escaped(sink, text) {
-        return false;
-    }
-    sink.flush().is_ok()
+    let is_put = put_escaped(sink, text);
+    flush_after(sink, is_put)
 }
 
 /// Writes a text with its bytes escaped on the log and flushes it, as `write_log` does a line.

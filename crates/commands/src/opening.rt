@@ -5,7 +5,7 @@ ghost use Rattle.commands.specs.{SaysUnopened, reason, unopened_line, PuttingEnd
 
 use crate::escapes::put_escaped;
 use crate::status::{FAILED, Need, no_memory};
-use crate::writing::put;
+use crate::writing::{flush_after, put};
 use streams::Sink;
 
 /// Why a file can't be opened.
@@ -66,10 +66,8 @@ fn put_unopened<L: Sink>(log: &mut L, name: &str, fault: OpenFault) -> bool
 fn write_unopened<L: Sink>(log: &mut L, name: &str, fault: OpenFault) -> bool
     ensures { WritingEnds result (L.seen log.old) (L.seen log.new) (unopened_line name.now fault) }
 {
-    if !put_unopened(log, name, fault) {
-        return false;
-    }
-    log.flush().is_ok()
+    let is_put = put_unopened(log, name, fault);
+    flush_after(log, is_put)
 }
 
 /// Says on the log that a file can't be opened, and answers the status.

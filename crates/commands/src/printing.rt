@@ -4,7 +4,7 @@ ghost use Rattle.std.specs.Prelude.{◌≡◌, ◌≤◌, ◌+◌, ◌*◌, ◌+
 ghost use Rattle.commands.specs.{[], All, length, flat_map, list_any, has_colour, attributes_text, characters_text, colours_text, cursor_text, has_attributes, line_text, printed_picture};
 ghost use Rattle.commands.specs.{rendition_text, sign, signs, PuttingEnds, WritingEnds};
 
-use crate::writing::put;
+use crate::writing::{flush_after, put};
 use arrayvec::ArrayVec;
 use bitflags::Flags;
 use cell::{Colour, Grid, LARGEST_SCREEN, Rendition, Shown};
@@ -196,8 +196,6 @@ pub fn print<O: Sink>(
     if !put_lines(out, picture, lines) {
         return false;
     }
-    if !put(out, ending(cursor, rendition).as_slice()) {
-        return false;
-    }
-    out.flush().is_ok()
+    let is_put = put(out, ending(cursor, rendition).as_slice());
+    flush_after(out, is_put)
 }

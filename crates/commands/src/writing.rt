@@ -1,6 +1,6 @@
 //! Writing a text of any length.
 
-ghost use Rattle.commands.specs.{PuttingEnds, TriesToLog, WritingEnds};
+ghost use Rattle.commands.specs.{ℕ, List, Seen, PuttingEnds, TriesToLog, WritingEnds};
 
 use streams::{Sink, send};
 
@@ -26,7 +26,16 @@ pub fn put<W: Sink>(sink: &mut W, text: &[u8]) -> bool
 pub fn write_out<W: Sink>(sink: &mut W, text: &[u8]) -> bool
     ensures { WritingEnds result (W.seen sink.old) (W.seen sink.new) text.now }
 {
-    if !put(sink, text) {
+    let is_put = put(sink, text);
+    flush_after(sink, is_put)
+}
+
+/// Flushes after a text if all of it went out, and answers whether that is so and the flush succeeded.
+#[tactic(auto, using(crate::proofs::PutLemmas::not_put, crate::proofs::PutLemmas::flushed_after))]
+pub fn flush_after<W: Sink>(sink: &mut W, is_put: bool) -> bool
+    ensures { (start : Seen) (text : List ℕ) → PuttingEnds is_put start (W.seen sink.old) text → WritingEnds result start (W.seen sink.new) text }
+{
+    if !is_put {
         return false;
     }
     sink.flush().is_ok()
