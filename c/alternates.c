@@ -37,9 +37,8 @@ void curspan_begin_map(void) {
     for (; *letters; letters++) acs_map[(unsigned char)*letters] = (unsigned char)*letters | A_ALTCHARSET;
 }
 
-chtype curspan_as_drawn(chtype ch) {
+chtype curspan_as_alternate(chtype ch) {
     chtype letter = ch & A_CHARTEXT;
-    if (!(ch & A_ALTCHARSET)) return ch;
     bool may_be_line = letter == ' ' && curspan_has_alternates; /* by the background */
     bool has_it = may_be_line || (letter < 128 && acs_map[letter] & A_ALTCHARSET);
     if (has_it && curspan_use_pair(A_ALTCHARSET) > 0) return ch;

@@ -9,7 +9,6 @@ enum { EIGHT = 8, OWN = OWN_COLOUR };
 static struct colours {
     short colours[LAST_PAIR + 1][2]; /* what the program gave; those of pair 0 are what -1 is too */
     bool is_given[LAST_PAIR + 1];
-    uint8_t owns[2][LAST_PAIR + 1];  /* the pair of curspan.h that stands for one, alternate or not, or 0 */
     attr_t stands_for[LAST_OWN + 1]; /* and which one that is */
     bool has_defaults;               /* those of pair 0 are set */
     bool is_started;                 /* start_color was called: before it no pair has colours, and none is given them */
@@ -17,8 +16,12 @@ static struct colours {
     struct curspan_palette palette;  /* all this, as it was last asked for */
     bool is_stale;                   /* it isn't so any more */
 } it;
+uint8_t curspan_owns[2][LAST_PAIR + 1];
 
-void curspan_forget_colours(void) { it = (struct colours){.colours = {{OWN, OWN}}, .is_stale = true}; }
+void curspan_forget_colours(void) {
+    it = (struct colours){.colours = {{OWN, OWN}}, .is_stale = true};
+    memset(curspan_owns, 0, sizeof curspan_owns);
+}
 
 /* A pair of curspan.h that stands for none: that of the same number, or the last one. */
 static int free_own(int pair) {
@@ -28,19 +31,14 @@ static int free_own(int pair) {
 }
 
 /* Lets a pair of curspan.h that stands for none stand for another. Where there is none, it is that of pair 0. */
-static int take_own(attr_t attrs, uint8_t *of) {
+int curspan_take_pair(attr_t attrs) {
+    uint8_t *of = curspan_owns[(attrs & A_ALTCHARSET) > 0];
     int pair = PAIR_NUMBER(attrs), own = free_own(attrs & A_ALTCHARSET ? LAST_OWN : pair);
     if (!own) return attrs & A_ALTCHARSET ? of[0] : 0;
     of[pair] = (uint8_t)own;
-    it.stands_for[own] = attrs;
+    it.stands_for[own] = attrs & (A_COLOR | A_ALTCHARSET);
     it.is_stale = it.palette.changes = true;
     return own;
-}
-
-int curspan_use_pair(attr_t attrs) {
-    attrs &= A_COLOR | A_ALTCHARSET;
-    uint8_t *of = it.owns[attrs >= A_ALTCHARSET];
-    return attrs == 0 ? 0 : of[PAIR_NUMBER(attrs)] ? of[PAIR_NUMBER(attrs)] : take_own(attrs, of);
 }
 
 attr_t curspan_attributes_of(int own) { return it.stands_for[own]; }
@@ -91,7 +89,7 @@ static bool is_colour(int colour) { return colour < EIGHT && colour >= (it.is_ow
 int init_pair(short pair, short foreground, short background) {
     if (!it.is_started || pair < 1 || pair > LAST_PAIR || !is_colour(foreground) || !is_colour(background)) return ERR;
     bool are_others = it.colours[pair][0] != foreground || it.colours[pair][1] != background;
-    bool is_shown = it.owns[0][pair] || it.owns[1][pair];
+    bool is_shown = curspan_owns[0][pair] || curspan_owns[1][pair];
     if (it.is_given[pair] && is_shown && are_others) curspan_invalidate(&curspan_the_screen);
     it.colours[pair][0] = foreground;
     it.colours[pair][1] = background;

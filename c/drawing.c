@@ -1,6 +1,8 @@
 /* Borders and drawn lines, and cells whose rendition is changed where they are. Nothing here is proved. */
 #include "inside.h"
 
+#include <wchar.h>
+
 static chtype drawn(chtype ch, chtype usual) { return ch & A_CHARTEXT ? ch : ch | usual; }
 
 /* Draws a rectangle of a window, of one character. */
@@ -23,7 +25,7 @@ int wvline(WINDOW *win, chtype ch, int n) {
 /* Draws the first or the last line of a border. In a window of one column it is the right corner. */
 static void draw_end(const WINDOW *win, int y, chtype left, chtype line, chtype right) {
     uint32_t row[LONGEST], cell = curspan_rendered(win, line), last = win->columns - 1;
-    for (uint32_t x = 1; x < last; x++) row[x] = cell;
+    wmemset((wchar_t *)row, (wchar_t)cell, win->columns);
     row[0] = curspan_rendered(win, left);
     row[last] = curspan_rendered(win, right);
     curspan_put(SCREEN_AND(win), (uint32_t)y, 0, row, win->columns);
@@ -42,10 +44,9 @@ int wborder(WINDOW *win, chtype left, chtype right, chtype top, chtype bottom, c
 
 int wchgat(WINDOW *win, int n, attr_t attrs, short pair, const void *none) {
     chtype cells[LONGEST];
-    int y = getcury(win), x = getcurx(win);
-    if (y == ERR || none || pair < 0 || pair > LAST_PAIR) return ERR;
-    int count = n < -1 ? 0 : curspan_read_cells(win, y, x, cells, n);
+    if (is_there(win) == ERR || none || pair < 0 || pair > LAST_PAIR) return ERR;
+    int count = n < -1 ? 0 : curspan_read_cells(win, win->y, win->x, cells, n);
     attrs = (attrs & A_ATTRIBUTES & ~A_COLOR) | COLOR_PAIR(pair);
     for (int i = 0; i < count; i++) cells[i] = (cells[i] & A_CHARTEXT) | attrs;
-    return curspan_changed(win, curspan_put_cells(win, y, x, cells, count));
+    return curspan_changed(win, curspan_put_cells(win, win->y, win->x, cells, count));
 }

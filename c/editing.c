@@ -6,11 +6,20 @@ static int blank(const WINDOW *win, int y, int x, int lines) {
     return curspan_fill_cells(win, y, x, lines, getmaxx(win) - x, curspan_written(win->background));
 }
 
-/* Copies lines of a window, from a column on to the last one, to others from a column on. */
-static int shift(const WINDOW *win, int y, int x, int to_y, int to_x, int lines) {
-    uint32_t from_y = (uint32_t)y, from_x = (uint32_t)x, top = (uint32_t)to_y, left = (uint32_t)to_x;
-    uint32_t bottom = top + (uint32_t)lines - 1, right = left + win->columns - 1 - (uint32_t)most(x, to_x);
-    return done(curspan_copywin(SCREEN_AND(win), win->number, from_y, from_x, top, left, bottom, right, false));
+/* Copies whole lines of a window to others. */
+static void shift(const WINDOW *win, int y, int to_y, int lines) {
+    uint32_t from = (uint32_t)y, top = (uint32_t)to_y, bottom = top + (uint32_t)lines - 1;
+    curspan_copywin(SCREEN_AND(win), win->number, from, 0, top, 0, bottom, win->columns - 1, false);
+}
+
+/* Puts cells into the cursor's line, from a column up to its end. */
+static int put_rest(const WINDOW *win, int x, const uint32_t *cells) {
+    return done(curspan_put(SCREEN_AND(win), (uint32_t)win->y, (uint32_t)x, cells, win->columns - (uint32_t)x));
+}
+
+/* Reads the first cells of the cursor's line. */
+static void read_line(const WINDOW *win, uint32_t *line, int count) {
+    curspan_row(SCREEN_AND(win), (uint32_t)win->y, line, (size_t)count);
 }
 
 /* ---- inserted characters */
@@ -42,12 +51,14 @@ static void append_byte(WINDOW *win, row *row, uint8_t byte, attr_t attrs) {
 }
 
 /* Inserts a row at the cursor, and leaves the cursor behind it, or in the last column. */
-static void insert_row(WINDOW *win, const row *row) {
-    int from = row->from, to = row->to, last = row->columns - 1;
+static void insert_row(WINDOW *win, row *row) {
+    uint32_t line[LONGEST];
+    int from = row->from, to = row->to, columns = row->columns;
     if (to == from) return;
-    if (to <= last) shift(win, win->y, from, win->y, to, 1);
-    curspan_put(SCREEN_AND(win), (uint32_t)win->y, (uint32_t)from, row->cells + from, (size_t)(to - from));
-    curspan_go(win, win->y, least(to, last));
+    read_line(win, line, columns);
+    memcpy(row->cells + to, line + from, sizeof *line * (size_t)(columns - to));
+    put_rest(win, from, row->cells + from);
+    curspan_go(win, win->y, least(to, columns - 1));
 }
 
 static bool moves_cursor(uint8_t byte) { return byte == '\n' || byte == '\r' || byte == '\b'; }
@@ -99,16 +110,17 @@ int winsnstr(WINDOW *win, const char *text, int n) {
 /* ---- deleted and inserted lines, and what is cleared */
 
 int wdelch(WINDOW *win) {
+    uint32_t line[LONGEST + 1];
     if (is_there(win) == ERR) return ERR;
-    int last = (int)win->columns - 1;
-    if (win->x < last) shift(win, win->y, win->x + 1, win->y, win->x, 1);
-    return curspan_changed(win, blank(win, win->y, last, 1));
+    read_line(win, line, LONGEST);
+    line[win->columns] = curspan_written(win->background);
+    return curspan_changed(win, put_rest(win, win->x, line + win->x + 1));
 }
 
 int curspan_scroll_lines(WINDOW *win, int top, int bottom, int n) {
     int all = bottom - top + 1, up = least(n, all), down = -most(n, -all), rest = all - most(up, down);
-    if (up > 0 && rest > 0) shift(win, top + up, 0, top, 0, rest);
-    if (down > 0 && rest > 0) shift(win, top, 0, top + down, 0, rest);
+    if (up > 0 && rest > 0) shift(win, top + up, top, rest);
+    if (down > 0 && rest > 0) shift(win, top, top + down, rest);
     return n == 0 ? OK : blank(win, up > 0 ? top + rest : top, 0, all - rest);
 }
 

@@ -135,7 +135,8 @@ static inline attr_t curspan_with(attr_t attrs, attr_t more) {
 void curspan_begin_map(void);
 extern bool curspan_has_alternates;
 /* A character as it is drawn: an alternate one where the terminal has none is another. */
-chtype curspan_as_drawn(chtype ch);
+chtype curspan_as_alternate(chtype ch);
+static inline chtype curspan_as_drawn(chtype ch) { return ch & A_ALTCHARSET ? curspan_as_alternate(ch) : ch; }
 
 /* A cell of curspan.h, of a cell here, and of a character that a window writes: with the attributes of both and those of
    the background, which a blank takes whole. */
@@ -149,7 +150,7 @@ int curspan_scroll_lines(WINDOW *win, int top, int bottom, int n);
 
 /* Sets the cells of so many lines and columns, or up to n of a line, before a 0, as they are: the cursor, the background
    and scrolling have no part in it. */
-int curspan_fill_cells(const WINDOW *win, int y, int x, int lines, int columns, uint32_t cell);
+static inline int curspan_fill_cells(const WINDOW *win, int y, int x, int lines, int columns, uint32_t cell);
 int curspan_put_cells(WINDOW *win, int y, int x, const chtype *cells, int n);
 /* Reads up to n cells from a place on, or all where n is negative, and answers how many they are. */
 int curspan_read_cells(WINDOW *win, int y, int x, chtype *cells, int n);
@@ -194,7 +195,12 @@ void curspan_forget_panels(void);
 void curspan_forget_colours(void);
 /* The pair of curspan.h that stands for the program's in some attributes, and for A_ALTCHARSET in them, from then on.
    There are 63: where all stand for others it is 0, or that of alternate characters of pair 0. */
-int curspan_use_pair(attr_t attrs);
+extern uint8_t curspan_owns[2][LAST_PAIR + 1]; /* the pair that stands for one, alternate or not, or 0 */
+int curspan_take_pair(attr_t attrs);
+static inline int curspan_use_pair(attr_t attrs) {
+    int own = curspan_owns[(attrs & A_ALTCHARSET) > 0][PAIR_NUMBER(attrs)];
+    return own > 0 || !(attrs & (A_COLOR | A_ALTCHARSET)) ? own : curspan_take_pair(attrs);
+}
 attr_t curspan_attributes_of(int own);
 /* What the pairs of curspan.h are now, in the bytes on their way. */
 struct curspan_palette *curspan_palette_now(void);
@@ -212,6 +218,10 @@ static inline int least(int a, int b) { return a < b ? a : b; }
 static inline int most(int a, int b) { return a > b ? a : b; }
 static inline bool is_terminal(const WINDOW *win) { return win && win == curscr; }
 static inline int done(curspan_answer answer) { return answer.status == CURSPAN_OK ? OK : ERR; }
+static inline int curspan_fill_cells(const WINDOW *win, int y, int x, int lines, int columns, uint32_t cell) {
+    uint32_t top = (uint32_t)y, left = (uint32_t)x, bottom = top + (uint32_t)lines - 1;
+    return done(curspan_fill(SCREEN_AND(win), top, left, bottom, left + (uint32_t)columns - 1, cell));
+}
 static inline int first_of(curspan_answer answer) { return answer.status == CURSPAN_OK ? (int)answer.first : ERR; }
 static inline int second_of(curspan_answer answer) { return answer.status == CURSPAN_OK ? (int)answer.second : ERR; }
 static inline bool is_so(curspan_answer answer) { return first_of(answer) == 1; }

@@ -175,12 +175,13 @@ int replace_panel(PANEL *panel, WINDOW *win) {
 
 WINDOW *panel_window(const PANEL *panel) { return number_of(panel) == NUMBER ? NULL : panel->win; }
 
+/* What waits to be written has no part in the order. */
 PANEL *panel_above(const PANEL *panel) {
-    return panel_of(curspan_panel_above(&curspan_the_screen, panel ? number_of(panel) : 0));
+    return panel_of(curspan_panel_above(&curspan_kept_screen, panel ? number_of(panel) : 0));
 }
 
 PANEL *panel_below(const PANEL *panel) {
-    return panel_of(curspan_panel_below(&curspan_the_screen, panel ? number_of(panel) : 0));
+    return panel_of(curspan_panel_below(&curspan_kept_screen, panel ? number_of(panel) : 0));
 }
 
 int set_panel_userptr(PANEL *panel, const void *pointer) {

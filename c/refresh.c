@@ -8,8 +8,8 @@ int untouchwin(WINDOW *win) { return done(curspan_untouchwin(SCREEN_AND(win))); 
 
 /* Of lines past the window's last none is touched, as over ncurses. */
 int wtouchln(WINDOW *win, int y, int n, int changed) {
-    if (!are_numbers(y, n, 0, 0)) return ERR;
-    if (y < getmaxy(win)) n = least(n, getmaxy(win) - y);
+    if (!win || !is_number(y) || !is_number(n)) return ERR;
+    if (y < (int)win->lines) n = least(n, (int)win->lines - y);
     return done(curspan_wtouchln(SCREEN_AND(win), (uint16_t)y, (uint16_t)n, changed != 0));
 }
 

@@ -1,11 +1,6 @@
 /* Rows of cells, put into windows as they are, and read back. Nothing here is proved. */
 #include "inside.h"
 
-int curspan_fill_cells(const WINDOW *win, int y, int x, int lines, int columns, uint32_t cell) {
-    uint32_t top = (uint32_t)y, left = (uint32_t)x, bottom = top + (uint32_t)lines - 1;
-    return done(curspan_fill(SCREEN_AND(win), top, left, bottom, left + (uint32_t)columns - 1, cell));
-}
-
 int curspan_put_cells(WINDOW *win, int y, int x, const chtype *cells, int n) {
     uint32_t row[LONGEST];
     int count;
@@ -28,22 +23,22 @@ int curspan_read_cells(WINDOW *win, int y, int x, chtype *cells, int n) {
 }
 
 chtype winch(WINDOW *win) {
-    curspan_answer answer = curspan_winch(&curspan_the_screen, curspan_placed(win));
+    const curspan *screen = &curspan_the_screen;
+    if (!win) return (chtype)ERR;
+    curspan_answer answer = curspan_cell(screen, win->number, (uint32_t)win->y, (uint32_t)win->x);
     return answer.status == CURSPAN_OK ? curspan_read(answer.first) : (chtype)ERR;
 }
 
 int winchnstr(WINDOW *win, chtype *row, int n) {
-    int y = getcury(win);
-    if (y == ERR || !row) return ERR;
-    row[curspan_read_cells(win, y, getcurx(win), row, n)] = 0;
+    if (is_there(win) == ERR || !row) return ERR;
+    row[curspan_read_cells(win, win->y, win->x, row, n)] = 0;
     return OK;
 }
 
 int winnstr(WINDOW *win, char *text, int n) {
     uint32_t row[LONGEST];
-    int y = getcury(win), x = getcurx(win);
-    if (y == ERR || !text) return ERR;
-    int count = read_row(win, y, x, row, n);
+    if (is_there(win) == ERR || !text) return ERR;
+    int x = win->x, count = read_row(win, win->y, x, row, n);
     for (int i = 0; i < count; i++) text[i] = (char)CURSPAN_CHARACTER(row[x + i]);
     text[count] = 0;
     return count;

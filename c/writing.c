@@ -149,9 +149,25 @@ static inline int add(WINDOW *win, chtype ch) {
 
 int waddch(WINDOW *win, const chtype ch) { return curspan_changed(win, add(win, ch)); }
 
+/* Writes the printable characters that a text begins with, as far as the line goes but for its last column, and answers
+   how many they are. */
+static size_t add_plain(WINDOW *win, const char *text, size_t length) {
+    if (!win->is_plain) return 0;
+    if (curspan_waiting.win != win) begin_to_wait(win);
+    uint32_t *cells = curspan_waiting.cells + win->x, plain = win->plain, blank = win->blank;
+    size_t i, room = win->columns - 1 - (uint32_t)win->x, count = length < room ? length : room;
+    for (i = 0; i < count && is_printable((uint8_t)text[i]); i++)
+        cells[i] = text[i] == ' ' ? blank : plain | (uint8_t)text[i];
+    win->x += (int)i;
+    return i;
+}
+
 static int add_text(WINDOW *win, const char *text, size_t length) {
     int answer = is_there(win);
-    for (size_t i = 0; i < length && answer == OK; i++) answer = add(win, (uint8_t)text[i]);
+    for (size_t i = 0; i < length && answer == OK; i++) {
+        if (length - i > 1) i += add_plain(win, text + i, length - i);
+        if (i < length) answer = add(win, (uint8_t)text[i]);
+    }
     return curspan_changed(win, answer);
 }
 

@@ -146,6 +146,10 @@ curspan_answer curspan_row(const curspan *screen, uint32_t win, uint32_t y, uint
    CURSPAN_BACKGROUND take a cell apart. `cells` may be NULL where `room` is 0. Refused: OUTSIDE_WINDOW. */
 curspan_answer curspan_shown_row(const curspan *screen, uint32_t y, uint32_t *cells, size_t room);
 
+/* The cell of a window or pad at line `y` and column `x`, as winch answers it. Refused: NO_SUCH_WINDOW; OUTSIDE_WINDOW if
+   the window hasn't that place. */
+curspan_answer curspan_cell(const curspan *screen, uint32_t win, uint32_t y, uint32_t x);
+
 /* The attributes that written characters get, and their colour pair. Refused: NO_SUCH_WINDOW. */
 curspan_answer curspan_wattr_get(const curspan *screen, uint32_t win);
 

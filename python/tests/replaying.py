@@ -88,6 +88,12 @@ class Replay:
         return line_text(len(cells), (f'{ord(it.character):02x}{it.attrs.value:02x}' + ''.join(str(9 if c is None else int(c)) for c in it[2:])
                                       for it in cells[:room]))
 
+    def of_cell(self, w, y, x):
+        row = self.window(w).row(y)
+        if x >= len(row):
+            raise curspan.OutsideWindow
+        return told(row[x])
+
     def of_wattr_get(self, w):
         window = self.window(w)
         return window.attrs.value, window.pair

@@ -47,6 +47,18 @@ impl<W> Screen<W> {
         Ok(answer.first as usize)
     }
 
+    /// The cell of a window or pad at line `y` and column `x`.
+    ///
+    /// # Errors
+    ///
+    /// [`NoSuchWindow`](Refusal::NoSuchWindow); [`OutsideWindow`](Refusal::OutsideWindow) if the
+    /// window hasn't the place.
+    #[inline]
+    pub fn cell(&self, win: impl Into<Window>, y: u32, x: u32) -> Result<Cell, Refusal> {
+        let answer = sys::curspan_cell(&self.sys, self.windows.number(win.into().0), y, x)?;
+        Ok(Cell(answer.first))
+    }
+
     /// The cells of a line of the virtual screen, as the last [`doupdate`](Screen::doupdate) that
     /// succeeded or the next one shows them.
     ///

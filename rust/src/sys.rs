@@ -77,6 +77,7 @@ macro_rules! functions {
 }
 
 with_calls! { functions! {
+    fn curspan_cell(screen: &Screen, win: u32, y: u32, x: u32) -> Answer;
     fn curspan_wattr_get(screen: &Screen, win: u32) -> Answer;
     fn curspan_getbkgd(screen: &Screen, win: u32) -> Answer;
     fn curspan_wgetscrreg(screen: &Screen, win: u32) -> Answer;

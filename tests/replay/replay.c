@@ -80,6 +80,7 @@ static void make(const char *word, const long *n, const char *text, size_t lengt
 #include "written_calls.h"
     CALL(row, cells, n[0], n[1], room_of(n[2]), n[2])
     CALL(shown_row, shown_cells, n[0], room_of(n[1]), n[1])
+    CALL(cell, cell, n[0], n[1], n[2])
     CALL(wattr_get, two_numbers, n[0])
     CALL(getbkgd, cell, n[0])
     CALL(wgetscrreg, two_numbers, n[0])

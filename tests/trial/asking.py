@@ -33,6 +33,12 @@ def row(world, w, y, room):
     return line_text(window.columns, (f'{it.character:02x}{it.attributes:02x}{it.pair:02x}' for it in cells))
 
 
+def cell(world, w, y, x):
+    window = there(world, w)
+    refuse(y >= window.lines or x >= window.columns, E5)
+    return world.cell_at(w, y, x)
+
+
 def shown_row(world, y, room):
     refuse(y >= world.lines, E5)
     renditions = [(it.character, *it.rendition) for it in world.virtual[y][:room]]
@@ -44,6 +50,7 @@ def shown_row(world, y, room):
 QUESTIONS = {
     'row': ('window line room', row),
     'shown_row': ('line room', shown_row),
+    'cell': ('window line column', cell),
     'wattr_get': ('window', lambda world, w: (there(world, w).attributes, world.windows[w].pair)),
     'getbkgd': ('window', lambda world, w: there(world, w).background),
     'wgetscrreg': ('window', lambda world, w: there(world, w).region),
@@ -62,7 +69,7 @@ def argument(chance, world, kind, before):
     window = world.windows.get(before[0], world.windows[0]) if before else world.windows[0]
     there_is = {
         'window': list(world.windows), 'number': [0, *world.windows, *world.panels],
-        'line': range(window.lines), 'room': [0, 1, window.columns - 1, window.columns, window.columns + 5],
+        'line': range(window.lines), 'column': range(window.columns), 'room': [0, 1, window.columns - 1, window.columns, window.columns + 5],
     }[kind]
     if kind == 'room' or chance.random() < 0.8:
         return chance.choice(there_is)

@@ -1,16 +1,17 @@
 -- What C asks of a screen beside the calls, and what it gets.
 -- X/Open Curses Issue 7: wattr_get, getbkgd. ncurses, curs_opaque(3X): is_cleared, is_pad, is_scrollok, wgetscrreg.
-use Rattle.std.specs.Prelude.{◌≡◌, ◌<◌, ℕ, ◌∷◌, [], true, false, is_none, is_some, Bool, IfOk, MatchOption, Option, Some, None, Result, Ok, Err, ok_or, unwrap_or}
-use Rattle.std.specs.Option.{option_map}
+use Rattle.std.specs.Prelude.{◌≡◌, ◌<◌, ◌&&◌, ℕ, ◌∷◌, [], true, false, if◌then◌else◌, is_none, is_some, nat_lt, Bool, IfOk, MatchOption, Option, Some, None, Result, Ok, Err, ok_or, unwrap_or}
+use Rattle.std.specs.Option.{option_map, option_map_or}
 use Rattle.std.specs.Result.{result_err}
 use Rattle.cell.specs.Attributes.{bits_of}
+use Rattle.cell.specs.Glyphs.{Glyph}
 use Rattle.cell.specs.Refusals.{first_of}
 use Rattle.cell.specs.declared.refusal.Refusal.{Refusal}
-use Rattle.cell.specs.declared.refusal.Refusal.TheVariants.{NoSuchWindow}
+use Rattle.cell.specs.declared.refusal.Refusal.TheVariants.{NoSuchWindow, OutsideWindow}
 use Rattle.cell.specs.declared.window.TheConstants.WinId.{STANDARD}
 use Rattle.cell.specs.declared.window.WinId.{WinId}
 use Rattle.world.specs.PanelOrder.{Panels, is_in_panel}
-use Rattle.world.specs.WindowMaps.{WindowMap}
+use Rattle.world.specs.WindowMaps.{WindowMap, cell_at}
 use Rattle.world.specs.Worlds.{World}
 use Rattle.world.specs.calls.Rules.{missing_window}
 use Rattle.world.specs.declared.call.Reply.{Reply}
@@ -45,6 +46,11 @@ setting_reply Clears settings = Flag settings.clear
 abbrev pub pad_answer : WindowMap → ℕ → Result Bool Refusal
 pad_answer window w = ok_or (option_map (λ a. is_none a.place) (window w)) NoSuchWindow
 
+-- the cell that window w shows at line y and column x
+abbrev pub cell_answer : WindowMap → ℕ → ℕ → ℕ → Result Glyph Refusal
+cell_answer window w y x = option_map_or (λ a. if nat_lt y a.lines && nat_lt x a.columns then Ok (cell_at window w y x) else Err OutsideWindow)
+    (window w) (Err NoSuchWindow)
+
 -- the panel that has window w, or none, where no panel has it
 abbrev pub IsPanelOf : Panels → ℕ → Option PanelId → Type 0
 IsPanelOf panels w panel = MatchOption panel (is_in_panel panels w ≡ false) (λ p. panels.window p.0 ≡ Some w)
@@ -70,6 +76,7 @@ IsAnswered world (questions.PanelOf win) end = (answer : Result (Option PanelId)
     × (result_err answer ≡ first_of (missing_window world.windows win.0 ∷ [])) × IfOk answer (IsPanelOf world.panels win.0) × (end ≡ as_reply Panel answer)
 IsAnswered world (questions.NextWindow win) end = (next : Option WinId) × IsNext (is_window world) win.0 (option_map (λ w. w.0) next)
     × (end ≡ Ok (Number (unwrap_or next STANDARD)))
+IsAnswered world (questions.Cell win y x) end = end ≡ as_reply Cell (cell_answer world.windows.window win.0 y x)
 IsAnswered world (questions.NextPanel panel) end = (next : Option PanelId) × IsNext (is_panel world) panel.0 (option_map (λ p. p.0) next)
     × (end ≡ Ok (Panel next))
 

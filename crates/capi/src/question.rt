@@ -7,10 +7,10 @@ ghost use Rattle.calls.specs.Methods.{as_reply};
 ghost use Rattle.cell.specs.Refusals.{first_of};
 ghost use Rattle.world.specs.calls.Rules.{missing_window};
 ghost use Rattle.compose.specs.Desks.{world};
-ghost use Rattle.capi.specs.Questions.{IsAnswered, IsNext, IsPanelOf, is_panel, is_window, pad_answer, setting_reply, settings_of};
+ghost use Rattle.capi.specs.Questions.{IsAnswered, IsNext, IsPanelOf, cell_answer, is_panel, is_window, pad_answer, setting_reply, settings_of};
 
 use bitflags::Flags;
-use cell::{MOST_PANELS, MOST_WINDOWS};
+use cell::{Cell, MOST_PANELS, MOST_WINDOWS};
 use desk::{Desk, PanelId, Refusal, Reply, WinId};
 use world::Settings;
 
@@ -33,6 +33,7 @@ pub enum Question {
     PanelOf(WinId),
     NextWindow(WinId),
     NextPanel(PanelId),
+    Cell(WinId, u16, u16),
 }
 
 impl Question {
@@ -51,6 +52,7 @@ impl Question {
                 Ok(Reply::Number(next.unwrap_or(WinId::STANDARD)))
             }
             Question::NextPanel(panel) => Ok(Reply::Panel(next_panel(desk, panel))),
+            Question::Cell(win, y, x) => Ok(Reply::Cell(cell_at(desk, win, y, x)?)),
         }
     }
 }
@@ -94,6 +96,18 @@ fn is_pad(desk: &Desk, win: WinId) -> Result<bool, Refusal>
         Err(Refusal::IsPad) => Ok(true),
         Err(refusal) => Err(refusal),
     }
+}
+
+/// The cell that a window shows at a place.
+#[inline(always)]
+fn cell_at(desk: &Desk, win: WinId, y: u16, x: u16) -> Result<Cell, Refusal>
+    ensures { result ≡ cell_answer (world desk.now).windows.window win.0 y x }
+{
+    let (lines, columns) = desk.windows().table.getmaxyx(win)?;
+    if y >= lines || x >= columns {
+        return Err(Refusal::OutsideWindow);
+    }
+    Ok(desk.windows().table.cell(win, y, x))
 }
 
 /// The panel that a window is in, if it is in one.

@@ -192,6 +192,11 @@ static void see_rows(void) {
     ANSWERS(row(asked, 4, 0, cells, 10), 1, 0);
     want_cells(cells, &all[3], 1, "a derived pad's row");
     ANSWERS(getyx(asked, 2), 1, 4);
+    ANSWERS(cell(asked, 2, 1, 2), H, 0);
+    ANSWERS(cell(asked, 4, 0, 0), I, 0);
+    REFUSED(cell(asked, 2, 3, 7), OUTSIDE_WINDOW);
+    REFUSED(cell(asked, 2, 2, 8), OUTSIDE_WINDOW);
+    REFUSED(cell(asked, 5, 0, 0), NO_SUCH_WINDOW);
     ANSWERS(pnoutrefresh(&screen, 2, 1, 2, 3, 0, 3, 1), 0, 0);
     ANSWERS(shown_row(asked, 3, NULL, 0), 10, 0);
     ANSWERS(shown_row(asked, 3, cells, 10), 10, 0);

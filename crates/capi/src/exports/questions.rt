@@ -4,7 +4,7 @@ ghost use Rattle.std.specs.Prelude.{◌≡◌};
 ghost use Rattle.capi.specs.Lines.{LineTold, screen_line, window_line};
 ghost use Rattle.capi.specs.Numbers.{panel_of, saturated, window_of};
 ghost use Rattle.capi.specs.Questions.{Told};
-ghost use Rattle.capi.specs.declared.question.Question.TheVariants.{IsPad, NextPanel, NextWindow, PanelOf, Parent, Setting as SettingOf};
+ghost use Rattle.capi.specs.declared.question.Question.TheVariants.{Cell, IsPad, NextPanel, NextWindow, PanelOf, Parent, Setting as SettingOf};
 ghost use Rattle.capi.specs.declared.question.Setting.TheVariants.{Attributes, Background, Clears, Region, Scrolls};
 
 use crate::answer::Answer;
@@ -40,6 +40,24 @@ pub extern "C" fn curspan_shown_row(
     ensures same { screen.new.value ≡ screen.old.value }
 {
     screen.tell_shown_row(alloc, saturated(y), cells)
+}
+
+/// The cell of a window or pad at line `y` and column `x`.
+#[unsafe(no_mangle)]
+pub extern "C" fn curspan_cell(
+    alloc: Global,
+    screen: &mut Handle,
+    win: u32,
+    y: u32,
+    x: u32,
+) -> Answer
+    ensures told { Told screen.old.value (Cell (window_of win) (saturated y) (saturated x)) result }
+    ensures same { screen.new.value ≡ screen.old.value }
+{
+    screen.tell(
+        alloc,
+        Question::Cell(window_of(win), saturated(y), saturated(x)),
+    )
 }
 
 /// The attributes that written characters get, and their colour pair.

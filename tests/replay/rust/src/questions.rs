@@ -59,6 +59,7 @@ pub(crate) fn ask(
             |cells| screen.read_shown_row(a.number(0), cells),
             shown_cell,
         )?),
+        "cell" => screen.cell(win(), a.number(1), a.number(2))?.text(known),
         "wattr_get" => {
             let (attributes, pair) = screen.wattr_get(win())?;
             (u32::from(attributes.bits()), pair).text(known)
