@@ -3,8 +3,11 @@
 
 int curspan_put_cells(WINDOW *win, int y, int x, const chtype *cells, int n) {
     uint32_t row[LONGEST];
-    int count;
-    for (count = 0; count < n && cells[count]; count++) row[count] = curspan_written(cells[count]);
+    chtype some = 0;
+    int count = 0;
+    while (count < n && cells[count]) some |= cells[count++];
+    bool are_plain = !(some & (A_COLOR | A_ALTCHARSET)); /* which a loop without a choice writes */
+    for (int i = 0; i < count; i++) row[i] = are_plain ? cells[i] & (A_CHARTEXT | A_ATTRIBUTES) : curspan_written(cells[i]);
     return done(curspan_put(SCREEN_AND(win), (uint32_t)y, (uint32_t)x, row, (size_t)count));
 }
 
