@@ -1,6 +1,6 @@
 -- Some byte of a text is bad where not all are printable; and whether all are is seen in pieces of it.
 use Rattle.std.specs.Prelude.{◌≡◌, ◌+◌, ◌≤◌, ◌∷◌, ◌&&◌}
-use Rattle.script.specs.{arith, take-take, ℕ, true, false, List, [], not, refl, take, drop, take-append-drop, list_all-append, take-add, list_all, list_any, is_printable, is_bad_byte}
+use Rattle.script.specs.{arith, take_rest, take-take, ℕ, true, false, List, [], not, refl, take, drop, take-append-drop, list_all-append, take-add, list_all, list_any, is_printable, is_bad_byte}
 
 pub some_bad : (text : List ℕ) → list_any is_bad_byte text ≡ not (list_all is_printable text)
 some_bad [] = refl
@@ -23,3 +23,5 @@ further text at size before piece = rw (take-add at size text) (grind (arith, (l
 pub last_decides : (text : List ℕ) (at last : ℕ) → last ≤ at → list_all is_printable (take at text) ≡ true
     → list_all is_printable (drop last text) ≡ list_all is_printable text
 last_decides text at last below before = grind (arith, (in_two text last), (in_two (take at text) last), take-take)
+
+pub ruleset printable_so_far = (further, last_decides, not_all, take_rest)

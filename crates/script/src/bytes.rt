@@ -136,6 +136,7 @@ impl Bytes {
     }
 
     /// Leaves out the first bytes.
+    #[tactic(auto, using(crate::proofs::ByteLemmas::first_left_out))]
     fn leave_out(&mut self, count: usize)
         requires { count ≤ length self.old }
         ensures { self.new ≡ drop count self.old }
@@ -266,6 +267,7 @@ impl Lines {
     /// Reads the bytes up to the next newline, and answers what follows them. Of a line that is too long it takes as
     /// many as a line may have, and one more, and answers none. Where the end is met, nothing is read after it.
     #[inline(always)]
+    #[tactic(auto, using(crate::proofs::ByteLemmas::unread_line))]
     pub fn next_line<R: Source>(&mut self, source: &mut R) -> Option<LineEnd>
         ensures line { ReadsLine (R.seen source.old) (R.seen source.new) self.old.unused self.new.unused self.new.line result }
         ensures ends { ReadingEnds (R.seen source.old) (R.seen source.new) self.old.unused self.new.unused

@@ -21,6 +21,7 @@ const SHORT_PIECE: usize = 8;
 /// Whether a cell can hold each character of a text. Pieces of one size are looked at, the last of which ends with the
 /// text, so that where the size is known no byte is looked at alone.
 #[inline(always)]
+#[tactic(auto, using(crate::proofs::BadBytes::printable_so_far))]
 fn are_printable_by(size: usize, text: &[u8]) -> bool
     requires some { 0 < size }
     requires room { size ≤ length text.now }
@@ -121,6 +122,7 @@ fn first_space(text: &[u8]) -> Option<usize>
 }
 
 /// What is before the first space, and what is after it if there is one.
+#[tactic(auto, using(crate::proofs::LineLemmas::split_found, crate::proofs::LineLemmas::split_none))]
 pub fn split_at_space(text: &[u8]) -> (&[u8], Option<&[u8]>)
     ensures pieces { slice_split is_space text.now ≡ result.0.now ∷ pieces_of result.1 }
     ensures short { length result.0.now ≤ length text.now }
@@ -134,6 +136,7 @@ pub fn split_at_space(text: &[u8]) -> (&[u8], Option<&[u8]>)
 }
 
 /// An argument of a form at the beginning of a text, and what follows it.
+#[tactic(auto, using(crate::proofs::ArgumentLemmas::text_argument))]
 pub fn next_argument(form: Form, text: &[u8]) -> (&[u8], Option<&[u8]>)
     ensures argument { (forms : List Form) → arguments (form ∷ forms) (slice_split is_space text.now)
         ≡ result.0.now ∷ arguments forms (pieces_of result.1) }

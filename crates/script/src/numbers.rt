@@ -59,6 +59,7 @@ pub fn number_up_to(most: u16, piece: &[u8]) -> Option<u16>
 }
 
 /// What is after the digits at the beginning of a text: a space and more of it, or nothing.
+#[tactic(auto, using(crate::proofs::NumberLemmas::digits_alone, crate::proofs::NumberLemmas::digits_before_space))]
 fn after_digits(text: &[u8], count: usize) -> Option<Option<&[u8]>>
     requires digits { list_all is_ascii_digit (take count text.now) ≡ true }
     requires within { count ≤ length text.now }

@@ -57,6 +57,7 @@ fn words_in_row(rows: &[&'static [Word]], place: usize) -> &'static [Word]
 }
 
 /// The words in the row of a text's first letter.
+#[tactic(auto, using(crate::proofs::WordLemmas::row_of_letter))]
 fn words_like(text: &[u8]) -> &'static [Word]
     ensures { result.now ≡ words_like text.now }
 {
@@ -84,6 +85,7 @@ fn are_same(text: &[u8], name: &[u8]) -> bool
 
 /// Finds the first of some words that is written so, and the forms of its call's arguments.
 #[inline(always)]
+#[tactic(auto, using(crate::proofs::WordLemmas::find_next))]
 fn find_named(words: &[Word], text: &[u8]) -> Option<(Word, &'static [Form])>
     ensures word { option_map (λ found. found.0) result ≡ find_named words.now text.now }
     ensures forms { IfSome result (λ found. found.1.now ≡ (entry_of found.0).forms) }
@@ -110,6 +112,7 @@ impl Word {
 
     /// The call of a script word, and the forms of its arguments.
     #[inline(always)]
+    #[tactic(auto, using(crate::proofs::WordLaws::found_by_letter))]
     pub fn with_forms(text: &[u8]) -> Option<(Word, &'static [Form])>
         ensures word { option_map (λ found. found.0) result ≡ word_of text.now }
         ensures forms { IfSome result (λ found. found.1.now ≡ (entry_of found.0).forms) }
