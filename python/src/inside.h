@@ -71,7 +71,7 @@ PyObject *curspan_refuse_character(const char *message, PyObject *character, Py_
 PyObject *curspan_terminal_error(void);
 PyObject *curspan_paste(const char *text, Py_ssize_t length);
 PyObject *curspan_attributes(uint32_t bits);
-PyObject *curspan_cell(uint32_t cell);
+PyObject *curspan_found_cell(uint32_t cell);
 PyObject *curspan_shown(uint32_t cell);
 PyObject *curspan_two_numbers(curspan_answer answer);
 

@@ -117,7 +117,7 @@ static PyObject *kept_object(const struct Kept *kept, uint32_t cell) {
     return kept->object;
 }
 
-PyObject *curspan_cell(uint32_t cell) {
+PyObject *curspan_found_cell(uint32_t cell) {
     struct Kept *kept = place_of(kept_cells, cell);
     PyObject *found = kept_object(kept, cell);
     if (found) return found;

@@ -33,7 +33,7 @@ static int read_row(PyObject *self, PyObject *y, uint32_t *cells) {
 PyObject *curspan_window_row(PyObject *self, PyObject *y) {
     uint32_t cells[LARGEST_PAD];
     int count = read_row(self, y, cells);
-    return count < 0 ? NULL : curspan_list_of_cells(cells, (uint32_t)count, curspan_cell);
+    return count < 0 ? NULL : curspan_list_of_cells(cells, (uint32_t)count, curspan_found_cell);
 }
 
 PyObject *curspan_window_line(PyObject *self, PyObject *y) {
@@ -125,7 +125,7 @@ static int set_pair(PyObject *self, PyObject *value, void *closure) {
 static PyObject *get_background(PyObject *self, void *closure) {
     (void)closure;
     curspan_answer answer = curspan_getbkgd(HANDLE(self), NUMBER(self));
-    return answer.status == CURSPAN_OK ? curspan_cell(answer.first) : curspan_refuse(answer.status);
+    return answer.status == CURSPAN_OK ? curspan_found_cell(answer.first) : curspan_refuse(answer.status);
 }
 
 static curspan_answer put_background(PyObject *self, uint32_t cell) {

@@ -177,5 +177,5 @@ PyObject *curspan_window_inch(PyObject *self, PyObject *const *given, Py_ssize_t
     uint32_t y, x;
     if (!sort_place("inch", given, count, names, place) || !curspan_take_number(place[0], &y) || !curspan_take_number(place[1], &x)) return NULL;
     curspan_answer answer = place[0] ? cell_at(self, y, x) : curspan_winch(HANDLE(self), NUMBER(self));
-    return answer.status == CURSPAN_OK ? curspan_cell(answer.first) : curspan_refuse(answer.status);
+    return answer.status == CURSPAN_OK ? curspan_found_cell(answer.first) : curspan_refuse(answer.status);
 }

@@ -25,7 +25,10 @@ fn a_row_has_the_cells_that_were_written() {
         "reading a row moves no cursor"
     );
     assert_eq!(screen.row(STDSCR, 3), Err(Refusal::OutsideWindow));
-    assert_eq!(screen.cell(STDSCR, 0, 7), Ok(screen.row(STDSCR, 0).unwrap()[7]));
+    assert_eq!(
+        screen.cell(STDSCR, 0, 7),
+        Ok(screen.row(STDSCR, 0).unwrap()[7])
+    );
     assert_eq!(screen.cell(STDSCR, 0, 8), Err(Refusal::OutsideWindow));
 }
 
