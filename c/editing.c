@@ -3,7 +3,7 @@
 
 /* Sets the rest of a line, from a column on, or of so many lines, to the background. */
 static int blank(const WINDOW *win, int y, int x, int lines) {
-    return curspan_fill_cells(win, y, x, lines, getmaxx(win) - x, curspan_written(win->background));
+    return curspan_fill_cells(win, y, x, lines, (int)win->columns - x, curspan_written(win->background));
 }
 
 /* Copies whole lines of a window to others. */

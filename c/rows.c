@@ -3,12 +3,12 @@
 
 int curspan_put_cells(WINDOW *win, int y, int x, const chtype *cells, int n) {
     uint32_t row[LONGEST];
-    chtype some = 0;
+    chtype all = 0;
     int count = 0;
-    while (count < n && cells[count]) some |= cells[count++];
-    bool are_plain = !(some & (A_COLOR | A_ALTCHARSET)); /* which a loop without a choice writes */
-    for (int i = 0; i < count; i++) row[i] = are_plain ? cells[i] & (A_CHARTEXT | A_ATTRIBUTES) : curspan_written(cells[i]);
-    return done(curspan_put(SCREEN_AND(win), (uint32_t)y, (uint32_t)x, row, (size_t)count));
+    while (count < n && cells[count]) all |= cells[count++];
+    bool are_own = all < CURSPAN_CELL(0, 0, 1); /* those without a pair are curspan.h's as they are */
+    for (int i = 0; i < count && !are_own; i++) row[i] = curspan_written(cells[i]);
+    return done(curspan_put(SCREEN_AND(win), (uint32_t)y, (uint32_t)x, are_own ? cells : row, (size_t)count));
 }
 
 /* Reads a line into a row, and answers how many cells of it, up to n where that isn't negative, come from a column on. */
