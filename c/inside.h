@@ -148,9 +148,14 @@ int curspan_add(WINDOW *win, chtype ch);
 /* Scrolls lines of a window, whether it scrolls or not. */
 int curspan_scroll_lines(WINDOW *win, int top, int bottom, int n);
 
+static inline int done(curspan_answer answer) { return answer.status == CURSPAN_OK ? OK : ERR; }
+
 /* Sets the cells of so many lines and columns, or up to n of a line, before a 0, as they are: the cursor, the background
    and scrolling have no part in it. */
-static inline int curspan_fill_cells(const WINDOW *win, int y, int x, int lines, int columns, uint32_t cell);
+static inline int curspan_fill_cells(const WINDOW *win, int y, int x, int lines, int columns, uint32_t cell) {
+    uint32_t top = (uint32_t)y, left = (uint32_t)x, bottom = top + (uint32_t)lines - 1;
+    return done(curspan_fill(SCREEN_AND(win), top, left, bottom, left + (uint32_t)columns - 1, cell));
+}
 int curspan_put_cells(WINDOW *win, int y, int x, const chtype *cells, int n);
 /* Reads up to n cells from a place on, or all where n is negative, and answers how many they are. */
 int curspan_read_cells(WINDOW *win, int y, int x, chtype *cells, int n);
@@ -217,11 +222,6 @@ static inline bool is_printable(uint32_t ch) { return ch >= ' ' && ch <= '~'; }
 static inline int least(int a, int b) { return a < b ? a : b; }
 static inline int most(int a, int b) { return a > b ? a : b; }
 static inline bool is_terminal(const WINDOW *win) { return win && win == curscr; }
-static inline int done(curspan_answer answer) { return answer.status == CURSPAN_OK ? OK : ERR; }
-static inline int curspan_fill_cells(const WINDOW *win, int y, int x, int lines, int columns, uint32_t cell) {
-    uint32_t top = (uint32_t)y, left = (uint32_t)x, bottom = top + (uint32_t)lines - 1;
-    return done(curspan_fill(SCREEN_AND(win), top, left, bottom, left + (uint32_t)columns - 1, cell));
-}
 static inline int first_of(curspan_answer answer) { return answer.status == CURSPAN_OK ? (int)answer.first : ERR; }
 static inline int second_of(curspan_answer answer) { return answer.status == CURSPAN_OK ? (int)answer.second : ERR; }
 static inline bool is_so(curspan_answer answer) { return first_of(answer) == 1; }
