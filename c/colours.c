@@ -9,7 +9,7 @@ enum { EIGHT = 8, OWN = OWN_COLOUR };
 static struct colours {
     short colours[LAST_PAIR + 1][2]; /* what the program gave; those of pair 0 are what -1 is too */
     bool is_given[LAST_PAIR + 1];
-    attr_t stands_for[LAST_OWN + 1]; /* and which one that is */
+    attr_t stands_for[LAST_OWN + 1]; /* of each pair of curspan.h, which one it stands for, or 0 */
     bool has_defaults;               /* those of pair 0 are set */
     bool is_started;                 /* start_color was called: before it no pair has colours, and none is given them */
     bool is_own_colour;              /* -1 is a colour */

@@ -1,8 +1,6 @@
 /* Borders and drawn lines, and cells whose rendition is changed where they are. Nothing here is proved. */
 #include "inside.h"
 
-#include <wchar.h>
-
 static chtype drawn(chtype ch, chtype usual) { return ch & A_CHARTEXT ? ch : ch | usual; }
 
 /* Draws a rectangle of a window, of one character. */
@@ -25,7 +23,7 @@ int wvline(WINDOW *win, chtype ch, int n) {
 /* Draws the first or the last line of a border. In a window of one column it is the right corner. */
 static void draw_end(const WINDOW *win, int y, chtype left, chtype line, chtype right) {
     uint32_t row[LONGEST], cell = curspan_rendered(win, line), last = win->columns - 1;
-    wmemset((wchar_t *)row, (wchar_t)cell, win->columns);
+    for (uint32_t x = 1; x < last; x++) row[x] = cell;
     row[0] = curspan_rendered(win, left);
     row[last] = curspan_rendered(win, right);
     curspan_put(SCREEN_AND(win), (uint32_t)y, 0, row, win->columns);
