@@ -100,6 +100,24 @@ is_older() {
     [ -n "$(find "$root/crates.txt" "${places[@]}" -type f -newer "$file" -print -quit 2> /dev/null)" ]
 }
 
+# Whether a file is to be made: it `is_older`, or the last run that made it did not finish.
+is_due() { [ -e "$1.began" ] || is_older "$@"; }
+
+# Notes that a file is being made. What a run that did not finish left of it goes.
+begin() {
+    [ ! -e "$1.began" ] || rm -f "$1"
+    mkdir -p "$(dirname "$1")"
+    : > "$1.began"
+}
+
+# Notes that a file is made. What was written since it began is newer.
+finish() {
+    if [ -e "$1.began" ]; then
+        touch -r "$1.began" "$1"
+        rm "$1.began"
+    fi
+}
+
 # provers [MOST]: puts out how many provers there may be: CURSPAN_JOBS, if that is set, or one for each processor, at most MOST, as far as
 # there are two gigabytes of memory for each. MOST is 4 if left out: as many as a crate takes that is proved last, alone.
 provers() {

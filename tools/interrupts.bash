@@ -1,0 +1,84 @@
+# What ends a command, and all that it began, when a signal ends the command.
+
+# interruptible NAME COMMAND..: runs a command in a process group of its own, without input, and returns its status. Where HUP,
+# INT or TERM comes meanwhile, all that the command began ends within five seconds, in other groups and sessions too, and its
+# temporary files go. Then a sentence is told after the name, and the signal ends this script. TSTP stops the group too.
+# What is interruptible already only runs.
+interruptible() {
+    local name=$1 status signal
+    shift
+    if [ -n "${CURSPAN_ROOM:-}" ]; then
+        "$@"
+        return
+    fi
+    room=$(mktemp -d)
+    set -m
+    (
+        export CURSPAN_ROOM=$room TMPDIR=$room
+        "$@"
+    ) < /dev/null &
+    group=$!
+    set +m
+    # shellcheck disable=SC2064 # the name is known now
+    for signal in HUP INT TERM; do trap "end_group '$name' $signal" "$signal"; done
+    trap stop_group TSTP
+    while
+        status=0
+        wait "$group" || status=$?
+        kill -0 "$group" 2> /dev/null
+    do :; done
+    trap - HUP INT TERM TSTP
+    rm -rf "$room"
+    return "$status"
+}
+
+# Puts out the first process of the group and those whose environment has its room, each with all that it began.
+begun() {
+    {
+        grep -s '^PPid:' /proc/[0-9]*/status
+        grep -lsxz "CURSPAN_ROOM=$room" /proc/[0-9]*/environ || true
+    } | awk -F '[/:\t]' -v first="$group" '
+        function add(process,   n, i, its) {
+            if (process in added) return
+            added[process]
+            print process
+            n = split(children[process], its, " ")
+            for (i = 1; i <= n; i++) add(its[i])
+        }
+        /environ$/ { found[$3]; next }
+        { children[$NF] = children[$NF] " " $3 }
+        END { add(first); for (it in found) add(it) }'
+}
+
+# strike SIGNAL TENTHS: sends a signal to all that was begun, and waits until nothing is left of it, some tenths of a second at most.
+strike() {
+    local tenths
+    processes+=" $(begun)"
+    # shellcheck disable=SC2086 # each is a word
+    kill -s "$1" -- "-$group" $processes 2> /dev/null || return 0
+    for ((tenths = 0; tenths < $2; tenths++)); do
+        sleep 0.1
+        # shellcheck disable=SC2086
+        kill -0 -- "-$group" $processes 2> /dev/null || return 0
+    done
+}
+
+# end_group NAME SIGNAL: ends all that was begun, and then this script, by the signal that it got.
+end_group() {
+    local processes=''
+    trap '' HUP INT TERM TSTP
+    strike TERM 30
+    strike KILL 10
+    rm -rf "$room"
+    end_telling
+    echo "$1: ended by SIG$2, with all that it began; what was proved until then is kept" >&2
+    trap - "$2"
+    kill -s "$2" "$$"
+}
+
+# Stops the group and this script, and lets the group go on when this goes on.
+stop_group() {
+    kill -s TSTP -- "-$group"
+    kill -s STOP "$$"
+    kill -s CONT -- "-$group"
+}
