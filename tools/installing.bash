@@ -44,6 +44,16 @@ linked_licences() {
     done
 }
 
+# tell_costs NAME TIME: tells after the name what it takes, which is some time where all is built.
+tell_costs() {
+    if is_due "$root/crates/curspan/out/curspan" curspan src specs proofs || is_older "$root/build/libcurspan.a" capi src specs proofs; then
+        echo "$1: first proves and builds what is not built: up to half an hour on four processors (80 minutes of one)," \
+            '2 GB of memory for each prover, 2 GB of disk' >&2
+    else
+        echo "$1: takes $2, as all is built" >&2
+    fi
+}
+
 # Targets, as Rust names them: this machine, and 64-bit ARM.
 here_target=x86_64-unknown-linux-gnu
 arm_target=aarch64-unknown-linux-gnu

@@ -33,9 +33,9 @@ put_together() {
         compile "$compiler" "$root/c" "$work/archive" "${options[@]}" -fvisibility=hidden &&
         exports > "$work/names.map" &&
         "$compiler" -shared -Wl,-Bsymbolic-functions -Wl,-z,relro,-z,now -Wl,-soname,libcurspan.so.0 -Wl,--version-script="$work/names.map" \
-            -o "$folder/libcurspan.so" "$@" "$work"/shared/*.o &&
-        rm -f "$folder/libcurspan.a" &&
-        "$ar" rcs "$folder/libcurspan.a" "$@" "$work"/archive/*.o
+            -o "$work/libcurspan.so" "$@" "$work"/shared/*.o &&
+        "$ar" rcs "$work/libcurspan.a" "$@" "$work"/archive/*.o &&
+        put_whole "$work/libcurspan.so" "$folder/libcurspan.so" && put_whole "$work/libcurspan.a" "$folder/libcurspan.a"
     local status=$?
     rm -rf "$work"
     return "$status"
