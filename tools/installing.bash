@@ -44,8 +44,10 @@ linked_licences() {
     done
 }
 
-# tell_costs NAME TIME: tells after the name what it takes, which is some time where all is built.
+# tell_costs NAME TIME: tells once, after the name, what it takes, which is some time where all is built.
 tell_costs() {
+    [ -z "${CURSPAN_TOLD:-}" ] || return 0
+    export CURSPAN_TOLD=yes
     if is_due "$root/crates/curspan/out/curspan" curspan src specs proofs || is_older "$root/build/libcurspan.a" capi src specs proofs; then
         echo "$1: first proves and builds what is not built: up to half an hour on four processors (80 minutes of one)," \
             '2 GB of memory for each prover, 2 GB of disk' >&2

@@ -32,6 +32,14 @@ interruptible() {
     return "$status"
 }
 
+# all_interruptible NAME SCRIPT WORD..: has the rest of a script be interruptible: it runs again, and this ends with its status.
+all_interruptible() {
+    if [ -z "${CURSPAN_ROOM:-}" ]; then
+        interruptible "$1" bash "${@:2}"
+        exit
+    fi
+}
+
 # Puts out the first process of the group and those whose environment has its room, each with all that it began.
 begun() {
     {
@@ -50,22 +58,35 @@ begun() {
         END { add(first); for (it in found) add(it) }'
 }
 
-# strike SIGNAL TENTHS: sends a signal to all that was begun, and waits until nothing is left of it, some tenths of a second at most.
+# Sends a signal to the group and to processes, and answers whether one of them is there.
+send() {
+    local signal=$1
+    shift
+    kill -s "$signal" -- "-$group" "$@" 2> /dev/null
+}
+
+# strike SIGNAL TENTHS: sends a signal to all that was begun, which is stopped first so that it begins no more, and waits until nothing
+# of it is left, some tenths of a second at most.
 strike() {
-    local tenths
-    processes+=" $(begun)"
-    # shellcheck disable=SC2086 # each is a word
-    kill -s "$1" -- "-$group" $processes 2> /dev/null || return 0
-    for ((tenths = 0; tenths < $2; tenths++)); do
+    local all=() before turn
+    while
+        before=${#all[@]}
+        mapfile -t all < <(begun)
+        send STOP "${all[@]}" || true
+        [ "${#all[@]}" -gt "$before" ]
+    do :; done
+    struck+=("${all[@]}")
+    send "$1" "${struck[@]}" || return 0
+    send CONT "${struck[@]}" || return 0
+    for ((turn = 0; turn < $2; turn++)); do
         sleep 0.1
-        # shellcheck disable=SC2086
-        kill -0 -- "-$group" $processes 2> /dev/null || return 0
+        send 0 "${struck[@]}" || return 0
     done
 }
 
 # end_group NAME SIGNAL: ends all that was begun, and then this script, by the signal that it got.
 end_group() {
-    local processes=''
+    local struck=()
     trap '' HUP INT TERM TSTP
     strike TERM 30
     strike KILL 10
