@@ -48,9 +48,10 @@ linked_licences() {
 tell_costs() {
     [ -z "${CURSPAN_TOLD:-}" ] || return 0
     export CURSPAN_TOLD=yes
-    if is_due "$root/crates/curspan/out/curspan" curspan src specs proofs || is_older "$root/build/libcurspan.a" capi src specs proofs; then
-        echo "$1: first proves and builds what is not built: up to half an hour on four processors (80 minutes of one)," \
-            '2 GB of memory for each prover, 2 GB of disk' >&2
+    if is_due "$root/crates/curspan/out/curspan" curspan src specs proofs ||
+        is_older "$root/build/libcurspan.a" capi src specs proofs; then
+        echo "$1: first proves and builds what is not built: up to half an hour on four processors (an hour of one)," \
+            '2 GB of memory for each prover, 1 GB of disk' >&2
     else
         echo "$1: takes $2, as all is built" >&2
     fi

@@ -1,9 +1,9 @@
 # What ends a command, and all that it began, when a signal ends the command.
 
-# interruptible NAME COMMAND..: runs a command in a process group of its own, without input, and returns its status. Where HUP,
-# INT or TERM comes meanwhile, all that the command began ends within five seconds, in other groups and sessions too, and its
-# temporary files go. Then a sentence is told after the name, and the signal ends this script. TSTP stops the group too.
-# What is interruptible already only runs.
+# interruptible NAME COMMAND..: runs a command in a process group of its own, without input, and returns its status.
+# Where HUP, INT or TERM comes meanwhile, all that the command began ends within five seconds, in other groups and
+# sessions too, and its temporary files go. Then a sentence is told after the name, and the signal ends this script. TSTP
+# stops the group too. What is interruptible already only runs.
 interruptible() {
     local name=$1 status signal
     shift
@@ -32,7 +32,7 @@ interruptible() {
     return "$status"
 }
 
-# all_interruptible NAME SCRIPT WORD..: has the rest of a script be interruptible: it runs again, and this ends with its status.
+# all_interruptible NAME SCRIPT WORD..: has a script go on interruptible: it runs anew, and this ends with its status.
 all_interruptible() {
     if [ -z "${CURSPAN_ROOM:-}" ]; then
         interruptible "$1" bash "${@:2}"
@@ -65,17 +65,17 @@ send() {
     kill -s "$signal" -- "-$group" "$@" 2> /dev/null
 }
 
-# strike SIGNAL TENTHS: sends a signal to all that was begun, which is stopped first so that it begins no more, and waits until nothing
-# of it is left, some tenths of a second at most.
+# strike SIGNAL TENTHS: sends a signal to all that was begun, which is stopped first so that it begins no more, and waits
+# until nothing of it is left, some tenths of a second at most.
 strike() {
-    local all=() before turn
+    local found=() before turn
     while
-        before=${#all[@]}
-        mapfile -t all < <(begun)
-        send STOP "${all[@]}" || true
-        [ "${#all[@]}" -gt "$before" ]
+        before=${#found[@]}
+        mapfile -t found < <(begun)
+        send STOP "${found[@]}" || true
+        [ "${#found[@]}" -gt "$before" ]
     do :; done
-    struck+=("${all[@]}")
+    struck+=("${found[@]}")
     send "$1" "${struck[@]}" || return 0
     send CONT "${struck[@]}" || return 0
     for ((turn = 0; turn < $2; turn++)); do
