@@ -12,6 +12,7 @@ interruptible() {
         return
     fi
     room=$(mktemp -d)
+    chmod 711 "$room" # rt runs programs as nobody
     set -m
     (
         export CURSPAN_ROOM=$room TMPDIR=$room
