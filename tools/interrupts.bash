@@ -71,10 +71,10 @@ send() {
 strike() {
     local found=() before turn
     while
-        before=${#found[@]}
+        before=${found[*]}
         mapfile -t found < <(begun)
         send STOP "${found[@]}" || true
-        [ "${#found[@]}" -gt "$before" ]
+        [ "${found[*]}" != "$before" ]
     do :; done
     struck+=("${found[@]}")
     send "$1" "${struck[@]}" || return 0
