@@ -100,11 +100,6 @@ is_older() {
     [ -n "$(find "$root/crates.txt" "${places[@]}" -type f -newer "$file" -print -quit 2> /dev/null)" ]
 }
 
-# put_whole FROM TO: copies a file to a place, where it then stands whole or not at all.
-put_whole() {
-    cp "$1" "$2.part" && mv -f "$2.part" "$2"
-}
-
 # Whether a file is to be made: it `is_older`, or the last run that made it did not finish.
 is_due() { [ -e "$1.began" ] || is_older "$@"; }
 

@@ -29,8 +29,23 @@ interruptible() {
         kill -0 "$group" 2> /dev/null
     do :; done
     trap - HUP INT TERM TSTP
-    rm -rf "$room"
+    clear_room
     return "$status"
+}
+
+# Notes a path that something has until it is whole: what stands there when the command ends goes.
+note_part() { [ -z "${CURSPAN_ROOM:-}" ] || printf '%s\n' "$1" >> "$CURSPAN_ROOM/parts"; }
+
+# Removes what is not whole, and the temporary files.
+clear_room() {
+    [ ! -e "$room/parts" ] || xargs -d '\n' rm -rf -- < "$room/parts"
+    rm -rf "$room"
+}
+
+# put_whole FROM TO: copies a file to a place, where it then stands whole or not at all.
+put_whole() {
+    note_part "$2.part"
+    cp "$1" "$2.part" && mv -f "$2.part" "$2"
 }
 
 # all_interruptible NAME SCRIPT WORD..: has a script go on interruptible: it runs anew, and this ends with its status.
@@ -91,7 +106,7 @@ end_group() {
     trap '' HUP INT TERM TSTP
     strike TERM 30
     strike KILL 10
-    rm -rf "$room"
+    clear_room
     end_telling
     echo "$1: ended by SIG$2, with all that it began; what was proved until then is kept" >&2
     trap - "$2"

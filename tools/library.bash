@@ -1,5 +1,5 @@
 # What puts the library for C together: tools/curspan-lib for this machine, tools/build_for for another target. It wants
-# tools/installing.bash too, and the variables `root` and `commit`.
+# tools/installing.bash and tools/interrupts.bash too, and the variables `root` and `commit`.
 
 # Puts out what the shared library exports: the functions and variables of the headers. What they are made of is its own. They have a
 # version, so that another library of a program, as libtinfo, never finds them in place of its own.
