@@ -2,8 +2,8 @@
 
 # interruptible NAME COMMAND..: runs a command in a process group of its own, without input, and returns its status.
 # Where HUP, INT or TERM comes meanwhile, all that the command began ends within five seconds, in other groups and
-# sessions too, and its temporary files go. Then a sentence is told after the name, and the signal ends this script. TSTP
-# stops the group too. What is interruptible already only runs.
+# sessions too, and its temporary files go. Then a sentence is told after the name, and the signal ends this script.
+# TSTP stops the group too. What is interruptible already only runs.
 interruptible() {
     local name=$1 status signal
     shift
@@ -81,8 +81,8 @@ send() {
     kill -s "$signal" -- "-$group" "$@" 2> /dev/null
 }
 
-# strike SIGNAL TENTHS: sends a signal to all that was begun, which is stopped first so that it begins no more, and waits
-# until nothing of it is left, some tenths of a second at most.
+# strike SIGNAL TENTHS: sends a signal to all that was begun, which is stopped first so that it begins no more, and
+# waits until nothing of it is left, some tenths of a second at most.
 strike() {
     local found=() before turn
     while
