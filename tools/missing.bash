@@ -6,13 +6,16 @@ pkg-config:pkg-config:packages
 dpkg-deb:dpkg:packages
 lintian:lintian:packages
 valgrind:valgrind libc6-dbg:budgets, memory, small frames, memory of C programs, Rust
-python3:python3:random, small frames, terminal, interrupted scripts, building, ended commands, C programs, keys of C programs, programs of others, terminals, packages, Python, many screens, other languages, crossterm
+python3:python3:random, small frames, pictures, terminal, interrupted scripts, building, ended commands, C programs, keys of C programs, programs of others, terminals, packages, Python, many screens, other languages, crossterm
 python3-config:python3-dev:packages, terminals, Python
 mypy:mypy:Python
 cargo:cargo:terminals, other languages, Rust, crossterm, packages
 /usr/share/cargo/registry/crossterm-*:librust-crossterm-dev:crossterm
 rustfmt:rustfmt:Rust
 clippy-driver:rust-clippy:Rust
+chromium:chromium:pictures
+firefox-esr:firefox-esr:pictures
+rsvg-convert:librsvg2-bin:pictures
 zsh:zsh:completion
 fish:fish:completion
 tmux:tmux:shell scripts, terminal, C programs, keys of C programs, programs of others, Python

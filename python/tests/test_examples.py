@@ -110,6 +110,20 @@ class Examples(unittest.TestCase):
             terminal.wait('status 0')
             self.assertEqual(pathlib.Path(file.name).read_text(), 'first line!\nx\nezcond caf\u00e9 line\n')
 
+    def test_shopping(self):
+        terminal = self.start('shopping.py')
+        terminal.wait('Shopping', '[ ] apples', 'yoghurt', 'total   50.50')
+        terminal.type('Down', 'Space', 'd')
+        terminal.wait('[x] bread', 'Delete bread?')
+        terminal.type('n', 'Down', 'd')
+        terminal.wait('Delete butter?')
+        terminal.run('resize-window', '-x', '50', '-y', '12')
+        terminal.wait('Delete butter?', gone='yoghurt')
+        terminal.type('y')
+        terminal.wait('[x] bread', 'total   47.70', gone='butter')
+        terminal.type('q')
+        terminal.wait('status 0')
+
     def test_without_a_terminal(self):
         for name in ('installer.py', 'monitor.py', 'editor.py'):
             done = subprocess.run([sys.executable, '-B', str(ROOT / 'examples/python' / name), 'x'], stdin=subprocess.DEVNULL, capture_output=True, text=True, check=False)
