@@ -110,7 +110,7 @@ static inline int curspan_changed(WINDOW *win, int answer) {
 
 void curspan_measure(WINDOW *win);
 
-/* How many columns there are from one to the next tab stop. A program may have set TABSIZE to what is no number of any. */
+/* How many columns there are from one to the next tab stop. Where TABSIZE is no positive number it is one. */
 static inline int curspan_to_stop(int x) { return TABSIZE > 0 ? TABSIZE - x % TABSIZE : 1; }
 
 /* What a byte is drawn as, after those that begin a character: nothing where that isn't finished or has no width, the

@@ -104,7 +104,8 @@ static void try_by_chance(int seed) {
     line.bottom = has_part ? line.top + 1 + below(line.lines - 1 - line.top) : line.lines - 1;
     line.y = below(3) ? line.lines - 1 : below(line.lines);
     line.x = below(3) ? 0 : below(line.columns);
-    for (int i = 0, count = below(3) ? below(9) : below(50); i < count && strlen(line.keys) < sizeof line.keys - 8; i++) {
+    int count = below(3) ? below(9) : below(50);
+    for (int i = 0; i < count && strlen(line.keys) < sizeof line.keys - 8; i++) {
         const char letter[] = {(char)('a' + i % 26), 0};
         strcat(line.keys, below(4) ? letter : others[below(8)]);
     }
