@@ -444,7 +444,8 @@ curspan_answer curspan_update_panels(curspan *screen);
 curspan_answer curspan_doupdate(curspan *screen);
 
 /* Gives a colour pair a foreground and a background: 0 black, 1 red, 2 green, 3 yellow, 4 blue, 5 magenta, 6 cyan, 7
-   white. What is shown already stays. Refused: BAD_PAIR for pair 0, for one past 63, and for a colour past 7. */
+   white. What was written in the pair changes in the next picture. Refused: BAD_PAIR for pair 0, for one past 63, and
+   for a colour past 7. */
 curspan_answer curspan_init_pair(curspan *screen, uint32_t pair, uint32_t foreground, uint32_t background);
 
 /* End of what tools/calls wrote. */

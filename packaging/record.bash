@@ -5,7 +5,8 @@
 of_gate() {
     local proved='' said=''
     if [ -f "$root/build/gate" ]; then { read -r proved && read -r said; } < "$root/build/gate" || true; fi
-    if [ "$proved" = "$commit" ]; then printf '%s\n' "$said"; else echo 'not known'; fi
+    [ "$proved" = "$commit" ] || said='not known: ./test did not prove this commit where it was packed'
+    printf '%s\n' "$said"
 }
 
 # Puts out the oldest glibc that has all that a binary takes of it.

@@ -1,5 +1,5 @@
 """What tools/calls writes for check: the names of each call's arguments, which calls are on windows or panels that no screen has, and from
-curses.table what is said of names that are no calls."""
+curses.table what is said of names that are no calls, or no numbers."""
 import re
 import sys
 
@@ -43,14 +43,18 @@ def without_calls(text, calls):
             yield ' '.join(kept) + colon + rest
 
 
+# The constant of Rattle that has a part's rows, by the part's first word.
+TABLES = {'Curses': 'CURSES', 'Others': 'CURSES', 'Colours': 'COLOURS', 'Attributes': 'ATTRIBUTES'}
+
+
 def read_rows(path, calls):
-    """The rows by part, each part with its title."""
-    words, seen, parts = {call.word for call in calls}, {}, []
+    """The rows by part, each part with the constant that has them."""
+    words, seen, parts = {call.word for call in calls}, {it: {} for it in TABLES.values()}, []
     for number, line in enumerate(without_calls(path.read_text(), calls), 1):
         if line.startswith('== '):
-            parts.append((line[3:], []))
+            parts.append((TABLES[line[3:].partition(':')[0]], []))
         elif line and not line.startswith('#'):
-            look_at(Row(number, line), parts[-1][1], words, seen)
+            look_at(Row(number, line), parts[-1][1], words, seen[parts[-1][0]])
     return parts
 
 
@@ -82,12 +86,17 @@ def escaped(text):
     return text.replace('\\', '\\\\').replace('"', '\\"')
 
 
-def table(parts, calls):
-    """The rows in groups, since a proof over one long list of rows takes much longer."""
+def rows_of(parts, table):
+    return [row for name, rows in parts if name == table for row in rows]
+
+
+def table(parts, name, calls):
+    """The rows of a constant in groups, since a proof over one long list of rows takes much longer."""
     variants = {call.word: f'{call.group}({call.variant})' for call in calls}
-    rows = [row_of_rattle(row, variants) for _, rows in parts for row in rows]
+    rows = [row_of_rattle(row, variants) for row in rows_of(parts, name)]
     groups = [',\n      '.join(rows[at:at + GROUP]) for at in range(0, len(rows), GROUP)]
-    return '\n'.join([f'#[rattlefmt::skip]\npub const CURSES: [&[Advice]; {len(groups)}] = [', *(f'    &[{group}],' for group in groups), '];'])
+    return '\n'.join(['#[rattlefmt::skip]', f'pub const {name}: [&[Advice]; {len(groups)}] = [',
+                      *(f'    &[{group}],' for group in groups), '];'])
 
 
 def entries(parts):
@@ -98,12 +107,22 @@ def entries(parts):
         yield fill(f'{", ".join(row.names)}: {"; ".join(it for it in [said, see] if it)}', '', first=' ')
 
 
+# What stands before a name of each constant in the case, and what is said before the name there.
+BEFORE = {
+    'CURSES': ('', 'unknown call '),
+    'COLOURS': ('color_set 0 ', 'color_set wants a number from 0 to 65535, not '),
+    'ATTRIBUTES': ('attrset 0 ', 'attrset wants two hexadecimal digits in lower case from 00 to 3f, not '),
+}
+
+
 def case(parts):
-    """A case that has each name as a line."""
-    said = [(name, row.said()) for _, rows in parts for row in rows for name in row.names]
-    lines = [f'line {number}, column 1: unknown call "{name}"{text}' for number, (name, text) in enumerate(said, 1)]
-    return '\n'.join(['Each name of curses.table; tools/calls writes this case.', '--- words check', '--- script', *(name for name, _ in said), '--- out',
-                      *lines, f'{len(said)} faulty lines', '--- status 2', ''])
+    """A case that has a line with each name."""
+    said = [(*BEFORE[table], name, row.said()) for table, rows in parts for row in rows for name in row.names]
+    lines = [f'line {number}, column {len(before) + 1}: {what}"{name}"{text}'
+             for number, (before, what, name, text) in enumerate(said, 1)]
+    return '\n'.join(['Each name of curses.table; tools/calls writes this case.', '--- words check', '--- script',
+                      *(before + name for before, _, name, _ in said), '--- out', *lines,
+                      f'{len(said)} faulty lines', '--- status 2', ''])
 
 
 def names(group, calls):
@@ -194,13 +213,14 @@ pub(crate) fn refusal_by_number(call: &Call<'_>) -> Option<Refusal>
 
 
 def file_of_curses(rows, calls, groups):
-    """The file of what is said of names that are no calls."""
+    """The file of what is said of names that are no calls, or no numbers."""
+    tables = '\n\n'.join(table(rows, name, calls) for name in dict.fromkeys(TABLES.values()))
     uses = ''.join(f'use script::{it}::*;\n' for it in sorted(['Word', *(f'{group}Word' for group in groups)]))
-    return f'''//! Names that are no calls, and what is said of them. Written by tools/calls from curses.table.
+    return f'''//! Names that are no calls or no numbers, and what is said. Written by tools/calls from curses.table.
 
 use crate::suggest::Advice;
 {uses}
-{table(rows, calls)}
+{tables}
 '''
 
 

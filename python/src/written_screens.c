@@ -113,8 +113,8 @@ PyMethodDef curspan_screen_methods[] = {
      "--\n"
      "\n"
      "Gives a colour pair a foreground and a background: 0 black, 1 red, 2 green, 3 yellow, 4 blue, 5\n"
-     "magenta, 6 cyan, 7 white. What is shown already stays. Refused: BadPair for pair 0, for one past 63,\n"
-     "and for a colour past 7."},
+     "magenta, 6 cyan, 7 white. What was written in the pair changes in the next picture. Refused: BadPair\n"
+     "for pair 0, for one past 63, and for a colour past 7."},
     OTHER_METHODS_OF_SCREENS
     {NULL, NULL, 0, NULL},
 };

@@ -20,13 +20,13 @@ TAKING = 'import fcntl, runpy, sys, termios; fcntl.ioctl(0, termios.TIOCSCTTY, 0
 
 
 def typed(program):
-    """What a program puts out at a terminal, at which a key was typed."""
+    """What a program puts out at a terminal, at which q was typed."""
     with tempfile.NamedTemporaryFile('w', suffix='.py') as file:
         file.write(program)
         file.flush()
         ours, theirs = pty.openpty()
         subprocess.run(['stty', 'rows', '24', 'columns', '80'], stdin=theirs, check=True)
-        os.write(ours, b'x')
+        os.write(ours, b'q')
         done = subprocess.run([sys.executable, '-B', '-c', TAKING, file.name], stdin=theirs, stdout=theirs, stderr=subprocess.PIPE, timeout=30,
                               start_new_session=True, env={**os.environ, 'TERM': 'xterm'}, check=False)
         out = os.read(ours, 100000)
@@ -52,10 +52,11 @@ class Documents(unittest.TestCase):
         self.assertIn(text, re.sub(rb'\x1b\[[0-9;]*[A-Za-z]', b'', out))
 
     def test_first_program_of_the_page(self):
-        self.shows(re.search(r'```python\n(import curspan\n.*?)```', PAGE.read_text(), re.DOTALL)[1], b'hello from Python')
+        self.shows(re.search(r'```python\n(import curspan\n.*?)```', PAGE.read_text(), re.DOTALL)[1], b'above')
 
     def test_program_of_the_readme(self):
-        self.shows(re.sub('(?m)^    ', '', re.search(r'(?m)(^    import shutil, sys, curspan\n(?:    .*\n|\n)*?)\n\S', README.read_text())[1]), b'hello from Python')
+        shown = re.search(r'(?m)(^    import curspan\n(?:    .*\n|\n)*?)\n\S', README.read_text())[1]
+        self.shows(re.sub('(?m)^    ', '', shown), b'from Python')
 
     def test_each_name_has_a_text(self):
         for name in curspan.__all__:

@@ -650,7 +650,7 @@ pub trait Methods: Calls {
     }
 
     /// Gives a colour pair a foreground and a background: 0 black, 1 red, 2 green, 3 yellow, 4 blue, 5 magenta, 6 cyan,
-    /// 7 white. What is shown already stays.
+    /// 7 white. What was written in the pair changes in the next picture.
     ///
     /// # Errors
     /// `BadPair` for pair 0, for one past 63, and for a colour past 7.

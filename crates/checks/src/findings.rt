@@ -6,7 +6,8 @@ ghost use Rattle.checks.specs.{length, room_of, entry_of, column_of, Says, liste
 use crate::arguments::{IllFormed, count, find_ill_formed, find_stray, forms_of};
 use crate::column::{bad_byte, column_of, misplaced};
 use crate::said::{ROOM, Said};
-use crate::suggest::suggest;
+use crate::suggest::{say_note, suggest};
+use crate::written_curses::{ATTRIBUTES, COLOURS};
 use crate::written_names::names_of_arguments;
 use arrayvec::ArrayVec;
 use cell::{
@@ -23,6 +24,9 @@ use streams::{append, append_decimal};
 pub const FINDING_ROOM: usize = ROOM + 256;
 
 const SPACES: &[u8] = b"; one space separates words, and none ends a line without a text";
+
+/// What begins a comment in other languages.
+const COMMENTS: [&[u8]; 5] = [b"//", b";", b"--", b"/*", b"<!--"];
 
 /// The line about a fault.
 pub type Finding = ArrayVec<u8, FINDING_ROOM>;
@@ -83,6 +87,11 @@ fn say_limit(said: &mut Said, before: &[u8], limit: u16, after: &[u8]) {
 
 // ---- a fault
 
+/// Whether a word begins a comment in other languages.
+fn begins_comment(word: &[u8]) -> bool {
+    COMMENTS.iter().any(|it| word.strip_prefix(*it).is_some())
+}
+
 /// Says of a word that it is no call, and which to see in its place.
 fn say_unknown(said: &mut Said, word: &[u8]) {
     if word.is_empty() {
@@ -90,7 +99,11 @@ fn say_unknown(said: &mut Said, word: &[u8]) {
     }
     said.text(b"unknown call ");
     quote(said, word);
-    suggest(said, word);
+    if begins_comment(word) {
+        said.text(b": a comment begins with #");
+    } else {
+        suggest(said, word);
+    }
 }
 
 /// Says how many arguments a call takes, and which.
@@ -149,11 +162,16 @@ fn say_form(said: &mut Said, word: &[u8], form: Form) {
     }
 }
 
-/// Says what is wanted in place of an argument, what is there, and why digits there are no number.
+/// Says what is wanted in place of an argument, what is there, which digits its name has, and why digits are no number.
 fn say_wanted(said: &mut Said, word: &[u8], ill: IllFormed<'_>) {
     say_form(said, word, ill.form);
     said.text(b", not ");
     quote(said, ill.argument);
+    match ill.form {
+        Form::Number => say_note(said, &COLOURS, ill.argument),
+        Form::Attributes => say_note(said, &ATTRIBUTES, ill.argument),
+        _ => {}
+    }
     let digits = match ill.form {
         Form::Number | Form::NumberOrNone => ill.argument,
         Form::Signed => ill.argument.strip_prefix(b"-").unwrap_or(ill.argument),

@@ -88,6 +88,14 @@ fn see(said: &mut Said, moves: bool, words: &[Word]) {
     }
 }
 
+/// Says what some groups of advice note of the name in a word, if they have it.
+pub fn say_note(said: &mut Said, groups: &[&[Advice]], word: &[u8]) {
+    if let Some((_, _, note)) = advice_on(groups, name_in(word).as_slice()) {
+        said.text(b": ");
+        said.text(note);
+    }
+}
+
 /// Says what a name is, if it is a call or in the table; it may come after a prefix, with which curses moves the cursor
 /// first. Answers whether it is.
 fn is_said(said: &mut Said, moves: bool, name: Option<&[u8]>) -> bool {

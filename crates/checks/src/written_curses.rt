@@ -1,4 +1,4 @@
-//! Names that are no calls, and what is said of them. Written by tools/calls from curses.table.
+//! Names that are no calls or no numbers, and what is said. Written by tools/calls from curses.table.
 
 use crate::suggest::Advice;
 use script::CopyingWord::*;
@@ -117,7 +117,31 @@ pub const CURSES: [&[Advice]; 10] = [
       (b"hide hide_window panel_hide panel_show show show_window", &[Stacking(ShowPanel), Stacking(HidePanel)], b""),
       (b"ins_line insert insert_char insert_line insertch insertchar insertline", &[Writing(Insch), Writing(Insertln)], b""),
       (b"move_window movewin movewindow", &[Making(Mvwin), Stacking(MovePanel)], b""),
+      (b"mv_panel mvpanel panel_move", &[Stacking(MovePanel)], b""),
       (b"replace swap_panel", &[Stacking(ReplacePanel)], b""),
       (b"scroll_down scroll_up scrolldown scrollup", &[Writing(Scrl)], b""),
       (b"touch touch_window touchwindow", &[Copying(Touchwin)], b"")],
+];
+
+#[rattlefmt::skip]
+pub const COLOURS: [&[Advice]; 1] = [
+    &[(b"black color_black", &[], b"black is 0"),
+      (b"blue color_blue", &[], b"blue is 4"),
+      (b"color_cyan cyan", &[], b"cyan is 6"),
+      (b"color_green green", &[], b"green is 2"),
+      (b"color_magenta magenta", &[], b"magenta is 5"),
+      (b"color_red red", &[], b"red is 1"),
+      (b"color_white white", &[], b"white is 7"),
+      (b"color_yellow yellow", &[], b"yellow is 3")],
+];
+
+#[rattlefmt::skip]
+pub const ATTRIBUTES: [&[Advice]; 1] = [
+    &[(b"a_blink blink", &[], b"blinking is 08"),
+      (b"a_bold bold", &[], b"bold is 01"),
+      (b"a_dim dim", &[], b"dim is 02"),
+      (b"a_invis invis invisible", &[], b"invisible is 20"),
+      (b"a_normal none normal", &[], b"none is 00"),
+      (b"a_reverse a_standout inverse reverse standout", &[], b"reverse is 10"),
+      (b"a_underline underline underlined", &[], b"underlined is 04")],
 ];

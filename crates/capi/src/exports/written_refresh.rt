@@ -60,7 +60,7 @@ pub extern "C" fn curspan_doupdate(alloc: Global, screen: &mut Handle) -> Answer
 }
 
 /// Gives a colour pair a foreground and a background: 0 black, 1 red, 2 green, 3 yellow, 4 blue, 5 magenta, 6 cyan, 7
-/// white. What is shown already stays.
+/// white. What was written in the pair changes in the next picture.
 #[rattlefmt::skip]
 #[unsafe(no_mangle)]
 pub extern "C" fn curspan_init_pair(alloc: Global, screen: &mut Handle, pair: u32, foreground: u32, background: u32) ->
