@@ -113,12 +113,9 @@ pub fn last_changed(update: &Update<'_>) -> Option<(u16, u16)>
     let mut end = update.changes.end();
     while end > 0 {
         let line = end - 1;
-        let at = usize::from(line);
+        let (shown, wanted) = update.line(line);
         let (from, to) = update.changes.within(line, usize::from(update.columns));
-        if let Some(skipped) = last_diff(
-            &update.shown.row(at)[from..to],
-            &update.wanted.row(at)[from..to],
-        ) {
+        if let Some(skipped) = last_diff(&shown[from..to], &wanted[from..to]) {
             return Some((line, (from + skipped) as u16));
         }
         end = line;

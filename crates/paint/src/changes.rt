@@ -22,3 +22,19 @@ pub struct Update<'a> {
     pub ghost columns_spelled: { columns ≤ positions.now },
     pub ghost few_spelled: { positions.now ≤ LARGEST_SCREEN },
 }
+
+impl Update<'_> {
+    ghost use Rattle.std.specs.Prelude.{◌≡◌, ◌<◌};
+    ghost use Rattle.paint.specs.{length, line_of};
+
+    /// A line as it is shown, and as it is wanted.
+    pub fn line(&self, y: u16) -> (&[Shown], &[Shown])
+        requires { y < self.now.lines }
+        ensures shown { result.0.now ≡ line_of self.now.shown.now y }
+        ensures wanted { result.1.now ≡ line_of self.now.wanted.now y }
+        ensures same { length self.now.shown.now ≡ length self.now.wanted.now }
+    {
+        let at = usize::from(y);
+        (self.shown.row(at), self.wanted.row(at))
+    }
+}

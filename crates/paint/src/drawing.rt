@@ -218,7 +218,7 @@ fn draw_stroke<W: Sink>(pen: &mut Pen, sink: &mut W, update: &Update<'_>, stroke
         → AreDrawn before (W.seen sink.new) begun pen.new update.now.shown.now update.now.wanted.now (strokes ++ stroke ∷ []) }
     ensures same { SameTerminals (W.name sink.old) (W.name sink.new) pen.old pen.new }
 {
-    let wanted = update.wanted.row(usize::from(stroke.line));
+    let (_, wanted) = update.line(stroke.line);
     let positions = update.positions;
     let (line, gap, start) = (
         stroke.line,

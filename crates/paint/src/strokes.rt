@@ -147,8 +147,7 @@ impl Plan {
             → ArePlanned update.now.shown.now update.now.wanted.now (line + 1, 0) others self.new }
         ensures room { length self.new ≤ length self.old + update.now.columns }
     {
-        let at = usize::from(line);
-        let (shown, wanted) = (update.shown.row(at), update.wanted.row(at));
+        let (shown, wanted) = update.line(line);
         let (start, end) = update.changes.within(line, usize::from(update.columns));
         let Some(skipped) = last_diff(&shown[start..end], &wanted[start..end]) else {
             return;
@@ -179,8 +178,7 @@ impl Plan {
         ensures { (others : List AnyStroke) → ArePlanned update.now.shown.now update.now.wanted.now (line, 0) others self.old
             → ArePlanned update.now.shown.now update.now.wanted.now (if result then update.now.lines else line + 1, 0) others self.new }
     {
-        let at = usize::from(line);
-        let (shown, wanted) = (update.shown.row(at), update.wanted.row(at));
+        let (shown, wanted) = update.line(line);
         let (start, stop) = update.changes.within(line, usize::from(update.columns));
         let tail = tail_start(wanted);
         let column = next_changed(shown, wanted, tail.max(start).min(stop), stop);
@@ -222,8 +220,7 @@ impl Plan {
         ensures gap { result ≤ end }
         ensures alike { AreAlike update.now.shown.now update.now.wanted.now line result end }
     {
-        let at = usize::from(line);
-        let (shown, wanted) = (update.shown.row(at), update.wanted.row(at));
+        let (shown, wanted) = update.line(line);
         let mut x = next_changed(shown, wanted, start, end);
         let mut gap = first_gap(from, start, x);
         while x < end {

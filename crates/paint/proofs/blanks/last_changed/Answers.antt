@@ -14,8 +14,8 @@ pub loop-end-preserved : goal.loop-end-preserved
 loop-end-preserved c =
     let f = c.args.update.now.sound in
     let line = c.loop-end.end - 1 in
-    let old : c.row.result.now ≡ line_of c.args.update.now.shown.now line = c.row.ensures.row ∙ ap (line_of c.args.update.now.shown.now) c.from-at.ensures in
-    let new : c.row-in-loop-end.result.now ≡ line_of c.args.update.now.wanted.now line = c.row-in-loop-end.ensures.row ∙ ap (line_of c.args.update.now.wanted.now) c.from-at.ensures in
+    let old = c.line.ensures.shown in
+    let new = c.line.ensures.wanted in
     let part = rw c.from.ensures at c.within-from.ensures in
     let none = rw (c.in_default.is, old, new) at c.last_diff.ensures in
     let below : line < c.args.update.now.lines = omega (arith, f.height, c.loop-end.invariant.within, c.loop-end-test.true) in
@@ -33,8 +33,8 @@ pub returns-in-Some : goal.returns-in-Some
 returns-in-Some c =
     let f = c.args.update.now.sound in
     let line = c.loop-end.end - 1 in
-    let old : c.row.result.now ≡ line_of c.args.update.now.shown.now line = c.row.ensures.row ∙ ap (line_of c.args.update.now.shown.now) c.from-at.ensures in
-    let new : c.row-in-loop-end.result.now ≡ line_of c.args.update.now.wanted.now line = c.row-in-loop-end.ensures.row ∙ ap (line_of c.args.update.now.wanted.now) c.from-at.ensures in
+    let old = c.line.ensures.shown in
+    let new = c.line.ensures.wanted in
     let part = rw c.from.ensures at c.within-from.ensures in
     let last = rw (c.in-Some.is, old, new) at c.last_diff.ensures in
     let below : line < c.args.update.now.lines = omega (arith, f.height, c.loop-end.invariant.within, c.loop-end-test.true) in

@@ -10,14 +10,14 @@ use Rattle.paint.proofs.drawing.draw_stroke.Goals as goal
 pub returns-in-Print-clause-drawn : goal.returns-in-Print-clause-drawn
 returns-in-Print-clause-drawn g c = λ before begun strokes h.
     let f = c.args.update.now.sound in
-    let row : c.row-wanted.result.now ≡ line_of c.args.update.now.wanted.now c.args.stroke.line = c.row-wanted.ensures.row ∙ ap (line_of c.args.update.now.wanted.now) c.from.ensures in
+    let row = c.line.ensures.wanted in
     let strokes = rw (row, c.from-gap.ensures, c.from-start.ensures, c.from-end.ensures) at c.print_cells.ensures.draws in
     print-drawn c.args.stroke c.in-Print.is f.shown f.wanted c.requires.is h c.requires.width strokes c.print_cells.ensures.same.columns
 
 pub returns-in-EraseLine-clause-drawn : goal.returns-in-EraseLine-clause-drawn
 returns-in-EraseLine-clause-drawn g c = λ before begun strokes h.
     let f = c.args.update.now.sound in
-    let row : c.row-wanted.result.now ≡ line_of c.args.update.now.wanted.now c.args.stroke.line = c.row-wanted.ensures.row ∙ ap (line_of c.args.update.now.wanted.now) c.from.ensures in
+    let row = c.line.ensures.wanted in
     let of : IsErasure c.args.update.now.wanted.now c.args.stroke = subst (λ ink. HasInk ink c.args.update.now.wanted.now c.args.stroke) c.in-EraseLine.is c.requires.is.ink in
     let reaches = rw (row, c.from-gap.ensures, c.from-start.ensures) at c.come_plain.ensures.draws in
     erased-line-drawn c.args.stroke c.in-EraseLine.is f.shown f.wanted c.requires.is h c.requires.width
@@ -28,7 +28,7 @@ returns-in-EraseLine-clause-drawn g c = λ before begun strokes h.
 pub returns-in-ErasePage-clause-drawn : goal.returns-in-ErasePage-clause-drawn
 returns-in-ErasePage-clause-drawn g c = λ before begun strokes h.
     let f = c.args.update.now.sound in
-    let row : c.row-wanted.result.now ≡ line_of c.args.update.now.wanted.now c.args.stroke.line = c.row-wanted.ensures.row ∙ ap (line_of c.args.update.now.wanted.now) c.from.ensures in
+    let row = c.line.ensures.wanted in
     let of : IsErasure c.args.update.now.wanted.now c.args.stroke = subst (λ ink. HasInk ink c.args.update.now.wanted.now c.args.stroke) c.in-ErasePage.is c.requires.is.ink in
     let reaches = rw (row, c.from-gap.ensures, c.from-start.ensures) at c.come_plain-in-ErasePage.ensures.draws in
     erased-page-drawn c.args.stroke c.in-ErasePage.is f.shown f.wanted c.requires.is h c.requires.width

@@ -17,9 +17,9 @@ pub returns-then-column-stop : goal.returns-then-column-stop
 returns-then-column-stop c = λ others h.
     let f = c.args.update.now.sound in
     let y = c.args.line in
-    let same : length c.args.update.now.shown.now ≡ length c.args.update.now.wanted.now = omega (arith, f.shown.height, f.wanted.height) in
-    let old : c.row-shown.result.now ≡ line_of c.args.update.now.shown.now y = c.row-shown.ensures.row ∙ ap (line_of c.args.update.now.shown.now) c.from-at.ensures in
-    let new : c.row-wanted.result.now ≡ line_of c.args.update.now.wanted.now y = c.row-wanted.ensures.row ∙ ap (line_of c.args.update.now.wanted.now) c.from-at.ensures in
+    let same = c.line.ensures.same in
+    let old = c.line.ensures.shown in
+    let new = c.line.ensures.wanted in
     let part = rw c.from.ensures at c.within-start.ensures in
     let below : y < c.args.update.now.lines = omega (arith, f.wanted.height, c.requires.end.line, c.requires.line) in
     let before = planned-same same h (same-in_line _ _ y 0 c.within-start.result.0 (omega arith) (λ x from to. before-part y x f part to)) in
@@ -44,7 +44,7 @@ pub returns : goal.returns
 returns c = λ others h.
     let f = c.args.update.now.sound in
     let y = c.args.line in
-    let new : c.row-wanted.result.now ≡ line_of c.args.update.now.wanted.now y = c.row-wanted.ensures.row ∙ ap (line_of c.args.update.now.wanted.now) c.from-at.ensures in
+    let new = c.line.ensures.wanted in
     let high : c.args.end.line < c.args.update.now.lines = omega (arith, f.wanted.height, c.requires.end.line) in
     let e = c.add_erasure-2.ensures in
     let r = c.add_erasure-2.result in

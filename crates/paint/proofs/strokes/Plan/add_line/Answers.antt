@@ -12,9 +12,9 @@ pub returns-in_default-clause-planned : goal.returns-in_default-clause-planned
 returns-in_default-clause-planned c = λ others h.
     let f = c.args.update.now.sound in
     let y = c.args.line in
-    let same : length c.args.update.now.shown.now ≡ length c.args.update.now.wanted.now = omega (arith, f.shown.height, f.wanted.height) in
-    let old : c.row-shown.result.now ≡ line_of c.args.update.now.shown.now y = c.row-shown.ensures.row ∙ ap (line_of c.args.update.now.shown.now) c.from-at.ensures in
-    let new : c.row-wanted.result.now ≡ line_of c.args.update.now.wanted.now y = c.row-wanted.ensures.row ∙ ap (line_of c.args.update.now.wanted.now) c.from-at.ensures in
+    let same = c.line.ensures.same in
+    let old = c.line.ensures.shown in
+    let new = c.line.ensures.wanted in
     let part = rw c.from.ensures at c.within-start.ensures in
     let none = rw (c.in_default.is, old, new) at c.last_diff.ensures in
     planned-same same h (same-to_end _ _ y 0 (λ x from. whole-line y x f part c.requires.line none))
@@ -23,9 +23,9 @@ pub returns-then-tail-last-clause-planned : goal.returns-then-tail-last-clause-p
 returns-then-tail-last-clause-planned c = λ others h.
     let f = c.args.update.now.sound in
     let y = c.args.line in
-    let same : length c.args.update.now.shown.now ≡ length c.args.update.now.wanted.now = omega (arith, f.shown.height, f.wanted.height) in
-    let old : c.row-shown.result.now ≡ line_of c.args.update.now.shown.now y = c.row-shown.ensures.row ∙ ap (line_of c.args.update.now.shown.now) c.from-at.ensures in
-    let new : c.row-wanted.result.now ≡ line_of c.args.update.now.wanted.now y = c.row-wanted.ensures.row ∙ ap (line_of c.args.update.now.wanted.now) c.from-at.ensures in
+    let same = c.line.ensures.same in
+    let old = c.line.ensures.shown in
+    let new = c.line.ensures.wanted in
     let part = rw c.from.ensures at c.within-start.ensures in
     let last = rw (c.in-Some.is, old, new) at c.last_diff.ensures in
     let before = planned-same same h (same-in_line _ _ y 0 c.within-start.result.0 (omega arith) (λ x from to. before-part y x f part to)) in
@@ -38,9 +38,9 @@ pub returns-else-is_erased-clause-planned : goal.returns-else-is_erased-clause-p
 returns-else-is_erased-clause-planned c = λ others h.
     let f = c.args.update.now.sound in
     let y = c.args.line in
-    let same : length c.args.update.now.shown.now ≡ length c.args.update.now.wanted.now = omega (arith, f.shown.height, f.wanted.height) in
-    let old : c.row-shown.result.now ≡ line_of c.args.update.now.shown.now y = c.row-shown.ensures.row ∙ ap (line_of c.args.update.now.shown.now) c.from-at.ensures in
-    let new : c.row-wanted.result.now ≡ line_of c.args.update.now.wanted.now y = c.row-wanted.ensures.row ∙ ap (line_of c.args.update.now.wanted.now) c.from-at.ensures in
+    let same = c.line.ensures.same in
+    let old = c.line.ensures.shown in
+    let new = c.line.ensures.wanted in
     let part = rw c.from.ensures at c.within-start.ensures in
     let last = rw (c.in-Some.is, old, new) at c.last_diff.ensures in
     let before = planned-same same h (same-in_line _ _ y 0 c.within-start.result.0 (omega arith) (λ x from to. before-part y x f part to)) in
@@ -54,9 +54,9 @@ pub returns-then-is_erased-clause-planned : goal.returns-then-is_erased-clause-p
 returns-then-is_erased-clause-planned c = λ others h.
     let f = c.args.update.now.sound in
     let y = c.args.line in
-    let same : length c.args.update.now.shown.now ≡ length c.args.update.now.wanted.now = omega (arith, f.shown.height, f.wanted.height) in
-    let old : c.row-shown.result.now ≡ line_of c.args.update.now.shown.now y = c.row-shown.ensures.row ∙ ap (line_of c.args.update.now.shown.now) c.from-at.ensures in
-    let new : c.row-wanted.result.now ≡ line_of c.args.update.now.wanted.now y = c.row-wanted.ensures.row ∙ ap (line_of c.args.update.now.wanted.now) c.from-at.ensures in
+    let same = c.line.ensures.same in
+    let old = c.line.ensures.shown in
+    let new = c.line.ensures.wanted in
     let part = rw c.from.ensures at c.within-start.ensures in
     let last = rw (c.in-Some.is, old, new) at c.last_diff.ensures in
     let before = planned-same same h (same-in_line _ _ y 0 c.within-start.result.0 (omega arith) (λ x from to. before-part y x f part to)) in

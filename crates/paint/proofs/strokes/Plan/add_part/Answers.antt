@@ -10,8 +10,8 @@ pub loop-x-init : goal.loop-x-init
 loop-x-init c =
     let f = c.args.update.now.sound in
     let x = c.next_changed-x.ensures in
-    let old = c.row-shown.ensures.row ∙ ap (line_of c.args.update.now.shown.now) c.from-at.ensures in
-    let new = c.row-wanted.ensures.row ∙ ap (line_of c.args.update.now.wanted.now) c.from-at.ensures in
+    let old = c.line.ensures.shown in
+    let new = c.line.ensures.wanted in
     let alike = rw (old, new) at x.alike in
     record {
       gap = c.first_gap-gap.ensures.to;
@@ -30,8 +30,8 @@ pub loop-x-preserved : goal.loop-x-preserved
 loop-x-preserved c =
     let f = c.args.update.now.sound in
     let part = c.stretch-stop in
-    let old = c.row-shown.ensures.row ∙ ap (line_of c.args.update.now.shown.now) c.from-at.ensures in
-    let new = c.row-wanted.ensures.row ∙ ap (line_of c.args.update.now.wanted.now) c.from-at.ensures in
+    let old = c.line.ensures.shown in
+    let new = c.line.ensures.wanted in
     let run = rw (old, new) at part.ensures.cells in
     let alike = rw (old, new) at part.ensures.alike in
     let stroke : Stroke = record { ink = Print; line = c.args.line; gap = c.loop-x.gap; start = c.loop-x.x; end = part.result.0; pass = c.note-pass.result } in
