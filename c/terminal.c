@@ -266,6 +266,17 @@ int curspan_terminal_descriptor(const curspan_terminal *terminal) {
     return it ? it->tty.in : -1;
 }
 
+int curspan_terminal_output(const curspan_terminal *terminal) {
+    const struct terminal *it = terminal->at;
+    return it ? it->tty.out : -1;
+}
+
+uint32_t curspan_terminal_flush(curspan_terminal *terminal, int milliseconds, size_t *kept) {
+    (void)milliseconds;
+    *kept = 0;
+    return status_of(terminal);
+}
+
 /* ---- pictures */
 
 static uint32_t take_again(struct curspan_tty *tty) {
@@ -372,14 +383,15 @@ static bool take_paste(struct terminal *it) {
     return false;
 }
 
-static const curspan_key no_key = {CURSPAN_KEY_NONE, 0, "", 0};
+static const curspan_key no_key = {.code = CURSPAN_KEY_NONE, .text = ""};
 
 /* Takes a key of what waits, where it is whole, or nothing more comes. */
 static bool take_key(struct terminal *it, bool is_all, curspan_key *key) {
     const unsigned char *bytes = it->typed + it->taken;
     if (it->is_pasting) {
         if (!take_paste(it) && !is_all) return false;
-        *key = (curspan_key){CURSPAN_KEY_PASTE, 0, it->paste ? it->paste : "", it->length};
+        *key = (curspan_key){.code = CURSPAN_KEY_PASTE, .flags = CURSPAN_ENDED, .length = it->length};
+        key->text = it->paste ? it->paste : "";
         it->is_pasting = false;
         return true;
     }

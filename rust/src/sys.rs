@@ -207,6 +207,10 @@ struct Key {
     modifiers: u32,
     text: *const u8,
     length: usize,
+    flags: u32,
+    button: u32,
+    line: u32,
+    column: u32,
 }
 
 extern "C" {
@@ -337,6 +341,10 @@ impl Terminal {
             modifiers: 0,
             text: ptr::null(),
             length: 0,
+            flags: 0,
+            button: 0,
+            line: 0,
+            column: 0,
         };
         let mut name = [0_u8; 64];
         // SAFETY: the terminal is open, and the key is lent.

@@ -37,7 +37,7 @@ static void begin(void) { begin_with(CURSPAN_TERMINAL_USUAL); }
 
 /* Says the name of each key, and draws again where that is wanted; q ends it. */
 static void tell_keys(void) {
-    curspan_key key = {0, 0, NULL, 0};
+    curspan_key key = {.code = 0};
     char name[64];
     while (key.code != 'q' && key.code != CURSPAN_KEY_EOF) {
         if (curspan_terminal_key(&terminal, 5000, &key) != CURSPAN_TERMINAL_OK) _exit(7);
