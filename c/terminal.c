@@ -133,7 +133,7 @@ const char *curspan_terminal_text(uint32_t status) {
         "the terminal is not open", "another terminal owns the signals", "another thread opened the terminal",
         "another process opened the terminal, of which this one is a child", "there is no memory for it",
         "the screen is closed, or has no such pair or colour", "the system refused it",
-        "the terminal was given back meanwhile",
+        "the terminal shows something else meanwhile",
     };
     return status < sizeof texts / sizeof texts[0] ? texts[status] : "no status";
 }
@@ -304,7 +304,8 @@ static uint32_t draw(struct terminal *it, const uint8_t *bytes, size_t length) {
     return done(is_done);
 }
 
-uint32_t curspan_terminal_draw(curspan_terminal *terminal, const uint8_t *bytes, size_t length) {
+uint32_t curspan_terminal_draw(curspan_terminal *terminal, const void *screen, const uint8_t *bytes, size_t length) {
+    (void)screen;
     WRITE(draw(it, bytes, length));
 }
 

@@ -54,7 +54,7 @@ enum curspan_terminal_status {
     CURSPAN_TERMINAL_NO_MEMORY = 8,
     CURSPAN_TERMINAL_REFUSED = 9,       /* the screen refused it: it is closed, or has no such pair */
     CURSPAN_TERMINAL_FAILED = 10,       /* the system refused it: errno says why */
-    CURSPAN_TERMINAL_AWAY = 11          /* it was given back meanwhile: all is to be drawn (of curspan_terminal_draw) */
+    CURSPAN_TERMINAL_AWAY = 11          /* what it shows is another: all is to be drawn (of curspan_terminal_draw) */
 };
 
 /* The words of a status. */
@@ -94,9 +94,10 @@ uint32_t curspan_terminal_size(const curspan_terminal *terminal, int *lines, int
    screen are written with it. Where bytes are kept it writes on from these, and draws nothing while some are. */
 uint32_t curspan_terminal_show(curspan_terminal *terminal, curspan *screen);
 
-/* Writes bytes that were taken of a screen, with its colours. Where the terminal was given back meanwhile it is taken
-   again, and the bytes are not written: the screen is to be invalidated, and to send all. */
-uint32_t curspan_terminal_draw(curspan_terminal *terminal, const uint8_t *bytes, size_t length);
+/* Writes bytes that were taken of a screen, with its colours. `screen` is any address by which this screen is told from
+   others, or NULL where there is one. Where the terminal was given back meanwhile, or showed another screen last, it is
+   taken again, and the bytes are not written: the screen is to be invalidated, and to send all. */
+uint32_t curspan_terminal_draw(curspan_terminal *terminal, const void *screen, const uint8_t *bytes, size_t length);
 
 /* Writes all of some bytes, as they are. */
 uint32_t curspan_terminal_write(curspan_terminal *terminal, const void *bytes, size_t length);
