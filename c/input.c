@@ -63,13 +63,13 @@ int set_escdelay(int milliseconds) {
 static bool wait_for_input(int milliseconds) {
     long end = curspan_now() + milliseconds;
     int left = milliseconds;
-    bool found = false;
-    while (curspan_wait(curspan_the_tty.in, left, &found) == WAIT_STOPPED) {
+    enum curspan_waited how;
+    while ((how = curspan_wait(&curspan_the_tty, left)) == WAIT_TOLD) {
         curspan_redraw_after_stop();
-        if (queue.keys > 0) return false;
+        if (queue.keys > 0 || CURSPAN_LOOK(curspan_the_tty.was_resized)) return false;
         left = curspan_left_until(milliseconds, end);
     }
-    return found;
+    return how == WAIT_FOUND;
 }
 
 static bool is_blocking(void) {
@@ -143,15 +143,15 @@ static void echo_key(WINDOW *win, int key) {
 int wgetch(WINDOW *win) {
     if (is_there(win) == ERR) return ERR;
     curspan_redraw_after_stop();
-    if (curspan_was_resized()) curspan_resize_to_terminal(true);
+    if (CURSPAN_TAKE(curspan_the_tty.was_resized)) curspan_resize_to_terminal(true);
     if (queue.count == 0 && reads_lines() && !queue.is_reading_line) return key_of_line(win);
     bool has_keypad = curspan_the_tty.is_keypad != 0;
-    if (queue.keys == 0 && win->keypad != has_keypad) curspan_switch_keypad(&curspan_the_tty, win->keypad);
+    if (queue.keys == 0 && win->keypad != has_keypad) curspan_switch_keypad(&curspan_the_tty, win->keypad, -1);
     if (!is_pad(win) && (win->moved || is_wintouched(win))) wrefresh(win);
     if (queue.keys > 0) return pull();
     int key = next_key(win);
     if (key == ERR) {
-        if (curspan_was_resized()) curspan_resize_to_terminal(true);
+        if (CURSPAN_TAKE(curspan_the_tty.was_resized)) curspan_resize_to_terminal(true);
         return queue.keys > 0 ? pull() : ERR;
     }
     echo_key(win, key);
@@ -163,7 +163,7 @@ int wgetch(WINDOW *win) {
 
 int keypad(WINDOW *win, bool flag) {
     if (SET_OF(win, keypad, flag) == ERR) return ERR;
-    curspan_switch_keypad(&curspan_the_tty, flag);
+    curspan_switch_keypad(&curspan_the_tty, flag, -1);
     return OK;
 }
 

@@ -70,13 +70,13 @@ static uint8_t *take(curspan *screen, size_t times, struct curspan_outgoing *all
 }
 
 /* Where the bytes can't be written the terminal may draw with either set, and the next doupdate clears it. */
-bool curspan_hand_on(const struct curspan_tty *tty, curspan *screen, struct curspan_palette *palette,
+bool curspan_hand_on(struct curspan_tty *tty, curspan *screen, struct curspan_palette *palette,
                      struct curspan_outgoing *outgoing) {
     size_t length;
     uint8_t *bytes = take(screen, palette->changes ? CURSPAN_RECOLOURED : 0, outgoing, &length);
     if (!bytes) return false;
     length = curspan_recolour(palette, bytes, length, outgoing->bytes);
-    if (curspan_write_all(tty, outgoing->bytes, length)) return true;
+    if (curspan_send(tty, outgoing->bytes, length)) return true;
     for (int own = 0; own < OWN_PAIRS; own++) palette->is_alternate |= palette->are_alternate[own];
     curspan_invalidate(screen);
     return false;

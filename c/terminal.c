@@ -1,123 +1,25 @@
-/* Terminals: how they are taken and given back, what is written, and curspan_terminal.h. Nothing here is proved. */
+/* The terminals of curspan_terminal.h. Nothing here is proved. */
 #include "terminal.h"
 #include "curspan_terminal.h"
 
 #include <errno.h>
 #include <fcntl.h>
-#include <poll.h>
 #include <pthread.h>
-#include <sys/ioctl.h>
-#include <time.h>
 #include <unistd.h>
-
-/* ---- any terminal */
-
-bool curspan_write_all(const struct curspan_tty *tty, const void *bytes, size_t length) {
-    const uint8_t *next = bytes;
-    while (length > 0) {
-        ssize_t count = write(tty->out, next, length);
-        if (count > 0) {
-            next += count;
-            length -= (size_t)count;
-        } else if (count < 0 && errno == EAGAIN) {
-            struct pollfd ready = {tty->out, POLLOUT, 0};
-            if (poll(&ready, 1, -1) < 0 && errno != EINTR) return false;
-        } else if (count == 0 || errno != EINTR) {
-            return false;
-        }
-    }
-    return true;
-}
-
-bool curspan_put_text(const struct curspan_tty *tty, const char *text) { return curspan_write_all(tty, text, strlen(text)); }
-
-bool curspan_switch_keypad(struct curspan_tty *tty, bool flag) {
-    tty->is_keypad = flag;
-    return curspan_put_text(tty, flag ? "\033[?1h\033=" : "\033[?1l\033>");
-}
-
-bool curspan_set_modes(const struct curspan_tty *tty, const struct termios *modes) {
-    if (tty->line < 0) return false;
-    while (tcsetattr(tty->line, TCSADRAIN, modes) != 0)
-        if (errno != EINTR) return false;
-    return true;
-}
-
-bool curspan_come_back(struct curspan_tty *tty) {
-    if (tty->is_ended) {
-        tty->is_ended = false;
-        curspan_set_modes(tty, &tty->program);
-    }
-    if (tty->page == PAGE_ENTERED) return true;
-    tty->page = PAGE_ENTERING;
-    if (!curspan_put_text(tty, tty->enter)) return false;
-    tty->page = PAGE_ENTERED;
-    return true;
-}
-
-bool curspan_give_back(struct curspan_tty *tty) {
-    tty->is_ended = tty->was_away = true;
-    bool is_done = tty->page == PAGE_LEFT || curspan_put_text(tty, tty->leave);
-    if (is_done) tty->page = PAGE_LEFT;
-    if (tty->is_keypad && !curspan_switch_keypad(tty, false)) is_done = false;
-    if (tty->line >= 0 && tcsetattr(tty->line, TCSADRAIN, &tty->shell) != 0) is_done = false;
-    return is_done;
-}
-
-void curspan_read_at_once(struct termios *modes) {
-    modes->c_cc[VMIN] = 1;
-    modes->c_cc[VTIME] = 0;
-}
-
-void curspan_make_raw(struct termios *modes) {
-    modes->c_lflag &= ~(tcflag_t)(ICANON | ISIG | IEXTEN);
-    modes->c_iflag &= ~(tcflag_t)CURSPAN_INPUT_FLAGS;
-    curspan_read_at_once(modes);
-}
-
-int curspan_number_in(const char *variable) {
-    const char *text = getenv(variable);
-    char *end;
-    if (!text || *text < '0' || *text > '9') return -1;
-    long number = strtol(text, &end, 10);
-    return *end == 0 && number <= 32767 ? (int)number : -1;
-}
-
-static int size_of(int wanted, int found, int other) {
-    int size = wanted > 0 ? wanted : found > 0 ? found : other;
-    return size < CURSPAN_LARGEST_SCREEN ? size : CURSPAN_LARGEST_SCREEN;
-}
-
-bool curspan_find_size(const struct curspan_tty *tty, int *lines, int *columns) {
-    struct winsize found = {0, 0, 0, 0};
-    bool is_there = ioctl(tty->out, TIOCGWINSZ, &found) == 0;
-    *lines = size_of(*lines, is_there ? found.ws_row : 0, 24);
-    *columns = size_of(*columns, is_there ? found.ws_col : 0, 80);
-    return is_there;
-}
-
-long curspan_now(void) {
-    struct timespec time;
-    clock_gettime(CLOCK_MONOTONIC, &time);
-    return (long)time.tv_sec * 1000 + time.tv_nsec / 1000000;
-}
-
-int curspan_left_until(int milliseconds, long end) {
-    long left = end - curspan_now();
-    return milliseconds < 0 ? -1 : left > 0 ? (int)left : 0;
-}
-
-/* ---- those of curspan_terminal.h */
 
 enum { TYPED = 256, ESCAPE_DELAY = 100, PASTE_DELAY = 1000, SLICE = 500, PASTE_ENDS = 6 };
 
 struct terminal {
     struct curspan_tty tty;
+    struct terminal *spare; /* the next one that is closed, to be used again */
     pthread_t thread;
     uint32_t options;
-    bool is_opened; /* its file was, by its path */
-    bool is_at_end; /* of the input */
+    int opened;             /* its file, that was opened by its path, or -1 */
+    const void *shown;      /* the screen that was shown last */
+    bool is_suspended;
+    bool is_at_end;         /* of the input */
     bool is_pasting;
+    int given;                        /* the descriptor of keys as it was given */
     int escape_delay, lines, columns; /* the size as a key told of it last */
     struct curspan_palette palette;
     struct curspan_outgoing outgoing;
@@ -145,19 +47,6 @@ static uint32_t status_of(const curspan_terminal *terminal) {
     return pthread_equal(it->thread, pthread_self()) ? CURSPAN_TERMINAL_OK : CURSPAN_TERMINAL_OTHER_THREAD;
 }
 
-/* Which terminal a descriptor is, whatever the name is by which it was opened. */
-static unsigned device_of(int descriptor) {
-    unsigned device = 0;
-    return ioctl(descriptor, TIOCGDEV, &device) == 0 ? device : 0;
-}
-
-static bool is_open(int descriptor) {
-    unsigned device = device_of(descriptor);
-    for (const struct curspan_tty *tty = curspan_first_tty(); tty && device; tty = tty->next)
-        if (tty->owner == getpid() && device_of(tty->out) == device) return true;
-    return false;
-}
-
 static void form(struct curspan_tty *tty, uint32_t options) {
     bool has_page = options & CURSPAN_TERMINAL_PAGE, has_paste = options & CURSPAN_TERMINAL_PASTE;
     const char *hide = options & CURSPAN_TERMINAL_HIDE_CURSOR ? "\033[?25l" : "", *on = has_paste ? "\033[?2004h" : "";
@@ -176,21 +65,74 @@ static void set_colours(struct terminal *it, int pair, int foreground, int backg
     it->palette.colours[pair][1] = (signed char)background;
 }
 
-static uint32_t begin(struct terminal *it) {
+/* ---- opening and closing */
+
+/* A terminal is never given back to the heap, as handlers may look at it. */
+static struct {
+    pthread_mutex_t lock;
+    struct terminal *first;
+} spares = {.lock = PTHREAD_MUTEX_INITIALIZER};
+
+static struct terminal *take_spare(void) {
+    pthread_mutex_lock(&spares.lock);
+    struct terminal *it = spares.first;
+    if (it) spares.first = it->spare;
+    pthread_mutex_unlock(&spares.lock);
+    return it ? it : calloc(1, sizeof *it);
+}
+
+/* Frees what a terminal has, but for itself. */
+static void put_aside(struct terminal *it) {
+    curspan_abandon(&it->tty);
+    if (it->tty.in != it->given) close(it->tty.in);
+    if (it->opened >= 0) close(it->opened);
+    free(it->outgoing.bytes);
+    free(it->paste);
+    it->outgoing = (struct curspan_outgoing){NULL, 0};
+    it->paste = NULL;
+    pthread_mutex_lock(&spares.lock);
+    it->spare = spares.first;
+    spares.first = it;
+    pthread_mutex_unlock(&spares.lock);
+}
+
+static void clear(struct terminal *it, int in, int out, uint32_t options) {
     struct curspan_tty *tty = &it->tty;
-    int delay = curspan_number_in("ESCDELAY");
+    int delay = curspan_number_in("ESCDELAY"), own = curspan_open_anew(in);
+    it->thread = pthread_self();
+    it->options = options;
+    it->opened = -1;
+    it->given = in;
+    it->shown = NULL;
+    it->is_suspended = it->is_at_end = it->is_pasting = false;
+    it->escape_delay = delay >= 0 ? delay : ESCAPE_DELAY;
+    it->palette = (struct curspan_palette){.changes = false};
+    for (int pair = 0; pair < OWN_PAIRS; pair++) set_colours(it, pair, pair / 8, pair % 8);
+    set_colours(it, 0, OWN_COLOUR, OWN_COLOUR);
+    it->taken = it->count = it->length = it->room = 0;
+    tty->in = tty->line = own >= 0 ? own : in;
+    tty->keeps = options & CURSPAN_TERMINAL_KEEP;
+    tty->page = PAGE_LEFT;
+    tty->is_ended = true;
+    tty->was_away = tty->is_keypad = false;
+    curspan_set_output(tty, out);
+}
+
+static uint32_t begin(struct terminal *it) {
+    static const uint32_t refused[] = {
+        [CURSPAN_OPEN_ALREADY] = CURSPAN_TERMINAL_OPEN, [CURSPAN_OWNED_ALREADY] = CURSPAN_TERMINAL_SIGNALS_TAKEN,
+    };
+    struct curspan_tty *tty = &it->tty;
     if (tcgetattr(tty->line, &tty->shell) != 0) return CURSPAN_TERMINAL_FAILED;
     form(tty, it->options);
-    it->thread = pthread_self();
-    it->escape_delay = delay >= 0 ? delay : ESCAPE_DELAY;
-    for (int own = 0; own < OWN_PAIRS; own++) set_colours(it, own, own / 8, own % 8);
-    set_colours(it, 0, OWN_COLOUR, OWN_COLOUR);
+    it->lines = it->columns = 0;
     curspan_find_size(tty, &it->lines, &it->columns);
-    tty->is_ended = true;
-    if (!curspan_attend(tty, it->options & CURSPAN_TERMINAL_SIGNALS)) return CURSPAN_TERMINAL_SIGNALS_TAKEN;
-    if (curspan_come_back(tty)) return CURSPAN_TERMINAL_OK;
-    curspan_give_back(tty);
-    curspan_abandon(tty);
+    enum curspan_entry entry = curspan_attend(tty, it->options & CURSPAN_TERMINAL_SIGNALS);
+    if (entry != CURSPAN_ENTERED) return refused[entry];
+    if (tty->bell >= 0 && curspan_come_back(tty)) return CURSPAN_TERMINAL_OK;
+    int error = errno;
+    curspan_give_back(tty, 0);
+    errno = error;
     return CURSPAN_TERMINAL_FAILED;
 }
 
@@ -199,13 +141,14 @@ uint32_t curspan_terminal_use(curspan_terminal *terminal, int in, int out, uint3
     if (terminal->at) return CURSPAN_TERMINAL_OPEN;
     if (!isatty(in) || !isatty(out)) return CURSPAN_TERMINAL_NONE;
     if (type && strcmp(type, "dumb") == 0) return CURSPAN_TERMINAL_DUMB;
-    if (is_open(out)) return CURSPAN_TERMINAL_OPEN;
-    struct terminal *it = malloc(sizeof *it);
+    struct terminal *it = take_spare();
     if (!it) return CURSPAN_TERMINAL_NO_MEMORY;
-    *it = (struct terminal){.tty = {.in = in, .out = out, .line = in}, .options = options};
+    clear(it, in, out, options);
     uint32_t status = begin(it);
+    int error = errno;
     if (status == CURSPAN_TERMINAL_OK) terminal->at = it;
-    else free(it);
+    else put_aside(it);
+    errno = error;
     return status;
 }
 
@@ -214,7 +157,7 @@ uint32_t curspan_terminal_open(curspan_terminal *terminal, const char *path, uin
     int file = open(path ? path : "/dev/tty", O_RDWR | O_NOCTTY | O_CLOEXEC);
     if (file < 0) return errno == ENXIO && !path ? CURSPAN_TERMINAL_NONE : CURSPAN_TERMINAL_FAILED;
     uint32_t status = curspan_terminal_use(terminal, file, file, options);
-    if (status == CURSPAN_TERMINAL_OK) ((struct terminal *)terminal->at)->is_opened = true;
+    if (status == CURSPAN_TERMINAL_OK) ((struct terminal *)terminal->at)->opened = file;
     else close(file);
     return status;
 }
@@ -226,31 +169,59 @@ static uint32_t done(bool is_done) { return is_done ? CURSPAN_TERMINAL_OK : CURS
     struct terminal *it = terminal->at; \
     uint32_t status = status_of(terminal); \
     if (status != CURSPAN_TERMINAL_OK) return status; \
-    curspan_hold_stop(); \
+    curspan_hold_stop(&it->tty); \
     status = (call); \
-    curspan_let_stop(); \
+    curspan_let_stop(&it->tty); \
     return status
 
-uint32_t curspan_terminal_suspend(curspan_terminal *terminal) {
-    WRITE(done(!curspan_is_owed(&it->tty) || curspan_give_back(&it->tty)));
+/* Where bytes are kept, so is what leaves the page. */
+static uint32_t suspend(struct terminal *it) {
+    struct curspan_tty *tty = &it->tty;
+    it->is_suspended = true;
+    if (!curspan_is_owed(tty)) return CURSPAN_TERMINAL_OK;
+    if (!tty->keeps) return done(curspan_give_back(tty, -1));
+    if (CURSPAN_LOOK(tty->page) != PAGE_LEFT && !curspan_send_text(tty, tty->leave)) return CURSPAN_TERMINAL_FAILED;
+    CURSPAN_SET(tty->page, PAGE_LEFT);
+    return done(curspan_give_back(tty, 0));
 }
 
-uint32_t curspan_terminal_resume(curspan_terminal *terminal) { WRITE(done(curspan_come_back(&it->tty))); }
+static uint32_t resume(struct terminal *it) {
+    it->is_suspended = false;
+    return done(curspan_come_back(&it->tty));
+}
+
+uint32_t curspan_terminal_suspend(curspan_terminal *terminal) { WRITE(suspend(it)); }
+uint32_t curspan_terminal_resume(curspan_terminal *terminal) { WRITE(resume(it)); }
 
 uint32_t curspan_terminal_write(curspan_terminal *terminal, const void *bytes, size_t length) {
-    WRITE(done(curspan_write_all(&it->tty, bytes, length)));
+    WRITE(done(curspan_send(&it->tty, bytes, length)));
 }
 
+static uint32_t flush(struct terminal *it, int milliseconds, size_t *kept) {
+    bool is_done = curspan_flush(&it->tty, milliseconds);
+    *kept = it->tty.kept_count;
+    return done(is_done);
+}
+
+uint32_t curspan_terminal_flush(curspan_terminal *terminal, int milliseconds, size_t *kept) {
+    *kept = 0;
+    WRITE(flush(it, milliseconds, kept));
+}
+
+/* Any thread may close it. What is kept of a picture goes, so that the page is left before it. */
 uint32_t curspan_terminal_close(curspan_terminal *terminal) {
     struct terminal *it = terminal->at;
-    uint32_t status = curspan_terminal_suspend(terminal);
-    if (status == CURSPAN_TERMINAL_CLOSED || status == CURSPAN_TERMINAL_OTHER_THREAD) return status;
-    curspan_abandon(&it->tty);
-    if (it->is_opened) close(it->tty.in);
-    free(it->outgoing.bytes);
-    free(it->paste);
-    free(it);
+    uint32_t status = status_of(terminal);
+    if (status == CURSPAN_TERMINAL_CLOSED) return status;
+    if (status != CURSPAN_TERMINAL_FORKED) {
+        it->tty.kept_count = 0;
+        it->thread = pthread_self();
+        status = curspan_terminal_suspend(terminal);
+    }
+    int error = errno;
+    put_aside(it);
     terminal->at = NULL;
+    errno = error;
     return status;
 }
 
@@ -271,42 +242,43 @@ int curspan_terminal_output(const curspan_terminal *terminal) {
     return it ? it->tty.out : -1;
 }
 
-uint32_t curspan_terminal_flush(curspan_terminal *terminal, int milliseconds, size_t *kept) {
-    (void)milliseconds;
-    *kept = 0;
-    return status_of(terminal);
-}
-
 /* ---- pictures */
 
-static uint32_t take_again(struct curspan_tty *tty) {
-    bool is_there = tty->page == PAGE_ENTERED && !tty->was_away;
+/* Takes the terminal for a screen. What was kept when it was given back from elsewhere is of a page that is gone. */
+static uint32_t take_for(struct terminal *it, const void *screen) {
+    struct curspan_tty *tty = &it->tty;
+    bool was_away = CURSPAN_TAKE(tty->was_away);
+    bool is_there = !was_away && curspan_is_shown(tty) && (!it->shown || !screen || it->shown == screen);
+    if (was_away && !it->is_suspended) tty->kept_count = 0;
+    it->is_suspended = false;
     if (!curspan_come_back(tty)) return CURSPAN_TERMINAL_FAILED;
-    tty->was_away = false;
+    if (screen) it->shown = screen;
     return is_there ? CURSPAN_TERMINAL_OK : CURSPAN_TERMINAL_AWAY;
 }
 
 static uint32_t update(struct terminal *it, curspan *screen) {
-    uint32_t status = take_again(&it->tty);
+    size_t kept;
+    uint32_t status = flush(it, 0, &kept);
+    if (kept > 0 || status != CURSPAN_TERMINAL_OK) return status;
+    status = take_for(it, screen->at);
     if (status == CURSPAN_TERMINAL_FAILED) return status;
     if (status == CURSPAN_TERMINAL_AWAY) curspan_invalidate(screen);
     if (curspan_doupdate(screen).status != CURSPAN_OK) return CURSPAN_TERMINAL_REFUSED;
     return done(curspan_hand_on(&it->tty, screen, &it->palette, &it->outgoing));
 }
 
-static uint32_t draw(struct terminal *it, const uint8_t *bytes, size_t length) {
-    uint32_t status = take_again(&it->tty);
+static uint32_t draw(struct terminal *it, const void *screen, const uint8_t *bytes, size_t length) {
+    uint32_t status = take_for(it, screen);
     if (status != CURSPAN_TERMINAL_OK) return status;
     uint8_t *out = malloc(CURSPAN_RECOLOURED * length + 1);
     if (!out) return CURSPAN_TERMINAL_NO_MEMORY;
-    bool is_done = curspan_write_all(&it->tty, out, curspan_recolour(&it->palette, bytes, length, out));
+    bool is_done = curspan_send(&it->tty, out, curspan_recolour(&it->palette, bytes, length, out));
     free(out);
     return done(is_done);
 }
 
 uint32_t curspan_terminal_draw(curspan_terminal *terminal, const void *screen, const uint8_t *bytes, size_t length) {
-    (void)screen;
-    WRITE(draw(it, bytes, length));
+    WRITE(draw(it, screen, bytes, length));
 }
 
 uint32_t curspan_terminal_show(curspan_terminal *terminal, curspan *screen) { WRITE(update(it, screen)); }
@@ -328,29 +300,31 @@ uint32_t curspan_terminal_init_pair(curspan_terminal *terminal, curspan *screen,
 
 /* ---- keys */
 
-/* Whether the size is another than was told last, or the terminal was given back meanwhile. */
+/* Whether the size is another than was told last, or the terminal was given back meanwhile, but for by the program
+   itself: then its modes are set again, and its page comes with what is shown. */
 static bool is_changed(struct terminal *it) {
+    struct curspan_tty *tty = &it->tty;
     int lines = 0, columns = 0;
-    bool owns = it->options & CURSPAN_TERMINAL_SIGNALS, was_stopped = owns && curspan_was_stopped();
-    bool is_told = owns && curspan_was_resized(), is_there = curspan_find_size(&it->tty, &lines, &columns);
-    if (!was_stopped && !is_told && !(is_there && (lines != it->lines || columns != it->columns))) return false;
+    bool was_stopped = CURSPAN_TAKE(tty->was_stopped), is_told = CURSPAN_TAKE(tty->was_resized);
+    bool was_taken = !it->is_suspended && CURSPAN_TAKE(tty->is_ended);
+    bool is_other = curspan_find_size(tty, &lines, &columns) && (lines != it->lines || columns != it->columns);
+    if (!was_stopped && !is_told && !was_taken && !is_other) return false;
+    if (was_taken) curspan_set_modes(tty, &tty->program, TCSANOW);
     it->lines = lines;
     it->columns = columns;
-    it->tty.was_away = true;
+    CURSPAN_SET(tty->was_away, true);
     return true;
 }
 
 /* Waits for input for some milliseconds, or without end where they are negative, and answers 0, or the key that tells
    what came in its place. A terminal that owns no signals looks at its size meanwhile. */
 static uint32_t wait_for_input(struct terminal *it, int milliseconds) {
-    bool found = false, owns = it->options & CURSPAN_TERMINAL_SIGNALS;
+    bool owns = it->options & CURSPAN_TERMINAL_SIGNALS;
     long end = curspan_now() + milliseconds;
     for (;;) {
-        int left = curspan_left_until(milliseconds, end), how = WAIT_ENDED;
-        struct pollfd input = {it->tty.in, POLLIN, 0};
-        if (owns) how = curspan_wait(it->tty.in, left, &found);
-        else if (poll(&input, 1, left < 0 || left > SLICE ? SLICE : left) < 0) how = WAIT_INTERRUPTED;
-        if (found || input.revents) return 0;
+        int left = curspan_left_until(milliseconds, end), slice = owns || (left >= 0 && left < SLICE) ? left : SLICE;
+        enum curspan_waited how = curspan_wait(&it->tty, slice);
+        if (how == WAIT_FOUND) return 0;
         if (is_changed(it)) return CURSPAN_KEY_RESIZE;
         if (how == WAIT_INTERRUPTED) return CURSPAN_KEY_INTERRUPTED;
         if (curspan_left_until(milliseconds, end) == 0) return CURSPAN_KEY_NONE;

@@ -15,33 +15,66 @@
 /* Whether the picture is on the terminal's other page. */
 enum { PAGE_LEFT, PAGE_ENTERING, PAGE_ENTERED };
 
-/* A terminal of curses.h or of curspan_terminal.h, as handlers of signals read it too. */
+/* A terminal of curses.h or of curspan_terminal.h. Handlers of signals, in any thread, see what is behind `owner`. */
 struct curspan_tty {
-    int in, out;
-    int line;                        /* that of both whose modes are set: -1 where neither is a terminal */
-    pid_t owner;                     /* the process that has it, or 0 */
-    volatile sig_atomic_t page;
-    volatile sig_atomic_t is_ended;  /* it was given back, and not taken since */
-    volatile sig_atomic_t was_away;  /* it was given back, and its size may be another */
-    volatile sig_atomic_t is_keypad; /* it sends the sequences of an application's keypad */
-    struct termios shell, program;   /* the modes outside, and those of the program */
-    char enter[48], leave[64];       /* what is written where the picture comes and goes */
-    struct curspan_tty *next;        /* of those that are open */
+    int in, out;                   /* of which is read, and to which is written */
+    size_t most;                   /* bytes that `out` takes without waiting, once it is ready to be written */
+    bool is_own;                   /* `out` was opened for this terminal: no write to it waits */
+    bool keeps;                    /* what it doesn't take now is kept, and nothing waits for it: */
+    uint8_t *kept;
+    size_t kept_count;
+    char enter[48], leave[64];     /* what is written where the picture comes and goes */
+    struct termios shell, program; /* the modes outside, and those of the program */
+    int line;                      /* that of both whose modes are set: -1 where neither is a terminal */
+    int bell;                      /* an eventfd on which who waits for keys is told of what handlers did */
+    unsigned device;               /* which terminal it is, or 0 */
+    struct curspan_tty *next;      /* of those that were entered, in a list that only grows */
+    bool is_listed;
+    pid_t owner;                   /* the process that has it, or 0 */
+    int holds;                     /* of handlers that look at it now */
+    int page;
+    bool is_ended;                 /* it was given back, and not taken since */
+    bool was_away;                 /* it was given back, and its size may be another */
+    bool is_keypad;                /* it sends the sequences of an application's keypad */
+    bool was_stopped, was_resized; /* where it owns the signals: since that was looked at last */
+    bool is_held, stop_is_due;     /* the program isn't to be stopped now; it is to be then */
 };
 
-/* ---- terminal.c */
+/* What threads and handlers share is read and set whole. */
+#define CURSPAN_LOOK(field) __atomic_load_n(&(field), __ATOMIC_SEQ_CST)
+#define CURSPAN_SET(field, value) __atomic_store_n(&(field), (value), __ATOMIC_SEQ_CST)
+#define CURSPAN_TAKE(flag) __atomic_exchange_n(&(flag), false, __ATOMIC_SEQ_CST)
 
-/* Writes all of some bytes, or of a text. Handlers of signals may call these. */
-bool curspan_write_all(const struct curspan_tty *tty, const void *bytes, size_t length);
-bool curspan_put_text(const struct curspan_tty *tty, const char *text);
-bool curspan_switch_keypad(struct curspan_tty *tty, bool flag);
+/* ---- tty.c */
+
+/* Opens the terminal of a descriptor once more, so that nothing waits there, and the flags of that one, which other
+   programs share, stay; or answers -1. */
+int curspan_open_anew(int descriptor);
+/* Lets a terminal write to a descriptor. */
+void curspan_set_output(struct curspan_tty *tty, int out);
+/* Writes for some milliseconds, not waiting for 0, or without end where they are negative. Answers how many bytes were
+   written, or -1. Handlers of signals may call it. */
+ssize_t curspan_write(const struct curspan_tty *tty, const void *bytes, size_t length, int milliseconds);
+/* Writes all of some bytes, or of a text, or keeps what isn't taken now. */
+bool curspan_send(struct curspan_tty *tty, const void *bytes, size_t length);
+bool curspan_send_text(struct curspan_tty *tty, const char *text);
+/* Writes what is kept. */
+bool curspan_flush(struct curspan_tty *tty, int milliseconds);
+bool curspan_switch_keypad(struct curspan_tty *tty, bool flag, int milliseconds);
 /* Comes to the picture's page, with the program's modes, where it isn't there. */
 bool curspan_come_back(struct curspan_tty *tty);
-/* Leaves that page and the keypad, with the modes as they were before. A handler of signals may call it. */
-bool curspan_give_back(struct curspan_tty *tty);
+/* Leaves that page and the keypad, with the modes as they were before. A handler of signals may call it for 0. */
+bool curspan_give_back(struct curspan_tty *tty, int milliseconds);
 /* Whether there is something to give back. */
-static inline bool curspan_is_owed(const struct curspan_tty *tty) { return !tty->is_ended || tty->page != PAGE_LEFT; }
-bool curspan_set_modes(const struct curspan_tty *tty, const struct termios *modes);
+static inline bool curspan_is_owed(const struct curspan_tty *tty) {
+    return !CURSPAN_LOOK(tty->is_ended) || CURSPAN_LOOK(tty->page) != PAGE_LEFT;
+}
+/* Whether the picture is on the terminal. */
+static inline bool curspan_is_shown(const struct curspan_tty *tty) {
+    return CURSPAN_LOOK(tty->page) == PAGE_ENTERED && !CURSPAN_LOOK(tty->is_ended);
+}
+/* Sets modes, now or, by TCSADRAIN, once all is written. */
+bool curspan_set_modes(const struct curspan_tty *tty, const struct termios *modes, int when);
 /* Lets a read answer as soon as there is a byte, and the keys of signals be bytes. */
 void curspan_read_at_once(struct termios *modes);
 void curspan_make_raw(struct termios *modes);
@@ -88,7 +121,7 @@ struct curspan_outgoing {
 };
 
 /* Writes what a screen sent. Where it can't be written it is lost. */
-bool curspan_hand_on(const struct curspan_tty *tty, struct curspan *screen, struct curspan_palette *palette,
+bool curspan_hand_on(struct curspan_tty *tty, struct curspan *screen, struct curspan_palette *palette,
                      struct curspan_outgoing *outgoing);
 
 /* ---- output.c */
@@ -116,24 +149,24 @@ void curspan_end_raw(const struct curspan_modes *modes, const struct termios *li
 /* ---- signals.c */
 
 /* Gives a terminal back at exit, and where it shall own the signals, and none does, catches those that the program left
-   as they were. Answers whether it owns them. */
-bool curspan_attend(struct curspan_tty *tty, bool shall_own);
+   as they were. What stands in the way of that is answered. */
+enum curspan_entry { CURSPAN_ENTERED, CURSPAN_OPEN_ALREADY, CURSPAN_OWNED_ALREADY };
+enum curspan_entry curspan_attend(struct curspan_tty *tty, bool shall_own);
 /* Leaves a terminal, and the signals that are still caught where it owned them. */
 void curspan_abandon(struct curspan_tty *tty);
-struct curspan_tty *curspan_first_tty(void);
 /* Holds back the signal that stops the program, and lets it through again. */
-void curspan_hold_stop(void);
-void curspan_let_stop(void);
-/* Whether the program was stopped since the last call of it, and goes on. */
-bool curspan_was_stopped(void);
-/* Whether the terminal's size may have changed since the last call of it. */
-bool curspan_was_resized(void);
+void curspan_hold_stop(struct curspan_tty *tty);
+void curspan_let_stop(struct curspan_tty *tty);
+/* Whether all handlers of the program let calls go on that they interrupt. That of a fault ends no wait. */
+bool curspan_handlers_restart(void);
 
-enum { WAIT_ENDED, WAIT_STOPPED, WAIT_RESIZED, WAIT_INTERRUPTED };
+/* ---- events.c */
 
-/* Waits for something to read, for some milliseconds, or without end where they are negative. A signal to stop or of a
-   new size ends it also where it came since that was last looked at. Where it ended by itself `found` says how. */
-int curspan_wait(int descriptor, int milliseconds, bool *found);
+enum curspan_waited { WAIT_FOUND, WAIT_OVER, WAIT_TOLD, WAIT_INTERRUPTED };
+
+/* Waits for something to read, for some milliseconds, or without end where they are negative. It is told of a stop, a
+   new size and that the terminal was given back, also where that came since it was last looked at. */
+enum curspan_waited curspan_wait(struct curspan_tty *tty, int milliseconds);
 
 /* ---- resizing.c and screen.c */
 
