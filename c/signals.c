@@ -35,18 +35,13 @@ static bool hold(struct curspan_tty *tty) {
 
 static void let_go(struct curspan_tty *tty) { __atomic_sub_fetch(&tty->holds, 1, __ATOMIC_SEQ_CST); }
 
-static void ring(const struct curspan_tty *tty) {
-    const uint64_t one = 1;
-    if (write(tty->bell, &one, sizeof one) < 0) return; /* it rings already */
-}
-
 static void give_all_back(bool waits) {
     int before = errno;
     for (struct curspan_tty *tty = CURSPAN_LOOK(terminals.first); tty; tty = tty->next) {
         if (!hold(tty)) continue;
         if (curspan_is_owed(tty)) {
             curspan_give_back(tty, waits && !tty->keeps ? -1 : 0);
-            ring(tty);
+            curspan_ring(tty);
         }
         let_go(tty);
     }
@@ -114,7 +109,7 @@ static void stop_with(struct curspan_tty *tty, void (*handler)(int)) {
     if (is_keypad) curspan_switch_keypad(tty, true, 0);
     CURSPAN_SET(tty->is_ended, false);
     CURSPAN_SET(tty->was_stopped, true);
-    ring(tty);
+    curspan_ring(tty);
 }
 
 static void stop(int number) {
@@ -133,7 +128,7 @@ static void note_size(int number) {
     int before = errno;
     if (number != SIGWINCH || !hold(tty)) return;
     CURSPAN_SET(tty->was_resized, true);
-    ring(tty);
+    curspan_ring(tty);
     let_go(tty);
     errno = before;
 }
@@ -229,10 +224,12 @@ enum curspan_entry curspan_attend(struct curspan_tty *tty, bool shall_own) {
     pthread_mutex_lock(&terminals.lock);
     if (!is_registered) is_registered = atexit(give_back_at_exit) == 0;
     tty->device = device_of(tty->out);
-    tty->was_stopped = tty->was_resized = tty->is_held = tty->stop_is_due = false;
+    tty->was_stopped = tty->was_resized = tty->is_held = tty->stop_is_due = tty->rings = tty->is_suspended = false;
+    tty->typed = (struct curspan_typed){.count = 0};
     enum curspan_entry answer = find_hindrance(tty, shall_own);
     if (answer == CURSPAN_ENTERED) {
         tty->bell = eventfd(0, EFD_CLOEXEC | EFD_NONBLOCK);
+        tty->owns = shall_own;
         CURSPAN_SET(tty->owner, getpid());
         if (!tty->is_listed) {
             tty->next = terminals.first;

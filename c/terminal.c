@@ -7,26 +7,16 @@
 #include <pthread.h>
 #include <unistd.h>
 
-enum { TYPED = 256, ESCAPE_DELAY = 100, PASTE_DELAY = 1000, SLICE = 500, PASTE_ENDS = 6 };
-
 struct terminal {
     struct curspan_tty tty;
     struct terminal *spare; /* the next one that is closed, to be used again */
     pthread_t thread;
     uint32_t options;
-    int opened;             /* its file, that was opened by its path, or -1 */
+    int given, opened;      /* the descriptor of keys, and the file that was opened by its path, or -1 */
     const void *shown;      /* the screen that was shown last */
-    bool is_suspended;
-    bool is_at_end;         /* of the input */
-    bool is_pasting;
-    int given;                        /* the descriptor of keys as it was given */
-    int escape_delay, lines, columns; /* the size as a key told of it last */
     struct curspan_palette palette;
     struct curspan_outgoing outgoing;
-    unsigned char typed[TYPED]; /* and not taken, behind what was taken last */
-    size_t taken, count;
-    char *paste;
-    size_t length, room;
+    struct curspan_reader reader;
 };
 
 const char *curspan_terminal_text(uint32_t status) {
@@ -83,13 +73,13 @@ static struct terminal *take_spare(void) {
 
 /* Frees what a terminal has, but for itself. */
 static void put_aside(struct terminal *it) {
+    bool is_own = it->tty.in != it->given && it->tty.in != it->tty.out;
     curspan_abandon(&it->tty);
-    if (it->tty.in != it->given) close(it->tty.in);
+    if (is_own) close(it->tty.in);
     if (it->opened >= 0) close(it->opened);
     free(it->outgoing.bytes);
-    free(it->paste);
     it->outgoing = (struct curspan_outgoing){NULL, 0};
-    it->paste = NULL;
+    curspan_end_reading(&it->reader);
     pthread_mutex_lock(&spares.lock);
     it->spare = spares.first;
     spares.first = it;
@@ -98,24 +88,22 @@ static void put_aside(struct terminal *it) {
 
 static void clear(struct terminal *it, int in, int out, uint32_t options) {
     struct curspan_tty *tty = &it->tty;
-    int delay = curspan_number_in("ESCDELAY"), own = curspan_open_anew(in);
     it->thread = pthread_self();
     it->options = options;
     it->opened = -1;
     it->given = in;
     it->shown = NULL;
-    it->is_suspended = it->is_at_end = it->is_pasting = false;
-    it->escape_delay = delay >= 0 ? delay : ESCAPE_DELAY;
     it->palette = (struct curspan_palette){.changes = false};
     for (int pair = 0; pair < OWN_PAIRS; pair++) set_colours(it, pair, pair / 8, pair % 8);
     set_colours(it, 0, OWN_COLOUR, OWN_COLOUR);
-    it->taken = it->count = it->length = it->room = 0;
-    tty->in = tty->line = own >= 0 ? own : in;
+    it->reader = (struct curspan_reader){.epoll = -1, .timer = -1};
     tty->keeps = options & CURSPAN_TERMINAL_KEEP;
     tty->page = PAGE_LEFT;
     tty->is_ended = true;
     tty->was_away = tty->is_keypad = false;
     curspan_set_output(tty, out);
+    int own = in == out && tty->is_own ? tty->out : curspan_open_anew(in);
+    tty->in = tty->line = own >= 0 ? own : in;
 }
 
 static uint32_t begin(struct terminal *it) {
@@ -125,11 +113,10 @@ static uint32_t begin(struct terminal *it) {
     struct curspan_tty *tty = &it->tty;
     if (tcgetattr(tty->line, &tty->shell) != 0) return CURSPAN_TERMINAL_FAILED;
     form(tty, it->options);
-    it->lines = it->columns = 0;
-    curspan_find_size(tty, &it->lines, &it->columns);
     enum curspan_entry entry = curspan_attend(tty, it->options & CURSPAN_TERMINAL_SIGNALS);
     if (entry != CURSPAN_ENTERED) return refused[entry];
-    if (tty->bell >= 0 && curspan_come_back(tty)) return CURSPAN_TERMINAL_OK;
+    uint32_t asked = it->options & CURSPAN_TERMINAL_PASTE ? CURSPAN_KEYS_PASTE : 0;
+    if (curspan_begin_reading(&it->reader, tty, asked) && curspan_come_back(tty)) return CURSPAN_TERMINAL_OK;
     int error = errno;
     curspan_give_back(tty, 0);
     errno = error;
@@ -177,7 +164,8 @@ static uint32_t done(bool is_done) { return is_done ? CURSPAN_TERMINAL_OK : CURS
 /* Where bytes are kept, so is what leaves the page. */
 static uint32_t suspend(struct terminal *it) {
     struct curspan_tty *tty = &it->tty;
-    it->is_suspended = true;
+    curspan_end_paste(&it->reader);
+    tty->is_suspended = true;
     if (!curspan_is_owed(tty)) return CURSPAN_TERMINAL_OK;
     if (!tty->keeps) return done(curspan_give_back(tty, -1));
     if (CURSPAN_LOOK(tty->page) != PAGE_LEFT && !curspan_send_text(tty, tty->leave)) return CURSPAN_TERMINAL_FAILED;
@@ -186,7 +174,7 @@ static uint32_t suspend(struct terminal *it) {
 }
 
 static uint32_t resume(struct terminal *it) {
-    it->is_suspended = false;
+    it->tty.is_suspended = false;
     return done(curspan_come_back(&it->tty));
 }
 
@@ -234,7 +222,7 @@ uint32_t curspan_terminal_size(const curspan_terminal *terminal, int *lines, int
 
 int curspan_terminal_descriptor(const curspan_terminal *terminal) {
     const struct terminal *it = terminal->at;
-    return it ? it->tty.in : -1;
+    return it ? it->reader.epoll : -1;
 }
 
 int curspan_terminal_output(const curspan_terminal *terminal) {
@@ -249,8 +237,8 @@ static uint32_t take_for(struct terminal *it, const void *screen) {
     struct curspan_tty *tty = &it->tty;
     bool was_away = CURSPAN_TAKE(tty->was_away);
     bool is_there = !was_away && curspan_is_shown(tty) && (!it->shown || !screen || it->shown == screen);
-    if (was_away && !it->is_suspended) tty->kept_count = 0;
-    it->is_suspended = false;
+    if (was_away && !tty->is_suspended) tty->kept_count = 0;
+    tty->is_suspended = false;
     if (!curspan_come_back(tty)) return CURSPAN_TERMINAL_FAILED;
     if (screen) it->shown = screen;
     return is_there ? CURSPAN_TERMINAL_OK : CURSPAN_TERMINAL_AWAY;
@@ -300,105 +288,10 @@ uint32_t curspan_terminal_init_pair(curspan_terminal *terminal, curspan *screen,
 
 /* ---- keys */
 
-/* Whether the size is another than was told last, or the terminal was given back meanwhile, but for by the program
-   itself: then its modes are set again, and its page comes with what is shown. */
-static bool is_changed(struct terminal *it) {
-    struct curspan_tty *tty = &it->tty;
-    int lines = 0, columns = 0;
-    bool was_stopped = CURSPAN_TAKE(tty->was_stopped), is_told = CURSPAN_TAKE(tty->was_resized);
-    bool was_taken = !it->is_suspended && CURSPAN_TAKE(tty->is_ended);
-    bool is_other = curspan_find_size(tty, &lines, &columns) && (lines != it->lines || columns != it->columns);
-    if (!was_stopped && !is_told && !was_taken && !is_other) return false;
-    if (was_taken) curspan_set_modes(tty, &tty->program, TCSANOW);
-    it->lines = lines;
-    it->columns = columns;
-    CURSPAN_SET(tty->was_away, true);
-    return true;
-}
-
-/* Waits for input for some milliseconds, or without end where they are negative, and answers 0, or the key that tells
-   what came in its place. A terminal that owns no signals looks at its size meanwhile. */
-static uint32_t wait_for_input(struct terminal *it, int milliseconds) {
-    bool owns = it->options & CURSPAN_TERMINAL_SIGNALS;
-    long end = curspan_now() + milliseconds;
-    for (;;) {
-        int left = curspan_left_until(milliseconds, end), slice = owns || (left >= 0 && left < SLICE) ? left : SLICE;
-        enum curspan_waited how = curspan_wait(&it->tty, slice);
-        if (how == WAIT_FOUND) return 0;
-        if (is_changed(it)) return CURSPAN_KEY_RESIZE;
-        if (how == WAIT_INTERRUPTED) return CURSPAN_KEY_INTERRUPTED;
-        if (curspan_left_until(milliseconds, end) == 0) return CURSPAN_KEY_NONE;
-    }
-}
-
-static void read_more(struct terminal *it) {
-    memmove(it->typed, it->typed + it->taken, it->count -= it->taken);
-    it->taken = 0;
-    ssize_t count = read(it->tty.in, it->typed + it->count, TYPED - it->count);
-    if (count > 0) it->count += (size_t)count;
-    else if (count == 0 || (errno != EINTR && errno != EAGAIN)) it->is_at_end = true;
-}
-
-/* Takes what waits as part of a paste, and answers whether that has ended. What there is no memory for is left out. */
-static bool take_paste(struct terminal *it) {
-    while (it->taken < it->count) {
-        char byte = (char)it->typed[it->taken++];
-        if (it->length == it->room) {
-            char *more = realloc(it->paste, 2 * it->room + TYPED);
-            if (!more) continue;
-            it->paste = more;
-            it->room = 2 * it->room + TYPED;
-        }
-        it->paste[it->length++] = byte == '\r' ? '\n' : byte;
-        if (it->length >= PASTE_ENDS && memcmp(it->paste + it->length - PASTE_ENDS, "\033[201~", PASTE_ENDS) == 0) {
-            it->length -= PASTE_ENDS;
-            return true;
-        }
-    }
-    return false;
-}
-
-static const curspan_key no_key = {.code = CURSPAN_KEY_NONE, .text = ""};
-
-/* Takes a key of what waits, where it is whole, or nothing more comes. */
-static bool take_key(struct terminal *it, bool is_all, curspan_key *key) {
-    const unsigned char *bytes = it->typed + it->taken;
-    if (it->is_pasting) {
-        if (!take_paste(it) && !is_all) return false;
-        *key = (curspan_key){.code = CURSPAN_KEY_PASTE, .flags = CURSPAN_ENDED, .length = it->length};
-        key->text = it->paste ? it->paste : "";
-        it->is_pasting = false;
-        return true;
-    }
-    key->length = it->taken < it->count ? curspan_first_key(bytes, it->count - it->taken, is_all, key) : 0;
-    key->text = (const char *)bytes;
-    it->taken += key->length;
-    bool is_begin = key->length == PASTE_ENDS && memcmp(bytes, "\033[200~", PASTE_ENDS) == 0;
-    if (!is_begin || !(it->options & CURSPAN_TERMINAL_PASTE)) return key->length > 0;
-    it->is_pasting = true;
-    it->length = 0;
-    return take_key(it, is_all, key);
-}
-
-static uint32_t next_key(struct terminal *it, int milliseconds, curspan_key *key) {
-    long end = curspan_now() + milliseconds;
-    if (is_changed(it)) return CURSPAN_KEY_RESIZE;
-    while (!take_key(it, it->is_at_end, key)) {
-        bool is_begun = it->is_pasting || it->taken < it->count;
-        int left = it->is_pasting ? PASTE_DELAY : is_begun ? it->escape_delay : curspan_left_until(milliseconds, end);
-        *key = no_key;
-        if (it->is_at_end) return CURSPAN_KEY_EOF;
-        uint32_t code = wait_for_input(it, left);
-        if (code == 0) read_more(it);
-        else if (code != CURSPAN_KEY_NONE || !is_begun) return code;
-        else if (take_key(it, true, key)) break;
-    }
-    return key->code;
-}
-
 uint32_t curspan_terminal_key(curspan_terminal *terminal, int milliseconds, curspan_key *key) {
+    struct terminal *it = terminal->at;
     uint32_t status = status_of(terminal);
-    *key = no_key;
-    if (status == CURSPAN_TERMINAL_OK) key->code = next_key(terminal->at, milliseconds, key);
+    *key = (curspan_key){.code = CURSPAN_KEY_NONE, .text = ""};
+    if (status == CURSPAN_TERMINAL_OK) curspan_read_key(&it->reader, milliseconds, key);
     return status;
 }

@@ -12,12 +12,26 @@
 #include <sys/types.h>
 #include <termios.h>
 
+#include "keys.h"
+
+/* Bytes that were read and nobody took, and when the last of them came. */
+enum { CURSPAN_TYPED = 256 };
+struct curspan_typed {
+    unsigned char bytes[CURSPAN_TYPED];
+    size_t first, count;
+    long came;
+    bool is_at_end; /* of the input */
+};
+
 /* Whether the picture is on the terminal's other page. */
 enum { PAGE_LEFT, PAGE_ENTERING, PAGE_ENTERED };
 
 /* A terminal of curses.h or of curspan_terminal.h. Handlers of signals, in any thread, see what is behind `owner`. */
 struct curspan_tty {
     int in, out;                   /* of which is read, and to which is written */
+    struct curspan_typed typed;
+    bool rings;                    /* the bell does since there is something to read that was read already */
+    bool is_suspended;             /* the program itself gave it back */
     size_t most;                   /* bytes that `out` takes without waiting, once it is ready to be written */
     bool is_own;                   /* `out` was opened for this terminal: no write to it waits */
     bool keeps;                    /* what it doesn't take now is kept, and nothing waits for it: */
@@ -30,6 +44,7 @@ struct curspan_tty {
     unsigned device;               /* which terminal it is, or 0 */
     struct curspan_tty *next;      /* of those that were entered, in a list that only grows */
     bool is_listed;
+    bool owns;                     /* the signals */
     pid_t owner;                   /* the process that has it, or 0 */
     int holds;                     /* of handlers that look at it now */
     int page;
@@ -88,6 +103,33 @@ int curspan_left_until(int milliseconds, long end);
 int curspan_number_in(const char *variable);
 /* The size that is wanted, else that of the terminal, else 24 by 80. Answers whether the terminal is there. */
 bool curspan_find_size(const struct curspan_tty *tty, int *lines, int *columns);
+
+/* ---- terminal_keys.c */
+
+enum { CURSPAN_HELD = 4096 + CURSPAN_TYPED }; /* bytes of the longest sequence, and of what follows it */
+
+/* How a terminal of curspan_terminal.h reads keys. */
+struct curspan_reader {
+    struct curspan_tty *tty;
+    struct curspan_keys decoder;
+    struct curspan_taken second;      /* the decoder answered it with the key before it */
+    unsigned char held[CURSPAN_HELD]; /* what the decoder read: of the key told last, and behind it */
+    size_t told, count;
+    char *paste;                      /* what was pasted and not told */
+    size_t length, room;
+    bool is_pasting;
+    int escape_delay, lines, columns; /* the size as a key told of it last */
+    int epoll, timer;                 /* the descriptor to wait for, and what makes it ready at a time: */
+    long due;
+};
+
+/* Begins to read keys, with what was asked of the terminal. Where it fails errno says why, and it is to be ended. */
+bool curspan_begin_reading(struct curspan_reader *reader, struct curspan_tty *tty, uint32_t asked);
+void curspan_end_reading(struct curspan_reader *reader);
+/* Tells a text that is being pasted as far as it came, by the next key. */
+void curspan_end_paste(struct curspan_reader *reader);
+struct curspan_key;
+void curspan_read_key(struct curspan_reader *reader, int milliseconds, struct curspan_key *key);
 
 /* ---- recolouring.c */
 
@@ -162,6 +204,18 @@ bool curspan_handlers_restart(void);
 
 /* ---- events.c */
 
+/* Reads so many bytes that are there, at most, and answers how many came. */
+size_t curspan_read_bytes(struct curspan_tty *tty, size_t most);
+/* Takes the first of those that were read. */
+void curspan_take_bytes(struct curspan_tty *tty, size_t count);
+/* How much of a delay is left that began with the last byte. */
+int curspan_delay_left(const struct curspan_tty *tty, int delay);
+/* Whether handlers told of a stop or a new size, and it wasn't looked at yet. */
+bool curspan_is_told(const struct curspan_tty *tty);
+/* Lets the bell ring, as handlers do, or not, and then answers whether it did. */
+void curspan_ring(const struct curspan_tty *tty);
+bool curspan_silence(struct curspan_tty *tty);
+
 enum curspan_waited { WAIT_FOUND, WAIT_OVER, WAIT_TOLD, WAIT_INTERRUPTED };
 
 /* Waits for something to read, for some milliseconds, or without end where they are negative. It is told of a stop, a
@@ -189,9 +243,6 @@ enum { CURSPAN_SEQUENCES = 154 };
 extern const struct curspan_sequence curspan_sequences[CURSPAN_SEQUENCES];
 /* Whether the keys of a type of terminal have a sequence, by its place. */
 bool curspan_is_of_type(int sequence, const char *type);
-/* The key that some bytes begin with, and how many of them it has: 0 where more must come, unless none do. */
-struct curspan_key;
-size_t curspan_first_key(const unsigned char *bytes, size_t count, bool is_all, struct curspan_key *key);
 /* The key whose sequence some bytes are, 0 where they begin none, and ERR where a longer sequence begins with them. */
 int curspan_key_of(const unsigned char *bytes, size_t length);
 /* Forgets the keys that the program defined, and has those of a type. */
