@@ -119,7 +119,7 @@ static void echo_key(WINDOW *win, int key) {
 }
 
 int wgetch(WINDOW *win) {
-    if (is_there(win) == ERR) return ERR;
+    if (!is_there(win)) return ERR;
     curspan_redraw_after_stop();
     if (CURSPAN_TAKE(curspan_the_tty.was_resized)) curspan_resize_to_terminal(true);
     bool is_empty = pushed.count == 0 && curspan_the_tty.typed.count == 0;
@@ -150,7 +150,7 @@ int nodelay(WINDOW *win, bool flag) { return SET_OF(win, delay, flag ? 0 : -1); 
 int notimeout(WINDOW *win, bool flag) { return SET_OF(win, no_timeout, flag); }
 void wtimeout(WINDOW *win, int milliseconds) { (void)SET_OF(win, delay, milliseconds); }
 void timeout(int milliseconds) { wtimeout(stdscr, milliseconds); }
-bool is_keypad(const WINDOW *win) { return is_there(win) == OK && win->keypad; }
-bool is_nodelay(const WINDOW *win) { return is_there(win) == OK && win->delay == 0; }
-bool is_notimeout(const WINDOW *win) { return is_there(win) == OK && win->no_timeout; }
-int wgetdelay(const WINDOW *win) { return is_there(win) == OK ? win->delay : 0; }
+bool is_keypad(const WINDOW *win) { return is_there(win) && win->keypad; }
+bool is_nodelay(const WINDOW *win) { return is_there(win) && win->delay == 0; }
+bool is_notimeout(const WINDOW *win) { return is_there(win) && win->no_timeout; }
+int wgetdelay(const WINDOW *win) { return is_there(win) ? win->delay : 0; }

@@ -16,11 +16,11 @@ static int update(void) {
     bool is_shown = curspan_is_shown(&curspan_the_tty) && !was_away;
     if (!is_shown) curspan_palette_now()->is_alternate = false;
     if (!curspan_come_back(&curspan_the_tty)) return ERR;
-    if (!is_shown) curspan_invalidate(&curspan_the_screen);
-    curspan_answer answer = curspan_doupdate(&curspan_the_screen);
+    if (!is_shown) curspan_invalidate(curspan_settle());
+    curspan_answer answer = curspan_doupdate(curspan_settle());
     curscr->begin_y = curspan_shown_y;
     curscr->begin_x = curspan_shown_x;
-    bool is_sent = curspan_hand_on(&curspan_the_tty, &curspan_the_screen, curspan_palette_now(), &outgoing);
+    bool is_sent = curspan_hand_on(&curspan_the_tty, curspan_settle(), curspan_palette_now(), &outgoing);
     return is_sent ? done(answer) : ERR;
 }
 
@@ -56,7 +56,7 @@ int mvcur(int old_y, int old_x, int y, int x) {
     (void)old_y;
     (void)old_x;
     if (!stdscr || y < 0 || y >= LINES || x < 0 || x >= COLS) return ERR;
-    curspan_invalidate(&curspan_the_screen);
+    curspan_invalidate(curspan_settle());
     return fprintf(curspan_stream, "\033[%d;%dH", y + 1, x + 1) < 0 ? ERR : OK;
 }
 

@@ -59,9 +59,9 @@ SCREEN *newterm(const char *type, FILE *out, FILE *in) {
     bool is_begun = begin_tty(from, to);
     curspan_stream = out;
     curspan_find_screen_size(&LINES, &COLS);
-    curspan_answer answer = curspan_open(&curspan_the_screen, (uint16_t)LINES, (uint16_t)COLS);
+    curspan_answer answer = curspan_open(curspan_settle(), (uint16_t)LINES, (uint16_t)COLS);
     if (!is_begun || answer.status != CURSPAN_OK) {
-        curspan_close(&curspan_the_screen);
+        curspan_close(curspan_settle());
         curspan_abandon(&curspan_the_tty);
         return NULL;
     }
@@ -73,7 +73,7 @@ SCREEN *newterm(const char *type, FILE *out, FILE *in) {
     curspan_begin_modes();
     int error;
     if (setupterm) setupterm(type, to, &error);
-    return (SCREEN *)&curspan_the_screen;
+    return (SCREEN *)curspan_settle();
 }
 
 WINDOW *initscr(void) {
@@ -95,10 +95,10 @@ int endwin(void) {
 bool isendwin(void) { return stdscr && curspan_the_tty.is_ended; }
 
 void delscreen(SCREEN *screen) {
-    if (!screen || screen != (SCREEN *)&curspan_the_screen) return;
+    if (!screen || screen != (SCREEN *)curspan_settle()) return;
     if (curspan_is_owed(&curspan_the_tty)) endwin();
     curspan_abandon(&curspan_the_tty);
-    curspan_close(&curspan_the_screen);
+    curspan_close(curspan_settle());
     curspan_forget_all();
     curspan_forget_output();
     curspan_forget_keys(NULL);
