@@ -2,7 +2,7 @@
 #include "inside.h"
 #include "terminal.h"
 
-struct curspan_tty curspan_the_tty = {.in = -1, .out = -1, .line = -1, .bell = -1};
+struct curspan_tty curspan_the_tty = {.in = -1, .out = -1, .own = -1, .line = -1, .bell = -1};
 FILE *curspan_stream;
 
 static int visibility_now = 1;

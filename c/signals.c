@@ -161,14 +161,22 @@ static bool has(int number, void (*handler)(int)) {
     return sigaction(number, NULL, &now) == 0 && !(now.sa_flags & SA_SIGINFO) && now.sa_handler == handler;
 }
 
-/* Catches faults, also one for want of stack, before what the program does at them. */
+static bool catches_faults(const struct sigaction *now) {
+    return now->sa_flags & SA_SIGINFO && now->sa_sigaction == fault;
+}
+
+/* Catches faults, also one for want of stack, before what the program does at them. A forked child does so already. */
 static void catch_faults(void) {
     static char stack[STACK];
     stack_t other = {.ss_sp = stack, .ss_size = STACK}, now;
     struct sigaction action = {.sa_sigaction = fault, .sa_flags = SA_SIGINFO | SA_ONSTACK | SA_RESTART};
     if (sigaltstack(NULL, &now) == 0 && now.ss_flags & SS_DISABLE) sigaltstack(&other, NULL);
     sigemptyset(&action.sa_mask);
-    for (int i = 0; i < FAULTS; i++) sigaction(faults[i], &action, &terminals.after_fault[i]);
+    for (int i = 0; i < FAULTS; i++) {
+        struct sigaction before;
+        sigaction(faults[i], &action, &before);
+        if (!catches_faults(&before)) terminals.after_fault[i] = before;
+    }
 }
 
 static void catch_signals(void) {
@@ -185,7 +193,7 @@ static void leave_signals(void) {
     for (int number = 1; number <= LAST_SIGNAL; number++)
         if (handler_of(number) && has(number, handler_of(number))) on(number, SIG_DFL, 0);
     for (int i = 0; i < FAULTS; i++)
-        if (sigaction(faults[i], NULL, &now) == 0 && now.sa_flags & SA_SIGINFO && now.sa_sigaction == fault)
+        if (sigaction(faults[i], NULL, &now) == 0 && catches_faults(&now))
             sigaction(faults[i], &terminals.after_fault[i], NULL);
 }
 
@@ -256,11 +264,10 @@ void curspan_abandon(struct curspan_tty *tty) {
     CURSPAN_SET(tty->owner, 0);
     while (was_mine && CURSPAN_LOOK(tty->holds) > 0) sched_yield();
     pthread_mutex_unlock(&terminals.lock);
-    if (tty->is_own) close(tty->out);
+    if (tty->own >= 0) close(tty->own);
     if (tty->bell >= 0) close(tty->bell);
     free(tty->kept);
     tty->kept = NULL;
     tty->kept_count = 0;
-    tty->is_own = false;
-    tty->bell = -1;
+    tty->own = tty->bell = -1;
 }

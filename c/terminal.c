@@ -73,7 +73,7 @@ static struct terminal *take_spare(void) {
 
 /* Frees what a terminal has, but for itself. */
 static void put_aside(struct terminal *it) {
-    bool is_own = it->tty.in != it->given && it->tty.in != it->tty.out;
+    bool is_own = it->tty.in != it->given && it->tty.in != it->tty.own;
     curspan_abandon(&it->tty);
     if (is_own) close(it->tty.in);
     if (it->opened >= 0) close(it->opened);
@@ -102,7 +102,7 @@ static void clear(struct terminal *it, int in, int out, uint32_t options) {
     tty->is_ended = true;
     tty->was_away = tty->is_keypad = false;
     curspan_set_output(tty, out);
-    int own = in == out && tty->is_own ? tty->out : curspan_open_anew(in);
+    int own = in == out ? tty->own : curspan_open_anew(in);
     tty->in = tty->line = own >= 0 ? own : in;
 }
 

@@ -32,8 +32,8 @@ struct curspan_tty {
     struct curspan_typed typed;
     bool rings;                    /* the bell does since there is something to read that was read already */
     bool is_suspended;             /* the program itself gave it back */
+    int own;                       /* of `out`, opened anew so that no write waits: -1 where that can't be, and then */
     size_t most;                   /* bytes that `out` takes without waiting, once it is ready to be written */
-    bool is_own;                   /* `out` was opened for this terminal: no write to it waits */
     bool keeps;                    /* what it doesn't take now is kept, and nothing waits for it: */
     uint8_t *kept;
     size_t kept_count;

@@ -35,15 +35,14 @@ int curspan_open_anew(int descriptor) {
 }
 
 void curspan_set_output(struct curspan_tty *tty, int out) {
-    int own = curspan_open_anew(out);
-    tty->is_own = own >= 0;
-    tty->out = own >= 0 ? own : out;
-    tty->most = own >= 0 ? SIZE_MAX : isatty(out) ? 1 : PIPED;
+    tty->out = out;
+    tty->own = curspan_open_anew(out);
+    tty->most = isatty(out) ? 1 : PIPED;
 }
 
 static ssize_t write_some(const struct curspan_tty *tty, const uint8_t *bytes, size_t length, bool waits) {
     struct pollfd ready = {tty->out, POLLOUT, 0};
-    if (waits || tty->is_own) return write(tty->out, bytes, length);
+    if (waits || tty->own >= 0) return write(waits ? tty->out : tty->own, bytes, length);
     if (poll(&ready, 1, 0) > 0) return write(tty->out, bytes, length < tty->most ? length : tty->most);
     errno = EAGAIN;
     return -1;
