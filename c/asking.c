@@ -3,7 +3,7 @@
 
 /* ---- windows */
 
-static bool has(const WINDOW *win, bool option) { return is_there(win) == OK && option; }
+static bool has(const WINDOW *win, bool option) { return is_there(win) && option; }
 
 bool is_cleared(const WINDOW *win) { return is_so(curspan_is_cleared(SCREEN_AND(win))); }
 bool is_idcok(const WINDOW *win) { return win && has(win, !win->no_idcok); }
@@ -14,18 +14,18 @@ bool is_pad(const WINDOW *win) { return win && has(win, win->is_pad); }
 bool is_scrollok(const WINDOW *win) { return win && has(win, win->scrolls); }
 bool is_subwin(const WINDOW *win) { return wgetparent(win) != NULL; }
 bool is_syncok(const WINDOW *win) { return win && has(win, win->synchronizes); }
-WINDOW *wgetparent(const WINDOW *win) { return is_there(win) == ERR ? NULL : win->parent; }
+WINDOW *wgetparent(const WINDOW *win) { return !is_there(win) ? NULL : win->parent; }
 
 int wgetscrreg(const WINDOW *win, int *top, int *bottom) {
-    if (is_there(win) == ERR || !top || !bottom) return ERR;
+    if (!is_there(win) || !top || !bottom) return ERR;
     *top = win->top;
     *bottom = win->bottom;
     return OK;
 }
 
-attr_t getattrs(const WINDOW *win) { return is_there(win) == OK ? win->attrs : A_NORMAL; }
+attr_t getattrs(const WINDOW *win) { return is_there(win) ? win->attrs : A_NORMAL; }
 int use_window(WINDOW *win, NCURSES_WINDOW_CB call, void *argument) {
-    return is_there(win) == OK && call ? call(win, argument) : ERR;
+    return is_there(win) && call ? call(win, argument) : ERR;
 }
 
 /* ---- the terminal */
@@ -38,7 +38,7 @@ chtype termattrs(void) {
 }
 const char *curses_version(void) { return "curspan " CURSPAN_VERSION; }
 
-SCREEN *set_term(SCREEN *screen) { return stdscr && screen == (SCREEN *)&curspan_the_screen ? screen : NULL; }
+SCREEN *set_term(SCREEN *screen) { return stdscr && screen == (SCREEN *)curspan_settle() ? screen : NULL; }
 
 int use_screen(SCREEN *screen, NCURSES_SCREEN_CB call, void *argument) {
     return set_term(screen) && call ? call(screen, argument) : ERR;

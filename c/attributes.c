@@ -9,14 +9,14 @@ static inline int set(WINDOW *win, attr_t attrs) {
 
 static inline attr_t without(attr_t attrs, attr_t less) { return attrs & ~(less & A_COLOR ? less | A_COLOR : less); }
 
-int wattrset(WINDOW *win, int attrs) { return is_there(win) == ERR ? ERR : set(win, (attr_t)attrs); }
+int wattrset(WINDOW *win, int attrs) { return !is_there(win) ? ERR : set(win, (attr_t)attrs); }
 
 int wattron(WINDOW *win, int attrs) {
-    return is_there(win) == ERR ? ERR : set(win, curspan_with(win->attrs, (attr_t)attrs));
+    return !is_there(win) ? ERR : set(win, curspan_with(win->attrs, (attr_t)attrs));
 }
 
 int wattroff(WINDOW *win, int attrs) {
-    return is_there(win) == ERR ? ERR : set(win, without(win->attrs, (attr_t)attrs));
+    return !is_there(win) ? ERR : set(win, without(win->attrs, (attr_t)attrs));
 }
 
 int wstandout(WINDOW *win) { return wattron(win, (int)A_STANDOUT); }
@@ -28,14 +28,14 @@ int wattr_set(WINDOW *win, attr_t attrs, short pair, void *none) {
 }
 
 int wattr_get(WINDOW *win, attr_t *attrs, short *pair, void *none) {
-    if (none || is_there(win) == ERR) return ERR;
+    if (none || !is_there(win)) return ERR;
     if (attrs) *attrs = win->attrs;
     if (pair) *pair = (short)PAIR_NUMBER(win->attrs);
     return OK;
 }
 
 int wcolor_set(WINDOW *win, short pair, void *none) {
-    return is_there(win) == ERR ? ERR : wattr_set(win, win->attrs, pair, none);
+    return !is_there(win) ? ERR : wattr_set(win, win->attrs, pair, none);
 }
 
 /* ---- how characters are written */
@@ -60,14 +60,14 @@ static chtype with_character(chtype ch) { return ch & A_CHARTEXT ? ch : ch | ' '
 /* The window's attributes have those of the background. One whose character is none in ASCII is refused. */
 static int change_background(WINDOW *win, chtype ch) {
     ch = curspan_as_drawn(ch);
-    if (is_there(win) == ERR || !is_printable(with_character(ch) & A_CHARTEXT)) return ERR;
+    if (!is_there(win) || !is_printable(with_character(ch) & A_CHARTEXT)) return ERR;
     attr_t attrs = curspan_with(without(win->attrs, win->background & A_ATTRIBUTES), ch & A_ATTRIBUTES);
     win->background = with_character(ch);
     return set(win, attrs);
 }
 
 void wbkgdset(WINDOW *win, chtype ch) { (void)change_background(win, ch); }
-chtype getbkgd(WINDOW *win) { return is_there(win) == ERR ? (chtype)ERR : win->background; }
+chtype getbkgd(WINDOW *win) { return !is_there(win) ? (chtype)ERR : win->background; }
 
 /* A cell under another background: what was background gets the other character, and a pair of its own is kept. */
 static chtype on_other(chtype cell, chtype old, chtype new) {
@@ -78,7 +78,7 @@ static chtype on_other(chtype cell, chtype old, chtype new) {
 
 int wbkgd(WINDOW *win, chtype ch) {
     uint32_t row[LONGEST], before = 0, after = 0;
-    if (is_there(win) == ERR) return ERR;
+    if (!is_there(win)) return ERR;
     chtype old = win->background;
     ch = curspan_as_drawn(ch);
     if (with_character(ch) == old) return OK;

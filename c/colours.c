@@ -55,7 +55,7 @@ static int set_defaults(int foreground, int background) {
 /* What was shown before is drawn anew, so that blanks get the colours of pair 0 too. */
 int start_color(void) {
     if (!stdscr) return ERR;
-    if (!it.is_started) curspan_invalidate(&curspan_the_screen);
+    if (!it.is_started) curspan_invalidate(curspan_settle());
     it.is_started = true;
     return it.has_defaults ? OK : set_defaults(COLOR_WHITE, COLOR_BLACK);
 }
@@ -90,7 +90,7 @@ int init_pair(short pair, short foreground, short background) {
     if (!it.is_started || pair < 1 || pair > LAST_PAIR || !is_colour(foreground) || !is_colour(background)) return ERR;
     bool are_others = it.colours[pair][0] != foreground || it.colours[pair][1] != background;
     bool is_shown = curspan_owns[0][pair] || curspan_owns[1][pair];
-    if (it.is_given[pair] && is_shown && are_others) curspan_invalidate(&curspan_the_screen);
+    if (it.is_given[pair] && is_shown && are_others) curspan_invalidate(curspan_settle());
     it.colours[pair][0] = foreground;
     it.colours[pair][1] = background;
     it.is_given[pair] = it.is_stale = true;

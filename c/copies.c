@@ -46,14 +46,14 @@ static int copy(const WINDOW *from, WINDOW *to, int y, int x, int top, int left,
 
 /* As over ncurses, all of the lines that are copied to is touched. */
 int copywin(const WINDOW *from, WINDOW *to, int y, int x, int top, int left, int bottom, int right, int overlays) {
-    if (is_there(from) == ERR || is_there(to) == ERR) return ERR;
+    if (!is_there(from) || !is_there(to)) return ERR;
     if (!are_numbers(y, x, top, left) || !are_numbers(bottom, right, 0, 0)) return ERR;
     if (copy(from, to, y, x, top, left, bottom, right, overlays != 0) == ERR) return ERR;
     return touchline(to, top, bottom - top + 1);
 }
 
 bool curspan_find_common(const WINDOW *from, const WINDOW *to, curspan_common *common) {
-    if (is_there(from) == ERR || is_there(to) == ERR) return false;
+    if (!is_there(from) || !is_there(to)) return false;
     int from_y = getbegy(from), from_x = getbegx(from), to_y = getbegy(to), to_x = getbegx(to);
     int top = most(from_y, to_y), bottom = least(from_y + (int)from->lines, to_y + (int)to->lines);
     int left = most(from_x, to_x), right = least(from_x + (int)from->columns, to_x + (int)to->columns);

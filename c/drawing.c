@@ -9,13 +9,13 @@ static int draw(const WINDOW *win, int y, int x, int lines, int columns, chtype 
 }
 
 int whline(WINDOW *win, chtype ch, int n) {
-    if (is_there(win) == ERR) return ERR;
+    if (!is_there(win)) return ERR;
     int count = least(n, (int)win->columns - win->x);
     return count < 1 ? OK : curspan_changed(win, draw(win, win->y, win->x, 1, count, drawn(ch, ACS_HLINE)));
 }
 
 int wvline(WINDOW *win, chtype ch, int n) {
-    if (is_there(win) == ERR) return ERR;
+    if (!is_there(win)) return ERR;
     int count = least(n, (int)win->lines - win->y);
     return count < 1 ? OK : curspan_changed(win, draw(win, win->y, win->x, count, 1, drawn(ch, ACS_VLINE)));
 }
@@ -31,7 +31,7 @@ static void draw_end(const WINDOW *win, int y, chtype left, chtype line, chtype 
 
 int wborder(WINDOW *win, chtype left, chtype right, chtype top, chtype bottom, chtype top_left, chtype top_right,
             chtype bottom_left, chtype bottom_right) {
-    if (is_there(win) == ERR) return ERR;
+    if (!is_there(win)) return ERR;
     int lines = (int)win->lines, last_x = (int)win->columns - 1;
     draw(win, 0, 0, lines, 1, drawn(left, ACS_VLINE));
     draw(win, 0, last_x, lines, 1, drawn(right, ACS_VLINE));
@@ -42,7 +42,7 @@ int wborder(WINDOW *win, chtype left, chtype right, chtype top, chtype bottom, c
 
 int wchgat(WINDOW *win, int n, attr_t attrs, short pair, const void *none) {
     chtype cells[LONGEST];
-    if (is_there(win) == ERR || none || pair < 0 || pair > LAST_PAIR) return ERR;
+    if (!is_there(win) || none || pair < 0 || pair > LAST_PAIR) return ERR;
     int count = n < -1 ? 0 : curspan_read_cells(win, win->y, win->x, cells, n);
     attrs = (attrs & A_ATTRIBUTES & ~A_COLOR) | COLOR_PAIR(pair);
     for (int i = 0; i < count; i++) cells[i] = (cells[i] & A_CHARTEXT) | attrs;

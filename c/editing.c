@@ -93,14 +93,14 @@ static void insert(WINDOW *win, const uint8_t *text, size_t length, attr_t attrs
 
 int winsch(WINDOW *win, chtype ch) {
     uint8_t text = ch & A_CHARTEXT;
-    if (is_there(win) == ERR) return ERR;
+    if (!is_there(win)) return ERR;
     if (win->begun.count > 0) curspan_check_begun(win);
     insert(win, &text, 1, ch & A_ATTRIBUTES);
     return curspan_changed(win, OK);
 }
 
 int winsnstr(WINDOW *win, const char *text, int n) {
-    if (!text || is_there(win) == ERR) return ERR;
+    if (!text || !is_there(win)) return ERR;
     size_t length = n <= 0 ? strlen(text) : strnlen(text, (size_t)n);
     win->begun.count = 0;
     insert(win, (const uint8_t *)text, length, A_NORMAL);
@@ -112,7 +112,7 @@ int winsnstr(WINDOW *win, const char *text, int n) {
 
 int wdelch(WINDOW *win) {
     uint32_t line[LONGEST + 1];
-    if (is_there(win) == ERR) return ERR;
+    if (!is_there(win)) return ERR;
     read_line(win, line, LONGEST);
     line[win->columns] = curspan_written(win->background);
     return curspan_changed(win, put_rest(win, win->x, line + win->x + 1));
@@ -131,7 +131,7 @@ int wscrl(WINDOW *win, int n) {
 }
 
 int winsdelln(WINDOW *win, int n) {
-    if (is_there(win) == ERR) return ERR;
+    if (!is_there(win)) return ERR;
     return curspan_changed(win, curspan_scroll_lines(win, win->y, (int)win->lines - 1, -most(n, -LONGEST)));
 }
 
@@ -139,7 +139,7 @@ int winsertln(WINDOW *win) { return winsdelln(win, 1); }
 int wdeleteln(WINDOW *win) { return winsdelln(win, -1); }
 
 int werase(WINDOW *win) {
-    if (is_there(win) == ERR || blank(win, 0, 0, (int)win->lines) == ERR) return ERR;
+    if (!is_there(win) || blank(win, 0, 0, (int)win->lines) == ERR) return ERR;
     win->has_ended = false;
     curspan_go(win, 0, 0);
     return curspan_changed(win, OK);
@@ -149,11 +149,11 @@ int wclear(WINDOW *win) { return werase(win) == ERR ? ERR : clearok(win, TRUE); 
 
 /* A character that was just written in the last place isn't to the right of the cursor, which stayed on it. */
 int wclrtoeol(WINDOW *win) {
-    return is_there(win) == ERR || win->has_ended ? ERR : curspan_changed(win, blank(win, win->y, win->x, 1));
+    return !is_there(win) || win->has_ended ? ERR : curspan_changed(win, blank(win, win->y, win->x, 1));
 }
 
 int wclrtobot(WINDOW *win) {
-    if (is_there(win) == ERR) return ERR;
+    if (!is_there(win)) return ERR;
     int below = (int)win->lines - 1 - win->y;
     if (below > 0) blank(win, win->y + 1, 0, below);
     return curspan_changed(win, blank(win, win->y, win->x, 1));

@@ -63,13 +63,12 @@ extern struct curspan_waiting curspan_waiting;
 /* Writes those up to a column, which are all. */
 void curspan_put_waiting(int end);
 
-/* The screen, in which nothing is left to be written. */
+/* Writes what waits, and answers the screen. */
 extern curspan curspan_kept_screen;
-static inline curspan *curspan_written_screen(void) {
+static inline curspan *curspan_settle(void) {
     if (curspan_waiting.win) curspan_put_waiting(curspan_waiting.win->x);
     return &curspan_kept_screen;
 }
-#define curspan_the_screen (*curspan_written_screen())
 
 /* Moves the cursor of a window. */
 static inline void curspan_go(WINDOW *win, int y, int x) {
@@ -93,7 +92,7 @@ void curspan_begin(curspan_answer answer);
 void curspan_forget_all(void);
 
 /* The screen, and a window of it, as arguments. */
-#define SCREEN_AND(win) &curspan_the_screen, curspan_number(win)
+#define SCREEN_AND(win) curspan_settle(), curspan_number(win)
 /* The number of a window for a call that asks for its cursor, which Curspan has then. */
 void curspan_place(WINDOW *win);
 static inline uint16_t curspan_placed(WINDOW *win) {
@@ -165,8 +164,8 @@ int curspan_put_cells(WINDOW *win, int y, int x, const chtype *cells, int n);
 int curspan_read_cells(WINDOW *win, int y, int x, chtype *cells, int n);
 
 /* The size of the screen, which wresize may give the standard screen no more. */
-static inline int curspan_lines(void) { return (int)curspan_getmaxyx(&curspan_the_screen, 0).first; }
-static inline int curspan_columns(void) { return (int)curspan_getmaxyx(&curspan_the_screen, 0).second; }
+static inline int curspan_lines(void) { return (int)curspan_getmaxyx(curspan_settle(), 0).first; }
+static inline int curspan_columns(void) { return (int)curspan_getmaxyx(curspan_settle(), 0).second; }
 /* Whether so many lines and columns from a place on are on the screen. */
 bool curspan_fits(int lines, int columns, int y, int x);
 /* Takes what is touched of a window that outlies, and its cursor, into the virtual screen. */
@@ -219,9 +218,9 @@ static inline bool are_numbers(int a, int b, int c, int d) {
     return is_number(a) && is_number(b) && is_number(c) && is_number(d);
 }
 
-static inline int is_there(const WINDOW *win) { return curspan_number(win) == NUMBER ? ERR : OK; }
+static inline bool is_there(const WINDOW *win) { return curspan_number(win) != NUMBER; }
 /* Sets what is kept of a window. */
-#define SET_OF(win, member, value) (is_there(win) == ERR ? ERR : ((win)->member = (value), OK))
+#define SET_OF(win, member, value) (!is_there(win) ? ERR : ((win)->member = (value), OK))
 static inline bool is_printable(uint32_t ch) { return ch >= ' ' && ch <= '~'; }
 static inline int least(int a, int b) { return a < b ? a : b; }
 static inline int most(int a, int b) { return a > b ? a : b; }

@@ -76,7 +76,7 @@ static void edit(struct line *line, int key) {
 int wgetnstr(WINDOW *win, char *text, int n) {
     struct curspan_modes modes;
     struct termios before;
-    if (is_there(win) == ERR || !text) return ERR;
+    if (!is_there(win) || !text) return ERR;
     int room = n < 0 ? LONGEST_LINE : least(n, LONGEST_LINE);
     struct line line = {win, text, 0, room, win->y, win->x, win->left, curspan_modes.echo};
     curspan_begin_raw(&modes, &before);

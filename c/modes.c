@@ -12,7 +12,7 @@ static int get(struct termios *modes) {
     return curspan_the_tty.line >= 0 && tcgetattr(curspan_the_tty.line, modes) == 0 ? OK : ERR;
 }
 
-static int set(const struct termios *modes) { return curspan_set_modes(&curspan_the_tty, modes) ? OK : ERR; }
+static int set(const struct termios *modes) { return curspan_set_modes(&curspan_the_tty, modes, TCSADRAIN) ? OK : ERR; }
 
 static int change(const struct termios *modes) {
     if (set(modes) == ERR) return ERR;
@@ -124,11 +124,11 @@ int def_shell_mode(void) { return get(&curspan_the_tty.shell); }
 
 int reset_prog_mode(void) {
     if (set(&curspan_the_tty.program) == ERR) return ERR;
-    return !curspan_the_tty.is_keypad || curspan_switch_keypad(&curspan_the_tty, true) ? OK : ERR;
+    return !curspan_the_tty.is_keypad || curspan_switch_keypad(&curspan_the_tty, true, -1) ? OK : ERR;
 }
 
 int reset_shell_mode(void) {
-    if (curspan_the_tty.is_keypad) curspan_switch_keypad(&curspan_the_tty, false);
+    if (curspan_the_tty.is_keypad) curspan_switch_keypad(&curspan_the_tty, false, -1);
     return set(&curspan_the_tty.shell);
 }
 

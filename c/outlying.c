@@ -8,13 +8,13 @@ bool curspan_fits(int lines, int columns, int y, int x) {
 /* A window of one cell that isn't touched has nothing to show but its cursor. */
 int curspan_show_cursor(int y, int x) {
     if (!curspan_fits(1, 1, y, x)) return OK;
-    curspan_answer answer = curspan_newwin(&curspan_the_screen, 1, 1, (uint16_t)y, (uint16_t)x);
+    curspan_answer answer = curspan_newwin(curspan_settle(), 1, 1, (uint16_t)y, (uint16_t)x);
     if (answer.status != CURSPAN_OK) return ERR;
     curspan_shown_y = y;
     curspan_shown_x = x;
-    curspan_untouchwin(&curspan_the_screen, (uint16_t)answer.first);
-    curspan_wnoutrefresh(&curspan_the_screen, (uint16_t)answer.first);
-    return done(curspan_delwin(&curspan_the_screen, (uint16_t)answer.first));
+    curspan_untouchwin(curspan_settle(), (uint16_t)answer.first);
+    curspan_wnoutrefresh(curspan_settle(), (uint16_t)answer.first);
+    return done(curspan_delwin(curspan_settle(), (uint16_t)answer.first));
 }
 
 int curspan_show_outlying(WINDOW *win) {

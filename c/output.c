@@ -2,7 +2,7 @@
 #include "inside.h"
 #include "terminal.h"
 
-struct curspan_tty curspan_the_tty = {.in = -1, .out = -1, .line = -1};
+struct curspan_tty curspan_the_tty = {.in = -1, .out = -1, .own = -1, .line = -1, .bell = -1};
 FILE *curspan_stream;
 
 static int visibility_now = 1;
@@ -11,29 +11,28 @@ static struct curspan_outgoing outgoing;
 /* Takes the terminal's size over where it may be another, comes to the picture's page, and writes what has changed. */
 static int update(void) {
     if (!stdscr) return ERR;
-    bool is_told = curspan_was_resized(), was_away = curspan_the_tty.was_away;
-    curspan_the_tty.was_away = false;
+    bool is_told = CURSPAN_TAKE(curspan_the_tty.was_resized), was_away = CURSPAN_TAKE(curspan_the_tty.was_away);
     if (is_told || was_away) curspan_resize_to_terminal(is_told);
-    bool is_there = curspan_the_tty.page == PAGE_ENTERED;
-    if (!is_there) curspan_palette_now()->is_alternate = false;
+    bool is_shown = curspan_is_shown(&curspan_the_tty) && !was_away;
+    if (!is_shown) curspan_palette_now()->is_alternate = false;
     if (!curspan_come_back(&curspan_the_tty)) return ERR;
-    if (!is_there) curspan_invalidate(&curspan_the_screen);
-    curspan_answer answer = curspan_doupdate(&curspan_the_screen);
+    if (!is_shown) curspan_invalidate(curspan_settle());
+    curspan_answer answer = curspan_doupdate(curspan_settle());
     curscr->begin_y = curspan_shown_y;
     curscr->begin_x = curspan_shown_x;
-    bool is_sent = curspan_hand_on(&curspan_the_tty, &curspan_the_screen, curspan_palette_now(), &outgoing);
+    bool is_sent = curspan_hand_on(&curspan_the_tty, curspan_settle(), curspan_palette_now(), &outgoing);
     return is_sent ? done(answer) : ERR;
 }
 
 int doupdate(void) {
-    curspan_hold_stop();
+    curspan_hold_stop(&curspan_the_tty);
     int answer = update();
-    curspan_let_stop();
+    curspan_let_stop(&curspan_the_tty);
     return answer;
 }
 
 bool curspan_redraw_after_stop(void) {
-    bool was_stopped = curspan_was_stopped();
+    bool was_stopped = CURSPAN_TAKE(curspan_the_tty.was_stopped);
     if (was_stopped) doupdate();
     return was_stopped;
 }
@@ -44,8 +43,8 @@ int curs_set(int visibility) {
     int before = visibility_now;
     if (!stdscr || visibility < 0 || visibility > 2) return ERR;
     if (visibility == before) return before;
-    bool changes = (visibility > 0) != (before > 0) && tty->page == PAGE_ENTERED;
-    if (changes && !curspan_put_text(tty, visibility > 0 ? show : hide)) return ERR;
+    bool changes = (visibility > 0) != (before > 0) && curspan_is_shown(tty);
+    if (changes && !curspan_send_text(tty, visibility > 0 ? show : hide)) return ERR;
     snprintf(tty->enter, sizeof tty->enter, CURSPAN_ENTER "%s", visibility > 0 ? "" : hide);
     visibility_now = visibility;
     return before;
@@ -57,11 +56,11 @@ int mvcur(int old_y, int old_x, int y, int x) {
     (void)old_y;
     (void)old_x;
     if (!stdscr || y < 0 || y >= LINES || x < 0 || x >= COLS) return ERR;
-    curspan_invalidate(&curspan_the_screen);
+    curspan_invalidate(curspan_settle());
     return fprintf(curspan_stream, "\033[%d;%dH", y + 1, x + 1) < 0 ? ERR : OK;
 }
 
-int beep(void) { return stdscr && curspan_put_text(&curspan_the_tty, "\a") ? OK : ERR; }
+int beep(void) { return stdscr && curspan_send_text(&curspan_the_tty, "\a") ? OK : ERR; }
 int flash(void) { return beep(); }
 
 void curspan_forget_output(void) {

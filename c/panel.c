@@ -20,7 +20,7 @@ static uint16_t number_of(const PANEL *panel) {
     return at >= first && at < first + sizeof panels && panel->number > 0 ? panel->number : NUMBER;
 }
 
-#define SCREEN_AND_PANEL(panel) &curspan_the_screen, number_of(panel)
+#define SCREEN_AND_PANEL(panel) curspan_settle(), number_of(panel)
 
 /* The panel of an answer that is its number, and NULL of none or of a refusal. */
 static PANEL *panel_of(curspan_answer answer) {
@@ -34,7 +34,7 @@ static void give_number(PANEL *panel, uint16_t number) {
 
 PANEL *new_panel(WINDOW *win) {
     if (win && win->outlies && curspan_cut_outside(win) == ERR) return NULL;
-    curspan_answer answer = curspan_new_panel(&curspan_the_screen, curspan_number(win));
+    curspan_answer answer = curspan_new_panel(curspan_settle(), curspan_number(win));
     if (answer.status != CURSPAN_OK) return NULL;
     PANEL *panel = &panels[answer.first];
     if (panel->number > 0) /* another panel that changed its number has this place */
@@ -57,11 +57,14 @@ bool curspan_is_mixed;
 /* Until then it is noted what panels left since the last update. */
 enum { MOST_LEFT = 100 };
 
-static struct {
+struct place {
     int y, x;
     unsigned lines, columns;
-} left[MOST_LEFT];
-static int count;
+};
+static struct {
+    struct place places[MOST_LEFT];
+    int count;
+} noted;
 
 /* Whether the picture of panels has a window: one in a visible panel, the standard screen, or one from these. */
 static bool is_in_picture(const WINDOW *win) {
@@ -98,24 +101,23 @@ static void begin_to_mix(void) {
     curspan_is_mixed = true;
     for (PANEL *panel = panels; panel < end; panel++)
         if (panel->number > 0 && (panel->is_left || panel_hidden(panel))) touchwin(panel->win);
-    while (count-- > 0) {
-        WINDOW *win = newwin((int)left[count].lines, (int)left[count].columns, left[count].y, left[count].x);
+    while (noted.count-- > 0) {
+        const struct place *left = &noted.places[noted.count];
+        WINDOW *win = newwin((int)left->lines, (int)left->columns, left->y, left->x);
         if (win) touch_all(win);
         delwin(win);
     }
 }
 
 void curspan_note_refreshed(const WINDOW *win) {
-    if (is_there(win) == OK && !is_in_picture(win)) begin_to_mix();
+    if (is_there(win) && !is_in_picture(win)) begin_to_mix();
 }
 
 static void note_left(PANEL *panel) {
     panel->is_left = true;
-    if (count == MOST_LEFT) return;
-    left[count].y = panel->win->begin_y;
-    left[count].x = panel->win->begin_x;
-    left[count].lines = panel->win->lines;
-    left[count++].columns = panel->win->columns;
+    const WINDOW *win = panel->win;
+    if (noted.count == MOST_LEFT) return;
+    noted.places[noted.count++] = (struct place){win->begin_y, win->begin_x, win->lines, win->columns};
 }
 
 /* Touches what a visible panel covers, before it goes. The first from an end of the order that it would go to stays. */
@@ -195,7 +197,7 @@ const void *panel_userptr(const PANEL *panel) { return panel_hidden(panel) == ER
 /* Puts a standard screen of another size than the screen's where update_panels takes it from. */
 static void put_standard(void) {
     int lines = least(getmaxy(stdscr), curspan_lines()), columns = least(getmaxx(stdscr), curspan_columns());
-    curspan_werase(&curspan_the_screen, 0);
+    curspan_werase(curspan_settle(), 0);
     curspan_copywin(SCREEN_AND(stdscr), 0, 0, 0, 0, 0, (uint16_t)(lines - 1), (uint16_t)(columns - 1), false);
 }
 
@@ -205,7 +207,7 @@ static void update_all(void) {
     WINDOW *topmost = top ? top->win : stdscr;
     if (stdscr && stdscr->number > 0) put_standard();
     (void)curspan_placed(topmost);
-    curspan_update_panels(&curspan_the_screen);
+    curspan_update_panels(curspan_settle());
     if (stdscr) stdscr->moved = false;
     for (PANEL *panel = panels; panel < end; panel++) {
         panel->is_left = false;
@@ -218,20 +220,20 @@ static void update_all(void) {
 void update_panels(void) {
     if (!curspan_is_mixed) update_all();
     else if (end > panels) update_touched();
-    count = 0;
+    noted.count = 0;
 }
 
 /* ---- windows and screens that are made anew */
 
 void curspan_forget_panels(void) {
     curspan_is_mixed = false;
-    count = 0;
+    noted.count = 0;
     while (end > panels) (--end)->number = 0;
 }
 
 /* The panel after one by their numbers, the first after none, and NULL after the last. */
 static PANEL *next_panel(const PANEL *panel) {
-    return panel_of(curspan_next_panel(&curspan_the_screen, panel ? panel->number : 0));
+    return panel_of(curspan_next_panel(curspan_settle(), panel ? panel->number : 0));
 }
 
 /* Puts the visible panels into their order, and hides the others. All are visible before. */

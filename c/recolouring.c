@@ -22,10 +22,13 @@ static uint8_t *switch_to(struct curspan_palette *palette, uint8_t *out, bool fl
     return append(out, flag ? "\033(0" : CURSPAN_PLAIN_SET, 3);
 }
 
+static bool is_colour(uint8_t digit) { return digit >= '0' && digit < '0' + EIGHT; }
+
 /* Appends a selection of a rendition with the program's colours of its pair: it ends as 3f;4bm where it has one. */
 static uint8_t *append_selection(struct curspan_palette *palette, uint8_t *out, const uint8_t *bytes, size_t length) {
     const uint8_t *end = bytes + length - 1;
-    bool has_colours = length > SHORTEST && end[-6] == ';' && end[-5] == '3' && end[-3] == ';' && end[-2] == '4';
+    bool has_colours = length > SHORTEST && end[-6] == ';' && end[-5] == '3' && is_colour(end[-4]) && end[-3] == ';' &&
+                       end[-2] == '4' && is_colour(end[-1]);
     int own = has_colours ? (end[-4] - '0') * EIGHT + end[-1] - '0' : 0;
     int foreground = palette->colours[own][0], background = palette->colours[own][1];
     const uint8_t selected[] = {';', '3', digit_of(foreground), ';', '4', digit_of(background)};
@@ -70,13 +73,13 @@ static uint8_t *take(curspan *screen, size_t times, struct curspan_outgoing *all
 }
 
 /* Where the bytes can't be written the terminal may draw with either set, and the next doupdate clears it. */
-bool curspan_hand_on(const struct curspan_tty *tty, curspan *screen, struct curspan_palette *palette,
+bool curspan_hand_on(struct curspan_tty *tty, curspan *screen, struct curspan_palette *palette,
                      struct curspan_outgoing *outgoing) {
     size_t length;
     uint8_t *bytes = take(screen, palette->changes ? CURSPAN_RECOLOURED : 0, outgoing, &length);
     if (!bytes) return false;
-    length = curspan_recolour(palette, bytes, length, outgoing->bytes);
-    if (curspan_write_all(tty, outgoing->bytes, length)) return true;
+    if (length > 0) length = curspan_recolour(palette, bytes, length, outgoing->bytes);
+    if (curspan_send(tty, outgoing->bytes, length)) return true;
     for (int own = 0; own < OWN_PAIRS; own++) palette->is_alternate |= palette->are_alternate[own];
     curspan_invalidate(screen);
     return false;

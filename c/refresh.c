@@ -83,7 +83,7 @@ int wnoutrefresh(WINDOW *win) {
     if (!curspan_is_mixed && win != stdscr) curspan_note_refreshed(win);
     wsyncdown(win);
     bool outlies = win && win->outlies;
-    int answer = outlies ? curspan_show_outlying(win) : done(curspan_wnoutrefresh(&curspan_the_screen, curspan_placed(win)));
+    int answer = outlies ? curspan_show_outlying(win) : done(curspan_wnoutrefresh(curspan_settle(), curspan_placed(win)));
     if (answer == ERR) return ERR;
     win->moved = false;
     if (!outlies) curspan_note_cursor(win);
@@ -106,7 +106,7 @@ int pechochar(WINDOW *pad, const chtype ch) {
 int wredrawln(WINDOW *win, int y, int n) {
     if (is_terminal(win)) return clearok(curscr, TRUE);
     if (touchline(win, y, n) == ERR) return ERR;
-    curspan_invalidate(&curspan_the_screen);
+    curspan_invalidate(curspan_settle());
     return OK;
 }
 

@@ -219,7 +219,7 @@ static int remake_family(void) {
 
 /* Begins to make a window anew in the same screen. It answers the shape that it has. */
 static struct shape *begin_family(WINDOW *win) {
-    remake.from = remake.to = &curspan_the_screen;
+    remake.from = remake.to = curspan_settle();
     remake.lines = curspan_lines();
     remake.columns = curspan_columns();
     remake.family[0] = win;
@@ -231,7 +231,7 @@ static struct shape *begin_family(WINDOW *win) {
 }
 
 int wresize(WINDOW *win, int lines, int columns) {
-    if (is_there(win) == ERR || lines < 1 || columns < 1 || lines > LONGEST || columns > LONGEST) return ERR;
+    if (!is_there(win) || lines < 1 || columns < 1 || lines > LONGEST || columns > LONGEST) return ERR;
     if (lines == getmaxy(win) && columns == getmaxx(win)) return OK;
     struct shape *shape = begin_family(win);
     shape->is_other = shape->columns != columns;
@@ -243,7 +243,7 @@ int wresize(WINDOW *win, int lines, int columns) {
 }
 
 int curspan_move_inside(WINDOW *win, int y, int x) {
-    if (is_there(win) == ERR || !curspan_fits(getmaxy(win), getmaxx(win), y, x)) return ERR;
+    if (!is_there(win) || !curspan_fits(getmaxy(win), getmaxx(win), y, x)) return ERR;
     if (!is_subwin(win)) {
         struct shape *shape = begin_family(win);
         shape->y = y;
@@ -257,7 +257,7 @@ int curspan_move_inside(WINDOW *win, int y, int x) {
 }
 
 int curspan_cut_outside(WINDOW *win) {
-    if (is_there(win) == ERR || is_subwin(win)) return ERR;
+    if (!is_there(win) || is_subwin(win)) return ERR;
     struct shape *shape = begin_family(win);
     cut(shape, remake.lines, remake.columns);
     settle(win);
@@ -290,7 +290,7 @@ static void bring_picture(void) {
 static int make_screen(void) {
     remake.count = 0;
     for (WINDOW *win = curspan_windows; win < curspan_windows + MOST; win++)
-        if (is_there(win) == OK && !is_subwin(win)) remake.family[remake.count++] = win;
+        if (is_there(win) && !is_subwin(win)) remake.family[remake.count++] = win;
     add_derived();
     note_shapes();
     plan_all();
@@ -301,13 +301,13 @@ static int make_screen(void) {
 }
 
 static void take_screen(void) {
-    curspan old = curspan_the_screen;
+    curspan old = *curspan_settle();
     curspan_number_pairs(remake.to);
     bring_picture();
     for (int i = 0; i < remake.count; i++) bring(remake.family[i]);
-    curspan_the_screen = *remake.to;
+    *curspan_settle() = *remake.to;
     remake.from = &old;
-    remake.to = &curspan_the_screen;
+    remake.to = curspan_settle();
     renumber_all();
     curspan_take_panels();
     LINES = remake.lines;
@@ -327,7 +327,7 @@ int resize_term(int lines, int columns) {
     LINES = curspan_lines();
     COLS = curspan_columns();
     if (!is_term_resized(lines, columns)) return OK;
-    remake.from = &curspan_the_screen;
+    remake.from = curspan_settle();
     remake.to = &other;
     remake.lines = lines;
     remake.columns = columns;

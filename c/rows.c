@@ -26,21 +26,21 @@ int curspan_read_cells(WINDOW *win, int y, int x, chtype *cells, int n) {
 }
 
 chtype winch(WINDOW *win) {
-    const curspan *screen = &curspan_the_screen;
+    const curspan *screen = curspan_settle();
     if (!win) return (chtype)ERR;
     curspan_answer answer = curspan_cell(screen, win->number, (uint32_t)win->y, (uint32_t)win->x);
     return answer.status == CURSPAN_OK ? curspan_read(answer.first) : (chtype)ERR;
 }
 
 int winchnstr(WINDOW *win, chtype *row, int n) {
-    if (is_there(win) == ERR || !row) return ERR;
+    if (!is_there(win) || !row) return ERR;
     row[curspan_read_cells(win, win->y, win->x, row, n)] = 0;
     return OK;
 }
 
 int winnstr(WINDOW *win, char *text, int n) {
     uint32_t row[LONGEST];
-    if (is_there(win) == ERR || !text) return ERR;
+    if (!is_there(win) || !text) return ERR;
     int x = win->x, count = read_row(win, win->y, x, row, n);
     for (int i = 0; i < count; i++) text[i] = (char)CURSPAN_CHARACTER(row[x + i]);
     text[count] = 0;

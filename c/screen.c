@@ -39,25 +39,41 @@ void curspan_tell_size(int lines) {
     snprintf(curspan_the_tty.leave, sizeof curspan_the_tty.leave, "%s" CURSPAN_LEAVE, set, lines);
 }
 
+/* What a list has of the terminal stays. Where another one owns the signals it owns none. */
+static bool begin_tty(int in, int out) {
+    struct curspan_tty *tty = &curspan_the_tty;
+    tty->in = in;
+    tty->line = -1;
+    tty->page = PAGE_LEFT;
+    tty->is_ended = tty->was_away = tty->is_keypad = false;
+    snprintf(tty->enter, sizeof tty->enter, CURSPAN_ENTER);
+    curspan_set_output(tty, out);
+    enum curspan_entry entry = curspan_attend(tty, true);
+    if (entry == CURSPAN_OWNED_ALREADY) entry = curspan_attend(tty, false);
+    return entry == CURSPAN_ENTERED;
+}
+
 SCREEN *newterm(const char *type, FILE *out, FILE *in) {
     int from = in ? fileno(in) : -1, to = out ? fileno(out) : -1;
-    const struct curspan_tty begun = {.in = from, .out = to, .line = -1, .enter = CURSPAN_ENTER};
-    if (!out || stdscr || begun.out < 0 || fflush(out) != 0) return NULL;
-    curspan_the_tty = begun;
+    if (!out || stdscr || to < 0 || fflush(out) != 0) return NULL;
+    bool is_begun = begin_tty(from, to);
     curspan_stream = out;
     curspan_find_screen_size(&LINES, &COLS);
-    curspan_answer answer = curspan_open(&curspan_the_screen, (uint16_t)LINES, (uint16_t)COLS);
-    if (answer.status != CURSPAN_OK) return NULL;
+    curspan_answer answer = curspan_open(curspan_settle(), (uint16_t)LINES, (uint16_t)COLS);
+    if (!is_begun || answer.status != CURSPAN_OK) {
+        curspan_close(curspan_settle());
+        curspan_abandon(&curspan_the_tty);
+        return NULL;
+    }
     curspan_begin(answer);
     curspan_forget_keys(type);
     curspan_begin_map();
     curspan_tell_size(LINES);
     curspan_forget_input();
-    curspan_attend(&curspan_the_tty, true);
     curspan_begin_modes();
     int error;
-    if (setupterm) setupterm(type, curspan_the_tty.out, &error);
-    return (SCREEN *)&curspan_the_screen;
+    if (setupterm) setupterm(type, to, &error);
+    return (SCREEN *)curspan_settle();
 }
 
 WINDOW *initscr(void) {
@@ -70,19 +86,19 @@ WINDOW *initscr(void) {
 
 int endwin(void) {
     if (!stdscr) return ERR;
-    curspan_hold_stop();
-    bool is_done = curspan_give_back(&curspan_the_tty);
-    curspan_let_stop();
+    curspan_hold_stop(&curspan_the_tty);
+    bool is_done = curspan_give_back(&curspan_the_tty, -1);
+    curspan_let_stop(&curspan_the_tty);
     return is_done ? OK : ERR;
 }
 
 bool isendwin(void) { return stdscr && curspan_the_tty.is_ended; }
 
 void delscreen(SCREEN *screen) {
-    if (!screen || screen != (SCREEN *)&curspan_the_screen) return;
+    if (!screen || screen != (SCREEN *)curspan_settle()) return;
     if (curspan_is_owed(&curspan_the_tty)) endwin();
     curspan_abandon(&curspan_the_tty);
-    curspan_close(&curspan_the_screen);
+    curspan_close(curspan_settle());
     curspan_forget_all();
     curspan_forget_output();
     curspan_forget_keys(NULL);

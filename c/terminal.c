@@ -1,130 +1,22 @@
-/* Terminals: how they are taken and given back, what is written, and curspan_terminal.h. Nothing here is proved. */
+/* The terminals of curspan_terminal.h. Nothing here is proved. */
 #include "terminal.h"
 #include "curspan_terminal.h"
 
 #include <errno.h>
 #include <fcntl.h>
-#include <poll.h>
 #include <pthread.h>
-#include <sys/ioctl.h>
-#include <time.h>
 #include <unistd.h>
-
-/* ---- any terminal */
-
-bool curspan_write_all(const struct curspan_tty *tty, const void *bytes, size_t length) {
-    const uint8_t *next = bytes;
-    while (length > 0) {
-        ssize_t count = write(tty->out, next, length);
-        if (count > 0) {
-            next += count;
-            length -= (size_t)count;
-        } else if (count < 0 && errno == EAGAIN) {
-            struct pollfd ready = {tty->out, POLLOUT, 0};
-            if (poll(&ready, 1, -1) < 0 && errno != EINTR) return false;
-        } else if (count == 0 || errno != EINTR) {
-            return false;
-        }
-    }
-    return true;
-}
-
-bool curspan_put_text(const struct curspan_tty *tty, const char *text) { return curspan_write_all(tty, text, strlen(text)); }
-
-bool curspan_switch_keypad(struct curspan_tty *tty, bool flag) {
-    tty->is_keypad = flag;
-    return curspan_put_text(tty, flag ? "\033[?1h\033=" : "\033[?1l\033>");
-}
-
-bool curspan_set_modes(const struct curspan_tty *tty, const struct termios *modes) {
-    if (tty->line < 0) return false;
-    while (tcsetattr(tty->line, TCSADRAIN, modes) != 0)
-        if (errno != EINTR) return false;
-    return true;
-}
-
-bool curspan_come_back(struct curspan_tty *tty) {
-    if (tty->is_ended) {
-        tty->is_ended = false;
-        curspan_set_modes(tty, &tty->program);
-    }
-    if (tty->page == PAGE_ENTERED) return true;
-    tty->page = PAGE_ENTERING;
-    if (!curspan_put_text(tty, tty->enter)) return false;
-    tty->page = PAGE_ENTERED;
-    return true;
-}
-
-bool curspan_give_back(struct curspan_tty *tty) {
-    tty->is_ended = tty->was_away = true;
-    bool is_done = tty->page == PAGE_LEFT || curspan_put_text(tty, tty->leave);
-    if (is_done) tty->page = PAGE_LEFT;
-    if (tty->is_keypad && !curspan_switch_keypad(tty, false)) is_done = false;
-    if (tty->line >= 0 && tcsetattr(tty->line, TCSADRAIN, &tty->shell) != 0) is_done = false;
-    return is_done;
-}
-
-void curspan_read_at_once(struct termios *modes) {
-    modes->c_cc[VMIN] = 1;
-    modes->c_cc[VTIME] = 0;
-}
-
-void curspan_make_raw(struct termios *modes) {
-    modes->c_lflag &= ~(tcflag_t)(ICANON | ISIG | IEXTEN);
-    modes->c_iflag &= ~(tcflag_t)CURSPAN_INPUT_FLAGS;
-    curspan_read_at_once(modes);
-}
-
-int curspan_number_in(const char *variable) {
-    const char *text = getenv(variable);
-    char *end;
-    if (!text || *text < '0' || *text > '9') return -1;
-    long number = strtol(text, &end, 10);
-    return *end == 0 && number <= 32767 ? (int)number : -1;
-}
-
-static int size_of(int wanted, int found, int other) {
-    int size = wanted > 0 ? wanted : found > 0 ? found : other;
-    return size < CURSPAN_LARGEST_SCREEN ? size : CURSPAN_LARGEST_SCREEN;
-}
-
-bool curspan_find_size(const struct curspan_tty *tty, int *lines, int *columns) {
-    struct winsize found = {0, 0, 0, 0};
-    bool is_there = ioctl(tty->out, TIOCGWINSZ, &found) == 0;
-    *lines = size_of(*lines, is_there ? found.ws_row : 0, 24);
-    *columns = size_of(*columns, is_there ? found.ws_col : 0, 80);
-    return is_there;
-}
-
-long curspan_now(void) {
-    struct timespec time;
-    clock_gettime(CLOCK_MONOTONIC, &time);
-    return (long)time.tv_sec * 1000 + time.tv_nsec / 1000000;
-}
-
-int curspan_left_until(int milliseconds, long end) {
-    long left = end - curspan_now();
-    return milliseconds < 0 ? -1 : left > 0 ? (int)left : 0;
-}
-
-/* ---- those of curspan_terminal.h */
-
-enum { TYPED = 256, ESCAPE_DELAY = 100, PASTE_DELAY = 1000, SLICE = 500, PASTE_ENDS = 6 };
 
 struct terminal {
     struct curspan_tty tty;
+    struct terminal *spare; /* the next one that is closed, to be used again */
     pthread_t thread;
     uint32_t options;
-    bool is_opened; /* its file was, by its path */
-    bool is_at_end; /* of the input */
-    bool is_pasting;
-    int escape_delay, lines, columns; /* the size as a key told of it last */
+    int given, opened;      /* the descriptor of keys, and the file that was opened by its path, or -1 */
+    const void *shown;      /* the screen that was shown last */
     struct curspan_palette palette;
     struct curspan_outgoing outgoing;
-    unsigned char typed[TYPED]; /* and not taken, behind what was taken last */
-    size_t taken, count;
-    char *paste;
-    size_t length, room;
+    struct curspan_reader reader;
 };
 
 const char *curspan_terminal_text(uint32_t status) {
@@ -133,7 +25,7 @@ const char *curspan_terminal_text(uint32_t status) {
         "the terminal is not open", "another terminal owns the signals", "another thread opened the terminal",
         "another process opened the terminal, of which this one is a child", "there is no memory for it",
         "the screen is closed, or has no such pair or colour", "the system refused it",
-        "the terminal was given back meanwhile",
+        "the terminal shows something else meanwhile",
     };
     return status < sizeof texts / sizeof texts[0] ? texts[status] : "no status";
 }
@@ -143,19 +35,6 @@ static uint32_t status_of(const curspan_terminal *terminal) {
     if (!it) return CURSPAN_TERMINAL_CLOSED;
     if (it->tty.owner != getpid()) return CURSPAN_TERMINAL_FORKED;
     return pthread_equal(it->thread, pthread_self()) ? CURSPAN_TERMINAL_OK : CURSPAN_TERMINAL_OTHER_THREAD;
-}
-
-/* Which terminal a descriptor is, whatever the name is by which it was opened. */
-static unsigned device_of(int descriptor) {
-    unsigned device = 0;
-    return ioctl(descriptor, TIOCGDEV, &device) == 0 ? device : 0;
-}
-
-static bool is_open(int descriptor) {
-    unsigned device = device_of(descriptor);
-    for (const struct curspan_tty *tty = curspan_first_tty(); tty && device; tty = tty->next)
-        if (tty->owner == getpid() && device_of(tty->out) == device) return true;
-    return false;
 }
 
 static void form(struct curspan_tty *tty, uint32_t options) {
@@ -176,21 +55,71 @@ static void set_colours(struct terminal *it, int pair, int foreground, int backg
     it->palette.colours[pair][1] = (signed char)background;
 }
 
-static uint32_t begin(struct terminal *it) {
+/* ---- opening and closing */
+
+/* A terminal is never given back to the heap, as handlers may look at it. */
+static struct {
+    pthread_mutex_t lock;
+    struct terminal *first;
+} spares = {.lock = PTHREAD_MUTEX_INITIALIZER};
+
+static struct terminal *take_spare(void) {
+    pthread_mutex_lock(&spares.lock);
+    struct terminal *it = spares.first;
+    if (it) spares.first = it->spare;
+    pthread_mutex_unlock(&spares.lock);
+    return it ? it : calloc(1, sizeof *it);
+}
+
+/* Frees what a terminal has, but for itself. */
+static void put_aside(struct terminal *it) {
+    bool is_own = it->tty.in != it->given && it->tty.in != it->tty.own;
+    curspan_abandon(&it->tty);
+    if (is_own) close(it->tty.in);
+    if (it->opened >= 0) close(it->opened);
+    free(it->outgoing.bytes);
+    it->outgoing = (struct curspan_outgoing){NULL, 0};
+    curspan_end_reading(&it->reader);
+    pthread_mutex_lock(&spares.lock);
+    it->spare = spares.first;
+    spares.first = it;
+    pthread_mutex_unlock(&spares.lock);
+}
+
+static void clear(struct terminal *it, int in, int out, uint32_t options) {
     struct curspan_tty *tty = &it->tty;
-    int delay = curspan_number_in("ESCDELAY");
+    it->thread = pthread_self();
+    it->options = options;
+    it->opened = -1;
+    it->given = in;
+    it->shown = NULL;
+    it->palette = (struct curspan_palette){.changes = false};
+    for (int pair = 0; pair < OWN_PAIRS; pair++) set_colours(it, pair, pair / 8, pair % 8);
+    set_colours(it, 0, OWN_COLOUR, OWN_COLOUR);
+    it->reader = (struct curspan_reader){.epoll = -1, .timer = -1};
+    tty->keeps = options & CURSPAN_TERMINAL_KEEP;
+    tty->page = PAGE_LEFT;
+    tty->is_ended = true;
+    tty->was_away = tty->is_keypad = false;
+    curspan_set_output(tty, out);
+    int own = in == out ? tty->own : curspan_open_anew(in);
+    tty->in = tty->line = own >= 0 ? own : in;
+}
+
+static uint32_t begin(struct terminal *it) {
+    static const uint32_t refused[] = {
+        [CURSPAN_OPEN_ALREADY] = CURSPAN_TERMINAL_OPEN, [CURSPAN_OWNED_ALREADY] = CURSPAN_TERMINAL_SIGNALS_TAKEN,
+    };
+    struct curspan_tty *tty = &it->tty;
     if (tcgetattr(tty->line, &tty->shell) != 0) return CURSPAN_TERMINAL_FAILED;
     form(tty, it->options);
-    it->thread = pthread_self();
-    it->escape_delay = delay >= 0 ? delay : ESCAPE_DELAY;
-    for (int own = 0; own < OWN_PAIRS; own++) set_colours(it, own, own / 8, own % 8);
-    set_colours(it, 0, OWN_COLOUR, OWN_COLOUR);
-    curspan_find_size(tty, &it->lines, &it->columns);
-    tty->is_ended = true;
-    if (!curspan_attend(tty, it->options & CURSPAN_TERMINAL_SIGNALS)) return CURSPAN_TERMINAL_SIGNALS_TAKEN;
-    if (curspan_come_back(tty)) return CURSPAN_TERMINAL_OK;
-    curspan_give_back(tty);
-    curspan_abandon(tty);
+    enum curspan_entry entry = curspan_attend(tty, it->options & CURSPAN_TERMINAL_SIGNALS);
+    if (entry != CURSPAN_ENTERED) return refused[entry];
+    uint32_t asked = it->options & CURSPAN_TERMINAL_PASTE ? CURSPAN_KEYS_PASTE : 0;
+    if (curspan_begin_reading(&it->reader, tty, asked) && curspan_come_back(tty)) return CURSPAN_TERMINAL_OK;
+    int error = errno;
+    curspan_give_back(tty, 0);
+    errno = error;
     return CURSPAN_TERMINAL_FAILED;
 }
 
@@ -199,13 +128,14 @@ uint32_t curspan_terminal_use(curspan_terminal *terminal, int in, int out, uint3
     if (terminal->at) return CURSPAN_TERMINAL_OPEN;
     if (!isatty(in) || !isatty(out)) return CURSPAN_TERMINAL_NONE;
     if (type && strcmp(type, "dumb") == 0) return CURSPAN_TERMINAL_DUMB;
-    if (is_open(out)) return CURSPAN_TERMINAL_OPEN;
-    struct terminal *it = malloc(sizeof *it);
+    struct terminal *it = take_spare();
     if (!it) return CURSPAN_TERMINAL_NO_MEMORY;
-    *it = (struct terminal){.tty = {.in = in, .out = out, .line = in}, .options = options};
+    clear(it, in, out, options);
     uint32_t status = begin(it);
+    int error = errno;
     if (status == CURSPAN_TERMINAL_OK) terminal->at = it;
-    else free(it);
+    else put_aside(it);
+    errno = error;
     return status;
 }
 
@@ -214,7 +144,7 @@ uint32_t curspan_terminal_open(curspan_terminal *terminal, const char *path, uin
     int file = open(path ? path : "/dev/tty", O_RDWR | O_NOCTTY | O_CLOEXEC);
     if (file < 0) return errno == ENXIO && !path ? CURSPAN_TERMINAL_NONE : CURSPAN_TERMINAL_FAILED;
     uint32_t status = curspan_terminal_use(terminal, file, file, options);
-    if (status == CURSPAN_TERMINAL_OK) ((struct terminal *)terminal->at)->is_opened = true;
+    if (status == CURSPAN_TERMINAL_OK) ((struct terminal *)terminal->at)->opened = file;
     else close(file);
     return status;
 }
@@ -226,31 +156,60 @@ static uint32_t done(bool is_done) { return is_done ? CURSPAN_TERMINAL_OK : CURS
     struct terminal *it = terminal->at; \
     uint32_t status = status_of(terminal); \
     if (status != CURSPAN_TERMINAL_OK) return status; \
-    curspan_hold_stop(); \
+    curspan_hold_stop(&it->tty); \
     status = (call); \
-    curspan_let_stop(); \
+    curspan_let_stop(&it->tty); \
     return status
 
-uint32_t curspan_terminal_suspend(curspan_terminal *terminal) {
-    WRITE(done(!curspan_is_owed(&it->tty) || curspan_give_back(&it->tty)));
+/* Where bytes are kept, so is what leaves the page. */
+static uint32_t suspend(struct terminal *it) {
+    struct curspan_tty *tty = &it->tty;
+    curspan_end_paste(&it->reader);
+    tty->is_suspended = true;
+    if (!curspan_is_owed(tty)) return CURSPAN_TERMINAL_OK;
+    if (!tty->keeps) return done(curspan_give_back(tty, -1));
+    if (CURSPAN_LOOK(tty->page) != PAGE_LEFT && !curspan_send_text(tty, tty->leave)) return CURSPAN_TERMINAL_FAILED;
+    CURSPAN_SET(tty->page, PAGE_LEFT);
+    return done(curspan_give_back(tty, 0));
 }
 
-uint32_t curspan_terminal_resume(curspan_terminal *terminal) { WRITE(done(curspan_come_back(&it->tty))); }
+static uint32_t resume(struct terminal *it) {
+    it->tty.is_suspended = false;
+    return done(curspan_come_back(&it->tty));
+}
+
+uint32_t curspan_terminal_suspend(curspan_terminal *terminal) { WRITE(suspend(it)); }
+uint32_t curspan_terminal_resume(curspan_terminal *terminal) { WRITE(resume(it)); }
 
 uint32_t curspan_terminal_write(curspan_terminal *terminal, const void *bytes, size_t length) {
-    WRITE(done(curspan_write_all(&it->tty, bytes, length)));
+    WRITE(done(curspan_send(&it->tty, bytes, length)));
 }
 
+static uint32_t flush(struct terminal *it, int milliseconds, size_t *kept) {
+    bool is_done = curspan_flush(&it->tty, milliseconds);
+    *kept = it->tty.kept_count;
+    return done(is_done);
+}
+
+uint32_t curspan_terminal_flush(curspan_terminal *terminal, int milliseconds, size_t *kept) {
+    *kept = 0;
+    WRITE(flush(it, milliseconds, kept));
+}
+
+/* Any thread may close it. What is kept of a picture goes, so that the page is left before it. */
 uint32_t curspan_terminal_close(curspan_terminal *terminal) {
     struct terminal *it = terminal->at;
-    uint32_t status = curspan_terminal_suspend(terminal);
-    if (status == CURSPAN_TERMINAL_CLOSED || status == CURSPAN_TERMINAL_OTHER_THREAD) return status;
-    curspan_abandon(&it->tty);
-    if (it->is_opened) close(it->tty.in);
-    free(it->outgoing.bytes);
-    free(it->paste);
-    free(it);
+    uint32_t status = status_of(terminal);
+    if (status == CURSPAN_TERMINAL_CLOSED) return status;
+    if (status != CURSPAN_TERMINAL_FORKED) {
+        it->tty.kept_count = 0;
+        it->thread = pthread_self();
+        status = curspan_terminal_suspend(terminal);
+    }
+    int error = errno;
+    put_aside(it);
     terminal->at = NULL;
+    errno = error;
     return status;
 }
 
@@ -263,38 +222,51 @@ uint32_t curspan_terminal_size(const curspan_terminal *terminal, int *lines, int
 
 int curspan_terminal_descriptor(const curspan_terminal *terminal) {
     const struct terminal *it = terminal->at;
-    return it ? it->tty.in : -1;
+    return it ? it->reader.epoll : -1;
+}
+
+int curspan_terminal_output(const curspan_terminal *terminal) {
+    const struct terminal *it = terminal->at;
+    return it ? it->tty.out : -1;
 }
 
 /* ---- pictures */
 
-static uint32_t take_again(struct curspan_tty *tty) {
-    bool is_there = tty->page == PAGE_ENTERED && !tty->was_away;
+/* Takes the terminal for a screen. What was kept when it was given back from elsewhere is of a page that is gone. */
+static uint32_t take_for(struct terminal *it, const void *screen) {
+    struct curspan_tty *tty = &it->tty;
+    bool was_away = CURSPAN_TAKE(tty->was_away);
+    bool is_there = !was_away && curspan_is_shown(tty) && (!it->shown || !screen || it->shown == screen);
+    if (was_away && !tty->is_suspended) tty->kept_count = 0;
+    tty->is_suspended = false;
     if (!curspan_come_back(tty)) return CURSPAN_TERMINAL_FAILED;
-    tty->was_away = false;
+    if (screen) it->shown = screen;
     return is_there ? CURSPAN_TERMINAL_OK : CURSPAN_TERMINAL_AWAY;
 }
 
 static uint32_t update(struct terminal *it, curspan *screen) {
-    uint32_t status = take_again(&it->tty);
+    size_t kept;
+    uint32_t status = flush(it, 0, &kept);
+    if (kept > 0 || status != CURSPAN_TERMINAL_OK) return status;
+    status = take_for(it, screen->at);
     if (status == CURSPAN_TERMINAL_FAILED) return status;
     if (status == CURSPAN_TERMINAL_AWAY) curspan_invalidate(screen);
     if (curspan_doupdate(screen).status != CURSPAN_OK) return CURSPAN_TERMINAL_REFUSED;
     return done(curspan_hand_on(&it->tty, screen, &it->palette, &it->outgoing));
 }
 
-static uint32_t draw(struct terminal *it, const uint8_t *bytes, size_t length) {
-    uint32_t status = take_again(&it->tty);
+static uint32_t draw(struct terminal *it, const void *screen, const uint8_t *bytes, size_t length) {
+    uint32_t status = take_for(it, screen);
     if (status != CURSPAN_TERMINAL_OK) return status;
     uint8_t *out = malloc(CURSPAN_RECOLOURED * length + 1);
     if (!out) return CURSPAN_TERMINAL_NO_MEMORY;
-    bool is_done = curspan_write_all(&it->tty, out, curspan_recolour(&it->palette, bytes, length, out));
+    bool is_done = curspan_send(&it->tty, out, curspan_recolour(&it->palette, bytes, length, out));
     free(out);
     return done(is_done);
 }
 
-uint32_t curspan_terminal_draw(curspan_terminal *terminal, const uint8_t *bytes, size_t length) {
-    WRITE(draw(it, bytes, length));
+uint32_t curspan_terminal_draw(curspan_terminal *terminal, const void *screen, const uint8_t *bytes, size_t length) {
+    WRITE(draw(it, screen, bytes, length));
 }
 
 uint32_t curspan_terminal_show(curspan_terminal *terminal, curspan *screen) { WRITE(update(it, screen)); }
@@ -316,102 +288,10 @@ uint32_t curspan_terminal_init_pair(curspan_terminal *terminal, curspan *screen,
 
 /* ---- keys */
 
-/* Whether the size is another than was told last, or the terminal was given back meanwhile. */
-static bool is_changed(struct terminal *it) {
-    int lines = 0, columns = 0;
-    bool owns = it->options & CURSPAN_TERMINAL_SIGNALS, was_stopped = owns && curspan_was_stopped();
-    bool is_told = owns && curspan_was_resized(), is_there = curspan_find_size(&it->tty, &lines, &columns);
-    if (!was_stopped && !is_told && !(is_there && (lines != it->lines || columns != it->columns))) return false;
-    it->lines = lines;
-    it->columns = columns;
-    it->tty.was_away = true;
-    return true;
-}
-
-/* Waits for input for some milliseconds, or without end where they are negative, and answers 0, or the key that tells
-   what came in its place. A terminal that owns no signals looks at its size meanwhile. */
-static uint32_t wait_for_input(struct terminal *it, int milliseconds) {
-    bool found = false, owns = it->options & CURSPAN_TERMINAL_SIGNALS;
-    long end = curspan_now() + milliseconds;
-    for (;;) {
-        int left = curspan_left_until(milliseconds, end), how = WAIT_ENDED;
-        struct pollfd input = {it->tty.in, POLLIN, 0};
-        if (owns) how = curspan_wait(it->tty.in, left, &found);
-        else if (poll(&input, 1, left < 0 || left > SLICE ? SLICE : left) < 0) how = WAIT_INTERRUPTED;
-        if (found || input.revents) return 0;
-        if (is_changed(it)) return CURSPAN_KEY_RESIZE;
-        if (how == WAIT_INTERRUPTED) return CURSPAN_KEY_INTERRUPTED;
-        if (curspan_left_until(milliseconds, end) == 0) return CURSPAN_KEY_NONE;
-    }
-}
-
-static void read_more(struct terminal *it) {
-    memmove(it->typed, it->typed + it->taken, it->count -= it->taken);
-    it->taken = 0;
-    ssize_t count = read(it->tty.in, it->typed + it->count, TYPED - it->count);
-    if (count > 0) it->count += (size_t)count;
-    else if (count == 0 || (errno != EINTR && errno != EAGAIN)) it->is_at_end = true;
-}
-
-/* Takes what waits as part of a paste, and answers whether that has ended. What there is no memory for is left out. */
-static bool take_paste(struct terminal *it) {
-    while (it->taken < it->count) {
-        char byte = (char)it->typed[it->taken++];
-        if (it->length == it->room) {
-            char *more = realloc(it->paste, 2 * it->room + TYPED);
-            if (!more) continue;
-            it->paste = more;
-            it->room = 2 * it->room + TYPED;
-        }
-        it->paste[it->length++] = byte == '\r' ? '\n' : byte;
-        if (it->length >= PASTE_ENDS && memcmp(it->paste + it->length - PASTE_ENDS, "\033[201~", PASTE_ENDS) == 0) {
-            it->length -= PASTE_ENDS;
-            return true;
-        }
-    }
-    return false;
-}
-
-static const curspan_key no_key = {CURSPAN_KEY_NONE, 0, "", 0};
-
-/* Takes a key of what waits, where it is whole, or nothing more comes. */
-static bool take_key(struct terminal *it, bool is_all, curspan_key *key) {
-    const unsigned char *bytes = it->typed + it->taken;
-    if (it->is_pasting) {
-        if (!take_paste(it) && !is_all) return false;
-        *key = (curspan_key){CURSPAN_KEY_PASTE, 0, it->paste ? it->paste : "", it->length};
-        it->is_pasting = false;
-        return true;
-    }
-    key->length = it->taken < it->count ? curspan_first_key(bytes, it->count - it->taken, is_all, key) : 0;
-    key->text = (const char *)bytes;
-    it->taken += key->length;
-    bool is_begin = key->length == PASTE_ENDS && memcmp(bytes, "\033[200~", PASTE_ENDS) == 0;
-    if (!is_begin || !(it->options & CURSPAN_TERMINAL_PASTE)) return key->length > 0;
-    it->is_pasting = true;
-    it->length = 0;
-    return take_key(it, is_all, key);
-}
-
-static uint32_t next_key(struct terminal *it, int milliseconds, curspan_key *key) {
-    long end = curspan_now() + milliseconds;
-    if (is_changed(it)) return CURSPAN_KEY_RESIZE;
-    while (!take_key(it, it->is_at_end, key)) {
-        bool is_begun = it->is_pasting || it->taken < it->count;
-        int left = it->is_pasting ? PASTE_DELAY : is_begun ? it->escape_delay : curspan_left_until(milliseconds, end);
-        *key = no_key;
-        if (it->is_at_end) return CURSPAN_KEY_EOF;
-        uint32_t code = wait_for_input(it, left);
-        if (code == 0) read_more(it);
-        else if (code != CURSPAN_KEY_NONE || !is_begun) return code;
-        else if (take_key(it, true, key)) break;
-    }
-    return key->code;
-}
-
 uint32_t curspan_terminal_key(curspan_terminal *terminal, int milliseconds, curspan_key *key) {
+    struct terminal *it = terminal->at;
     uint32_t status = status_of(terminal);
-    *key = no_key;
-    if (status == CURSPAN_TERMINAL_OK) key->code = next_key(terminal->at, milliseconds, key);
+    *key = (curspan_key){.code = CURSPAN_KEY_NONE, .text = ""};
+    if (status == CURSPAN_TERMINAL_OK) curspan_read_key(&it->reader, milliseconds, key);
     return status;
 }

@@ -12,36 +12,84 @@
 #include <sys/types.h>
 #include <termios.h>
 
+#include "keys.h"
+
+/* Bytes that were read and nobody took, and when the last of them came. */
+enum { CURSPAN_TYPED = 256 };
+struct curspan_typed {
+    unsigned char bytes[CURSPAN_TYPED];
+    size_t first, count;
+    long came;
+    bool is_at_end; /* of the input */
+};
+
 /* Whether the picture is on the terminal's other page. */
 enum { PAGE_LEFT, PAGE_ENTERING, PAGE_ENTERED };
 
-/* A terminal of curses.h or of curspan_terminal.h, as handlers of signals read it too. */
+/* A terminal of curses.h or of curspan_terminal.h. Handlers of signals, in any thread, see what is behind `owner`. */
 struct curspan_tty {
-    int in, out;
-    int line;                        /* that of both whose modes are set: -1 where neither is a terminal */
-    pid_t owner;                     /* the process that has it, or 0 */
-    volatile sig_atomic_t page;
-    volatile sig_atomic_t is_ended;  /* it was given back, and not taken since */
-    volatile sig_atomic_t was_away;  /* it was given back, and its size may be another */
-    volatile sig_atomic_t is_keypad; /* it sends the sequences of an application's keypad */
-    struct termios shell, program;   /* the modes outside, and those of the program */
-    char enter[48], leave[64];       /* what is written where the picture comes and goes */
-    struct curspan_tty *next;        /* of those that are open */
+    int in, out;                   /* of which is read, and to which is written */
+    struct curspan_typed typed;
+    bool rings;                    /* the bell does since there is something to read that was read already */
+    bool is_suspended;             /* the program itself gave it back */
+    int own;                       /* of `out`, opened anew so that no write waits: -1 where that can't be, and then */
+    size_t most;                   /* bytes that `out` takes without waiting, once it is ready to be written */
+    bool keeps;                    /* what it doesn't take now is kept, and nothing waits for it: */
+    uint8_t *kept;
+    size_t kept_count;
+    char enter[48], leave[64];     /* what is written where the picture comes and goes */
+    struct termios shell, program; /* the modes outside, and those of the program */
+    int line;                      /* that of both whose modes are set: -1 where neither is a terminal */
+    int bell;                      /* an eventfd on which who waits for keys is told of what handlers did */
+    unsigned device;               /* which terminal it is, or 0 */
+    struct curspan_tty *next;      /* of those that were entered, in a list that only grows */
+    bool is_listed;
+    bool owns;                     /* the signals */
+    pid_t owner;                   /* the process that has it, or 0 */
+    int holds;                     /* of handlers that look at it now */
+    int page;
+    bool is_ended;                 /* it was given back, and not taken since */
+    bool was_away;                 /* it was given back, and its size may be another */
+    bool is_keypad;                /* it sends the sequences of an application's keypad */
+    bool was_stopped, was_resized; /* where it owns the signals: since that was looked at last */
+    bool is_held, stop_is_due;     /* the program isn't to be stopped now; it is to be then */
 };
 
-/* ---- terminal.c */
+/* What threads and handlers share is read and set whole. */
+#define CURSPAN_LOOK(field) __atomic_load_n(&(field), __ATOMIC_SEQ_CST)
+#define CURSPAN_SET(field, value) __atomic_store_n(&(field), (value), __ATOMIC_SEQ_CST)
+#define CURSPAN_TAKE(flag) __atomic_exchange_n(&(flag), false, __ATOMIC_SEQ_CST)
 
-/* Writes all of some bytes, or of a text. Handlers of signals may call these. */
-bool curspan_write_all(const struct curspan_tty *tty, const void *bytes, size_t length);
-bool curspan_put_text(const struct curspan_tty *tty, const char *text);
-bool curspan_switch_keypad(struct curspan_tty *tty, bool flag);
+/* ---- tty.c */
+
+/* Opens the terminal of a descriptor once more, so that nothing waits there, and the flags of that one, which other
+   programs share, stay; or answers -1. */
+int curspan_open_anew(int descriptor);
+/* Lets a terminal write to a descriptor. */
+void curspan_set_output(struct curspan_tty *tty, int out);
+/* Writes for some milliseconds, not waiting for 0, or without end where they are negative. Answers how many bytes were
+   written, or -1. Handlers of signals may call it. */
+ssize_t curspan_write(const struct curspan_tty *tty, const void *bytes, size_t length, int milliseconds);
+/* Writes all of some bytes, or of a text, or keeps what isn't taken now. */
+bool curspan_send(struct curspan_tty *tty, const void *bytes, size_t length);
+bool curspan_send_text(struct curspan_tty *tty, const char *text);
+/* Writes what is kept. */
+bool curspan_flush(struct curspan_tty *tty, int milliseconds);
+bool curspan_switch_keypad(struct curspan_tty *tty, bool flag, int milliseconds);
 /* Comes to the picture's page, with the program's modes, where it isn't there. */
 bool curspan_come_back(struct curspan_tty *tty);
-/* Leaves that page and the keypad, with the modes as they were before. A handler of signals may call it. */
-bool curspan_give_back(struct curspan_tty *tty);
+/* Leaves that page and the keypad, with the modes as they were before. A handler of signals may call it for 0. */
+bool curspan_give_back(struct curspan_tty *tty, int milliseconds);
 /* Whether there is something to give back. */
-static inline bool curspan_is_owed(const struct curspan_tty *tty) { return !tty->is_ended || tty->page != PAGE_LEFT; }
-bool curspan_set_modes(const struct curspan_tty *tty, const struct termios *modes);
+static inline bool curspan_is_owed(const struct curspan_tty *tty) {
+    return !CURSPAN_LOOK(tty->is_ended) || CURSPAN_LOOK(tty->page) != PAGE_LEFT;
+}
+/* Whether the picture is on the terminal. */
+static inline bool curspan_is_shown(const struct curspan_tty *tty) {
+    return CURSPAN_LOOK(tty->page) == PAGE_ENTERED && !CURSPAN_LOOK(tty->is_ended);
+}
+/* Sets modes, now or, by TCSADRAIN, once all is written. */
+bool curspan_set_modes(const struct curspan_tty *tty, const struct termios *modes, int when);
 /* Lets a read answer as soon as there is a byte, and the keys of signals be bytes. */
 void curspan_read_at_once(struct termios *modes);
 void curspan_make_raw(struct termios *modes);
@@ -55,6 +103,33 @@ int curspan_left_until(int milliseconds, long end);
 int curspan_number_in(const char *variable);
 /* The size that is wanted, else that of the terminal, else 24 by 80. Answers whether the terminal is there. */
 bool curspan_find_size(const struct curspan_tty *tty, int *lines, int *columns);
+
+/* ---- terminal_keys.c */
+
+enum { CURSPAN_HELD = 4096 + CURSPAN_TYPED }; /* bytes of the longest sequence, and of what follows it */
+
+/* How a terminal of curspan_terminal.h reads keys. */
+struct curspan_reader {
+    struct curspan_tty *tty;
+    struct curspan_keys decoder;
+    struct curspan_taken second;      /* the decoder answered it with the key before it */
+    unsigned char held[CURSPAN_HELD]; /* what the decoder read: of the key told last, and behind it */
+    size_t told, count;
+    char *paste;                      /* what was pasted and not told */
+    size_t length, room;
+    bool is_pasting;
+    int escape_delay, lines, columns; /* the size as a key told of it last */
+    int epoll, timer;                 /* the descriptor to wait for, and what makes it ready at a time: */
+    long due;
+};
+
+/* Begins to read keys, with what was asked of the terminal. Where it fails errno says why, and it is to be ended. */
+bool curspan_begin_reading(struct curspan_reader *reader, struct curspan_tty *tty, uint32_t asked);
+void curspan_end_reading(struct curspan_reader *reader);
+/* Tells a text that is being pasted as far as it came, by the next key. */
+void curspan_end_paste(struct curspan_reader *reader);
+struct curspan_key;
+void curspan_read_key(struct curspan_reader *reader, int milliseconds, struct curspan_key *key);
 
 /* ---- recolouring.c */
 
@@ -88,7 +163,7 @@ struct curspan_outgoing {
 };
 
 /* Writes what a screen sent. Where it can't be written it is lost. */
-bool curspan_hand_on(const struct curspan_tty *tty, struct curspan *screen, struct curspan_palette *palette,
+bool curspan_hand_on(struct curspan_tty *tty, struct curspan *screen, struct curspan_palette *palette,
                      struct curspan_outgoing *outgoing);
 
 /* ---- output.c */
@@ -116,24 +191,36 @@ void curspan_end_raw(const struct curspan_modes *modes, const struct termios *li
 /* ---- signals.c */
 
 /* Gives a terminal back at exit, and where it shall own the signals, and none does, catches those that the program left
-   as they were. Answers whether it owns them. */
-bool curspan_attend(struct curspan_tty *tty, bool shall_own);
+   as they were. What stands in the way of that is answered. */
+enum curspan_entry { CURSPAN_ENTERED, CURSPAN_OPEN_ALREADY, CURSPAN_OWNED_ALREADY };
+enum curspan_entry curspan_attend(struct curspan_tty *tty, bool shall_own);
 /* Leaves a terminal, and the signals that are still caught where it owned them. */
 void curspan_abandon(struct curspan_tty *tty);
-struct curspan_tty *curspan_first_tty(void);
 /* Holds back the signal that stops the program, and lets it through again. */
-void curspan_hold_stop(void);
-void curspan_let_stop(void);
-/* Whether the program was stopped since the last call of it, and goes on. */
-bool curspan_was_stopped(void);
-/* Whether the terminal's size may have changed since the last call of it. */
-bool curspan_was_resized(void);
+void curspan_hold_stop(struct curspan_tty *tty);
+void curspan_let_stop(struct curspan_tty *tty);
+/* Whether all handlers of the program let calls go on that they interrupt. That of a fault ends no wait. */
+bool curspan_handlers_restart(void);
 
-enum { WAIT_ENDED, WAIT_STOPPED, WAIT_RESIZED, WAIT_INTERRUPTED };
+/* ---- events.c */
 
-/* Waits for something to read, for some milliseconds, or without end where they are negative. A signal to stop or of a
-   new size ends it also where it came since that was last looked at. Where it ended by itself `found` says how. */
-int curspan_wait(int descriptor, int milliseconds, bool *found);
+/* Reads so many bytes that are there, at most, and answers how many came. */
+size_t curspan_read_bytes(struct curspan_tty *tty, size_t most);
+/* Takes the first of those that were read. */
+void curspan_take_bytes(struct curspan_tty *tty, size_t count);
+/* How much of a delay is left that began with the last byte. */
+int curspan_delay_left(const struct curspan_tty *tty, int delay);
+/* Whether handlers told of a stop or a new size, and it wasn't looked at yet. */
+bool curspan_is_told(const struct curspan_tty *tty);
+/* Lets the bell ring, as handlers do, or not, and then answers whether it did. */
+void curspan_ring(const struct curspan_tty *tty);
+bool curspan_silence(struct curspan_tty *tty);
+
+enum curspan_waited { WAIT_FOUND, WAIT_OVER, WAIT_TOLD, WAIT_INTERRUPTED };
+
+/* Waits for something to read, for some milliseconds, or without end where they are negative. It is told of a stop, a
+   new size and that the terminal was given back, also where that came since it was last looked at. */
+enum curspan_waited curspan_wait(struct curspan_tty *tty, int milliseconds);
 
 /* ---- resizing.c and screen.c */
 
@@ -156,9 +243,6 @@ enum { CURSPAN_SEQUENCES = 154 };
 extern const struct curspan_sequence curspan_sequences[CURSPAN_SEQUENCES];
 /* Whether the keys of a type of terminal have a sequence, by its place. */
 bool curspan_is_of_type(int sequence, const char *type);
-/* The key that some bytes begin with, and how many of them it has: 0 where more must come, unless none do. */
-struct curspan_key;
-size_t curspan_first_key(const unsigned char *bytes, size_t count, bool is_all, struct curspan_key *key);
 /* The key whose sequence some bytes are, 0 where they begin none, and ERR where a longer sequence begins with them. */
 int curspan_key_of(const unsigned char *bytes, size_t length);
 /* Forgets the keys that the program defined, and has those of a type. */

@@ -63,7 +63,7 @@ static WINDOW *made(curspan_answer answer) {
 
 void curspan_begin(curspan_answer answer) {
     curspan_forget_all();
-    curspan_number_pairs(&curspan_the_screen);
+    curspan_number_pairs(curspan_settle());
     stdscr = made(answer);
     curscr = &the_terminal;
 }
@@ -84,8 +84,8 @@ WINDOW *newwin(int lines, int columns, int y, int x) {
     if (lines < 1 || columns < 1) return NULL;
     uint16_t height = (uint16_t)lines, width = (uint16_t)columns;
     bool fits = curspan_fits(lines, columns, y, x);
-    if (!fits) return made_outlying(curspan_newpad(&curspan_the_screen, height, width), y, x);
-    return made(curspan_newwin(&curspan_the_screen, height, width, (uint16_t)y, (uint16_t)x));
+    if (!fits) return made_outlying(curspan_newpad(curspan_settle(), height, width), y, x);
+    return made(curspan_newwin(curspan_settle(), height, width, (uint16_t)y, (uint16_t)x));
 }
 
 static WINDOW *derive_outlying(WINDOW *win, int lines, int columns, int y, int x) {
@@ -111,7 +111,7 @@ WINDOW *derwin(WINDOW *win, int lines, int columns, int y, int x) {
 
 WINDOW *newpad(int lines, int columns) {
     if (!are_numbers(lines, columns, 0, 0)) return NULL;
-    WINDOW *pad = made(curspan_newpad(&curspan_the_screen, (uint16_t)lines, (uint16_t)columns));
+    WINDOW *pad = made(curspan_newpad(curspan_settle(), (uint16_t)lines, (uint16_t)columns));
     if (pad) pad->is_pad = true;
     return pad;
 }
@@ -170,7 +170,7 @@ int mvderwin(WINDOW *win, int y, int x) {
 }
 
 /* The terminal is as large as window 0 of curspan.h, and its cursor is where the last update left it. */
-#define OF(win, of_terminal, of_window) (is_terminal(win) ? (of_terminal) : is_there(win) == ERR ? ERR : (of_window))
+#define OF(win, of_terminal, of_window) (is_terminal(win) ? (of_terminal) : !is_there(win) ? ERR : (of_window))
 
 int getcury(const WINDOW *win) { return OF(win, win->begin_y, win->y); }
 int getcurx(const WINDOW *win) { return OF(win, win->begin_x, win->x); }
@@ -185,14 +185,14 @@ int getbegx(const WINDOW *win) { return OF(win, 0, win->begin_x); }
 
 int clearok(WINDOW *win, bool flag) {
     if (!is_terminal(win)) return done(curspan_clearok(SCREEN_AND(win), flag));
-    if (flag) curspan_invalidate(&curspan_the_screen);
+    if (flag) curspan_invalidate(curspan_settle());
     return OK;
 }
 
 int scrollok(WINDOW *win, bool flag) { return SET_OF(win, scrolls, flag); }
 
 int wsetscrreg(WINDOW *win, int top, int bottom) {
-    if (is_there(win) == ERR || top < 0 || top > bottom || bottom >= (int)win->lines) return ERR;
+    if (!is_there(win) || top < 0 || top > bottom || bottom >= (int)win->lines) return ERR;
     win->top = top;
     win->bottom = bottom;
     return OK;

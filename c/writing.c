@@ -33,7 +33,7 @@ static int leave_line(WINDOW *win) {
 
 /* From now on the cells that are written in a window wait. */
 static void begin_to_wait(WINDOW *win) {
-    (void)curspan_written_screen();
+    (void)curspan_settle();
     curspan_waiting.win = win;
     curspan_waiting.from = win->x;
     win->is_placed = false;
@@ -129,7 +129,7 @@ static int add_printable(WINDOW *win, chtype ch) {
 }
 
 int curspan_add(WINDOW *win, chtype ch) {
-    if (is_there(win) == ERR) return ERR;
+    if (!is_there(win)) return ERR;
     if (win->begun.count > 0) curspan_check_begun(win);
     if (!win->is_plain) prepare(win);
     uint8_t character = curspan_as_drawn(ch | (win->attrs & A_ALTCHARSET)) & A_CHARTEXT;
@@ -164,7 +164,7 @@ static size_t add_plain(WINDOW *win, const char *text, size_t length) {
 }
 
 static int add_text(WINDOW *win, const char *text, size_t length) {
-    int answer = is_there(win);
+    int answer = is_there(win) ? OK : ERR;
     for (size_t i = 0; i < length && answer == OK; i++) {
         if (length - i > 1) i += add_plain(win, text + i, length - i);
         if (i < length) answer = add(win, (uint8_t)text[i]);
@@ -176,12 +176,12 @@ int waddstr(WINDOW *win, const char *text) { return text ? add_text(win, text, s
 
 int waddnstr(WINDOW *win, const char *text, int n) {
     if (n < 0) return waddstr(win, text);
-    if (n == 0) return is_there(win);
+    if (n == 0) return is_there(win) ? OK : ERR;
     return text ? add_text(win, text, strnlen(text, (size_t)n)) : ERR;
 }
 
 int waddchnstr(WINDOW *win, const chtype *row, int n) {
-    if (is_there(win) == ERR || (!row && n != 0)) return ERR;
+    if (!is_there(win) || (!row && n != 0)) return ERR;
     int room = (int)win->columns - win->x;
     return curspan_changed(win, curspan_put_cells(win, win->y, win->x, row, n < 0 ? room : least(n, room)));
 }

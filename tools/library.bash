@@ -17,7 +17,7 @@ compile() {
     mkdir -p "$to"
     for source in "$from"/*.c; do
         # shellcheck disable=SC2086 # CFLAGS are words
-        "$compiler" -std=c99 -O3 -fPIC "$@" ${CFLAGS:-} -c "$source" -o "$to/$(basename "$source" .c).o" || return
+        "$compiler" -std=c99 -O3 -fPIC -fstack-protector-strong "$@" ${CFLAGS:-} -c "$source" -o "$to/$(basename "$source" .c).o" || return
     done
 }
 
@@ -29,7 +29,7 @@ put_together() {
     ar=$(tool_for "$1" ar)
     shift 2
     work=$(mktemp -d)
-    compile "$compiler" "$root/c" "$work/shared" "${options[@]}" &&
+    compile "$compiler" "$root/c" "$work/shared" "${options[@]}" -D_FORTIFY_SOURCE=2 &&
         compile "$compiler" "$root/c" "$work/archive" "${options[@]}" -fvisibility=hidden &&
         exports > "$work/names.map" &&
         "$compiler" -shared -Wl,-Bsymbolic-functions -Wl,-z,relro,-z,now -Wl,-soname,libcurspan.so.0 -Wl,--version-script="$work/names.map" \

@@ -89,7 +89,7 @@ static void begin(void) {
 }
 
 int main(void) {
-    curspan_key key = {CURSPAN_KEY_RESIZE, 0, NULL, 0};
+    curspan_key key = {.code = CURSPAN_KEY_RESIZE};
     uint32_t status = curspan_terminal_open(&terminal, NULL, CURSPAN_TERMINAL_USUAL);
     if (status != CURSPAN_TERMINAL_OK) return puts(curspan_terminal_text(status)), 1;
     while (key.code != 'q' && key.code != CURSPAN_KEY_EOF) {

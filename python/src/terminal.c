@@ -247,7 +247,7 @@ static PyObject *terminal_screen(PyObject *self, PyObject *arguments, PyObject *
 }
 
 bool curspan_draw_on(PyObject *self, PyObject *bytes, bool *is_away) {
-    uint32_t status = curspan_terminal_draw(&TERMINAL(self)->handle, (const uint8_t *)PyBytes_AsString(bytes), (size_t)PyBytes_Size(bytes));
+    uint32_t status = curspan_terminal_draw(&TERMINAL(self)->handle, NULL, (const uint8_t *)PyBytes_AsString(bytes), (size_t)PyBytes_Size(bytes));
     *is_away = status == CURSPAN_TERMINAL_AWAY;
     if (status != CURSPAN_TERMINAL_OK && !*is_away) fail(status);
     return status == CURSPAN_TERMINAL_OK;

@@ -207,6 +207,10 @@ struct Key {
     modifiers: u32,
     text: *const u8,
     length: usize,
+    flags: u32,
+    button: u32,
+    line: u32,
+    column: u32,
 }
 
 extern "C" {
@@ -214,7 +218,12 @@ extern "C" {
     fn curspan_terminal_use(terminal: &Terminal, input: i32, out: i32, options: u32) -> u32;
     fn curspan_terminal_close(terminal: &Terminal) -> u32;
     fn curspan_terminal_size(terminal: &Terminal, lines: &mut i32, columns: &mut i32) -> u32;
-    fn curspan_terminal_draw(terminal: &Terminal, bytes: *const u8, length: usize) -> u32;
+    fn curspan_terminal_draw(
+        terminal: &Terminal,
+        screen: *const c_void,
+        bytes: *const u8,
+        length: usize,
+    ) -> u32;
     fn curspan_terminal_write(terminal: &Terminal, bytes: *const c_void, length: usize) -> u32;
     fn curspan_terminal_init_pair(t: &Terminal, s: &mut Screen, pair: u32, f: i32, b: i32) -> u32;
     fn curspan_terminal_suspend(terminal: &Terminal) -> u32;
@@ -285,7 +294,9 @@ impl Terminal {
 
     pub(crate) fn draw(&self, bytes: &[u8]) -> io::Result<()> {
         // SAFETY: the bytes have this length.
-        check_terminal(unsafe { curspan_terminal_draw(self, bytes.as_ptr(), bytes.len()) })
+        check_terminal(unsafe {
+            curspan_terminal_draw(self, ptr::null(), bytes.as_ptr(), bytes.len())
+        })
     }
 
     pub(crate) fn write(&self, bytes: &[u8]) -> io::Result<()> {
@@ -337,6 +348,10 @@ impl Terminal {
             modifiers: 0,
             text: ptr::null(),
             length: 0,
+            flags: 0,
+            button: 0,
+            line: 0,
+            column: 0,
         };
         let mut name = [0_u8; 64];
         // SAFETY: the terminal is open, and the key is lent.

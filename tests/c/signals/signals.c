@@ -40,11 +40,9 @@ ssize_t read(int descriptor, void *to, size_t count) {
     return syscall(SYS_read, descriptor, to, count);
 }
 
-int ppoll(struct pollfd *waited, nfds_t count, const struct timespec *time, const sigset_t *mask) {
-    struct timespec left = {0, 0};
+int poll(struct pollfd *waited, nfds_t count, int milliseconds) {
     raise_before_wait();
-    if (time) left = *time;
-    return (int)syscall(SYS_ppoll, waited, count, time ? &left : NULL, mask, (size_t)8);
+    return (int)syscall(SYS_poll, waited, count, milliseconds);
 }
 
 static void stop_before_wait(void) {
