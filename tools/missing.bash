@@ -1,12 +1,12 @@
 # What tests use besides the kit, a line each: a command, a header in angle brackets, or a path; the packages of Debian
 # that have it; and the parts of ./test that are skipped without it, wholly or not.
-used_by_tests='gcc:gcc libc6-dev:library for C, ended commands, budgets, refused allocations, small frames, faulty streams, C programs, keys of C programs, programs of others, memory of C programs, terminals, long runs, packages, Python, many screens, other languages, Rust, crossterm
-ar:binutils:library for C, C programs, keys of C programs, programs of others, memory of C programs, terminals, packages, Python, many screens, other languages, Rust, crossterm
+used_by_tests='gcc:gcc libc6-dev:library for C, ended commands, budgets, refused allocations, small frames, faulty streams, C programs, keys of C programs, programs of others, memory of C programs, decoder, terminals, long runs, packages, Python, many screens, other languages, Rust, crossterm
+ar:binutils:library for C, C programs, keys of C programs, programs of others, memory of C programs, decoder, terminals, packages, Python, many screens, other languages, Rust, crossterm
 pkg-config:pkg-config:packages
 dpkg-deb:dpkg:packages
 lintian:lintian:packages
 valgrind:valgrind libc6-dbg:budgets, memory, small frames, memory of C programs, Rust
-python3:python3:random, small frames, pictures, terminal, interrupted scripts, building, ended commands, C programs, keys of C programs, programs of others, terminals, long runs, packages, Python, many screens, other languages, crossterm
+python3:python3:random, small frames, pictures, terminal, interrupted scripts, building, ended commands, C programs, keys of C programs, programs of others, decoder, terminals, long runs, packages, Python, many screens, other languages, crossterm
 python3-config:python3-dev:packages, terminals, long runs, Python
 mypy:mypy:Python
 cargo:cargo:terminals, long runs, other languages, Rust, crossterm, packages
@@ -19,9 +19,13 @@ rsvg-convert:librsvg2-bin:pictures
 zsh:zsh:completion
 fish:fish:completion
 tmux:tmux:shell scripts, terminal, C programs, keys of C programs, programs of others, Python
-tic:ncurses-bin:small frames, C programs, keys of C programs, programs of others
+tic:ncurses-bin:small frames, decoder, C programs, keys of C programs, programs of others
 aarch64-linux-gnu-gcc:gcc-aarch64-linux-gnu libc6-dev-arm64-cross:64-bit ARM, packages
 qemu-aarch64:qemu-user:64-bit ARM
+<vterm.h>:libvterm-dev:decoder
+<termkey.h>:libtermkey-dev:decoder
+/usr/share/terminfo/k/konsole:ncurses-term:decoder
+/usr/share/terminfo/f/foot:foot-terminfo:decoder
 <panel.h>:libncurses-dev:small frames, C programs, keys of C programs, programs of others'
 
 # Puts out the lines of what some parts use, which are named with commas between them, or of what all use.
