@@ -1,0 +1,102 @@
+-- Control sequences by their parameters.
+use Rattle.std.proofs.Common.{◌≡◌, ◌+◌, ◌-◌, ◌<◌, ◌≤◌, ◌∷◌, ◌++◌, ◌∙◌, ℕ, true, false, List, [], refl, ap, sym, subst, length, take, get_or, arith, zero, suc, length-append}
+use Rattle.std.proofs.lemmas.Bool.{eq-eqb, ne_eqb}
+use Rattle.std.proofs.lemmas.Bool.Decides.{nat_tests}
+use Rattle.std.proofs.lemmas.List.{get_or-take, length-take-le, take_more}
+use Rattle.std.proofs.Math.Seq.{take-append_seam, take-length}
+use Rattle.std.specs.List.{slice_range}
+use Rattle.keys.specs.Grammar.{continues, is_whole}
+use Rattle.keys.specs.Parameters.{parameters}
+use Rattle.keys.specs.Meanings.{control_key, controlled_key, key_of}
+use Rattle.keys.specs.Sequences.{IsBegun, AreKey}
+use Rattle.keys.proofs.Sequences.{begun-next, begun-one, get-last}
+
+-- a digit or ;
+abbrev pub IsParameter : ℕ → Type 0
+IsParameter byte = (48 ≤ byte) × (byte ≤ 59)
+
+-- ---- as bytes
+
+bracket-on : (l : List ℕ) (byte : ℕ) → 0x20 ≤ byte → byte ≤ 0x7e → continues false (27 ∷ 91 ∷ l) byte ≡ true
+unfolding continues
+bracket-on l byte low high = grind (arith, nat_tests, low, high)
+
+one-open : is_whole false (27 ∷ []) ≡ false
+unfolding is_whole
+one-open = refl
+
+one-on : continues false (27 ∷ []) 91 ≡ true
+unfolding continues
+one-on = refl
+
+bracket-open : is_whole false (27 ∷ 91 ∷ []) ≡ false
+unfolding is_whole
+bracket-open = refl
+
+parameters-open : (x : ℕ) (l : List ℕ) → length l < 4000 → IsParameter x → IsParameter (get_or (x ∷ l) (length l) 0) → is_whole false (27 ∷ 91 ∷ x ∷ l) ≡ false
+unfolding is_whole
+parameters-open x l short first last = grind (arith, nat_tests, short, first.0, first.1, last.0, last.1)
+
+last-final : (l : List ℕ) (byte : ℕ) → get_or (l ++ byte ∷ []) (length (l ++ byte ∷ []) - 1) 0 ≡ byte
+last-final l byte =
+    ap (λ k. get_or (l ++ byte ∷ []) k 0) (let e : length (l ++ byte ∷ []) - 1 ≡ length l = omega (arith, length-append l (byte ∷ [])) in e)
+    ∙ get-last l byte
+
+final-whole : (x : ℕ) (l : List ℕ) (byte : ℕ) → length l < 4000 → IsParameter x → 0x40 ≤ byte → is_whole false (27 ∷ 91 ∷ x ∷ (l ++ byte ∷ [])) ≡ true
+unfolding is_whole
+final-whole x l byte short first high =
+    let last : get_or (27 ∷ 91 ∷ x ∷ (l ++ byte ∷ [])) (length (27 ∷ 91 ∷ x ∷ (l ++ byte ∷ [])) - 1) 0 ≡ byte = last-final (27 ∷ 91 ∷ x ∷ l) byte in
+    let long : length (l ++ byte ∷ []) ≡ length l + 1 = length-append l (byte ∷ []) in
+    grind (arith, nat_tests, short, first.0, first.1, high, last, long)
+
+-- a control sequence, but for what it reads of its bytes
+control-by : (bytes middle : List ℕ) (byte : ℕ) → get_or bytes 0 0 ≡ 27 → get_or bytes 1 0 ≡ 91 → 4 ≤ length bytes → (get_or bytes 2 0 ≡ 91 → ⊥) → (get_or bytes 2 0 ≡ 60 → ⊥)
+    → get_or bytes (length bytes - 1) 0 ≡ byte → 0x40 ≤ byte → slice_range bytes 2 (length bytes - 1) ≡ middle → key_of false bytes ≡ controlled_key (parameters middle) byte
+unfolding key_of control_key
+control-by bytes middle byte one two some console mouse last high between =
+    rw (eq-eqb (get_or bytes 0 0) 27 one, ne_eqb (length bytes) 1 (omega (arith, some)), ne_eqb (length bytes) 2 (omega (arith, some)), eq-eqb (get_or bytes 1 0) 91 two, ne_eqb (get_or bytes 2 0) 91 console)
+    (rw (last, between) (rw (ne_eqb byte 36 (omega (arith, high)), ne_eqb (get_or bytes 2 0) 60 mouse) (grind (arith, nat_tests, high))))
+
+final-key : (x : ℕ) (l : List ℕ) (byte : ℕ) → IsParameter x → 0x40 ≤ byte → key_of false (27 ∷ 91 ∷ x ∷ (l ++ byte ∷ [])) ≡ controlled_key (parameters (x ∷ l)) byte
+final-key x l byte first high =
+    let last : get_or (27 ∷ 91 ∷ x ∷ (l ++ byte ∷ [])) (length (27 ∷ 91 ∷ x ∷ (l ++ byte ∷ [])) - 1) 0 ≡ byte = last-final (27 ∷ 91 ∷ x ∷ l) byte in
+    let long : length (l ++ byte ∷ []) ≡ length l + 1 = length-append l (byte ∷ []) in
+    let count : length (27 ∷ 91 ∷ x ∷ (l ++ byte ∷ [])) - 1 - 2 ≡ length (x ∷ l) = omega (arith, long) in
+    let middle : slice_range (27 ∷ 91 ∷ x ∷ (l ++ byte ∷ [])) 2 (length (27 ∷ 91 ∷ x ∷ (l ++ byte ∷ [])) - 1) ≡ x ∷ l =
+    ap (λ k. take k (x ∷ (l ++ byte ∷ []))) count ∙ take-append_seam (x ∷ l) (byte ∷ []) in
+    control-by (27 ∷ 91 ∷ x ∷ (l ++ byte ∷ [])) (x ∷ l) byte refl refl (omega (arith, long)) (λ e. omega (arith, e, first.1)) (λ e. omega (arith, e, first.1)) last high middle
+
+module _ (x : ℕ) (l : List ℕ) (all : (k : ℕ) → k < length (x ∷ l) → IsParameter (get_or (x ∷ l) k 0)) (short : length l < 4000) where
+  last-taken : (n : ℕ) → n ≤ length l → IsParameter (get_or (x ∷ take n l) (length (take n l)) 0)
+  last-taken n few =
+      let P : ℕ → Type 0 = λ b. IsParameter b in
+      subst P
+      (sym (ap (λ k. get_or (x ∷ take n l) k 0) (length-take-le n l few) ∙ get_or-take (suc n) (x ∷ l) n 0 (omega arith)))
+      (all n (omega (arith, few)))
+
+  begun-parameters : (n : ℕ) → n ≤ length l → IsBegun false (27 ∷ 91 ∷ x ∷ take n l)
+  begun-parameters zero few =
+      begun-next false (27 ∷ 91 ∷ []) x (begun-next false (27 ∷ []) 91 (begun-one false 27) (λ h. one-open) one-on) (λ h. bracket-open)
+      (bracket-on [] x (omega (arith, (all 0 (omega arith)).0)) (omega (arith, (all 0 (omega arith)).1)))
+  begun-parameters (suc n) few =
+      let within : n < length l = omega (arith, few) in
+      let longer : take (suc n) l ≡ take n l ++ get_or l n 0 ∷ [] = ap (λ k. take k l) (let e : suc n ≡ n + 1 = omega arith in e) ∙ take_more l n 0 within in
+      let P : List ℕ → Type 0 = λ t. IsBegun false (27 ∷ 91 ∷ x ∷ t) in
+      let at = all (suc n) (omega (arith, few)) in
+      subst P (sym longer) (begun-next false (27 ∷ 91 ∷ x ∷ take n l) (get_or l n 0) (begun-parameters n (omega (arith, few)))
+      (λ h. parameters-open x (take n l) (omega (arith, length-take-le n l (omega (arith, few)), short)) (all 0 (omega arith)) (last-taken n (omega (arith, few))))
+      (bracket-on (x ∷ take n l) (get_or l n 0) (omega (arith, at.0)) (omega (arith, at.1))))
+
+  pub control : (byte : ℕ) → 0x40 ≤ byte → byte ≤ 0x7e → AreKey (27 ∷ 91 ∷ x ∷ (l ++ byte ∷ [])) (controlled_key (parameters (x ∷ l)) byte)
+  control byte high low =
+      let P : List ℕ → Type 0 = λ t. IsBegun false (27 ∷ 91 ∷ x ∷ t) in
+      let Q : List ℕ → Type 0 = λ t. IsParameter (get_or (x ∷ t) (length t) 0) in
+      record {
+        begun =
+            begun-next false (27 ∷ 91 ∷ x ∷ l) byte (subst P (take-length l) (begun-parameters (length l) (omega arith)))
+            (λ h. parameters-open x l short (all 0 (omega arith)) (subst Q (take-length l) (last-taken (length l) (omega arith))))
+            (bracket-on (x ∷ l) byte (omega (arith, high)) low);
+        some = omega arith;
+        whole = final-whole x l byte short (all 0 (omega arith)) high;
+        means = final-key x l byte (all 0 (omega arith)) high;
+      }

@@ -1,0 +1,33 @@
+-- The laws, as lemmas.
+use Rattle.std.proofs.Common.{◌≡◌, ◌+◌, ◌∷◌, ◌∙◌, List, [], refl, ap, sym, subst, length, map, length-append}
+use Rattle.std.specs.List.{flat_map}
+use Rattle.keys.specs.Readings.{Event, State, Item, HasRead, reading, taken_of}
+use Rattle.keys.specs.Sequences.{IsPending, bytes_of, bytes_taken}
+use Rattle.keys.specs.declared.decoder.Taken.{Taken}
+use Rattle.keys.proofs.Pastes.{paste-part, paste-short}
+use Rattle.keys.proofs.Sequences.{all_bytes-reading, sequences-reading}
+
+counted : (items : List Item) → bytes_taken (map taken_of items) ≡ length (flat_map (λ i. i.bytes) items)
+counted [] = refl
+counted (i ∷ items) =
+    ap (λ n. length i.bytes + n) (counted items) ∙ sym (length-append i.bytes (flat_map (λ j. j.bytes) items))
+
+pub counts : (events : List Event) (taken : List Taken) (state : State) → HasRead events taken state
+    → bytes_taken taken + length state.pending ≡ length (bytes_of events)
+counts events taken state h =
+    ap (λ l. bytes_taken l + length state.pending) h.taken_are
+    ∙ ap (λ n. n + length state.pending) (counted (reading events).items)
+    ∙ ap (λ s. length (flat_map (λ (i : Item). i.bytes) (reading events).items) + length s.pending) h.state_is
+    ∙ sym (length-append (flat_map (λ i. i.bytes) (reading events).items) (reading events).state.pending)
+    ∙ ap length (all_bytes-reading events)
+
+pub one-taken : (events : List Event) (taken others : List Taken) (one other : State) → HasRead events taken one → HasRead events others other → taken ≡ others
+one-taken events taken others one other h k = h.taken_are ∙ sym k.taken_are
+
+pub one-state : (events : List Event) (taken others : List Taken) (one other : State) → HasRead events taken one → HasRead events others other → one ≡ other
+one-state events taken others one other h k = h.state_is ∙ sym k.state_is
+
+pub pending-reading : (events : List Event) (taken : List Taken) (state : State) → HasRead events taken state → IsPending state
+pending-reading events taken state h = let P : State → Type 0 = λ s. IsPending s in subst P (sym h.state_is) (sequences-reading events).pending
+
+pub ruleset laws = (paste-part, paste-short, all_bytes-reading, sequences-reading, counts, one-taken, one-state, pending-reading)

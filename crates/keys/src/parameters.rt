@@ -1,0 +1,81 @@
+//! The parameters of a control sequence.
+
+ghost use Rattle.std.specs.Prelude.{◌≡◌, ◌≤◌, true};
+ghost use Rattle.keys.specs.Grammar.{is_digit};
+
+use crate::grammar::is_digit;
+
+/// The first number that is no character's: all that are greater are read as this one.
+pub const TOO_LARGE: u32 = 0x11_0000;
+
+/// Up to three numbers, and how many of them a separator has ended.
+#[derive(Clone, Copy)]
+pub struct Parameters {
+    pub first: u32,
+    pub second: u32,
+    pub third: u32,
+    pub ended: u8,
+    /// They are none that a key has.
+    pub strange: bool,
+}
+
+impl Parameters {
+    ghost use Rattle.keys.specs.Parameters.{after_byte, no_parameters, parameters};
+
+    pub const NONE: Parameters = Parameters {
+        first: 0,
+        second: 0,
+        third: 0,
+        ended: 0,
+        strange: false,
+    };
+
+    /// What one more byte makes of them.
+    fn after(self, byte: u8) -> Parameters
+        requires first { self.first ≤ TOO_LARGE }
+        requires second { self.second ≤ TOO_LARGE }
+        requires third { self.third ≤ TOO_LARGE }
+        ensures after { result ≡ after_byte self byte }
+        ensures first { result.first ≤ TOO_LARGE }
+        ensures second { result.second ≤ TOO_LARGE }
+        ensures third { result.third ≤ TOO_LARGE }
+    {
+        let mut next = self;
+        if is_digit(byte) {
+            if self.ended == 0 {
+                next.first = with_digit(self.first, byte);
+            } else if self.ended == 1 {
+                next.second = with_digit(self.second, byte);
+            } else {
+                next.third = with_digit(self.third, byte);
+            }
+        } else if byte == b';' && self.ended < 2 {
+            next.ended += 1;
+        } else {
+            next.strange = true;
+        }
+        next
+    }
+
+    /// The parameters that some bytes spell.
+    pub fn of(bytes: &[u8]) -> Parameters
+        ensures { result ≡ parameters bytes.now }
+    {
+        let mut so_far = Parameters::NONE;
+        for byte in bytes {
+            so_far = so_far.after(*byte);
+        }
+        so_far
+    }
+}
+
+ghost use Rattle.keys.specs.Parameters.{with_digit};
+
+/// A number with one more digit.
+fn with_digit(number: u32, digit: u8) -> u32
+    requires number { number ≤ TOO_LARGE }
+    requires digit { is_digit digit ≡ true }
+    ensures { result ≡ with_digit number digit }
+{
+    (number * 10 + u32::from(digit - b'0')).min(TOO_LARGE)
+}
