@@ -49,22 +49,37 @@ final-whole x l byte short first high =
     let long : length (l ++ byte ∷ []) ≡ length l + 1 = length-append l (byte ∷ []) in
     grind (arith, nat_tests, short, first.0, first.1, high, last, long)
 
--- a control sequence, but for what it reads of its bytes
-control-by : (bytes middle : List ℕ) (byte : ℕ) → get_or bytes 0 0 ≡ 27 → get_or bytes 1 0 ≡ 91 → 4 ≤ length bytes → (get_or bytes 2 0 ≡ 91 → ⊥) → (get_or bytes 2 0 ≡ 60 → ⊥)
-    → get_or bytes (length bytes - 1) 0 ≡ byte → 0x40 ≤ byte → slice_range bytes 2 (length bytes - 1) ≡ middle → key_of false bytes ≡ controlled_key (parameters middle) byte
-unfolding key_of control_key
-control-by bytes middle byte one two some console mouse last high between =
-    rw (eq-eqb (get_or bytes 0 0) 27 one, ne_eqb (length bytes) 1 (omega (arith, some)), ne_eqb (length bytes) 2 (omega (arith, some)), eq-eqb (get_or bytes 1 0) 91 two, ne_eqb (get_or bytes 2 0) 91 console)
-    (rw (last, between) (rw (ne_eqb byte 36 (omega (arith, high)), ne_eqb (get_or bytes 2 0) 60 mouse) (grind (arith, nat_tests, high))))
+-- a final byte that isn't one of rxvt's endings
+pub record IsFinal (byte : ℕ) : Type 0 where
+  pub low : 0x40 < byte
+  pub high : byte ≤ 0x7e
+  pub no_ending : byte ≡ 94 → ⊥
 
-final-key : (x : ℕ) (l : List ℕ) (byte : ℕ) → IsParameter x → 0x40 ≤ byte → key_of false (27 ∷ 91 ∷ x ∷ (l ++ byte ∷ [])) ≡ controlled_key (parameters (x ∷ l)) byte
-final-key x l byte first high =
-    let last : get_or (27 ∷ 91 ∷ x ∷ (l ++ byte ∷ [])) (length (27 ∷ 91 ∷ x ∷ (l ++ byte ∷ [])) - 1) 0 ≡ byte = last-final (27 ∷ 91 ∷ x ∷ l) byte in
+-- a control sequence, but for what it reads of its bytes
+control-by : (bytes between : List ℕ) (byte : ℕ) → get_or bytes 0 0 ≡ 27 → get_or bytes 1 0 ≡ 91 → 4 ≤ length bytes
+    → IsParameter (get_or bytes 2 0) → (get_or bytes 2 0 ≡ 60 → ⊥) → get_or bytes (length bytes - 1) 0 ≡ byte
+    → IsFinal byte → slice_range bytes 2 (length bytes - 1) ≡ between
+    → key_of false bytes ≡ controlled_key (parameters between) byte
+unfolding key_of control_key
+control-by bytes between byte one two some parameter mouse last final same =
+    rw (eq-eqb (get_or bytes 0 0) 27 one, ne_eqb (length bytes) 1 (λ e. omega (arith, e, some)))
+    (rw (ne_eqb (length bytes) 2 (λ e. omega (arith, e, some)), eq-eqb (get_or bytes 1 0) 91 two)
+    (rw (ne_eqb (get_or bytes 2 0) 91 (λ e. omega (arith, e, parameter.1)))
+    (rw (ne_eqb (get_or bytes 2 0) 77 (λ e. omega (arith, e, parameter.1)), last, same)
+    (rw (ne_eqb byte 36 (λ e. omega (arith, e, final.low)), ne_eqb byte 94 final.no_ending)
+    (rw (ne_eqb byte 64 (λ e. omega (arith, e, final.low)), ne_eqb (get_or bytes 2 0) 60 mouse)
+    (grind (arith, nat_tests, final.low)))))))
+
+final-key : (x : ℕ) (l : List ℕ) (byte : ℕ) → IsParameter x → IsFinal byte
+    → key_of false (27 ∷ 91 ∷ x ∷ (l ++ byte ∷ [])) ≡ controlled_key (parameters (x ∷ l)) byte
+final-key x l byte first final =
+    let bytes : List ℕ = 27 ∷ 91 ∷ x ∷ (l ++ byte ∷ []) in
+    let last : get_or bytes (length bytes - 1) 0 ≡ byte = last-final (27 ∷ 91 ∷ x ∷ l) byte in
     let long : length (l ++ byte ∷ []) ≡ length l + 1 = length-append l (byte ∷ []) in
-    let count : length (27 ∷ 91 ∷ x ∷ (l ++ byte ∷ [])) - 1 - 2 ≡ length (x ∷ l) = omega (arith, long) in
-    let middle : slice_range (27 ∷ 91 ∷ x ∷ (l ++ byte ∷ [])) 2 (length (27 ∷ 91 ∷ x ∷ (l ++ byte ∷ [])) - 1) ≡ x ∷ l =
+    let count : length bytes - 1 - 2 ≡ length (x ∷ l) = omega (arith, long) in
+    let between : slice_range bytes 2 (length bytes - 1) ≡ x ∷ l =
     ap (λ k. take k (x ∷ (l ++ byte ∷ []))) count ∙ take-append_seam (x ∷ l) (byte ∷ []) in
-    control-by (27 ∷ 91 ∷ x ∷ (l ++ byte ∷ [])) (x ∷ l) byte refl refl (omega (arith, long)) (λ e. omega (arith, e, first.1)) (λ e. omega (arith, e, first.1)) last high middle
+    control-by bytes (x ∷ l) byte refl refl (omega (arith, long)) first (λ e. omega (arith, e, first.1)) last final between
 
 module _ (x : ℕ) (l : List ℕ) (all : (k : ℕ) → k < length (x ∷ l) → IsParameter (get_or (x ∷ l) k 0)) (short : length l < 4000) where
   last-taken : (n : ℕ) → n ≤ length l → IsParameter (get_or (x ∷ take n l) (length (take n l)) 0)
@@ -87,16 +102,17 @@ module _ (x : ℕ) (l : List ℕ) (all : (k : ℕ) → k < length (x ∷ l) → 
       (λ h. parameters-open x (take n l) (omega (arith, length-take-le n l (omega (arith, few)), short)) (all 0 (omega arith)) (last-taken n (omega (arith, few))))
       (bracket-on (x ∷ take n l) (get_or l n 0) (omega (arith, at.0)) (omega (arith, at.1))))
 
-  pub control : (byte : ℕ) → 0x40 ≤ byte → byte ≤ 0x7e → AreKey (27 ∷ 91 ∷ x ∷ (l ++ byte ∷ [])) (controlled_key (parameters (x ∷ l)) byte)
-  control byte high low =
+  pub control : (byte : ℕ) → IsFinal byte
+      → AreKey (27 ∷ 91 ∷ x ∷ (l ++ byte ∷ [])) (controlled_key (parameters (x ∷ l)) byte)
+  control byte final =
       let P : List ℕ → Type 0 = λ t. IsBegun false (27 ∷ 91 ∷ x ∷ t) in
       let Q : List ℕ → Type 0 = λ t. IsParameter (get_or (x ∷ t) (length t) 0) in
       record {
         begun =
             begun-next false (27 ∷ 91 ∷ x ∷ l) byte (subst P (take-length l) (begun-parameters (length l) (omega arith)))
             (λ h. parameters-open x l short (all 0 (omega arith)) (subst Q (take-length l) (last-taken (length l) (omega arith))))
-            (bracket-on (x ∷ l) byte (omega (arith, high)) low);
+            (bracket-on (x ∷ l) byte (omega (arith, final.low)) final.high);
         some = omega arith;
-        whole = final-whole x l byte short (all 0 (omega arith)) high;
-        means = final-key x l byte (all 0 (omega arith)) high;
+        whole = final-whole x l byte short (all 0 (omega arith)) (omega (arith, final.low));
+        means = final-key x l byte (all 0 (omega arith)) final;
       }

@@ -1,19 +1,26 @@
 -- Parameters that are numbers in decimal digits.
-use Rattle.std.proofs.Common.{◌≡◌, ◌+◌, ◌-◌, ◌*◌, ◌/◌, ◌%◌, ◌^◌, ◌<◌, ◌≤◌, ◌∷◌, ◌++◌, ◌∙◌, ℕ, true, false, List, [], refl, ap, subst, inl, inr, length, get_or, arith, decimal, min, zero, suc, length-append}
-use Rattle.std.proofs.lemmas.Bool.{cases_lt, eq-eqb, ne_eqb}
+use Rattle.std.proofs.Common.{◌≡◌, ◌⊎◌, ◌+◌, ◌-◌, ◌*◌, ◌/◌, ◌%◌, ◌^◌, ◌<◌, ◌≤◌, ◌∷◌, ◌++◌, ◌∙◌, ℕ, Bool, true, false, List, [], Option, Some, None, refl, ap, subst, inl, inr, length, get_or, arith, decimal, min, nat_le, nat_lt, zero, suc, length-append}
+use Rattle.std.proofs.lemmas.Bool.{cases_lt, ne_eqb}
 use Rattle.std.proofs.lemmas.Bool.Decides.{nat_tests}
 use Rattle.std.proofs.lemmas.Fmt.{decimal_by_steps, length-decimal-le}
 use Rattle.std.proofs.lemmas.Grind.{fold-append}
 use Rattle.std.proofs.lemmas.List.{get_or_append_left, get_or-append_right}
+use Rattle.std.proofs.Math.Utf8.{scalar_cases}
+use Rattle.std.specs.Char.{IsScalar}
 use Rattle.std.specs.List.{fold}
+use Rattle.keys.specs.PressedKeys.{key_named, no_modifiers}
 use Rattle.keys.specs.Grammar.{is_digit}
-use Rattle.keys.specs.Parameters.{after_byte, no_parameters, parameters, with_digit}
-use Rattle.keys.specs.Meanings.{controlled_key, name_of_code, name_of_letter, name_of_number, pressed_with}
+use Rattle.keys.specs.Parameters.{after_byte, control_sequence, no_parameters, parameter_of, parameters, three_parameters, two_parameters, with_digit}
+use Rattle.keys.specs.Meanings.{controlled_key, modifiers_of, name_of_code, name_of_final, name_of_number, pressed_below}
 use Rattle.keys.specs.Sequences.{AreKey}
 use Rattle.keys.specs.declared.key.Key.{Key}
+use Rattle.keys.specs.declared.key.Key.TheVariants.{Pressed}
+use Rattle.keys.specs.declared.key.Modifiers.{Modifiers}
+use Rattle.keys.specs.declared.key.Name.{Name}
+use Rattle.keys.specs.declared.key.Name.TheVariants.{Character}
 use Rattle.keys.specs.declared.parameters.Parameters.{Parameters}
 use Rattle.keys.specs.declared.parameters.TheConstants.{TOO_LARGE}
-use Rattle.keys.proofs.Controls.{IsParameter, control}
+use Rattle.keys.proofs.Controls.{IsFinal, IsParameter, control}
 use Rattle.keys.proofs.Sequences.{get-last}
 
 -- digits that spell a number
@@ -50,123 +57,237 @@ spells n fits = decimal_by_steps Spells spells-one spells-more n fits
 digit-test : (b : ℕ) → 48 ≤ b → b ≤ 57 → is_digit b ≡ true
 digit-test b low high = grind (arith, nat_tests, low, high)
 
--- digits go on the number that no separator has ended
-digit-first : (p : Parameters) (b : ℕ) → p.ended ≡ 0 → 48 ≤ b → b ≤ 57 → after_byte p b ≡ record p { first = with_digit p.first b }
-digit-first p b none low high = rw (digit-test b low high, eq-eqb p.ended 0 none) refl
-
-digit-second : (p : Parameters) (b : ℕ) → p.ended ≡ 1 → 48 ≤ b → b ≤ 57 → after_byte p b ≡ record p { second = with_digit p.second b }
-digit-second p b one low high = rw (digit-test b low high, ne_eqb p.ended 0 (λ e. omega (arith, e, one)), eq-eqb p.ended 1 one) refl
-
-separator : (p : Parameters) → p.ended ≡ 0 → after_byte p 59 ≡ record p { ended = 1 }
-separator p none = rw none refl
-
-fold-first : (ds : List ℕ) (p : Parameters) → ((k : ℕ) → k < length ds → (48 ≤ get_or ds k 0) × (get_or ds k 0 ≤ 57)) → p.ended ≡ 0
-    → fold after_byte p ds ≡ record p { first = fold with_digit p.first ds }
-fold-first [] p digits none = refl
-fold-first (d ∷ ds) p digits none =
-    ap (λ q. fold after_byte q ds) (digit-first p d none (digits 0 (omega arith)).0 (digits 0 (omega arith)).1)
-    ∙ fold-first ds (record p { first = with_digit p.first d }) (λ k h. digits (suc k) (omega (arith, h))) none
-
-fold-second : (ds : List ℕ) (p : Parameters) → ((k : ℕ) → k < length ds → (48 ≤ get_or ds k 0) × (get_or ds k 0 ≤ 57)) → p.ended ≡ 1
-    → fold after_byte p ds ≡ record p { second = fold with_digit p.second ds }
-fold-second [] p digits one = refl
-fold-second (d ∷ ds) p digits one =
-    ap (λ q. fold after_byte q ds) (digit-second p d one (digits 0 (omega arith)).0 (digits 0 (omega arith)).1)
-    ∙ fold-second ds (record p { second = with_digit p.second d }) (λ k h. digits (suc k) (omega (arith, h))) one
-
--- one number, and two
-abbrev pub one_number : ℕ → Parameters
-one_number n = record { first = n; second = 0; third = 0; ended = 0; strange = false }
-
-abbrev pub two_numbers : ℕ → ℕ → Parameters
-two_numbers n m = record { first = n; second = m; third = 0; ended = 1; strange = false }
-
 fits : (n : ℕ) → n ≤ TOO_LARGE → n < 2 ^ 64
 fits n few = omega (arith, few)
 
-pub parameters-one : (n : ℕ) → n ≤ TOO_LARGE → parameters (decimal n) ≡ one_number n
-parameters-one n few =
-    let is = spells n (fits n few) in
-    fold-first (decimal n) no_parameters is.digits refl ∙ ap one_number (is.value few)
+-- parameters of one number, of two and of three
+abbrev one_number : ℕ → Parameters
+one_number n = record no_parameters { first = n }
 
-pub parameters-two : (n m : ℕ) → n ≤ TOO_LARGE → m ≤ TOO_LARGE → parameters (decimal n ++ 59 ∷ decimal m) ≡ two_numbers n m
+abbrev two_numbers : ℕ → ℕ → Parameters
+two_numbers n m = record no_parameters { first = n; second = m; ended = 1 }
+
+abbrev three_numbers : ℕ → ℕ → ℕ → Parameters
+three_numbers n m k = record no_parameters { first = n; second = m; third = k; ended = 2 }
+
+-- digits go on the number that no separator has ended
+fold-digits : (F : ℕ → Parameters)
+    → ((a b : ℕ) → is_digit b ≡ true → after_byte (F a) b ≡ F (with_digit a b)) → (ds : List ℕ) (a : ℕ)
+    → ((k : ℕ) → k < length ds → (48 ≤ get_or ds k 0) × (get_or ds k 0 ≤ 57))
+    → fold after_byte (F a) ds ≡ F (fold with_digit a ds)
+fold-digits F next [] a digits = refl
+fold-digits F next (d ∷ ds) a digits =
+    ap (λ p. fold after_byte p ds)
+    (next a d (digit-test d (digits 0 (omega arith)).0 (digits 0 (omega arith)).1))
+    ∙ fold-digits F next ds (with_digit a d) (λ k h. digits (suc k) (omega (arith, h)))
+
+fold-decimal : (F : ℕ → Parameters)
+    → ((a b : ℕ) → is_digit b ≡ true → after_byte (F a) b ≡ F (with_digit a b)) → (n : ℕ) → n ≤ TOO_LARGE
+    → fold after_byte (F 0) (decimal n) ≡ F n
+fold-decimal F next n few =
+    let is = spells n (fits n few) in
+    fold-digits F next (decimal n) 0 is.digits ∙ ap F (is.value few)
+
+parameters-one : (n : ℕ) → n ≤ TOO_LARGE → parameters (decimal n) ≡ one_number n
+parameters-one n few = fold-decimal one_number (λ a b digit. rw digit refl) n few
+
+parameters-two : (n m : ℕ) → n ≤ TOO_LARGE → m ≤ TOO_LARGE → parameters (two_parameters n m) ≡ two_numbers n m
 parameters-two n m few few' =
-    let is = spells m (fits m few') in
     fold-append after_byte no_parameters (decimal n) (59 ∷ decimal m)
     ∙ ap (λ p. fold after_byte p (59 ∷ decimal m)) (parameters-one n few)
-    ∙ ap (λ p. fold after_byte p (decimal m)) (separator (one_number n) refl)
-    ∙ fold-second (decimal m) (two_numbers n 0) is.digits refl
-    ∙ ap (two_numbers n) (is.value few')
+    ∙ fold-decimal (two_numbers n) (λ a b digit. rw digit refl) m few'
+
+parameters-three : (n m k : ℕ) → n ≤ TOO_LARGE → m ≤ TOO_LARGE → k ≤ TOO_LARGE
+    → parameters (three_parameters n m k) ≡ three_numbers n m k
+parameters-three n m k few few' few'' =
+    fold-append after_byte no_parameters (two_parameters n m) (59 ∷ decimal k)
+    ∙ ap (λ p. fold after_byte p (59 ∷ decimal k)) (parameters-two n m few few')
+    ∙ fold-decimal (three_numbers n m) (λ a b digit. rw digit refl) k few''
 
 -- ---- control sequences of numbers
 
-parameter-first : (n : ℕ) (ds : List ℕ) → Spells n ds → (k : ℕ) → k < length ds → IsParameter (get_or ds k 0)
-parameter-first n ds is k h = (omega (arith, (is.digits k h).0), omega (arith, (is.digits k h).1))
+-- bytes of parameters, some but not too many
+record AreParameters (bytes : List ℕ) (most : ℕ) : Type 0 where
+  each : (k : ℕ) → k < length bytes → IsParameter (get_or bytes k 0)
+  some : 1 ≤ length bytes
+  few : length bytes ≤ most
 
-parameter-behind : (es : List ℕ) → ((k : ℕ) → k < length es → IsParameter (get_or es k 0)) → (j : ℕ) → j < length (59 ∷ es) → IsParameter (get_or (59 ∷ es) j 0)
-parameter-behind es second zero h = (omega arith, omega arith)
-parameter-behind es second (suc j) h = second j (omega (arith, h))
+parameters-decimal : (n : ℕ) → n ≤ TOO_LARGE → AreParameters (decimal n) 7
+parameters-decimal n few =
+    let is = spells n (fits n few) in
+    record {
+      each = λ k h. (omega (arith, (is.digits k h).0), omega (arith, (is.digits k h).1));
+      some = is.some;
+      few = length-decimal-le 7 n (omega arith) (omega (arith, few)) (fits n few);
+    }
 
-parameter-both : (ds es : List ℕ) → ((k : ℕ) → k < length ds → IsParameter (get_or ds k 0)) → ((k : ℕ) → k < length es → IsParameter (get_or es k 0))
-    → (k : ℕ) → k < length (ds ++ 59 ∷ es) → IsParameter (get_or (ds ++ 59 ∷ es) k 0)
-parameter-both ds es first second k h = elim (cases_lt k (length ds)) [
-  | inl before ↦ rw (get_or_append_left ds (59 ∷ es) 0 k before) (first k before)
-  | inr after ↦ rw (get_or-append_right ds (59 ∷ es) (length ds) k 0 refl after) (parameter-behind es second (k - length ds) (omega (arith, after, h, length-append ds (59 ∷ es))))
+behind : (es : List ℕ) (most : ℕ) → AreParameters es most → (j : ℕ) → j < length (59 ∷ es)
+    → IsParameter (get_or (59 ∷ es) j 0)
+behind es most are zero h = (omega arith, omega arith)
+behind es most are (suc j) h = are.each j (omega (arith, h))
+
+parameters-both : (ds es : List ℕ) (d e : ℕ) → AreParameters ds d → AreParameters es e
+    → AreParameters (ds ++ 59 ∷ es) (d + suc e)
+parameters-both ds es d e are others =
+    let long = length-append ds (59 ∷ es) in
+    record {
+      each = λ k h. elim (cases_lt k (length ds)) [
+        | inl before ↦ rw (get_or_append_left ds (59 ∷ es) 0 k before) (are.each k before)
+        | inr after ↦
+            rw (get_or-append_right ds (59 ∷ es) (length ds) k 0 refl after)
+            (behind es e others (k - length ds) (omega (arith, after, h, long)))
+      ];
+      some = omega (arith, long, are.some);
+      few = omega (arith, long, are.few, others.few);
+    }
+
+controlled : (between : List ℕ) (most : ℕ) → AreParameters between most → most < 4000 → (byte : ℕ) → IsFinal byte
+    → (p : Parameters) → parameters between ≡ p → (key : Key) → controlled_key p byte ≡ key
+    → AreKey (control_sequence between byte) key
+controlled [] most are short byte final p spelled key means = absurd (omega (arith, are.some))
+controlled (x ∷ l) most are short byte final p spelled key means =
+    let P : Key → Type 0 = λ k. AreKey (control_sequence (x ∷ l) byte) k in
+    subst P (ap (λ q. controlled_key q byte) spelled ∙ means)
+    (control x l are.each (omega (arith, are.few, short)) byte final)
+
+-- ---- with modifiers
+
+back : (shift alt ctrl : Bool) → let held : Modifiers = record { shift = shift; alt = alt; ctrl = ctrl } in
+    (parameter_of held ≤ 8) × (modifiers_of (parameter_of held - 1) ≡ held)
+back false false false = (omega arith, refl)
+back false false true = (omega arith, refl)
+back false true false = (omega arith, refl)
+back false true true = (omega arith, refl)
+back true false false = (omega arith, refl)
+back true false true = (omega arith, refl)
+back true true false = (omega arith, refl)
+back true true true = (omega arith, refl)
+
+below : (limit n : ℕ) (name : Name) → 8 ≤ limit → n ≤ 8
+    → pressed_below limit (Some name) n ≡ Pressed name (modifiers_of (n - 1))
+below limit n name wide few =
+    let low : nat_lt 256 n ≡ false = grind (arith, nat_tests, few) in
+    let within : nat_le limit ((n - 1) % 64) ≡ false = grind (arith, nat_tests, few, wide) in
+    rw (low, within) refl
+
+pressed-back : (limit : ℕ) (option : Option Name) (name : Name) (held : Modifiers) → 8 ≤ limit → option ≡ Some name
+    → pressed_below limit option (parameter_of held) ≡ Pressed name held
+pressed-back limit option name held wide is =
+    let said = back held.shift held.alt held.ctrl in
+    ap (λ o. pressed_below limit o (parameter_of held)) is ∙ below limit (parameter_of held) name wide said.0
+    ∙ ap (Pressed name) said.1
+
+few-held : (held : Modifiers) → parameter_of held ≤ TOO_LARGE
+few-held held = let e = (back held.shift held.alt held.ctrl).0 in omega (arith, e)
+
+tilde : IsFinal 126
+tilde = record { low = omega arith; high = omega arith; no_ending = λ e. omega (arith, e) }
+
+small_u : IsFinal 117
+small_u = record { low = omega arith; high = omega arith; no_ending = λ e. omega (arith, e) }
+
+none-some : (name : Name) (o : Option Name) → o ≡ None → o ≡ Some name → ⊥
+none-some name o none is = absurd (cc)
+
+few-number : (n : ℕ) (name : Name) → name_of_number n ≡ Some name → n ≤ 34
+few-number n name is = elim (cases_lt 34 n) [
+  | inl more ↦ absurd (none-some name (name_of_number n) (grind (arith, nat_tests, more)) is)
+  | inr few ↦ few
 ]
 
-control-middle : (middle : List ℕ) (byte : ℕ) → 1 ≤ length middle → ((k : ℕ) → k < length middle → IsParameter (get_or middle k 0)) → length middle < 4000
-    → 0x40 ≤ byte → byte ≤ 0x7e → AreKey (27 ∷ 91 ∷ (middle ++ byte ∷ [])) (controlled_key (parameters middle) byte)
-control-middle [] byte some all short high low = absurd (omega (arith, some))
-control-middle (x ∷ l) byte some all short high low = control x l all (omega (arith, short)) byte high low
+few-code : (n : ℕ) (name : Name) → name_of_code n ≡ Some name → n < TOO_LARGE
+few-code n name is = elim (cases_lt n TOO_LARGE) [
+  | inl few ↦ few
+  | inr more ↦ absurd (none-some name (name_of_code n) (grind (arith, nat_tests, more)) is)
+]
 
-module _ (n : ℕ) (few : n ≤ TOO_LARGE) where
-  short-decimal : length (decimal n) ≤ 7
-  short-decimal = length-decimal-le 7 n (omega arith) (omega (arith, few)) (fits n few)
-
-  one-controlled : (byte : ℕ) → 0x40 ≤ byte → byte ≤ 0x7e → AreKey (27 ∷ 91 ∷ (decimal n ++ byte ∷ [])) (controlled_key (one_number n) byte)
-  one-controlled byte high low =
-      let is = spells n (fits n few) in
-      let P : Parameters → Type 0 = λ p. AreKey (27 ∷ 91 ∷ (decimal n ++ byte ∷ [])) (controlled_key p byte) in
-      subst P (parameters-one n few) (control-middle (decimal n) byte is.some (parameter-first n (decimal n) is) (omega (arith, short-decimal)) high low)
-
-two-controlled : (n m : ℕ) → n ≤ TOO_LARGE → m ≤ TOO_LARGE → (byte : ℕ) → 0x40 ≤ byte → byte ≤ 0x7e
-    → AreKey (27 ∷ 91 ∷ ((decimal n ++ 59 ∷ decimal m) ++ byte ∷ [])) (controlled_key (two_numbers n m) byte)
-two-controlled n m few few' byte high low =
-    let is = spells n (fits n few) in
-    let are = spells m (fits m few') in
-    let long = length-append (decimal n) (59 ∷ decimal m) in
-    let P : Parameters → Type 0 = λ p. AreKey (27 ∷ 91 ∷ ((decimal n ++ 59 ∷ decimal m) ++ byte ∷ [])) (controlled_key p byte) in
-    subst P (parameters-two n m few few')
-    (control-middle (decimal n ++ 59 ∷ decimal m) byte (omega (arith, long, is.some))
-    (parameter-both (decimal n) (decimal m) (parameter-first n (decimal n) is) (parameter-first m (decimal m) are))
-    (omega (arith, long, short-decimal n few, short-decimal m few')) high low)
+final-letter : (letter : ℕ) (name : Name) → name_of_final letter ≡ Some name → (65 ≤ letter) × (letter ≤ 83)
+final-letter letter name is = (
+  elim (cases_lt letter 65) [
+    | inl less ↦ absurd (none-some name (name_of_final letter) (grind (arith, nat_tests, less)) is)
+    | inr low ↦ low
+  ],
+  elim (cases_lt 83 letter) [
+    | inl more ↦ absurd (none-some name (name_of_final letter) (grind (arith, nat_tests, more)) is)
+    | inr high ↦ high
+  ],
+)
 
 -- ESC [ n ~
-pub numbered-one : (n : ℕ) → n ≤ TOO_LARGE → (n ≡ 200 → ⊥) → AreKey (27 ∷ 91 ∷ (decimal n ++ 126 ∷ [])) (pressed_with (name_of_number n) 0)
+pub numbered-one : (n : ℕ) (name : Name) → name_of_number n ≡ Some name
+    → AreKey (control_sequence (decimal n) 126) (key_named name)
 unfolding controlled_key
-numbered-one n few other =
-    let P : Key → Type 0 = λ k. AreKey (27 ∷ 91 ∷ (decimal n ++ 126 ∷ [])) k in
-    subst P (let e : controlled_key (one_number n) 126 ≡ pressed_with (name_of_number n) 0 = rw (ne_eqb n 200 other) refl in e)
-    (one-controlled n few 126 (omega arith) (omega arith))
+numbered-one n name is =
+    let small = few-number n name is in
+    let few : n ≤ TOO_LARGE = omega (arith, small) in
+    controlled (decimal n) 7 (parameters-decimal n few) (omega arith) 126 tilde (one_number n) (parameters-one n few)
+    (key_named name)
+    (rw (ne_eqb n 200 (λ e. omega (arith, e, small))) (pressed-back 16 (name_of_number n) name no_modifiers (omega arith) is))
 
 -- ESC [ n ; m ~
-pub numbered-two : (n m : ℕ) → n ≤ TOO_LARGE → m ≤ TOO_LARGE → AreKey (27 ∷ 91 ∷ ((decimal n ++ 59 ∷ decimal m) ++ 126 ∷ [])) (pressed_with (name_of_number n) m)
+pub numbered-two : (n : ℕ) (name : Name) (held : Modifiers) → name_of_number n ≡ Some name
+    → AreKey (control_sequence (two_parameters n (parameter_of held)) 126) (Pressed name held)
 unfolding controlled_key
-numbered-two n m few few' = two-controlled n m few few' 126 (omega arith) (omega arith)
+numbered-two n name held is =
+    let few : n ≤ TOO_LARGE = (let e = few-number n name is in omega (arith, e)) in
+    let m = parameter_of held in
+    controlled (two_parameters n m) 15
+    (parameters-both (decimal n) (decimal m) 7 7 (parameters-decimal n few) (parameters-decimal m (few-held held)))
+    (omega arith) 126 tilde (two_numbers n m) (parameters-two n m few (few-held held)) (Pressed name held)
+    (pressed-back 16 (name_of_number n) name held (omega arith) is)
 
 -- ESC [ n ; m u
-pub coded-two : (n m : ℕ) → n ≤ TOO_LARGE → m ≤ TOO_LARGE → AreKey (27 ∷ 91 ∷ ((decimal n ++ 59 ∷ decimal m) ++ 117 ∷ [])) (pressed_with (name_of_code n) m)
+pub coded-two : (n : ℕ) (name : Name) (held : Modifiers) → name_of_code n ≡ Some name
+    → AreKey (control_sequence (two_parameters n (parameter_of held)) 117) (Pressed name held)
 unfolding controlled_key
-coded-two n m few few' = two-controlled n m few few' 117 (omega arith) (omega arith)
+coded-two n name held is =
+    let few : n ≤ TOO_LARGE = (let e = few-code n name is in omega (arith, e)) in
+    let m = parameter_of held in
+    controlled (two_parameters n m) 15
+    (parameters-both (decimal n) (decimal m) 7 7 (parameters-decimal n few) (parameters-decimal m (few-held held)))
+    (omega arith) 117 small_u (two_numbers n m) (parameters-two n m few (few-held held)) (Pressed name held)
+    (pressed-back 8 (name_of_code n) name held (omega arith) is)
 
--- ESC [ 1 ; m and a capital letter
-pub lettered-two : (letter m : ℕ) → 65 ≤ letter → letter ≤ 90 → m ≤ TOO_LARGE
-    → AreKey (27 ∷ 91 ∷ ((decimal 1 ++ 59 ∷ decimal m) ++ letter ∷ [])) (pressed_with (name_of_letter letter) m)
+-- ESC [ 27 ; m ; n ~
+pub coded-three : (n : ℕ) (name : Name) (held : Modifiers) → name_of_code n ≡ Some name
+    → AreKey (control_sequence (three_parameters 27 (parameter_of held) n) 126) (Pressed name held)
 unfolding controlled_key
-lettered-two letter m least most few =
-    let P : Key → Type 0 = λ k. AreKey (27 ∷ 91 ∷ ((decimal 1 ++ 59 ∷ decimal m) ++ letter ∷ [])) k in
-    subst P
-    (let e : controlled_key (two_numbers 1 m) letter ≡ pressed_with (name_of_letter letter) m =
-    rw (ne_eqb letter 126 (λ e. omega (arith, e, most)), ne_eqb letter 117 (λ e. omega (arith, e, most)), ne_eqb letter 94 (λ e. omega (arith, e, most)), ne_eqb letter 64 (λ e. omega (arith, e, least))) refl
-    in e)
-    (two-controlled 1 m (omega arith) few letter (omega (arith, least)) (omega (arith, most)))
+coded-three n name held is =
+    let few : n ≤ TOO_LARGE = (let e = few-code n name is in omega (arith, e)) in
+    let m = parameter_of held in
+    let both = parameters-both (decimal 27) (decimal m) 7 7 (parameters-decimal 27 (omega arith))
+    (parameters-decimal m (few-held held)) in
+    controlled (three_parameters 27 m n) 23
+    (parameters-both (two_parameters 27 m) (decimal n) 15 7 both (parameters-decimal n few))
+    (omega arith) 126 tilde (three_numbers 27 m n) (parameters-three 27 m n (omega arith) (few-held held) few)
+    (Pressed name held) (pressed-back 8 (name_of_code n) name held (omega arith) is)
+
+-- ESC [ 1 ; m and a letter
+pub lettered-two : (letter : ℕ) (name : Name) (held : Modifiers) → name_of_final letter ≡ Some name
+    → AreKey (control_sequence (two_parameters 1 (parameter_of held)) letter) (Pressed name held)
+unfolding controlled_key
+lettered-two letter name held is =
+    let bounds = final-letter letter name is in
+    let m = parameter_of held in
+    controlled (two_parameters 1 m) 15
+    (parameters-both (decimal 1) (decimal m) 7 7 (parameters-decimal 1 (omega arith)) (parameters-decimal m (few-held held)))
+    (omega arith) letter
+    (record {
+      low = omega (arith, bounds.0);
+      high = omega (arith, bounds.1);
+      no_ending = λ e. omega (arith, e, bounds.1);
+    })
+    (two_numbers 1 m) (parameters-two 1 m (omega arith) (few-held held)) (Pressed name held)
+    (rw (ne_eqb letter 126 (λ e. omega (arith, e, bounds.1)), ne_eqb letter 117 (λ e. omega (arith, e, bounds.1)))
+    (pressed-back 16 (name_of_final letter) name held (omega arith) is))
+
+-- which characters have a number
+pub coded-character : (code : ℕ) → IsScalar code → 32 ≤ code → (code ≡ 127 → ⊥) → (code < 0xe000) ⊎ (0xf900 ≤ code)
+    → name_of_code code ≡ Some (Character code)
+coded-character code scalar low other public = elim (scalar_cases code scalar) [
+  | inl before ↦ grind (arith, nat_tests, low, ne_eqb code 127 other, before)
+  | inr after ↦ elim public [
+    | inl below ↦ absurd (omega (arith, below, after.0))
+    | inr above ↦ grind (arith, nat_tests, low, other, above, after.1)
+  ]
+]

@@ -4,7 +4,8 @@ use Rattle.std.proofs.lemmas.Bool.{cases_eq, cases_lt, ne_eqb}
 use Rattle.std.proofs.lemmas.Bool.Decides.{nat_tests}
 use Rattle.std.proofs.lemmas.List.{ext_get_or, get_or-take, length-take-le}
 use Rattle.keys.specs.Grammar.{escape, paste_end, continues, is_whole}
-use Rattle.keys.specs.Meanings.{key_of}
+use Rattle.keys.specs.Meanings.{as_asked, key_of}
+use Rattle.keys.specs.declared.asked.Asked.{Asked}
 use Rattle.keys.specs.Readings.{State, Item}
 use Rattle.keys.specs.Sequences.{IsBegun, IsSequence, IsPending}
 use Rattle.keys.specs.declared.grammar.TheConstants.{LONGEST}
@@ -50,32 +51,38 @@ module _ (bytes : List ℕ) (begun : IsBegun true bytes) where
       ext_get_or 0 bytes (take (length bytes) paste_end) (sym (length-take-le (length bytes) paste_end at_most))
       (λ n within. all first n within ∙ sym (get_or-take (length bytes) paste_end n 0 within))
 
-key-ends : (bytes : List ℕ) → key_of true bytes ≡ PasteEnds → length bytes ≡ 6
+key-ends : (asked : Asked) (bytes : List ℕ) → as_asked asked (key_of true bytes) ≡ PasteEnds → length bytes ≡ 6
 unfolding key_of
-key-ends bytes is = elim (cases_eq (length bytes) 6) [
+key-ends asked bytes is = elim (cases_eq (length bytes) 6) [
   | inl six ↦ six
   | inr other ↦ absurd (let e = rw (ne_eqb (length bytes) 6 other) at is in cc)
 ]
 
-pub paste-pending : (pending : List ℕ) → IsPending (record { pasting = true; pending = pending })
+paste-pending : (asked : Asked) (pending : List ℕ)
+    → IsPending (record { asked = asked; pasting = true; pending = pending })
     → (pending ≡ take (length pending) paste_end) × (length pending < 6)
-paste-pending [] is = (refl, omega arith)
-paste-pending (b ∷ l) is =
+paste-pending asked [] is = (refl, omega arith)
+paste-pending asked (b ∷ l) is =
     let some : 0 < length (b ∷ l) = omega arith in
     let first = escaped (b ∷ l) (omega arith) is.short (is.open_yet some) in
     (part (b ∷ l) is.begun first.0, omega (arith, at_most (b ∷ l) is.begun, first.1))
 
-pub paste-part : (state : State) → IsPending state → state.pasting ≡ true → state.pending ≡ take (length state.pending) paste_end
-paste-part state is pasting =
-    let P : Bool → Type 0 = λ p. IsPending (record { pasting = p; pending = state.pending }) in
-    (paste-pending state.pending (subst P pasting is)).0
+paste-state : (state : State) → IsPending state → state.pasting ≡ true
+    → (state.pending ≡ take (length state.pending) paste_end) × (length state.pending < 6)
+paste-state state is pasting =
+    let P : Bool → Type 0 = λ p. IsPending (record state { pasting = p }) in
+    paste-pending state.asked state.pending (subst P pasting is)
+
+pub paste-part : (state : State) → IsPending state → state.pasting ≡ true
+    → state.pending ≡ take (length state.pending) paste_end
+paste-part state is pasting = (paste-state state is pasting).0
 
 pub paste-short : (state : State) → IsPending state → state.pasting ≡ true → length state.pending < 6
-paste-short state is pasting =
-    let P : Bool → Type 0 = λ p. IsPending (record { pasting = p; pending = state.pending }) in
-    (paste-pending state.pending (subst P pasting is)).1
+paste-short state is pasting = (paste-state state is pasting).1
 
 pub paste-whole : (item : Item) (is : IsSequence item) → is.pasting ≡ true → item.key ≡ PasteEnds → item.bytes ≡ paste_end
 paste-whole item is pasting ends =
     let P : Bool → Type 0 = λ p. IsBegun p item.bytes in
-    whole item.bytes (subst P pasting is.begun) (key-ends item.bytes (ap (λ p. key_of p item.bytes) (sym pasting) ∙ sym is.means ∙ ends))
+    whole item.bytes (subst P pasting is.begun)
+    (key-ends is.asked item.bytes
+    (ap (λ p. as_asked is.asked (key_of p item.bytes)) (sym pasting) ∙ sym is.means ∙ ends))

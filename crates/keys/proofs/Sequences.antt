@@ -1,5 +1,5 @@
 -- No byte is lost, and each sequence is one.
-use Rattle.std.proofs.Common.{◌≡◌, ◌+◌, ◌-◌, ◌<◌, ◌≤◌, ◌∷◌, ◌++◌, ◌∙◌, ℕ, Bool, true, false, List, [], Option, refl, ap, sym, inl, inr, length, take, get_or, arith, append_assoc, length-append}
+use Rattle.std.proofs.Common.{◌≡◌, ◌+◌, ◌-◌, ◌<◌, ◌≤◌, ◌∷◌, ◌++◌, ◌∙◌, ℕ, Bool, true, false, List, [], Option, refl, ap, sym, subst, inl, inr, length, take, get_or, arith, append_assoc, length-append}
 use Rattle.std.proofs.Math.Seq.{take-length, take-append_seam}
 use Rattle.std.proofs.lemmas.Bool.{cases_Bool, cases_eq, cases_lt, eq-eqb, ne_eqb}
 use Rattle.std.proofs.lemmas.Bool.Decides.{nat_tests}
@@ -7,8 +7,9 @@ use Rattle.std.proofs.lemmas.Grind.{flat_map-append}
 use Rattle.std.proofs.lemmas.List.{append-nil, get_or-append_right, get_or-take, get_or_append_left, length-take-le, take-append-le, take-take, take_more}
 use Rattle.std.specs.List.{AllByRecursion, flat_map, fold}
 use Rattle.keys.specs.Grammar.{escape, continues, is_whole, leaves_escape}
-use Rattle.keys.specs.Readings.{State, Item, Event, Byte, Delay, Reading, item, start, option_list, cut_by, begun_by, whole_of, after_bytes, whole_by, after_byte, cut_by_delay, after_delay, read_event, reading}
+use Rattle.keys.specs.Readings.{State, Item, Event, Byte, Delay, Reading, item, start, option_list, cut_by, left_by, whole_of, after_bytes, ended_by, taken_by, cut_by_delay, after_delay, read_event, reading}
 use Rattle.keys.specs.Sequences.{byte_of, bytes_of, all_bytes, IsBegun, IsSequence, IsPending, IsOfSequences}
+use Rattle.keys.specs.declared.asked.Asked.{Asked}
 use Rattle.keys.specs.declared.grammar.TheConstants.{LONGEST}
 
 -- ---- no byte is lost
@@ -38,51 +39,70 @@ left-bytes pasting pending leaves =
     let is = left pasting pending leaves in
     ap (λ b. take (length pending - 1) pending ++ b ∷ []) (sym is.ends) ∙ without_last pending (omega (arith, is.long))
 
--- the cut sequence and the one that goes on have the bytes
-bytes-begun : (s : State) (byte : ℕ) → bytes_in (cut_by s byte) ++ begun_by s byte ≡ s.pending ++ byte ∷ []
+empty : (l : List ℕ) → length l ≡ 0 → l ≡ []
+empty [] none = refl
+empty (x ∷ l) none = absurd (omega (arith, none))
+
+-- the cut sequence and what is left have the bytes that were pending
+bytes-cut : (s : State) (byte : ℕ) → bytes_in (cut_by s byte) ++ (left_by s byte).pending ≡ s.pending
 unfolding bytes_in
-bytes-begun s byte = elim (cases_Bool (continues s.pasting s.pending byte)) [
+bytes-cut s byte = elim (cases_Bool (continues s.pasting s.pending byte)) [
   | inl on ↦ rw on refl
   | inr cut ↦ elim (cases_Bool (leaves_escape s.pasting s.pending)) [
-    | inl leaves ↦ rw (cut, leaves) (rw append-nil (sym (append_assoc (take (length s.pending - 1) s.pending) (escape ∷ []) (byte ∷ [])) ∙ ap (λ l. l ++ byte ∷ []) (left-bytes s.pasting s.pending leaves)))
-    | inr none ↦ rw (cut, none) (rw append-nil refl)
+    | inl leaves ↦ rw (cut, leaves) (rw append-nil (left-bytes s.pasting s.pending leaves))
+    | inr none ↦ rw (cut, none) (append-nil (s.pending ++ []) ∙ append-nil s.pending)
   ]
 ]
 
-bytes-whole : (pasting : Bool) (bytes : List ℕ) → bytes_in (whole_of pasting bytes) ++ (after_bytes pasting bytes).pending ≡ bytes
+bytes-whole : (s : State) (bytes : List ℕ) → bytes_in (whole_of s bytes) ++ (after_bytes s bytes).pending ≡ bytes
 unfolding bytes_in
-bytes-whole pasting bytes = elim (cases_Bool (is_whole pasting bytes)) [
+bytes-whole s bytes = elim (cases_Bool (is_whole s.pasting bytes)) [
   | inl whole ↦ rw whole (append-nil (bytes ++ []) ∙ append-nil bytes)
   | inr more ↦ rw more refl
 ]
 
-bytes-delay : (pasting : Bool) (pending : List ℕ)
-    → bytes_in (cut_by_delay (record { pasting = pasting; pending = pending })) ++ (after_delay (record { pasting = pasting; pending = pending })).pending ≡ pending
+bytes-ended : (s : State) (byte : ℕ)
+    → bytes_in (ended_by s byte) ++ (taken_by s byte).pending ≡ s.pending ++ byte ∷ []
 unfolding bytes_in
-bytes-delay true pending = refl
-bytes-delay false [] = refl
-bytes-delay false (b ∷ l) = rw (ne_eqb (length (b ∷ l)) 0 (λ e. absurd (omega (arith, e)))) (append-nil ((b ∷ l) ++ []) ∙ append-nil (b ∷ l))
+bytes-ended s byte = elim (cases_Bool (continues s.pasting s.pending byte)) [
+  | inl on ↦ rw on (bytes-whole s (s.pending ++ byte ∷ []))
+  | inr off ↦ rw off (ap (λ l. l ++ byte ∷ []) (append-nil s.pending))
+]
+
+bytes-delay : (s : State) → bytes_in (cut_by_delay s) ++ (after_delay s).pending ≡ s.pending
+unfolding bytes_in
+bytes-delay s = elim (cases_Bool s.pasting) [
+  | inl pastes ↦ rw pastes refl
+  | inr typed ↦ elim (cases_eq (length s.pending) 0) [
+    | inl none ↦ rw (typed, eq-eqb (length s.pending) 0 none) (sym (empty s.pending none))
+    | inr some ↦ rw (typed, ne_eqb (length s.pending) 0 some) (append-nil (s.pending ++ []) ∙ append-nil s.pending)
+  ]
+]
 
 all_bytes-event : (r : Reading) (event : Event) → all_bytes (read_event r event) ≡ all_bytes r ++ byte_of event
 unfolding bytes_in
 all_bytes-event r (Byte byte) =
     let f : Item → List ℕ = λ i. i.bytes in
+    let s = left_by r.state byte in
     let cut = option_list (cut_by r.state byte) in
-    let whole = option_list (whole_by r.state byte) in
-    let pending = (after_byte r.state byte).pending in
-    ap (λ l. l ++ pending) (flat_map-append f (r.items ++ cut) whole ∙ ap (λ l. l ++ flat_map f whole) (flat_map-append f r.items cut))
-    ∙ append_assoc (flat_map f r.items ++ flat_map f cut) (flat_map f whole) pending
-    ∙ ap (λ l. (flat_map f r.items ++ flat_map f cut) ++ l) (bytes-whole r.state.pasting (begun_by r.state byte))
-    ∙ append_assoc (flat_map f r.items) (flat_map f cut) (begun_by r.state byte)
-    ∙ ap (λ l. flat_map f r.items ++ l) (bytes-begun r.state byte)
-    ∙ sym (append_assoc (flat_map f r.items) r.state.pending (byte ∷ []))
+    let ended = option_list (ended_by s byte) in
+    let pending = (taken_by s byte).pending in
+    let before = flat_map f r.items in
+    ap (λ l. l ++ pending)
+    (flat_map-append f (r.items ++ cut) ended ∙ ap (λ l. l ++ flat_map f ended) (flat_map-append f r.items cut))
+    ∙ append_assoc (before ++ flat_map f cut) (flat_map f ended) pending
+    ∙ ap (λ l. (before ++ flat_map f cut) ++ l) (bytes-ended s byte)
+    ∙ append_assoc before (flat_map f cut) (s.pending ++ byte ∷ [])
+    ∙ ap (λ l. before ++ l) (sym (append_assoc (flat_map f cut) s.pending (byte ∷ [])))
+    ∙ ap (λ l. before ++ (l ++ byte ∷ [])) (bytes-cut r.state byte)
+    ∙ sym (append_assoc before r.state.pending (byte ∷ []))
 all_bytes-event r Delay =
     let f : Item → List ℕ = λ i. i.bytes in
     let cut = option_list (cut_by_delay r.state) in
     let pending = (after_delay r.state).pending in
     ap (λ l. l ++ pending) (flat_map-append f r.items cut)
     ∙ append_assoc (flat_map f r.items) (flat_map f cut) pending
-    ∙ ap (λ l. flat_map f r.items ++ l) (bytes-delay r.state.pasting r.state.pending)
+    ∙ ap (λ l. flat_map f r.items ++ l) (bytes-delay r.state)
     ∙ sym (append-nil (all_bytes r))
 
 all_bytes-fold : (events : List Event) (r : Reading) → all_bytes (fold read_event r events) ≡ all_bytes r ++ bytes_of events
@@ -93,8 +113,8 @@ all_bytes-fold (event ∷ events) r =
     ∙ append_assoc (all_bytes r) (byte_of event) (bytes_of events)
 
 -- the bytes of all sequences and those that are pending are the bytes that came
-pub all_bytes-reading : (events : List Event) → all_bytes (reading events) ≡ bytes_of events
-all_bytes-reading events = all_bytes-fold events (record { items = []; state = start })
+pub all_bytes-reading : (asked : Asked) (events : List Event) → all_bytes (reading asked events) ≡ bytes_of events
+all_bytes-reading asked events = all_bytes-fold events (record { items = []; state = start asked })
 
 -- ---- each sequence is one
 
@@ -139,43 +159,15 @@ pub begun-one : (pasting : Bool) (byte : ℕ) → IsBegun pasting (byte ∷ [])
 unfolding continues
 begun-one pasting byte = begun-next pasting [] byte (begun-none pasting) (λ h. absurd (omega (arith, h))) refl
 
--- in a string an escape goes on after an escape
-left-goes_on : (pasting : Bool) (pending : List ℕ) (byte : ℕ) → leaves_escape pasting pending ≡ true → continues pasting pending byte ≡ false → byte ≡ escape → ⊥
-unfolding continues leaves_escape
-left-goes_on true pending byte leaves cut is = cc
-left-goes_on false pending byte leaves cut is = grind (arith, nat_tests, leaves, cut, is)
-
-pub begun-two : (byte : ℕ) → (byte ≡ escape → ⊥) → IsBegun false (escape ∷ byte ∷ [])
-unfolding continues is_whole
-begun-two byte other = begun-next false (escape ∷ []) byte (begun-one false escape) (λ h. refl) (grind (arith, nat_tests, ne_eqb byte escape other))
-
 -- a sequence that was begun is as long as one may be, at most
 record Begins (pasting : Bool) (bytes : List ℕ) : Type 0 where
   begun : IsBegun pasting bytes
   some : 1 ≤ length bytes
   few : length bytes ≤ LONGEST
 
-begins : (s : State) (byte : ℕ) → IsPending s → Begins s.pasting (begun_by s byte)
-begins s byte is = elim (cases_Bool (continues s.pasting s.pending byte)) [
-  | inl on ↦ rw on (record {
-    begun = begun-next s.pasting s.pending byte is.begun is.open_yet on;
-    some = omega (arith, length-append s.pending (byte ∷ []));
-    few = omega (arith, length-append s.pending (byte ∷ []), is.short);
-  })
-  | inr cut ↦ elim (cases_Bool (leaves_escape s.pasting s.pending)) [
-    | inl leaves ↦
-        let outside = (left s.pasting s.pending leaves).outside in
-        rw (cut, leaves, outside) (record {
-          begun = begun-two byte (left-goes_on s.pasting s.pending byte leaves cut);
-          some = omega arith;
-          few = omega arith;
-        })
-    | inr none ↦ rw (cut, none) (record { begun = begun-one s.pasting byte; some = omega arith; few = omega arith })
-  ]
-]
-
-sequence-pending : (pasting : Bool) (bytes : List ℕ) → Begins pasting bytes → IsSequence (item pasting bytes)
-sequence-pending pasting bytes is = record { pasting = pasting; begun = is.begun; some = is.some; few = is.few; means = refl }
+sequence : (s : State) (bytes : List ℕ) → Begins s.pasting bytes → IsSequence (item s bytes)
+sequence s bytes is =
+    record { asked = s.asked; pasting = s.pasting; begun = is.begun; some = is.some; few = is.few; means = refl }
 
 -- what doesn't go on was begun
 cut-some : (pasting : Bool) (pending : List ℕ) (byte : ℕ) → continues pasting pending byte ≡ false → 1 ≤ length pending
@@ -183,104 +175,147 @@ unfolding continues
 cut-some pasting [] byte cut = absurd (cc)
 cut-some pasting (b ∷ l) byte cut = omega arith
 
-sequences-cut : (s : State) (byte : ℕ) → IsPending s → AllByRecursion IsSequence (option_list (cut_by s byte))
+-- what is pending is a sequence where it is cut short
+begins-pending : (s : State) → IsPending s → 1 ≤ length s.pending → Begins s.pasting s.pending
+begins-pending s is some = record { begun = is.begun; some = some; few = omega (arith, is.short) }
+
+pub pending-none : (asked : Asked) (pasting : Bool) → IsPending (record { asked = asked; pasting = pasting; pending = [] })
+pending-none asked pasting =
+    record { begun = begun-none pasting; open_yet = λ h. absurd (omega (arith, h)); short = omega arith }
+
+-- an escape alone is pending
+pending-escape : (asked : Asked) → IsPending (record { asked = asked; pasting = false; pending = escape ∷ [] })
+unfolding is_whole
+pending-escape asked = record { begun = begun-one false escape; open_yet = λ h. refl; short = omega arith }
+
+sequences-cut : (s : State) (byte : ℕ) → IsPending s
+    → AllByRecursion IsSequence (option_list (cut_by s byte)) × IsPending (left_by s byte)
 sequences-cut s byte is = elim (cases_Bool (continues s.pasting s.pending byte)) [
-  | inl on ↦ rw on tt
+  | inl on ↦ rw on (tt, is)
   | inr cut ↦ elim (cases_Bool (leaves_escape s.pasting s.pending)) [
     | inl leaves ↦
-        let long = (left s.pasting s.pending leaves).long in
-        let n : length (take (length s.pending - 1) s.pending) ≡ length s.pending - 1 = length-take-le (length s.pending - 1) s.pending (omega arith) in
+        let ends = left s.pasting s.pending leaves in
+        let n : length (take (length s.pending - 1) s.pending) ≡ length s.pending - 1 =
+        length-take-le (length s.pending - 1) s.pending (omega arith) in
+        let P : Bool → Type 0 = λ p. IsPending (record { asked = s.asked; pasting = p; pending = escape ∷ [] }) in
         rw (cut, leaves) (
-          sequence-pending s.pasting (take (length s.pending - 1) s.pending) (record {
-            begun = begun-take s.pasting s.pending (length s.pending - 1) (omega arith) is.begun;
-            some = omega (arith, n, long);
-            few = omega (arith, n, is.short);
-          }),
-          tt,
+          (
+            sequence s (take (length s.pending - 1) s.pending) (record {
+              begun = begun-take s.pasting s.pending (length s.pending - 1) (omega arith) is.begun;
+              some = omega (arith, n, ends.long);
+              few = omega (arith, n, is.short);
+            }),
+            tt,
+          ),
+          subst P (sym ends.outside) (pending-escape s.asked),
         )
     | inr none ↦ rw (cut, none) (
-      sequence-pending s.pasting s.pending (record {
-        begun = is.begun;
-        some = cut-some s.pasting s.pending byte cut;
-        few = omega (arith, is.short);
-      }),
-      tt,
+      (sequence s s.pending (begins-pending s is (cut-some s.pasting s.pending byte cut)), tt),
+      pending-none s.asked s.pasting,
     )
   ]
 ]
-
-sequences-whole : (pasting : Bool) (bytes : List ℕ) → Begins pasting bytes → AllByRecursion IsSequence (option_list (whole_of pasting bytes))
-sequences-whole pasting bytes is = elim (cases_Bool (is_whole pasting bytes)) [
-  | inl whole ↦ rw whole (sequence-pending pasting bytes is, tt)
-  | inr more ↦ rw more tt
-]
-
-pending-none : (pasting : Bool) → IsPending (record { pasting = pasting; pending = [] })
-pending-none pasting = record { begun = begun-none pasting; open_yet = λ h. absurd (omega (arith, h)); short = omega arith }
 
 -- what has as many bytes as a sequence may have is whole
 whole-longest : (pasting : Bool) (bytes : List ℕ) → length bytes ≡ LONGEST → is_whole pasting bytes ≡ true
 unfolding is_whole
 whole-longest pasting bytes long = rw (eq-eqb (length bytes) LONGEST long) refl
 
-pending-after : (pasting : Bool) (bytes : List ℕ) → Begins pasting bytes → IsPending (after_bytes pasting bytes)
-pending-after pasting bytes is = elim (cases_Bool (is_whole pasting bytes)) [
-  | inl whole ↦ rw whole (pending-none _)
-  | inr more ↦ rw more (record {
-    begun = is.begun;
-    open_yet = λ h. more;
-    short = elim (cases_eq (length bytes) LONGEST) [
-      | inl long ↦ absurd (let whole = whole-longest pasting bytes long in cc)
-      | inr other ↦ omega (arith, is.few, other)
-    ];
-  })
+sequences-whole : (s : State) (bytes : List ℕ) → Begins s.pasting bytes
+    → AllByRecursion IsSequence (option_list (whole_of s bytes)) × IsPending (after_bytes s bytes)
+sequences-whole s bytes is = elim (cases_Bool (is_whole s.pasting bytes)) [
+  | inl whole ↦ rw whole ((sequence s bytes is, tt), pending-none s.asked _)
+  | inr more ↦ rw more (
+    tt,
+    record {
+      begun = is.begun;
+      open_yet = λ h. more;
+      short = elim (cases_eq (length bytes) LONGEST) [
+        | inl long ↦ absurd (let whole = whole-longest s.pasting bytes long in cc)
+        | inr other ↦ omega (arith, is.few, other)
+      ];
+    },
+  )
+]
+
+-- what is left goes on, but for an escape where another follows
+escape-off : (byte : ℕ) → continues false (escape ∷ []) byte ≡ false → byte ≡ escape
+unfolding continues
+escape-off byte off = elim (cases_eq byte escape) [
+  | inl same ↦ same
+  | inr other ↦ absurd (let e : continues false (escape ∷ []) byte ≡ true = rw (ne_eqb byte escape other) refl in cc)
+]
+
+left-off : (s : State) (byte : ℕ) → continues (left_by s byte).pasting (left_by s byte).pending byte ≡ false
+    → (byte ≡ escape) × ((left_by s byte).pasting ≡ false)
+unfolding continues
+left-off s byte off = elim (cases_Bool (continues s.pasting s.pending byte)) [
+  | inl on ↦ absurd (let e = rw on at off in cc)
+  | inr cut ↦ elim (cases_Bool (leaves_escape s.pasting s.pending)) [
+    | inl leaves ↦
+        let outside = (left s.pasting s.pending leaves).outside in
+        (escape-off byte (rw (cut, leaves, outside) at off), rw cut outside)
+    | inr none ↦ absurd (let e = rw (cut, none) at off in cc)
+  ]
+]
+
+sequences-ended : (s : State) (byte : ℕ) → IsPending s
+    → (continues s.pasting s.pending byte ≡ false → (byte ≡ escape) × (s.pasting ≡ false))
+    → AllByRecursion IsSequence (option_list (ended_by s byte)) × IsPending (taken_by s byte)
+sequences-ended s byte is alone = elim (cases_Bool (continues s.pasting s.pending byte)) [
+  | inl on ↦ rw on (sequences-whole s (s.pending ++ byte ∷ []) (record {
+    begun = begun-next s.pasting s.pending byte is.begun is.open_yet on;
+    some = omega (arith, length-append s.pending (byte ∷ []));
+    few = omega (arith, length-append s.pending (byte ∷ []), is.short);
+  }))
+  | inr off ↦
+      let at = alone off in
+      let some = cut-some s.pasting s.pending byte off in
+      rw off (
+        (sequence s s.pending (begins-pending s is some), tt),
+        rw (at.0, at.1) (pending-escape s.asked),
+      )
 ]
 
 all-append : (xs ys : List Item) → AllByRecursion IsSequence xs → AllByRecursion IsSequence ys → AllByRecursion IsSequence (xs ++ ys)
 all-append [] ys all others = others
 all-append (x ∷ xs) ys all others = (all.0, all-append xs ys all.1 others)
 
-sequences-delay : (pasting : Bool) (pending : List ℕ) → IsPending (record { pasting = pasting; pending = pending })
-    → AllByRecursion IsSequence (option_list (cut_by_delay (record { pasting = pasting; pending = pending })))
-sequences-delay true pending is = tt
-sequences-delay false pending is = elim (cases_eq (length pending) 0) [
-  | inl none ↦ rw (eq-eqb (length pending) 0 none) tt
-  | inr some ↦ rw (ne_eqb (length pending) 0 some) (
-    sequence-pending false pending (record {
-      begun = is.begun;
-      some = omega (arith, some);
-      few = omega (arith, is.short);
-    }),
-    tt,
-  )
+sequences-delay : (s : State) → IsPending s
+    → AllByRecursion IsSequence (option_list (cut_by_delay s)) × IsPending (after_delay s)
+sequences-delay s is = elim (cases_Bool s.pasting) [
+  | inl pastes ↦ rw pastes (tt, let P : Bool → Type 0 = λ p. IsPending (record s { pasting = p }) in subst P pastes is)
+  | inr typed ↦ elim (cases_eq (length s.pending) 0) [
+    | inl none ↦ rw (typed, eq-eqb (length s.pending) 0 none) (tt, pending-none s.asked false)
+    | inr some ↦
+        let one : IsSequence (item s s.pending) = sequence s s.pending (begins-pending s is (omega (arith, some))) in
+        let P : Bool → Type 0 = λ p. IsSequence (item (record s { pasting = p }) s.pending) in
+        rw (typed, ne_eqb (length s.pending) 0 some) ((subst P typed one, tt), pending-none s.asked false)
+  ]
 ]
-
-pending-delay : (pasting : Bool) (pending : List ℕ) → IsPending (record { pasting = pasting; pending = pending })
-    → IsPending (after_delay (record { pasting = pasting; pending = pending }))
-pending-delay true pending is = is
-pending-delay false pending is = pending-none false
 
 sequences-event : (r : Reading) (event : Event) → IsOfSequences r → IsOfSequences (read_event r event)
 sequences-event r (Byte byte) is =
-    let next = begins r.state byte is.pending in
+    let cut = sequences-cut r.state byte is.pending in
+    let ended = sequences-ended (left_by r.state byte) byte cut.1 (left-off r.state byte) in
     record {
-      sequences = all-append (r.items ++ option_list (cut_by r.state byte)) (option_list (whole_by r.state byte))
-          (all-append r.items (option_list (cut_by r.state byte)) is.sequences (sequences-cut r.state byte is.pending))
-          (sequences-whole r.state.pasting (begun_by r.state byte) next);
-      pending = pending-after r.state.pasting (begun_by r.state byte) next;
+      sequences =
+          all-append (r.items ++ option_list (cut_by r.state byte)) (option_list (ended_by (left_by r.state byte) byte))
+          (all-append r.items (option_list (cut_by r.state byte)) is.sequences cut.0) ended.0;
+      pending = ended.1;
     }
 sequences-event r Delay is =
+    let cut = sequences-delay r.state is.pending in
     record {
-      sequences = all-append r.items (option_list (cut_by_delay r.state)) is.sequences (sequences-delay r.state.pasting r.state.pending is.pending);
-      pending = pending-delay r.state.pasting r.state.pending is.pending;
+      sequences = all-append r.items (option_list (cut_by_delay r.state)) is.sequences cut.0;
+      pending = cut.1;
     }
 
 sequences-fold : (events : List Event) (r : Reading) → IsOfSequences r → IsOfSequences (fold read_event r events)
 sequences-fold [] r is = is
 sequences-fold (event ∷ events) r is = sequences-fold events (read_event r event) (sequences-event r event is)
 
-pub sequences-reading : (events : List Event) → IsOfSequences (reading events)
-sequences-reading events = sequences-fold events (record { items = []; state = start }) (record {
-  sequences = tt;
-  pending = pending-none false;
-})
+pub sequences-reading : (asked : Asked) (events : List Event) → IsOfSequences (reading asked events)
+sequences-reading asked events =
+    sequences-fold events (record { items = []; state = start asked })
+    (record { sequences = tt; pending = pending-none asked false })

@@ -3,65 +3,85 @@ use Rattle.std.proofs.Common.{◌≡◌, ◌+◌, ◌<◌, get_or, length, subst
 use Rattle.std.proofs.lemmas.List.{append-nil, map-append, take_more}
 use Rattle.std.proofs.lemmas.Grind.{fold-append}
 use Rattle.std.specs.Option.{is_some, option_map}
-use Rattle.keys.specs.Readings.{State, Item, Event, Byte, Delay, Reading, HasRead, start, option_list, cut_by, whole_by, after_byte, cut_by_delay, after_delay, read_event, reading, taken_of}
+use Rattle.keys.specs.Readings.{State, Item, Event, Byte, Delay, Reading, HasRead, start, option_list, answered, cut_by, left_by, ended_by, taken_by, cut_by_delay, after_delay, read_event, reading, taken_of}
+use Rattle.keys.specs.declared.asked.Asked.{Asked}
+use Rattle.keys.specs.declared.decoder.Answer.{Answer}
 use Rattle.keys.specs.declared.decoder.Taken.{Taken}
 
-pub reading-next : (events : List Event) (event : Event) → reading (events ++ event ∷ []) ≡ read_event (reading events) event
-reading-next events event = fold-append read_event (record { items = []; state = start }) events (event ∷ [])
+pub reading-next : (asked : Asked) (events : List Event) (event : Event)
+    → reading asked (events ++ event ∷ []) ≡ read_event (reading asked events) event
+reading-next asked events event = fold-append read_event (record { items = []; state = start asked }) events (event ∷ [])
 
 map-option_list : (o : Option Item) → map taken_of (option_list o) ≡ option_list (option_map taken_of o)
 map-option_list None = refl
 map-option_list (Some i) = refl
 
--- what is answered to a byte
-abbrev pub answered : Option Taken → Option Taken → List Taken
-answered cut whole = option_list cut ++ option_list whole
+-- what is answered to an event
+answer : State → Event → List Taken
+answer s (Byte byte) =
+    option_list (option_map taken_of (cut_by s byte)) ++ option_list (option_map taken_of (ended_by (left_by s byte) byte))
+answer s Delay = option_list (option_map taken_of (cut_by_delay s))
 
-taken-byte : (r : Reading) (byte : ℕ) → map taken_of (read_event r (Byte byte)).items
-    ≡ map taken_of r.items ++ (option_list (option_map taken_of (cut_by r.state byte)) ++ option_list (option_map taken_of (whole_by r.state byte)))
-taken-byte r byte =
-    map-append taken_of (r.items ++ option_list (cut_by r.state byte)) (option_list (whole_by r.state byte))
-    ∙ ap (λ l. l ++ map taken_of (option_list (whole_by r.state byte))) (map-append taken_of r.items (option_list (cut_by r.state byte)))
-    ∙ append_assoc (map taken_of r.items) (map taken_of (option_list (cut_by r.state byte))) (map taken_of (option_list (whole_by r.state byte)))
-    ∙ ap (λ l. map taken_of r.items ++ (l ++ map taken_of (option_list (whole_by r.state byte)))) (map-option_list (cut_by r.state byte))
-    ∙ ap (λ l. map taken_of r.items ++ (option_list (option_map taken_of (cut_by r.state byte)) ++ l)) (map-option_list (whole_by r.state byte))
+after : State → Event → State
+after s (Byte byte) = taken_by (left_by s byte) byte
+after s Delay = after_delay s
 
-taken-delay : (r : Reading) → map taken_of (read_event r Delay).items ≡ map taken_of r.items ++ option_list (option_map taken_of (cut_by_delay r.state))
-taken-delay r =
+taken-event : (r : Reading) (event : Event)
+    → map taken_of (read_event r event).items ≡ map taken_of r.items ++ answer r.state event
+unfolding answer
+taken-event r (Byte byte) =
+    let cut = cut_by r.state byte in
+    let ended = ended_by (left_by r.state byte) byte in
+    let before = map taken_of r.items in
+    map-append taken_of (r.items ++ option_list cut) (option_list ended)
+    ∙ ap (λ l. l ++ map taken_of (option_list ended)) (map-append taken_of r.items (option_list cut))
+    ∙ append_assoc before (map taken_of (option_list cut)) (map taken_of (option_list ended))
+    ∙ ap (λ l. before ++ (l ++ map taken_of (option_list ended))) (map-option_list cut)
+    ∙ ap (λ l. before ++ (option_list (option_map taken_of cut) ++ l)) (map-option_list ended)
+taken-event r Delay =
     map-append taken_of r.items (option_list (cut_by_delay r.state))
     ∙ ap (λ l. map taken_of r.items ++ l) (map-option_list (cut_by_delay r.state))
 
-pub HasRead-byte : (events : List Event) (taken : List Taken) (s t : State) (byte : ℕ) (cut whole : Option Taken) → HasRead events taken s
-    → cut ≡ option_map taken_of (cut_by s byte) → whole ≡ option_map taken_of (whole_by s byte) → t ≡ after_byte s byte
-    → HasRead (events ++ Byte byte ∷ []) (taken ++ (option_list cut ++ option_list whole)) t
-HasRead-byte events taken s t byte cut whole h is_cut is_whole is_after =
-    let next : reading (events ++ Byte byte ∷ []) ≡ read_event (reading events) (Byte byte) = reading-next events (Byte byte) in
-    let same : s ≡ (reading events).state = h.state_is in
+state-event : (r : Reading) (event : Event) → (read_event r event).state ≡ after r.state event
+unfolding after
+state-event r (Byte byte) = refl
+state-event r Delay = refl
+
+HasRead-event : (events : List Event) (taken : List Taken) (s t : State) (event : Event) (more : List Taken)
+    → HasRead events taken s → more ≡ answer s event → t ≡ after s event → t.asked ≡ s.asked
+    → HasRead (events ++ event ∷ []) (taken ++ more) t
+HasRead-event events taken s t event more h is_more is_after is_asked =
+    let r = reading s.asked events in
+    let next : reading t.asked (events ++ event ∷ []) ≡ read_event r event =
+    ap (λ asked. reading asked (events ++ event ∷ [])) is_asked ∙ reading-next s.asked events event in
     record {
       taken_are =
-          ap (λ l. l ++ (option_list cut ++ option_list whole)) h.taken_are
-          ∙ ap (λ c. map taken_of (reading events).items ++ (option_list c ++ option_list whole)) is_cut
-          ∙ ap (λ w. map taken_of (reading events).items ++ (option_list (option_map taken_of (cut_by s byte)) ++ option_list w)) is_whole
-          ∙ ap (λ v. map taken_of (reading events).items ++ (option_list (option_map taken_of (cut_by v byte)) ++ option_list (option_map taken_of (whole_by v byte)))) same
-          ∙ sym (taken-byte (reading events) byte)
-          ∙ ap (λ r. map taken_of r.items) (sym next);
-      state_is = is_after ∙ ap (λ v. after_byte v byte) same ∙ ap (λ r. r.state) (sym next);
+          ap (λ l. l ++ more) h.taken_are
+          ∙ ap (λ l. map taken_of r.items ++ l) (is_more ∙ ap (λ v. answer v event) h.state_is)
+          ∙ sym (taken-event r event)
+          ∙ ap (λ (r : Reading). map taken_of r.items) (sym next);
+      state_is =
+          is_after ∙ ap (λ v. after v event) h.state_is ∙ sym (state-event r event)
+          ∙ ap (λ (r : Reading). r.state) (sym next);
     }
 
-pub HasRead-delay : (events : List Event) (taken : List Taken) (s t : State) (cut : Option Taken) → HasRead events taken s
-    → cut ≡ option_map taken_of (cut_by_delay s) → t ≡ after_delay s → HasRead (events ++ Delay ∷ []) (taken ++ option_list cut) t
+pub HasRead-byte : (events : List Event) (taken : List Taken) (s t : State) (byte : ℕ) (a : Answer)
+    → HasRead events taken s
+    → answered a ≡ option_list (option_map taken_of (cut_by s byte))
+    ++ option_list (option_map taken_of (ended_by (left_by s byte) byte))
+    → t ≡ taken_by (left_by s byte) byte → t.asked ≡ s.asked
+    → HasRead (events ++ Byte byte ∷ []) (taken ++ answered a) t
+unfolding answer after
+HasRead-byte events taken s t byte a h keys is_after is_asked =
+    HasRead-event events taken s t (Byte byte) (answered a) h keys is_after is_asked
+
+pub HasRead-delay : (events : List Event) (taken : List Taken) (s t : State) (cut : Option Taken)
+    → HasRead events taken s → cut ≡ option_map taken_of (cut_by_delay s) → t ≡ after_delay s
+    → HasRead (events ++ Delay ∷ []) (taken ++ option_list cut) t
+unfolding answer after
 HasRead-delay events taken s t cut h is_cut is_after =
-    let next : reading (events ++ Delay ∷ []) ≡ read_event (reading events) Delay = reading-next events Delay in
-    let same : s ≡ (reading events).state = h.state_is in
-    record {
-      taken_are =
-          ap (λ l. l ++ option_list cut) h.taken_are
-          ∙ ap (λ c. map taken_of (reading events).items ++ option_list c) is_cut
-          ∙ ap (λ v. map taken_of (reading events).items ++ option_list (option_map taken_of (cut_by_delay v))) same
-          ∙ sym (taken-delay (reading events))
-          ∙ ap (λ r. map taken_of r.items) (sym next);
-      state_is = is_after ∙ ap after_delay same ∙ ap (λ r. r.state) (sym next);
-    }
+    HasRead-event events taken s t Delay (option_list cut) h (ap option_list is_cut) is_after
+    (ap (λ (s : State). s.asked) is_after)
 
 pub ruleset steps = (HasRead-byte, HasRead-delay)
 
@@ -70,19 +90,23 @@ pub piece-next : (events : List Event) (piece : List ℕ) (at : ℕ) → at < le
     → (events ++ map Byte (take at piece)) ++ Byte (get_or piece at 0) ∷ [] ≡ events ++ map Byte (take (at + 1) piece)
 piece-next events piece at within =
     append_assoc events (map Byte (take at piece)) (Byte (get_or piece at 0) ∷ [])
-    ∙ ap (λ l. events ++ l) (sym (map-append Byte (take at piece) (get_or piece at 0 ∷ [])) ∙ ap (map Byte) (sym (take_more piece at 0 within)))
+    ∙ ap (λ l. events ++ l) (sym (map-append Byte (take at piece) (get_or piece at 0 ∷ []))
+    ∙ ap (map Byte) (sym (take_more piece at 0 within)))
 
 pub HasRead-piece : (events : List Event) (piece : List ℕ) (at : ℕ) (taken : List Taken) (s : State) → at < length piece
-    → HasRead ((events ++ map Byte (take at piece)) ++ Byte (get_or piece at 0) ∷ []) taken s → HasRead (events ++ map Byte (take (at + 1) piece)) taken s
-HasRead-piece events piece at taken s within h = let P : List Event → Type 0 = λ l. HasRead l taken s in subst P (piece-next events piece at within) h
+    → HasRead ((events ++ map Byte (take at piece)) ++ Byte (get_or piece at 0) ∷ []) taken s
+    → HasRead (events ++ map Byte (take (at + 1) piece)) taken s
+HasRead-piece events piece at taken s within h =
+    let P : List Event → Type 0 = λ l. HasRead l taken s in subst P (piece-next events piece at within) h
 
-is_none : (o : Option Taken) → is_some o ≡ false → o ≡ None
+pub is_none : (o : Option Taken) → is_some o ≡ false → o ≡ None
 is_none None absent = refl
 is_none (Some taken) absent = absurd (cc)
 
 -- where nothing was answered
-pub HasRead-none : (events : List Event) (taken : List Taken) (cut whole : Option Taken) (s : State) → is_some cut ≡ false → is_some whole ≡ false
-    → HasRead events (taken ++ (option_list cut ++ option_list whole)) s → HasRead events taken s
-HasRead-none events taken cut whole s no_cut no_whole h =
+pub HasRead-none : (events : List Event) (taken : List Taken) (a : Answer) (s : State) → a.first ≡ None
+    → a.second ≡ None → HasRead events (taken ++ answered a) s → HasRead events taken s
+HasRead-none events taken a s no_first no_second h =
     let P : List Taken → Type 0 = λ l. HasRead events l s in
-    subst P (ap (λ c. taken ++ (option_list c ++ option_list whole)) (is_none cut no_cut) ∙ ap (λ w. taken ++ ([] ++ option_list w)) (is_none whole no_whole) ∙ append-nil taken) h
+    subst P (ap (λ c. taken ++ (option_list c ++ option_list a.second)) no_first
+    ∙ ap (λ w. taken ++ ([] ++ option_list w)) no_second ∙ append-nil taken) h

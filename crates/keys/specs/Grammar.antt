@@ -1,8 +1,11 @@
 -- Which bytes go on a sequence of bytes that was begun, and where a sequence is whole.
--- ECMA-48, 5th edition: 5.3 for what an escape introduces, 5.4 for control sequences, 5.6 for control strings, and
--- 8.3.142 for SS3.
--- Unicode 3.9 for characters (`Characters`). A pasted text ends with ESC [ 201 ~, as xterm has it (bracketed paste).
-use Rattle.std.specs.Prelude.{ℕ, ◌+◌, ◌-◌, ◌==◌, ◌&&◌, ◌||◌, Bool, not, true, false, List, [], ◌∷◌, length, nat_lt, nat_le, slice_index, if◌then◌else◌}
+-- ECMA-48, 5th edition: 5.3 for what an escape introduces, 5.4 for control sequences, 5.6 and 8.3.143 for control
+-- strings, and 8.3.142 for SS3.
+-- Unicode 3.9 for characters (`Characters`).
+-- xterm's control sequences (ctlseqs): "Bracketed Paste Mode" for the end of a pasted text, and "Normal tracking mode"
+-- for the mouse's three bytes after ESC [ M.
+use Rattle.std.specs.Prelude.{ℕ, ◌+◌, ◌-◌, ◌==◌, ◌&&◌, ◌||◌, Bool, not, true, false, List, [], ◌∷◌, length, nat_lt, nat_le, slice_index, slice_range, if◌then◌else◌}
+use Rattle.std.specs.List.{fold}
 use Rattle.keys.specs.Characters.{size_by, is_in_character}
 use Rattle.keys.specs.declared.grammar.TheConstants.{LONGEST}
 
@@ -23,9 +26,9 @@ terminator = 92
 abbrev pub bell : ℕ
 bell = 7
 
--- the letters after an escape that begin a string: P (DCS), X (SOS), ] (OSC), ^ (PM) and _ (APC)
-abbrev pub opens_string : ℕ → Bool
-opens_string byte = byte == 80 || byte == 88 || byte == 93 || byte == 94 || byte == 95
+-- the letter after ESC [ behind which the mouse has three bytes, M
+abbrev pub three_bytes : ℕ
+three_bytes = 77
 
 -- a pasted text ends with these bytes
 abbrev pub paste_end : List ℕ
@@ -43,17 +46,46 @@ third bytes = slice_index bytes 2
 abbrev pub last : List ℕ → ℕ
 last bytes = slice_index bytes (length bytes - 1)
 
+abbrev pub is_digit : ℕ → Bool
+is_digit byte = nat_le 48 byte && nat_le byte 57
+
 -- ---- which byte goes on
 
--- after an escape: another escape doesn't; a string goes on until it ends, and after an escape in it with \ or another
--- escape
+-- the letters after an escape that begin a string: P (DCS), ] (OSC) and _ (APC). SOS and PM begin none here.
+abbrev pub opens_string : ℕ → Bool
+opens_string byte = byte == 80 || byte == 93 || byte == 95
+
+-- What follows these in the answers of terminals: a digit, l or L after ], a byte from 20 to 3F after P, and G after _.
+-- Else they are alt with that letter.
+abbrev pub begins_string : ℕ → ℕ → Bool
+begins_string letter byte =
+    if letter == 93 then is_digit byte || byte == 108 || byte == 76
+    else if letter == 80 then nat_le 0x20 byte && nat_le byte 0x3f
+    else byte == 71
+
+-- a string goes on until it ends, after an escape with \ alone
+abbrev pub goes_on_string : List ℕ → ℕ → Bool
+goes_on_string pending byte =
+    if length pending == 2 then begins_string (second pending) byte
+    else if last pending == escape then byte == terminator
+    else true
+
+-- parameters, intermediates and the final byte; for the mouse any three bytes
+abbrev pub goes_on_control : List ℕ → ℕ → Bool
+goes_on_control pending byte =
+    if third pending == three_bytes then not (byte == escape) else nat_le 0x20 byte && nat_le byte 0x7e
+
+-- after a single shift a letter, or a digit and a letter (Konsole)
+abbrev pub goes_on_shift : List ℕ → ℕ → Bool
+goes_on_shift pending byte = nat_le (if length pending == 2 then 0x21 else 0x40) byte && nat_le byte 0x7e
+
+-- after an escape: another escape doesn't
 abbrev pub goes_on_escape : List ℕ → ℕ → Bool
 goes_on_escape pending byte =
     if length pending == 1 then not (byte == escape)
-    else if second pending == bracket then nat_le 0x20 byte && nat_le byte 0x7e
-    else if second pending == shift_three then nat_le 0x21 byte && nat_le byte 0x7e
-    else if opens_string (second pending) then
-    (if nat_lt 2 (length pending) && last pending == escape then byte == terminator || byte == escape else true)
+    else if second pending == bracket then goes_on_control pending byte
+    else if second pending == shift_three then goes_on_shift pending byte
+    else if opens_string (second pending) then goes_on_string pending byte
     else is_in_character (second pending) (length pending - 1) byte
 
 -- the byte belongs to the sequence whose first bytes are pending; while a text is pasted, to its end's
@@ -66,8 +98,17 @@ continues pasting pending byte =
 
 -- ---- where a sequence is whole
 
-abbrev pub is_digit : ℕ → Bool
-is_digit byte = nat_le 48 byte && nat_le byte 57
+-- all are digits
+abbrev pub are_digits : List ℕ → Bool
+are_digits bytes = fold (λ so_far byte. so_far && is_digit byte) true bytes
+
+-- the bytes between ESC [ and the last one
+abbrev pub middle : List ℕ → List ℕ
+middle bytes = slice_range bytes 2 (length bytes - 1)
+
+-- one number alone stands there
+abbrev pub is_numbered : List ℕ → Bool
+is_numbered bytes = nat_lt 3 (length bytes) && are_digits (middle bytes)
 
 -- a control sequence ends with its final byte; the Linux console has a letter more after ESC [ [, and rxvt ends some by a
 -- $ after a number
@@ -75,7 +116,8 @@ abbrev pub is_whole_control : List ℕ → Bool
 is_whole_control bytes =
     if nat_lt (length bytes) 3 then false
     else if third bytes == bracket then length bytes == 4
-    else if last bytes == 36 then is_digit (third bytes) && is_digit (slice_index bytes (length bytes - 2))
+    else if third bytes == three_bytes then length bytes == 6
+    else if last bytes == 36 then is_numbered bytes
     else nat_le 0x40 (last bytes)
 
 -- a string ends with BEL or with ESC \
@@ -85,11 +127,14 @@ is_whole_string bytes =
     else if last bytes == bell then true
     else last bytes == terminator && slice_index bytes (length bytes - 2) == escape
 
+abbrev pub is_whole_shift : List ℕ → Bool
+is_whole_shift bytes = if length bytes == 3 then not (is_digit (third bytes)) else length bytes == 4
+
 abbrev pub is_whole_escape : List ℕ → Bool
 is_whole_escape bytes =
     if length bytes == 1 then false
     else if second bytes == bracket then is_whole_control bytes
-    else if second bytes == shift_three then length bytes == 3
+    else if second bytes == shift_three then is_whole_shift bytes
     else if opens_string (second bytes) then is_whole_string bytes
     else length bytes == size_by (second bytes) + 1
 

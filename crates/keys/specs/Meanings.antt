@@ -1,11 +1,13 @@
 -- Which key a sequence of bytes is: one that is whole, or one that was cut short.
 -- xterm's control sequences (ctlseqs): "PC-Style Function Keys" for letters, numbers and modifiers, "Alt and Meta Keys"
--- (modifyOtherKeys) for 27 and u, "Bracketed Paste Mode", "Extended coordinates" (SGR, 1006) for the mouse, and
--- "FocusIn/FocusOut" (1004). The Linux console's ESC [ [ A, and rxvt's endings $, ^ and @ and its small letters.
+-- (modifyOtherKeys) for 27 and u, "Bracketed Paste Mode", "Normal tracking mode" and "Extended coordinates" (SGR, 1006)
+-- for the mouse, and "FocusIn/FocusOut" (1004). kitty's keyboard protocol for the bits of modifiers from 8 on.
+-- The Linux console's ESC [ [ A and ESC [ G, rxvt's endings $, ^ and @ and its small letters (rxvtRef), and Konsole's
+-- digit after a single shift.
 use Rattle.std.specs.Prelude.{true, false, ℕ, ◌+◌, ◌-◌, ◌/◌, ◌%◌, ◌==◌, ◌&&◌, ◌||◌, Bool, not, List, length, drop, nat_lt, nat_le, slice_index, slice_range, Option, Some, None, if◌then◌else◌}
 use Rattle.keys.specs.PressedKeys.{no_modifiers, only_shift, only_ctrl, ctrl_and_shift, key_named, with_alt}
 use Rattle.keys.specs.Characters.{size_by, code_of}
-use Rattle.keys.specs.Grammar.{escape, bracket, shift_three, opens_string, first, second, third, last}
+use Rattle.keys.specs.Grammar.{escape, bracket, shift_three, three_bytes, opens_string, is_digit, is_numbered, middle, first, second, third, last}
 use Rattle.keys.specs.Parameters.{parameters}
 use Rattle.keys.specs.declared.parameters.Parameters.{Parameters}
 use Rattle.keys.specs.declared.parameters.TheConstants.{TOO_LARGE}
@@ -104,6 +106,10 @@ name_of_code code =
     else if nat_lt code TOO_LARGE then Some (Character code)
     else None
 
+-- by the last letter of a control sequence; G is of the Linux console
+abbrev pub name_of_final : ℕ → Option Name
+name_of_final letter = if letter == 71 then Some B2 else name_of_letter letter
+
 -- ---- modifiers
 
 abbrev pub is_odd : ℕ → Bool
@@ -117,9 +123,19 @@ abbrev pub pressed : Option Name → Modifiers → Key
 pressed None held = Unknown
 pressed (Some name) held = Pressed name held
 
--- a parameter of a control sequence is one more than the bits, up to 16, and 0 for no modifiers
+-- A parameter of a control sequence is one more than the bits, and 0 for no modifiers. The locks' bits, 64 and 128, are
+-- passed over. The others are below a limit.
+abbrev pub pressed_below : ℕ → Option Name → ℕ → Key
+pressed_below limit name number =
+    if nat_lt 256 number || nat_le limit ((number - 1) % 64) then Unknown else pressed name (modifiers_of (number - 1))
+
+-- the bit for meta, 8, is passed over too
 abbrev pub pressed_with : Option Name → ℕ → Key
-pressed_with name number = if nat_lt 16 number then Unknown else pressed name (modifiers_of (number - 1))
+pressed_with name number = pressed_below 16 name number
+
+-- in kitty's protocol that bit is super
+abbrev pub coded_with : ℕ → ℕ → Key
+coded_with code number = pressed_below 8 (name_of_code code) number
 
 -- ---- control sequences
 
@@ -130,34 +146,43 @@ console_key letter = if nat_le 65 letter && nat_le letter 69 then key_named (Fun
 -- those that end in ~
 abbrev pub numbered_key : Parameters → Key
 numbered_key p =
-    if p.ended == 2 then (if p.first == 27 then pressed_with (name_of_code p.third) p.second else Unknown)
+    if p.ended == 2 then (if p.first == 27 then coded_with p.third p.second else Unknown)
     else if p.ended == 0 && p.first == 200 then PasteBegins
     else pressed_with (name_of_number p.first) p.second
-
--- rxvt's endings: its modifiers are no parameters
-unfoldable pub ended_key : Parameters → Modifiers → Key
-ended_key p held = if p.strange || not (p.ended == 0) then Unknown else pressed (name_of_number p.first) held
 
 -- those that end in a letter, with 1 or no number before the modifiers
 abbrev pub lettered_key : Parameters → ℕ → Key
 lettered_key p letter =
     if nat_lt 1 p.first || nat_lt 1 p.ended then Unknown
-    else if p.ended == 1 then pressed_with (name_of_letter letter) p.second
+    else if p.ended == 1 then pressed_with (name_of_final letter) p.second
     else if letter == 73 then FocusIn
     else if letter == 79 then FocusOut
     else if letter == 90 then Pressed Tab only_shift
     else if nat_le 97 letter && nat_le letter 100 then pressed (name_of_letter (letter - 32)) only_shift
-    else pressed (name_of_letter letter) no_modifiers
+    else pressed (name_of_final letter) no_modifiers
 
--- by the parameters and the final byte
+-- by the parameters and the final byte; a key that is released (3) is unknown
 unfoldable pub controlled_key : Parameters → ℕ → Key
 controlled_key p final =
-    if p.strange then Unknown
+    if p.strange || nat_lt 2 p.event then Unknown
     else if final == 126 then numbered_key p
-    else if final == 117 then (if p.ended == 2 then Unknown else pressed_with (name_of_code p.first) p.second)
-    else if final == 94 then ended_key p only_ctrl
-    else if final == 64 then ended_key p ctrl_and_shift
+    else if final == 117 then (if p.ended == 2 then Unknown else coded_with p.first p.second)
     else lettered_key p final
+
+-- rxvt's endings say the modifiers: $ shift, ^ ctrl, and @ both
+abbrev pub is_ending : ℕ → Bool
+is_ending final = final == 36 || final == 94 || final == 64
+
+abbrev pub held_by_ending : ℕ → Modifiers
+held_by_ending final = if final == 36 then only_shift else if final == 94 then only_ctrl else ctrl_and_shift
+
+unfoldable pub ended_key : List ℕ → Key
+ended_key bytes =
+    if is_numbered bytes then
+    pressed (name_of_number (parameters (middle bytes)).first) (held_by_ending (last bytes))
+    else Unknown
+
+-- ---- the mouse
 
 -- the number of a button: 1 to 3, 4 to 7 for wheels, 8 to 11, and 0 for none
 abbrev pub button_of : ℕ → ℕ
@@ -166,40 +191,57 @@ button_of bits =
     else if nat_lt bits 128 then 4 + bits % 4
     else 8 + bits % 4
 
--- one bit for motion, whatever the final byte is
+-- one bit for motion, also where a button is released
 abbrev pub action_of : ℕ → Bool → Action
 action_of bits released = if is_odd (bits / 32) then Motion else if released then Release else Press
 
--- the button's number and the bits of what was held, and a column and a line that count from 1
+-- The bits have the button, what was held (4 shift, 8 alt, 16 ctrl) and motion. The column and the line count from 1.
+abbrev pub pointed : ℕ → Bool → ℕ → ℕ → Key
+pointed bits released column line =
+    if nat_lt 191 bits || column == 0 || line == 0 then Unknown
+    else Pointed (record {
+      button = button_of bits;
+      held = modifiers_of (bits / 4);
+      action = action_of bits released;
+      column = column - 1;
+      line = line - 1;
+    })
+
+-- ESC [ < and three numbers; m for a release
 unfoldable pub mouse_key : Parameters → ℕ → Key
 mouse_key p final =
     if p.strange || not (p.ended == 2) then Unknown
-    else if nat_lt 191 p.first || p.second == 0 || p.third == 0 then Unknown
-    else if final == 77 || final == 109 then Pointed (record {
-      button = button_of p.first;
-      held = modifiers_of (p.first / 4);
-      action = action_of p.first (final == 109);
-      column = p.second - 1;
-      line = p.third - 1;
-    })
+    else if final == 77 || final == 109 then pointed p.first (final == 109) p.second p.third
     else Unknown
 
--- the parameters stand between ESC [ or ESC [ < and the final byte
+-- ESC [ M and three bytes, each 32 more than its number; button 0 is a release
+unfoldable pub three_bytes_key : List ℕ → Key
+three_bytes_key bytes =
+    if not (length bytes == 6) || nat_lt (slice_index bytes 3) 32 then Unknown
+    else pointed (slice_index bytes 3 - 32) (button_of (slice_index bytes 3 - 32) == 0) (slice_index bytes 4 - 32)
+    (slice_index bytes 5 - 32)
+
+-- ---- by what stands between ESC [ and the last byte
+
 unfoldable pub control_key : List ℕ → Key
 control_key bytes =
     if third bytes == bracket then (if length bytes == 4 then console_key (slice_index bytes 3) else Unknown)
-    else if last bytes == 36 then ended_key (parameters (slice_range bytes 2 (length bytes - 1))) only_shift
+    else if third bytes == three_bytes then three_bytes_key bytes
+    else if is_ending (last bytes) then ended_key bytes
     else if nat_lt (last bytes) 0x40 then Unknown
     else if third bytes == 60 then mouse_key (parameters (slice_range bytes 3 (length bytes - 1))) (last bytes)
-    else controlled_key (parameters (slice_range bytes 2 (length bytes - 1))) (last bytes)
+    else controlled_key (parameters (middle bytes)) (last bytes)
 
 -- ---- what an escape begins
 
--- after a single shift; rxvt's small letters are ctrl with a key of the cursor
-unfoldable pub shifted_key : ℕ → Key
-shifted_key letter =
-    if nat_le 97 letter && nat_le letter 100 then pressed (name_of_letter (letter - 32)) only_ctrl
-    else pressed (name_of_keypad letter) no_modifiers
+-- after a single shift, a digit for modifiers or none; rxvt's small letters are ctrl with a key of the cursor
+unfoldable pub shifted_key : List ℕ → Key
+shifted_key bytes =
+    if is_digit (third bytes) then
+    (if length bytes == 4 then pressed_with (name_of_keypad (slice_index bytes 3)) (third bytes - 48) else Unknown)
+    else if nat_le 97 (third bytes) && nat_le (third bytes) 100 then
+    pressed (name_of_letter (third bytes - 32)) only_ctrl
+    else pressed (name_of_keypad (third bytes)) no_modifiers
 
 -- an escape and a character are alt with that character, also where more was to come
 abbrev pub escaped_key : List ℕ → Key
@@ -207,7 +249,7 @@ escaped_key bytes =
     if length bytes == 1 then key_named Escape
     else if length bytes == 2 then with_alt (character_key (drop 1 bytes))
     else if second bytes == bracket then control_key bytes
-    else if second bytes == shift_three then shifted_key (third bytes)
+    else if second bytes == shift_three then shifted_key bytes
     else if opens_string (second bytes) then Unknown
     else with_alt (character_key (drop 1 bytes))
 
@@ -230,14 +272,8 @@ as_asked asked key = key
 
 -- ---- a law of all keys
 
--- a function key is one of F1 to F20
-abbrev pub is_name : Name → Bool
-is_name (Function number) = nat_le 1 number && nat_le number 20
-is_name name = true
-
 -- a key outside of pasted texts
 abbrev pub is_typed : Key → Bool
-is_typed (Pressed name held) = is_name name
 is_typed Pasted = false
 is_typed PasteEnds = false
 is_typed key = true

@@ -2,9 +2,10 @@
 use Rattle.std.specs.Prelude.{◌≡◌, ℕ, ◌<◌, ◌≤◌, ◌+◌, ◌∷◌, ◌++◌, Bool, true, false, List, [], length, map, take, slice_index}
 use Rattle.std.specs.List.{AllByRecursion, flat_map}
 use Rattle.keys.specs.Grammar.{continues, is_whole}
-use Rattle.keys.specs.Meanings.{key_of}
+use Rattle.keys.specs.Meanings.{as_asked, key_of}
 use Rattle.keys.specs.Readings.{State, Item, Event, Byte, Delay, Reading, HasRead, pasting_after}
 use Rattle.keys.specs.declared.grammar.TheConstants.{LONGEST}
+use Rattle.keys.specs.declared.asked.Asked.{Asked}
 use Rattle.keys.specs.declared.key.Key.{Key}
 use Rattle.keys.specs.declared.decoder.Taken.{Taken}
 
@@ -32,11 +33,12 @@ pub record IsBegun (pasting : Bool) (bytes : List ℕ) : Type 0 where
 
 -- The item is a sequence of 1 to 4,096 bytes with its key.
 pub record IsSequence (i : Item) : Type 0 where
+  pub asked : Asked
   pub pasting : Bool
   pub begun : IsBegun pasting i.bytes
   pub some : 1 ≤ length i.bytes
   pub few : length i.bytes ≤ LONGEST
-  pub means : i.key ≡ key_of pasting i.bytes
+  pub means : i.key ≡ as_asked asked (key_of pasting i.bytes)
 
 -- What is pending is the beginning of a sequence that isn't whole.
 pub record IsPending (s : State) : Type 0 where
@@ -49,6 +51,10 @@ pub record IsOfSequences (r : Reading) : Type 0 where
   pub sequences : AllByRecursion IsSequence r.items
   pub pending : IsPending r.state
 
+-- the state after a key outside of a pasted text, where nothing is pending
+abbrev pub after_key : Asked → Key → State
+after_key asked key = record { asked = asked; pasting = pasting_after false key; pending = [] }
+
 -- Outside of a pasted text the bytes are one sequence, and it has this key.
 pub record AreKey (bytes : List ℕ) (key : Key) : Type 0 where
   pub begun : IsBegun false bytes
@@ -58,7 +64,7 @@ pub record AreKey (bytes : List ℕ) (key : Key) : Type 0 where
 
 -- After the events the bytes are answered by this key, and nothing is pending then. Before it come only keys of what was
 -- pending, which they cut short.
-pub record Resumes (events : List Event) (taken : List Taken) (bytes : List ℕ) (key : Key) : Type 0 where
+pub record Resumes (asked : Asked) (events : List Event) (taken : List Taken) (bytes : List ℕ) (key : Key) : Type 0 where
   pub before : List Taken
   pub read : HasRead (events ++ map Byte bytes) ((taken ++ before) ++ record { key = key; count = length bytes } ∷ [])
-      (record { pasting = pasting_after false key; pending = [] })
+      (after_key asked key)

@@ -124,6 +124,7 @@ impl Decoder {
             ++ option_list (option_map taken_of (ended_by (left_by self.old byte) byte)) }
         ensures in_order { result.first ≡ None → result.second ≡ None }
         ensures after { self.new ≡ taken_by (left_by self.old byte) byte }
+        ensures asked { self.new.asked ≡ self.old.asked }
         ensures read { (events : List Event) (taken : List Taken) → HasRead events taken self.old
             → HasRead (events ++ Byte byte ∷ []) (taken ++ answered result) self.new }
     {
@@ -149,6 +150,7 @@ impl Decoder {
     fn cut(&mut self, byte: u8) -> Option<Taken>
         ensures cut { result ≡ option_map taken_of (cut_by self.old byte) }
         ensures left { self.new ≡ left_by self.old byte }
+        ensures asked { self.new.asked ≡ self.old.asked }
     {
         let count = self.count;
         let pending = &self.bytes[..count];
@@ -168,9 +170,9 @@ impl Decoder {
 
     /// Takes a byte of the sequence that is pending, or another escape after an escape.
     fn take(&mut self, byte: u8) -> Option<Taken>
-        requires { length self.now.pending < LONGEST }
         ensures ended { result ≡ option_map taken_of (ended_by self.old byte) }
         ensures after { self.new ≡ taken_by self.old byte }
+        ensures asked { self.new.asked ≡ self.old.asked }
     {
         if !continues(self.pasting, &self.bytes[..self.count], byte) {
             let alone = self.key_of_first(self.count);

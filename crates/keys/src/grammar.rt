@@ -1,7 +1,8 @@
 //! Which bytes go on a sequence of bytes that was begun, and where a sequence is whole.
 
-ghost use Rattle.std.specs.Prelude.{◌≡◌, ◌≢◌, ◌≤◌, true, false, length};
-ghost use Rattle.keys.specs.Grammar.{is_digit, opens_string, goes_on_escape, continues, is_whole, is_whole_control, is_whole_string, is_whole_escape, leaves_escape};
+ghost use Rattle.std.specs.Prelude.{◌≡◌, ◌≢◌, ◌&&◌, ◌≤◌, true, false, length};
+ghost use Rattle.keys.specs.Grammar.{is_digit, opens_string, begins_string, goes_on_string, goes_on_control, goes_on_shift, goes_on_escape, continues};
+ghost use Rattle.keys.specs.Grammar.{are_digits, is_numbered, is_whole_control, is_whole_string, is_whole_shift, is_whole_escape, is_whole, leaves_escape};
 
 use crate::utf8::{is_in_character, size_by};
 
@@ -17,6 +18,9 @@ pub const BRACKET: u8 = b'[';
 /// What follows the escape of a single shift.
 pub const SHIFT_THREE: u8 = b'O';
 
+/// What follows ESC [ where the mouse has three bytes.
+pub const THREE_BYTES: u8 = b'M';
+
 /// What after an escape ends a string.
 const TERMINATOR: u8 = b'\\';
 
@@ -26,11 +30,62 @@ const BELL: u8 = 7;
 /// How a pasted text ends.
 const PASTE_END: [u8; 6] = [ESCAPE, BRACKET, b'2', b'0', b'1', b'~'];
 
+/// Whether a byte is a digit.
+pub fn is_digit(byte: u8) -> bool
+    ensures { result ≡ is_digit byte }
+{
+    b'0' <= byte && byte <= b'9'
+}
+
 /// Whether this byte after an escape begins a string.
 pub fn opens_string(byte: u8) -> bool
     ensures { result ≡ opens_string byte }
 {
-    byte == b'P' || byte == b'X' || byte == b']' || byte == b'^' || byte == b'_'
+    byte == b'P' || byte == b']' || byte == b'_'
+}
+
+/// Whether a byte behind a letter that opens a string begins it.
+fn begins_string(letter: u8, byte: u8) -> bool
+    ensures { result ≡ begins_string letter byte }
+{
+    if letter == b']' {
+        return is_digit(byte) || byte == b'l' || byte == b'L';
+    }
+    if letter == b'P' {
+        return 0x20 <= byte && byte <= 0x3f;
+    }
+    byte == b'G'
+}
+
+/// Whether a byte goes on a string.
+fn goes_on_string(pending: &[u8], byte: u8) -> bool
+    requires { 2 ≤ length pending.now }
+    ensures { result ≡ goes_on_string pending.now byte }
+{
+    let count = pending.len();
+    if count == 2 {
+        return begins_string(pending[1], byte);
+    }
+    pending[count - 1] != ESCAPE || byte == TERMINATOR
+}
+
+/// Whether a byte goes on a control sequence.
+fn goes_on_control(pending: &[u8], byte: u8) -> bool
+    requires { 2 ≤ length pending.now }
+    ensures { result ≡ goes_on_control pending.now byte }
+{
+    if pending.len() > 2 && pending[2] == THREE_BYTES {
+        return byte != ESCAPE;
+    }
+    0x20 <= byte && byte <= 0x7e
+}
+
+/// Whether a byte goes on a single shift.
+fn goes_on_shift(pending: &[u8], byte: u8) -> bool
+    ensures { result ≡ goes_on_shift pending.now byte }
+{
+    let least = if pending.len() == 2 { 0x21 } else { 0x40 };
+    least <= byte && byte <= 0x7e
 }
 
 /// Whether a byte goes on what an escape began.
@@ -44,18 +99,15 @@ fn goes_on_escape(pending: &[u8], byte: u8) -> bool
     }
     let second = pending[1];
     if second == BRACKET {
-        return 0x20 <= byte && byte <= 0x7e;
+        return goes_on_control(pending, byte);
     }
     if second == SHIFT_THREE {
-        return 0x21 <= byte && byte <= 0x7e;
+        return goes_on_shift(pending, byte);
     }
-    if !opens_string(second) {
-        return is_in_character(second, count - 1, byte);
+    if opens_string(second) {
+        return goes_on_string(pending, byte);
     }
-    if count > 2 && pending[count - 1] == ESCAPE {
-        return byte == TERMINATOR || byte == ESCAPE;
-    }
-    true
+    is_in_character(second, count - 1, byte)
 }
 
 /// Whether a byte belongs to the sequence whose first bytes are pending.
@@ -77,11 +129,30 @@ pub fn continues(pasting: bool, pending: &[u8], byte: u8) -> bool
     is_in_character(pending[0], count, byte)
 }
 
-/// Whether a byte is a digit.
-pub fn is_digit(byte: u8) -> bool
-    ensures { result ≡ is_digit byte }
+/// Whether one more byte is a digit too.
+fn and_digit(so_far: bool, byte: u8) -> bool
+    ensures { result ≡ (so_far && is_digit byte) }
 {
-    b'0' <= byte && byte <= b'9'
+    so_far && is_digit(byte)
+}
+
+/// Whether all bytes are digits.
+fn are_digits(bytes: &[u8]) -> bool
+    ensures { result ≡ are_digits bytes.now }
+{
+    let mut so_far = true;
+    for byte in bytes {
+        so_far = and_digit(so_far, *byte);
+    }
+    so_far
+}
+
+/// Whether one number alone stands between ESC [ and the last byte.
+pub fn is_numbered(bytes: &[u8]) -> bool
+    ensures numbered { result ≡ is_numbered bytes.now }
+    ensures some { result ≡ true → 4 ≤ length bytes.now }
+{
+    bytes.len() > 3 && are_digits(&bytes[2..bytes.len() - 1])
 }
 
 /// Whether a control sequence is whole.
@@ -95,8 +166,11 @@ fn is_whole_control(bytes: &[u8]) -> bool
     if bytes[2] == BRACKET {
         return count == 4;
     }
+    if bytes[2] == THREE_BYTES {
+        return count == 6;
+    }
     if bytes[count - 1] == b'$' {
-        return is_digit(bytes[2]) && is_digit(bytes[count - 2]);
+        return is_numbered(bytes);
     }
     bytes[count - 1] >= 0x40
 }
@@ -115,6 +189,17 @@ fn is_whole_string(bytes: &[u8]) -> bool
     bytes[count - 1] == TERMINATOR && bytes[count - 2] == ESCAPE
 }
 
+/// Whether a single shift is whole.
+fn is_whole_shift(bytes: &[u8]) -> bool
+    ensures { result ≡ is_whole_shift bytes.now }
+{
+    let count = bytes.len();
+    if count == 3 {
+        return !is_digit(bytes[2]);
+    }
+    count == 4
+}
+
 /// Whether what an escape began is whole.
 fn is_whole_escape(bytes: &[u8]) -> bool
     requires { 1 ≤ length bytes.now }
@@ -129,7 +214,7 @@ fn is_whole_escape(bytes: &[u8]) -> bool
         return is_whole_control(bytes);
     }
     if second == SHIFT_THREE {
-        return count == 3;
+        return is_whole_shift(bytes);
     }
     if opens_string(second) {
         return is_whole_string(bytes);

@@ -1,10 +1,13 @@
 //! Which key a sequence of bytes is.
 
 ghost use Rattle.std.specs.Prelude.{◌≡◌, ◌<◌, ◌≤◌, length};
-ghost use Rattle.keys.specs.Meanings.{ascii_key, key_of_code, character_key, name_of_letter, name_of_keypad, name_of_number, name_of_code, is_odd, modifiers_of, pressed};
-ghost use Rattle.keys.specs.Meanings.{action_of, pressed_with, console_key, numbered_key, ended_key, lettered_key, controlled_key, button_of, mouse_key, control_key, shifted_key, escaped_key, key_of};
+ghost use Rattle.keys.specs.Meanings.{ascii_key, key_of_code, character_key, name_of_letter, name_of_keypad, name_of_number, name_of_code, name_of_final};
+ghost use Rattle.keys.specs.Meanings.{is_odd, modifiers_of, pressed, pressed_below, pressed_with, coded_with, console_key, numbered_key, lettered_key, controlled_key};
+ghost use Rattle.keys.specs.Meanings.{is_ending, held_by_ending, ended_key, button_of, action_of, pointed, mouse_key, three_bytes_key, control_key, shifted_key, escaped_key, key_of};
 
-use crate::grammar::{BRACKET, ESCAPE, SHIFT_THREE, opens_string};
+use crate::grammar::{
+    BRACKET, ESCAPE, SHIFT_THREE, THREE_BYTES, is_digit, is_numbered, opens_string,
+};
 use crate::key::{Action, Key, Modifiers, Mouse, Name};
 use crate::parameters::{Parameters, TOO_LARGE};
 use crate::utf8::{code_of, size_by};
@@ -141,6 +144,16 @@ fn name_of_code(code: u32) -> Option<Name>
     }
 }
 
+/// The name by the last letter of a control sequence.
+fn name_of_final(letter: u8) -> Option<Name>
+    ensures { result ≡ name_of_final letter }
+{
+    if letter == b'G' {
+        return Some(Name::B2);
+    }
+    name_of_letter(letter)
+}
+
 /// Whether a number is odd.
 fn is_odd(number: u32) -> bool
     ensures { result ≡ is_odd number }
@@ -169,14 +182,29 @@ fn pressed(name: Option<Name>, held: Modifiers) -> Key
     }
 }
 
-/// The same with a parameter that says the modifiers.
+/// The same with a parameter that says the modifiers, whose bits but those of locks are below a limit.
+fn pressed_below(limit: u32, name: Option<Name>, number: u32) -> Key
+    ensures { result ≡ pressed_below limit name number }
+{
+    let bits = number.saturating_sub(1);
+    if number > 256 || bits % 64 >= limit {
+        return Key::Unknown;
+    }
+    pressed(name, modifiers_of(bits))
+}
+
+/// The same where the bit for meta is passed over.
 fn pressed_with(name: Option<Name>, number: u32) -> Key
     ensures { result ≡ pressed_with name number }
 {
-    if number > 16 {
-        return Key::Unknown;
-    }
-    pressed(name, modifiers_of(number.saturating_sub(1)))
+    pressed_below(16, name, number)
+}
+
+/// The key by the number of a character and the parameter of the modifiers.
+fn coded_with(code: u32, number: u32) -> Key
+    ensures { result ≡ coded_with code number }
+{
+    pressed_below(8, name_of_code(code), number)
 }
 
 /// The key of the Linux console that ends in a letter.
@@ -197,7 +225,7 @@ fn numbered_key(p: Parameters) -> Key
 {
     if p.ended == 2 {
         return if p.first == 27 {
-            pressed_with(name_of_code(p.third), p.second)
+            coded_with(p.third, p.second)
         } else {
             Key::Unknown
         };
@@ -208,17 +236,6 @@ fn numbered_key(p: Parameters) -> Key
     pressed_with(name_of_number(p.first), p.second)
 }
 
-/// The key of a number whose modifiers are no parameter.
-#[tactic(auto, unfolding(crate::specs::Meanings::ended_key))]
-fn ended_key(p: Parameters, held: Modifiers) -> Key
-    ensures { result ≡ ended_key p held }
-{
-    if p.strange || p.ended != 0 {
-        return Key::Unknown;
-    }
-    pressed(name_of_number(p.first), held)
-}
-
 /// The key of a control sequence that ends in a letter.
 fn lettered_key(p: Parameters, letter: u8) -> Key
     ensures { result ≡ lettered_key p letter }
@@ -227,7 +244,7 @@ fn lettered_key(p: Parameters, letter: u8) -> Key
         return Key::Unknown;
     }
     if p.ended == 1 {
-        return pressed_with(name_of_letter(letter), p.second);
+        return pressed_with(name_of_final(letter), p.second);
     }
     if letter == b'I' {
         return Key::FocusIn;
@@ -241,7 +258,7 @@ fn lettered_key(p: Parameters, letter: u8) -> Key
     if b'a' <= letter && letter <= b'd' {
         return pressed(name_of_letter(letter - 32), Modifiers::SHIFT);
     }
-    pressed(name_of_letter(letter), Modifiers::NONE)
+    pressed(name_of_final(letter), Modifiers::NONE)
 }
 
 /// The key of a control sequence by its parameters and its final byte.
@@ -249,7 +266,7 @@ fn lettered_key(p: Parameters, letter: u8) -> Key
 fn controlled_key(p: Parameters, last: u8) -> Key
     ensures { result ≡ controlled_key p last }
 {
-    if p.strange {
+    if p.strange || p.event > 2 {
         return Key::Unknown;
     }
     if last == b'~' {
@@ -259,16 +276,43 @@ fn controlled_key(p: Parameters, last: u8) -> Key
         return if p.ended == 2 {
             Key::Unknown
         } else {
-            pressed_with(name_of_code(p.first), p.second)
+            coded_with(p.first, p.second)
         };
     }
-    if last == b'^' {
-        return ended_key(p, Modifiers::CTRL);
-    }
-    if last == b'@' {
-        return ended_key(p, Modifiers::CTRL_AND_SHIFT);
-    }
     lettered_key(p, last)
+}
+
+/// Whether this byte ends a sequence of rxvt with modifiers.
+fn is_ending(last: u8) -> bool
+    ensures { result ≡ is_ending last }
+{
+    last == b'$' || last == b'^' || last == b'@'
+}
+
+/// The modifiers by which rxvt ends its sequences.
+fn held_by_ending(last: u8) -> Modifiers
+    ensures { result ≡ held_by_ending last }
+{
+    if last == b'$' {
+        Modifiers::SHIFT
+    } else if last == b'^' {
+        Modifiers::CTRL
+    } else {
+        Modifiers::CTRL_AND_SHIFT
+    }
+}
+
+/// The key of a number whose modifiers are said by the last byte.
+#[tactic(auto, unfolding(crate::specs::Meanings::ended_key))]
+fn ended_key(bytes: &[u8]) -> Key
+    ensures { result ≡ ended_key bytes.now }
+{
+    if !is_numbered(bytes) {
+        return Key::Unknown;
+    }
+    let end = bytes.len() - 1;
+    let number = Parameters::of(&bytes[2..end]).first;
+    pressed(name_of_number(number), held_by_ending(bytes[end]))
 }
 
 /// The number of a button.
@@ -297,7 +341,23 @@ fn action_of(bits: u32, released: bool) -> Action
     }
 }
 
-/// What the mouse did, by the parameters and the final byte.
+/// What the mouse did, by the bits of its button, and the column and the line from 1.
+fn pointed(bits: u32, released: bool, column: u32, line: u32) -> Key
+    ensures { result ≡ pointed bits released column line }
+{
+    if bits > 191 || column == 0 || line == 0 {
+        return Key::Unknown;
+    }
+    Key::Pointed(Mouse {
+        button: button_of(bits),
+        held: modifiers_of(bits / 4),
+        action: action_of(bits, released),
+        column: column - 1,
+        line: line - 1,
+    })
+}
+
+/// What the mouse did, by three numbers and the final byte.
 #[tactic(auto, unfolding(crate::specs::Meanings::mouse_key))]
 fn mouse_key(p: Parameters, last: u8) -> Key
     ensures { result ≡ mouse_key p last }
@@ -305,19 +365,24 @@ fn mouse_key(p: Parameters, last: u8) -> Key
     if p.strange || p.ended != 2 {
         return Key::Unknown;
     }
-    if p.first > 191 || p.second == 0 || p.third == 0 {
-        return Key::Unknown;
-    }
     if last == b'M' || last == b'm' {
-        return Key::Pointed(Mouse {
-            button: button_of(p.first),
-            held: modifiers_of(p.first / 4),
-            action: action_of(p.first, last == b'm'),
-            column: p.second - 1,
-            line: p.third - 1,
-        });
+        return pointed(p.first, last == b'm', p.second, p.third);
     }
     Key::Unknown
+}
+
+/// What the mouse did, by three bytes.
+#[tactic(auto, unfolding(crate::specs::Meanings::three_bytes_key))]
+fn three_bytes_key(bytes: &[u8]) -> Key
+    ensures { result ≡ three_bytes_key bytes.now }
+{
+    if bytes.len() != 6 || bytes[3] < 32 {
+        return Key::Unknown;
+    }
+    let bits = u32::from(bytes[3] - 32);
+    let column = u32::from(bytes[4].saturating_sub(32));
+    let line = u32::from(bytes[5].saturating_sub(32));
+    pointed(bits, button_of(bits) == 0, column, line)
 }
 
 /// The key of a control sequence.
@@ -335,8 +400,11 @@ fn control_key(bytes: &[u8]) -> Key
             Key::Unknown
         };
     }
-    if last == b'$' {
-        return ended_key(Parameters::of(&bytes[2..end]), Modifiers::SHIFT);
+    if bytes[2] == THREE_BYTES {
+        return three_bytes_key(bytes);
+    }
+    if is_ending(last) {
+        return ended_key(bytes);
     }
     if last < 0x40 {
         return Key::Unknown;
@@ -347,15 +415,24 @@ fn control_key(bytes: &[u8]) -> Key
     controlled_key(Parameters::of(&bytes[2..end]), last)
 }
 
-/// The key by a letter after a single shift.
+/// The key after a single shift.
 #[tactic(auto, unfolding(crate::specs::Meanings::shifted_key))]
-fn shifted_key(letter: u8) -> Key
-    ensures { result ≡ shifted_key letter }
+fn shifted_key(bytes: &[u8]) -> Key
+    requires { 3 ≤ length bytes.now }
+    ensures { result ≡ shifted_key bytes.now }
 {
-    if b'a' <= letter && letter <= b'd' {
-        return pressed(name_of_letter(letter - 32), Modifiers::CTRL);
+    let third = bytes[2];
+    if is_digit(third) {
+        return if bytes.len() == 4 {
+            pressed_with(name_of_keypad(bytes[3]), u32::from(third - b'0'))
+        } else {
+            Key::Unknown
+        };
     }
-    pressed(name_of_keypad(letter), Modifiers::NONE)
+    if b'a' <= third && third <= b'd' {
+        return pressed(name_of_letter(third - 32), Modifiers::CTRL);
+    }
+    pressed(name_of_keypad(third), Modifiers::NONE)
 }
 
 /// The key of what an escape begins.
@@ -373,7 +450,7 @@ fn escaped_key(bytes: &[u8]) -> Key
         return control_key(bytes);
     }
     if bytes[1] == SHIFT_THREE {
-        return shifted_key(bytes[2]);
+        return shifted_key(bytes);
     }
     if opens_string(bytes[1]) {
         return Key::Unknown;

@@ -14,47 +14,92 @@ pub struct Parameters {
     pub first: u32,
     pub second: u32,
     pub third: u32,
+    /// The number behind a colon in the second one.
+    pub event: u32,
     pub ended: u8,
+    /// A colon was in the one that isn't ended.
+    pub is_behind: bool,
     /// They are none that a key has.
     pub strange: bool,
 }
 
 impl Parameters {
-    ghost use Rattle.keys.specs.Parameters.{after_byte, no_parameters, parameters};
+    ghost use Rattle.keys.specs.Parameters.{after_byte, after_digit, no_parameters, parameters};
 
     pub const NONE: Parameters = Parameters {
         first: 0,
         second: 0,
         third: 0,
+        event: 0,
         ended: 0,
+        is_behind: false,
         strange: false,
     };
+
+    /// What one more digit makes of them.
+    fn after_digit(self, digit: u8) -> Parameters
+        requires first { self.first ≤ TOO_LARGE }
+        requires second { self.second ≤ TOO_LARGE }
+        requires third { self.third ≤ TOO_LARGE }
+        requires event { self.event ≤ TOO_LARGE }
+        requires digit { is_digit digit ≡ true }
+        ensures after { result ≡ after_digit self digit }
+        ensures first { result.first ≤ TOO_LARGE }
+        ensures second { result.second ≤ TOO_LARGE }
+        ensures third { result.third ≤ TOO_LARGE }
+        ensures event { result.event ≤ TOO_LARGE }
+    {
+        let mut next = self;
+        if self.is_behind {
+            if self.ended != 0 {
+                next.event = with_digit(self.event, digit);
+            }
+        } else if self.ended == 0 {
+            next.first = with_digit(self.first, digit);
+        } else if self.ended == 1 {
+            next.second = with_digit(self.second, digit);
+        } else {
+            next.third = with_digit(self.third, digit);
+        }
+        next
+    }
 
     /// What one more byte makes of them.
     fn after(self, byte: u8) -> Parameters
         requires first { self.first ≤ TOO_LARGE }
         requires second { self.second ≤ TOO_LARGE }
         requires third { self.third ≤ TOO_LARGE }
+        requires event { self.event ≤ TOO_LARGE }
         ensures after { result ≡ after_byte self byte }
         ensures first { result.first ≤ TOO_LARGE }
         ensures second { result.second ≤ TOO_LARGE }
         ensures third { result.third ≤ TOO_LARGE }
+        ensures event { result.event ≤ TOO_LARGE }
     {
-        let mut next = self;
         if is_digit(byte) {
-            if self.ended == 0 {
-                next.first = with_digit(self.first, byte);
-            } else if self.ended == 1 {
-                next.second = with_digit(self.second, byte);
-            } else {
-                next.third = with_digit(self.third, byte);
-            }
-        } else if byte == b';' && self.ended < 2 {
+            return self.after_digit(byte);
+        }
+        let mut next = self;
+        if byte == b';' && self.ended < 2 {
             next.ended += 1;
+            next.is_behind = false;
+        } else if byte == b':' && self.takes_colon() {
+            next.is_behind = true;
         } else {
             next.strange = true;
         }
         next
+    }
+
+    /// Whether a colon may follow: any in the first one, one in the second.
+    fn takes_colon(self) -> bool
+        ensures { result ≡ (if self.is_behind then self.ended == 0 else nat_lt self.ended 2) }
+    {
+        if self.is_behind {
+            self.ended == 0
+        } else {
+            self.ended < 2
+        }
     }
 
     /// The parameters that some bytes spell.
@@ -69,6 +114,7 @@ impl Parameters {
     }
 }
 
+ghost use Rattle.std.specs.Prelude.{if◌then◌else◌, ◌==◌, nat_lt};
 ghost use Rattle.keys.specs.Parameters.{with_digit};
 
 /// A number with one more digit.

@@ -9,4 +9,5 @@ invariant-loop-byte l = record {
   first : l.so_far.first ≤ TOO_LARGE;
   second : l.so_far.second ≤ TOO_LARGE;
   third : l.so_far.third ≤ TOO_LARGE;
+  event : l.so_far.event ≤ TOO_LARGE;
 }
