@@ -1,14 +1,9 @@
 -- Control sequences by their parameters.
-use Rattle.std.proofs.Common.{◌≡◌, ◌+◌, ◌-◌, ◌<◌, ◌≤◌, ◌∷◌, ◌++◌, ◌∙◌, ℕ, true, false, List, [], refl, ap, sym, subst, length, take, get_or, arith, zero, suc, length-append}
-use Rattle.std.proofs.lemmas.Bool.{eq-eqb, ne_eqb}
-use Rattle.std.proofs.lemmas.Bool.Decides.{nat_tests}
-use Rattle.std.proofs.lemmas.List.{get_or-take, length-take-le, take_more}
-use Rattle.std.proofs.Math.Seq.{take-append_seam, take-length}
-use Rattle.std.specs.List.{slice_range}
-use Rattle.keys.specs.Grammar.{continues, is_whole}
-use Rattle.keys.specs.Parameters.{parameters}
-use Rattle.keys.specs.Meanings.{control_key, controlled_key, key_of}
-use Rattle.keys.specs.Sequences.{IsBegun, AreKey}
+use Rattle.std.specs.Prelude.{◌++◌, ◌+◌, ◌-◌, ◌<◌, ◌∷◌, ◌≡◌, ◌≤◌}
+use Rattle.keys.specs.{AreKey, IsBegun, List, [], ap, arith, continues, control_key, controlled_key, eq-eqb, false}
+use Rattle.keys.specs.{get_or, get_or-take, is_whole, key_of, length, length-append, length-take-le, nat_tests, ne_eqb}
+use Rattle.keys.specs.{parameters, refl, slice_range, subst, suc, sym, take, take-append_seam, take-length, take_more}
+use Rattle.keys.specs.{true, zero, ℕ, ◌∙◌}
 use Rattle.keys.proofs.Sequences.{begun-next, begun-one, get-last}
 
 -- a digit or ;

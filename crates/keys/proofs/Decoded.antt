@@ -1,15 +1,8 @@
 -- No other bytes are a character's: each well-formed sequence is the UTF-8 of its character.
-use Rattle.std.proofs.Common.{◌≡◌, ◌+◌, ◌*◌, ◌/◌, ◌%◌, ◌<◌, ◌≤◌, ◌∷◌, ◌∙◌, ℕ, true, false, List, [], refl, sym, inl, inr, length, get_or, arith}
-use Rattle.std.proofs.lemmas.Bool.{cases_eq, cases_lt, eq-eqb, le-ltb, ne_eqb}
-use Rattle.std.proofs.lemmas.Bool.Decides.{nat_tests}
-use Rattle.std.proofs.Math.Utf8.{encode}
-use Rattle.keys.specs.PressedKeys.{key_named}
-use Rattle.keys.specs.Characters.{code_of, is_in_character, size_by}
-use Rattle.keys.specs.Grammar.{continues}
-use Rattle.keys.specs.Meanings.{character_key, key_of, key_of_code}
-use Rattle.keys.specs.Sequences.{AreKey}
-use Rattle.keys.specs.declared.key.Key.TheVariants.{Unknown}
-use Rattle.keys.specs.declared.key.Name.TheVariants.{Character}
+use Rattle.std.specs.Prelude.{◌%◌, ◌*◌, ◌+◌, ◌/◌, ◌<◌, ◌∷◌, ◌≡◌, ◌≤◌}
+use Rattle.keys.specs.{AreKey, Character, List, Unknown, [], arith, cases_eq, cases_lt, character_key, code_of}
+use Rattle.keys.specs.{continues, encode, eq-eqb, false, get_or, inl, inr, is_in_character, key_named, key_of}
+use Rattle.keys.specs.{key_of_code, le-ltb, length, nat_tests, ne_eqb, refl, size_by, sym, true, ℕ, ◌∙◌}
 use Rattle.keys.proofs.Encoded.{encode-two, encode-three, encode-four}
 
 same-code : (k c : ℕ) → key_of_code k ≡ key_named (Character c) → k ≡ c

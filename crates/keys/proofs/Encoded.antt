@@ -1,15 +1,8 @@
 -- The bytes of each character are its key.
-use Rattle.std.proofs.Common.{◌≡◌, ◌+◌, ◌*◌, ◌/◌, ◌%◌, ◌<◌, ◌≤◌, ◌∷◌, ◌∙◌, ℕ, false, List, [], refl, ap, sym, subst, inl, inr, arith}
-use Rattle.std.proofs.lemmas.Bool.{cases_eq, cases_lt, le-ltb, lt-ltb}
-use Rattle.std.proofs.lemmas.Bool.Decides.{nat_tests}
-use Rattle.std.proofs.Math.Utf8.{encode, scalar_cases}
-use Rattle.std.specs.Char.{IsScalar}
-use Rattle.keys.specs.PressedKeys.{key_named}
-use Rattle.keys.specs.Grammar.{continues, is_whole}
-use Rattle.keys.specs.Meanings.{ascii_key, character_key, key_of, key_of_code}
-use Rattle.keys.specs.Sequences.{AreKey}
-use Rattle.keys.specs.declared.key.Key.{Key}
-use Rattle.keys.specs.declared.key.Name.TheVariants.{Character}
+use Rattle.std.specs.Prelude.{◌%◌, ◌*◌, ◌+◌, ◌/◌, ◌<◌, ◌∷◌, ◌≡◌, ◌≤◌}
+use Rattle.keys.specs.{AreKey, Character, IsScalar, Key, List, [], ap, arith, ascii_key, cases_eq, cases_lt}
+use Rattle.keys.specs.{character_key, continues, encode, false, inl, inr, is_whole, key_named, key_of, key_of_code}
+use Rattle.keys.specs.{le-ltb, lt-ltb, nat_tests, refl, scalar_cases, subst, sym, ℕ, ◌∙◌}
 use Rattle.keys.proofs.Sequences.{begun-next, begun-one}
 
 pub ascii : (a : ℕ) → a < 128 → (a ≡ 27 → ⊥) → AreKey (a ∷ []) (ascii_key a)

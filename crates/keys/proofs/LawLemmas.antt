@@ -1,9 +1,7 @@
 -- The laws, as lemmas.
-use Rattle.std.proofs.Common.{◌≡◌, ◌+◌, ◌∷◌, ◌∙◌, List, [], refl, ap, sym, subst, length, map, length-append}
-use Rattle.std.specs.List.{flat_map}
-use Rattle.keys.specs.Readings.{Event, State, Item, HasRead, reading, taken_of}
-use Rattle.keys.specs.Sequences.{IsPending, bytes_of, bytes_taken}
-use Rattle.keys.specs.declared.decoder.Taken.{Taken}
+use Rattle.std.specs.Prelude.{◌+◌, ◌∷◌, ◌≡◌}
+use Rattle.keys.specs.{Event, HasRead, IsPending, Item, List, State, Taken, [], ap, bytes_of, bytes_taken, flat_map}
+use Rattle.keys.specs.{length, length-append, map, reading, refl, subst, sym, taken_of, ◌∙◌}
 use Rattle.keys.proofs.Pastes.{paste-part, paste-short}
 use Rattle.keys.proofs.Sequences.{all_bytes-reading, sequences-reading}
 

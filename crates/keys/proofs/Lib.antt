@@ -6,8 +6,6 @@ pub mod Sequences
 pub mod Pastes
 -- The laws, as lemmas
 pub mod LawLemmas
--- Worked bytes and their keys, for a reader of the definitions
-pub mod Examples
 -- What is read of the bytes of a whole sequence; for `laws`
 pub mod Whole
 -- The bytes of each character are its key; for `laws`

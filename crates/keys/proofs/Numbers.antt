@@ -1,25 +1,12 @@
 -- Parameters that are numbers in decimal digits.
-use Rattle.std.proofs.Common.{◌≡◌, ◌⊎◌, ◌+◌, ◌-◌, ◌*◌, ◌/◌, ◌%◌, ◌^◌, ◌<◌, ◌≤◌, ◌∷◌, ◌++◌, ◌∙◌, ℕ, Bool, true, false, List, [], Option, Some, None, refl, ap, subst, inl, inr, length, get_or, arith, decimal, min, nat_le, nat_lt, zero, suc, length-append}
-use Rattle.std.proofs.lemmas.Bool.{cases_lt, ne_eqb}
-use Rattle.std.proofs.lemmas.Bool.Decides.{nat_tests}
-use Rattle.std.proofs.lemmas.Fmt.{decimal_by_steps, length-decimal-le}
-use Rattle.std.proofs.lemmas.Grind.{fold-append}
-use Rattle.std.proofs.lemmas.List.{get_or_append_left, get_or-append_right}
-use Rattle.std.proofs.Math.Utf8.{scalar_cases}
-use Rattle.std.specs.Char.{IsScalar}
-use Rattle.std.specs.List.{fold}
-use Rattle.keys.specs.PressedKeys.{key_named, no_modifiers}
-use Rattle.keys.specs.Grammar.{is_digit}
-use Rattle.keys.specs.Parameters.{after_byte, control_sequence, no_parameters, parameter_of, parameters, three_parameters, two_parameters, with_digit}
-use Rattle.keys.specs.Meanings.{controlled_key, modifiers_of, name_of_code, name_of_final, name_of_number, pressed_below}
-use Rattle.keys.specs.Sequences.{AreKey}
-use Rattle.keys.specs.declared.key.Key.{Key}
-use Rattle.keys.specs.declared.key.Key.TheVariants.{Pressed}
-use Rattle.keys.specs.declared.key.Modifiers.{Modifiers}
-use Rattle.keys.specs.declared.key.Name.{Name}
-use Rattle.keys.specs.declared.key.Name.TheVariants.{Character}
-use Rattle.keys.specs.declared.parameters.Parameters.{Parameters}
-use Rattle.keys.specs.declared.parameters.TheConstants.{TOO_LARGE}
+use Rattle.std.specs.Prelude.{◌%◌, ◌*◌, ◌++◌, ◌+◌, ◌-◌, ◌/◌, ◌<◌, ◌^◌, ◌∷◌, ◌≡◌, ◌≤◌, ◌⊎◌}
+use Rattle.keys.specs.{AreKey, Bool, Character, IsScalar, Key, List, Modifiers, Name, None, Option, Parameters, Pressed}
+use Rattle.keys.specs.{Some, TOO_LARGE, [], after_byte, ap, arith, cases_lt, control_sequence, controlled_key, decimal}
+use Rattle.keys.specs.{decimal_by_steps, false, fold, fold-append, get_or, get_or-append_right, get_or_append_left, inl}
+use Rattle.keys.specs.{inr, is_digit, key_named, length, length-append, length-decimal-le, min, modifiers_of}
+use Rattle.keys.specs.{name_of_code, name_of_final, name_of_number, nat_le, nat_lt, nat_tests, ne_eqb, no_modifiers}
+use Rattle.keys.specs.{no_parameters, parameter_of, parameters, pressed_below, refl, scalar_cases, subst, suc}
+use Rattle.keys.specs.{three_parameters, true, two_parameters, with_digit, zero, ℕ, ◌∙◌}
 use Rattle.keys.proofs.Controls.{IsFinal, IsParameter, control}
 use Rattle.keys.proofs.Sequences.{get-last}
 

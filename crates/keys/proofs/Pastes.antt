@@ -1,15 +1,9 @@
 -- How a pasted text ends.
-use Rattle.std.proofs.Common.{◌≡◌, ◌<◌, ◌≤◌, ◌∷◌, ◌∙◌, ℕ, Bool, true, false, List, [], refl, ap, sym, subst, inl, inr, length, take, get_or, arith}
-use Rattle.std.proofs.lemmas.Bool.{cases_eq, cases_lt, ne_eqb}
-use Rattle.std.proofs.lemmas.Bool.Decides.{nat_tests}
-use Rattle.std.proofs.lemmas.List.{ext_get_or, get_or-take, length-take-le}
-use Rattle.keys.specs.Grammar.{escape, paste_end, continues, is_whole}
-use Rattle.keys.specs.Meanings.{as_asked, key_of}
-use Rattle.keys.specs.declared.asked.Asked.{Asked}
-use Rattle.keys.specs.Readings.{State, Item}
-use Rattle.keys.specs.Sequences.{IsBegun, IsSequence, IsPending}
-use Rattle.keys.specs.declared.grammar.TheConstants.{LONGEST}
-use Rattle.keys.specs.declared.key.Key.TheVariants.{PasteEnds}
+use Rattle.std.specs.Prelude.{◌<◌, ◌∷◌, ◌≡◌, ◌≤◌}
+use Rattle.keys.specs.{Asked, Bool, IsBegun, IsPending, IsSequence, Item, LONGEST, List, PasteEnds, State, [], ap}
+use Rattle.keys.specs.{arith, as_asked, cases_eq, cases_lt, continues, escape, ext_get_or, false, get_or, get_or-take}
+use Rattle.keys.specs.{inl, inr, is_whole, key_of, length, length-take-le, nat_tests, ne_eqb, paste_end, refl, subst}
+use Rattle.keys.specs.{sym, take, true, ℕ, ◌∙◌}
 
 -- a byte that goes on is that of the end
 goes_on : (bytes : List ℕ) (byte : ℕ) → 1 ≤ length bytes → continues true bytes byte ≡ true → (length bytes < 6) × (byte ≡ get_or paste_end (length bytes) 0)

@@ -1,20 +1,12 @@
 -- What begins with an escape is read whatever was pending before it.
-use Rattle.std.proofs.Common.{◌≡◌, None, ◌⊎◌, ◌+◌, ◌-◌, ◌<◌, ◌≤◌, ◌==◌, ◌∷◌, ◌++◌, ◌∙◌, ℕ, Bool, true, false, List, [], refl, ap, sym, subst, inl, inr, length, map, get_or, suc, zero, arith, length-append, append_assoc, if◌then◌else◌}
-use Rattle.std.proofs.lemmas.Bool.{cases_Bool, cases_eq, eq-eqb, ne_eqb}
-use Rattle.std.proofs.lemmas.Bool.Decides.{nat_tests}
-use Rattle.std.proofs.lemmas.Grind.{fold-append}
-use Rattle.std.proofs.lemmas.List.{append-nil, get_or_append_left, map-append}
-use Rattle.std.specs.List.{fold}
-use Rattle.keys.specs.Characters.{is_in_character}
-use Rattle.keys.specs.Grammar.{begins_string, continues, goes_on_control, goes_on_escape, goes_on_shift, goes_on_string, is_whole, leaves_escape, opens_string, paste_end}
-use Rattle.keys.specs.Meanings.{as_asked, key_of}
-use Rattle.keys.specs.Readings.{State, Item, Event, Byte, Reading, HasRead, item, option_list, cut_by, left_by, ended_by, taken_by, read_event, reading, taken_of}
-use Rattle.keys.specs.Sequences.{AreKey, Resumes, after_key}
-use Rattle.keys.specs.declared.asked.Asked.{Asked}
-use Rattle.keys.specs.declared.grammar.TheConstants.{LONGEST}
-use Rattle.keys.specs.declared.decoder.Taken.{Taken}
-use Rattle.keys.specs.declared.key.Key.{Key}
-use Rattle.keys.specs.declared.key.Key.TheVariants.{PasteEnds}
+use Rattle.std.specs.Prelude.{if◌then◌else◌, ◌++◌, ◌+◌, ◌-◌, ◌<◌, ◌==◌, ◌∷◌, ◌≡◌, ◌≤◌, ◌⊎◌}
+use Rattle.keys.specs.{AreKey, Asked, Bool, Byte, Event, HasRead, Item, Key, LONGEST, List, None, PasteEnds, Reading}
+use Rattle.keys.specs.{Resumes, State, Taken, [], after_key, ap, append-nil, append_assoc, arith, as_asked}
+use Rattle.keys.specs.{begins_string, cases_Bool, cases_eq, continues, cut_by, ended_by, eq-eqb, false, fold}
+use Rattle.keys.specs.{fold-append, get_or, get_or_append_left, goes_on_control, goes_on_escape, goes_on_shift}
+use Rattle.keys.specs.{goes_on_string, inl, inr, is_in_character, is_whole, item, key_of, leaves_escape, left_by}
+use Rattle.keys.specs.{length, length-append, map, map-append, nat_tests, ne_eqb, opens_string, option_list, paste_end}
+use Rattle.keys.specs.{read_event, reading, refl, subst, suc, sym, taken_by, taken_of, true, zero, ℕ, ◌∙◌}
 use Rattle.keys.proofs.LawLemmas.{pending-reading}
 use Rattle.keys.proofs.Pastes.{paste-short}
 use Rattle.keys.proofs.Sequences.{get-last}

@@ -1,16 +1,13 @@
 -- No byte is lost, and each sequence is one.
-use Rattle.std.proofs.Common.{◌≡◌, ◌+◌, ◌-◌, ◌<◌, ◌≤◌, ◌∷◌, ◌++◌, ◌∙◌, ℕ, Bool, true, false, List, [], Option, refl, ap, sym, subst, inl, inr, length, take, get_or, arith, append_assoc, length-append}
-use Rattle.std.proofs.Math.Seq.{take-length, take-append_seam}
-use Rattle.std.proofs.lemmas.Bool.{cases_Bool, cases_eq, cases_lt, eq-eqb, ne_eqb}
-use Rattle.std.proofs.lemmas.Bool.Decides.{nat_tests}
-use Rattle.std.proofs.lemmas.Grind.{flat_map-append}
-use Rattle.std.proofs.lemmas.List.{append-nil, get_or-append_right, get_or-take, get_or_append_left, length-take-le, take-append-le, take-take, take_more}
-use Rattle.std.specs.List.{AllByRecursion, flat_map, fold}
-use Rattle.keys.specs.Grammar.{escape, continues, is_whole, leaves_escape}
-use Rattle.keys.specs.Readings.{State, Item, Event, Byte, Delay, Reading, item, start, option_list, cut_by, left_by, whole_of, after_bytes, ended_by, taken_by, cut_by_delay, after_delay, read_event, reading}
-use Rattle.keys.specs.Sequences.{byte_of, bytes_of, all_bytes, IsBegun, IsSequence, IsPending, IsOfSequences}
-use Rattle.keys.specs.declared.asked.Asked.{Asked}
-use Rattle.keys.specs.declared.grammar.TheConstants.{LONGEST}
+use Rattle.std.specs.Prelude.{◌++◌, ◌+◌, ◌-◌, ◌<◌, ◌∷◌, ◌≡◌, ◌≤◌}
+use Rattle.keys.specs.{AllByRecursion, Asked, Bool, Byte, Delay, Event, IsBegun, IsOfSequences, IsPending, IsSequence}
+use Rattle.keys.specs.{Item, LONGEST, List, Option, Reading, State, [], after_bytes, after_delay, all_bytes, ap}
+use Rattle.keys.specs.{append-nil, append_assoc, arith, byte_of, bytes_of, cases_Bool, cases_eq, cases_lt, continues}
+use Rattle.keys.specs.{cut_by, cut_by_delay, ended_by, eq-eqb, escape, false, flat_map, flat_map-append, fold, get_or}
+use Rattle.keys.specs.{get_or-append_right, get_or-take, get_or_append_left, inl, inr, is_whole, item, leaves_escape}
+use Rattle.keys.specs.{left_by, length, length-append, length-take-le, nat_tests, ne_eqb, option_list, read_event}
+use Rattle.keys.specs.{reading, refl, start, subst, sym, take, take-append-le, take-append_seam, take-length, take-take}
+use Rattle.keys.specs.{take_more, taken_by, true, whole_of, ℕ, ◌∙◌}
 
 -- ---- no byte is lost
 

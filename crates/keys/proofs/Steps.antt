@@ -1,12 +1,9 @@
 -- What one more event adds to a reading.
-use Rattle.std.proofs.Common.{◌≡◌, ◌+◌, ◌<◌, get_or, length, subst, take, ◌∷◌, ◌++◌, ◌∙◌, ℕ, List, [], Option, Some, None, false, refl, ap, sym, map, append_assoc}
-use Rattle.std.proofs.lemmas.List.{append-nil, map-append, take_more}
-use Rattle.std.proofs.lemmas.Grind.{fold-append}
-use Rattle.std.specs.Option.{is_some, option_map}
-use Rattle.keys.specs.Readings.{State, Item, Event, Byte, Delay, Reading, HasRead, start, option_list, answered, cut_by, left_by, ended_by, taken_by, cut_by_delay, after_delay, read_event, reading, taken_of}
-use Rattle.keys.specs.declared.asked.Asked.{Asked}
-use Rattle.keys.specs.declared.decoder.Answer.{Answer}
-use Rattle.keys.specs.declared.decoder.Taken.{Taken}
+use Rattle.std.specs.Prelude.{◌++◌, ◌+◌, ◌<◌, ◌∷◌, ◌≡◌}
+use Rattle.keys.specs.{Answer, Asked, Byte, Delay, Event, HasRead, Item, List, None, Option, Reading, Some, State}
+use Rattle.keys.specs.{Taken, [], after_delay, answered, ap, append-nil, append_assoc, cut_by, cut_by_delay, ended_by}
+use Rattle.keys.specs.{false, fold-append, get_or, is_some, left_by, length, map, map-append, option_list, option_map}
+use Rattle.keys.specs.{read_event, reading, refl, start, subst, sym, take, take_more, taken_by, taken_of, ℕ, ◌∙◌}
 
 pub reading-next : (asked : Asked) (events : List Event) (event : Event)
     → reading asked (events ++ event ∷ []) ≡ read_event (reading asked events) event

@@ -1,19 +1,11 @@
 -- Which keys there are outside of pasted texts.
-use Rattle.std.proofs.Common.{◌≡◌, ◌∙◌, ◌⊎◌, ◌==◌, if◌then◌else◌, ℕ, Bool, true, false, List, Option, Some, None, refl, ap, inl, inr, length, arith}
-use Rattle.std.proofs.lemmas.Bool.{cases_eq, eq-eqb, ne_eqb}
-use Rattle.std.proofs.lemmas.Bool.Decides.{nat_tests}
-use Rattle.keys.specs.Grammar.{escape, first}
-use Rattle.keys.specs.PressedKeys.{with_alt}
-use Rattle.keys.specs.Meanings.{as_asked, is_typed, ascii_key, key_of_code, character_key, pressed, pressed_below, console_key, numbered_key, ended_key, lettered_key, controlled_key, pointed, mouse_key, three_bytes_key, control_key, shifted_key, escaped_key, key_of}
-use Rattle.keys.specs.Readings.{Item}
-use Rattle.keys.specs.Sequences.{IsSequence}
-use Rattle.keys.specs.declared.asked.Asked.{Asked}
-use Rattle.keys.specs.declared.parameters.Parameters.{Parameters}
-use Rattle.keys.specs.declared.key.Modifiers.{Modifiers}
-use Rattle.keys.specs.declared.key.Mouse.{Mouse}
-use Rattle.keys.specs.declared.key.Name.{Name}
-use Rattle.keys.specs.declared.key.Key.{Key}
-use Rattle.keys.specs.declared.key.Key.TheVariants.{Pressed, Unknown, PasteBegins, Pasted, PasteEnds, Pointed, FocusIn, FocusOut}
+use Rattle.std.specs.Prelude.{if◌then◌else◌, ◌==◌, ◌≡◌, ◌⊎◌}
+use Rattle.keys.specs.{Asked, Bool, FocusIn, FocusOut, IsSequence, Item, Key, List, Modifiers, Mouse, Name, None}
+use Rattle.keys.specs.{Option, Parameters, PasteBegins, PasteEnds, Pasted, Pointed, Pressed, Some, Unknown, ap, arith}
+use Rattle.keys.specs.{as_asked, ascii_key, cases_eq, character_key, console_key, control_key, controlled_key}
+use Rattle.keys.specs.{ended_key, eq-eqb, escape, escaped_key, false, first, inl, inr, is_typed, key_of, key_of_code}
+use Rattle.keys.specs.{length, lettered_key, mouse_key, nat_tests, ne_eqb, numbered_key, pointed, pressed}
+use Rattle.keys.specs.{pressed_below, refl, shifted_key, three_bytes_key, true, with_alt, ℕ, ◌∙◌}
 
 -- the same as a record, so that its key is found
 record IsTyped (key : Key) : Type 0 where

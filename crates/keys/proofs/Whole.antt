@@ -1,15 +1,9 @@
 -- What is read of the bytes of a whole sequence.
-use Rattle.std.proofs.Common.{◌≡◌, ◌+◌, ◌-◌, ◌<◌, ◌≤◌, ◌∷◌, ◌++◌, ◌∙◌, ℕ, true, false, List, [], refl, ap, sym, length, take, map, get_or, arith, zero, suc}
-use Rattle.std.proofs.lemmas.Grind.{fold-append}
-use Rattle.std.proofs.lemmas.List.{append-nil, map-append, take_more}
-use Rattle.std.specs.List.{fold}
-use Rattle.keys.specs.Grammar.{continues, is_whole}
-use Rattle.keys.specs.Meanings.{as_asked, key_of}
-use Rattle.keys.specs.Readings.{Item, Event, Byte, Reading, HasRead, item, start, read_event, reading, taken_of}
-use Rattle.keys.specs.Sequences.{IsBegun, AreKey, after_key}
-use Rattle.keys.specs.declared.asked.Asked.{Asked}
-use Rattle.keys.specs.declared.decoder.Taken.{Taken}
-use Rattle.keys.specs.declared.key.Key.{Key}
+use Rattle.std.specs.Prelude.{◌++◌, ◌+◌, ◌-◌, ◌<◌, ◌∷◌, ◌≡◌, ◌≤◌}
+use Rattle.keys.specs.{AreKey, Asked, Byte, Event, HasRead, IsBegun, Item, Key, List, Reading, Taken, [], after_key, ap}
+use Rattle.keys.specs.{append-nil, arith, as_asked, continues, false, fold, fold-append, get_or, is_whole, item, key_of}
+use Rattle.keys.specs.{length, map, map-append, read_event, reading, refl, start, suc, sym, take, take_more, taken_of}
+use Rattle.keys.specs.{true, zero, ℕ, ◌∙◌}
 use Rattle.keys.proofs.Sequences.{without_last}
 
 -- a reading outside of a pasted text

@@ -1,6 +1,7 @@
 -- Characters as bytes.
 -- Unicode 3.9, definition D92 with table 3-6 (what the bits of a byte are) and table 3-7 (which bytes are well formed).
-use Rattle.std.specs.Prelude.{ℕ, ◌+◌, ◌*◌, ◌%◌, ◌==◌, ◌&&◌, Bool, List, length, nat_lt, nat_le, slice_index, if◌then◌else◌}
+use Rattle.std.specs.Prelude.{if◌then◌else◌, ◌%◌, ◌&&◌, ◌*◌, ◌+◌, ◌==◌}
+use Rattle.keys.specs.Names.{Bool, List, length, nat_le, nat_lt, slice_index, ℕ}
 
 -- how many bytes a character has that begins with this one, and 1 for a byte that begins none
 abbrev pub size_by : ℕ → ℕ

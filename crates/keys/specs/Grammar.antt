@@ -4,10 +4,10 @@
 -- Unicode 3.9 for characters (`Characters`).
 -- xterm's control sequences (ctlseqs): "Bracketed Paste Mode" for the end of a pasted text, and "Normal tracking mode"
 -- for the mouse's three bytes after ESC [ M.
-use Rattle.std.specs.Prelude.{ℕ, ◌+◌, ◌-◌, ◌==◌, ◌&&◌, ◌||◌, Bool, not, true, false, List, [], ◌∷◌, length, nat_lt, nat_le, slice_index, slice_range, if◌then◌else◌}
-use Rattle.std.specs.List.{fold}
-use Rattle.keys.specs.Characters.{size_by, is_in_character}
-use Rattle.keys.specs.declared.grammar.TheConstants.{LONGEST}
+use Rattle.std.specs.Prelude.{if◌then◌else◌, ◌&&◌, ◌+◌, ◌-◌, ◌==◌, ◌||◌, ◌∷◌}
+use Rattle.keys.specs.Names.{Bool, LONGEST, List, [], false, fold, length, nat_le, nat_lt, not, slice_index}
+use Rattle.keys.specs.Names.{slice_range, true, ℕ}
+use Rattle.keys.specs.Characters.{is_in_character, size_by}
 
 abbrev pub escape : ℕ
 escape = 27

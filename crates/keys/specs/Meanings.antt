@@ -4,21 +4,17 @@
 -- for the mouse, and "FocusIn/FocusOut" (1004). kitty's keyboard protocol for the bits of modifiers from 8 on.
 -- The Linux console's ESC [ [ A and ESC [ G, rxvt's endings $, ^ and @ and its small letters (rxvtRef), and Konsole's
 -- digit after a single shift.
-use Rattle.std.specs.Prelude.{true, false, ℕ, ◌+◌, ◌-◌, ◌/◌, ◌%◌, ◌==◌, ◌&&◌, ◌||◌, Bool, not, List, length, drop, nat_lt, nat_le, slice_index, slice_range, Option, Some, None, if◌then◌else◌}
-use Rattle.keys.specs.PressedKeys.{no_modifiers, only_shift, only_ctrl, ctrl_and_shift, key_named, with_alt}
-use Rattle.keys.specs.Characters.{size_by, code_of}
-use Rattle.keys.specs.Grammar.{escape, bracket, shift_three, three_bytes, opens_string, is_digit, is_numbered, middle, first, second, third, last}
-use Rattle.keys.specs.Parameters.{parameters}
-use Rattle.keys.specs.declared.parameters.Parameters.{Parameters}
-use Rattle.keys.specs.declared.parameters.TheConstants.{TOO_LARGE}
-use Rattle.keys.specs.declared.key.Name.{Name}
-use Rattle.keys.specs.declared.key.Name.TheVariants.{Character, Up, Down, Left, Right, Home, End, PageUp, PageDown, Insert, Delete, Begin, Enter, Tab, Escape, Backspace, A1, A3, B2, C1, C3, Function}
-use Rattle.keys.specs.declared.key.Modifiers.{Modifiers}
-use Rattle.keys.specs.declared.asked.Asked.{Asked}
-use Rattle.keys.specs.declared.key.Action.{Action}
-use Rattle.keys.specs.declared.key.Action.TheVariants.{Press, Release, Motion}
-use Rattle.keys.specs.declared.key.Key.{Key}
-use Rattle.keys.specs.declared.key.Key.TheVariants.{Pressed, Unknown, PasteBegins, Pasted, PasteEnds, Pointed, FocusIn, FocusOut}
+use Rattle.std.specs.Prelude.{if◌then◌else◌, ◌%◌, ◌&&◌, ◌+◌, ◌-◌, ◌/◌, ◌==◌, ◌||◌}
+use Rattle.keys.specs.Names.{A1, A3, Action, Asked, B2, Backspace, Begin, Bool, C1, C3, Character, Delete, Down, End}
+use Rattle.keys.specs.Names.{Enter, Escape, FocusIn, FocusOut, Function, Home, Insert, Key, Left, List, Modifiers}
+use Rattle.keys.specs.Names.{Motion, Name, None, Option, PageDown, PageUp, Parameters, PasteBegins, PasteEnds, Pasted}
+use Rattle.keys.specs.Names.{Pointed, Press, Pressed, Release, Right, Some, TOO_LARGE, Tab, Unknown, Up, drop, false}
+use Rattle.keys.specs.Names.{length, nat_le, nat_lt, not, slice_index, slice_range, true, ℕ}
+use Rattle.keys.specs.PressedKeys.{ctrl_and_shift, key_named, no_modifiers, only_ctrl, only_shift, with_alt}
+use Rattle.keys.specs.Characters.{code_of, size_by}
+use Rattle.keys.specs.Grammar.{bracket, escape, first, is_digit, is_numbered, last, middle, opens_string, second}
+use Rattle.keys.specs.Grammar.{shift_three, third, three_bytes}
+use Rattle.keys.specs.Numerals.{parameters}
 
 -- ---- characters
 

@@ -1,9 +1,5 @@
 -- Keys by their names and modifiers.
-use Rattle.std.specs.Prelude.{true, false}
-use Rattle.keys.specs.declared.key.Name.{Name}
-use Rattle.keys.specs.declared.key.Modifiers.{Modifiers}
-use Rattle.keys.specs.declared.key.Key.{Key}
-use Rattle.keys.specs.declared.key.Key.TheVariants.{Pressed}
+use Rattle.keys.specs.Names.{Key, Modifiers, Name, Pressed, false, true}
 
 abbrev pub no_modifiers : Modifiers
 no_modifiers = record { shift = false; alt = false; ctrl = false }

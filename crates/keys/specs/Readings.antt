@@ -1,13 +1,9 @@
 -- What is read of the bytes of a terminal: a sequence after another, each of which is a key, and what is pending.
-use Rattle.std.specs.Prelude.{◌≡◌, ℕ, ◌-◌, ◌==◌, ◌||◌, ◌∷◌, ◌++◌, Bool, true, false, List, [], length, map, take, Option, Some, None, if◌then◌else◌}
-use Rattle.std.specs.List.{fold}
-use Rattle.keys.specs.Grammar.{escape, continues, is_whole, leaves_escape}
+use Rattle.std.specs.Prelude.{if◌then◌else◌, ◌++◌, ◌-◌, ◌==◌, ◌||◌, ◌∷◌, ◌≡◌}
+use Rattle.keys.specs.Names.{Answer, Asked, Bool, Key, List, None, Option, PasteBegins, PasteEnds, Some, Taken, []}
+use Rattle.keys.specs.Names.{false, fold, length, map, take, true, ℕ}
+use Rattle.keys.specs.Grammar.{continues, escape, is_whole, leaves_escape}
 use Rattle.keys.specs.Meanings.{as_asked, key_of}
-use Rattle.keys.specs.declared.asked.Asked.{Asked}
-use Rattle.keys.specs.declared.key.Key.{Key}
-use Rattle.keys.specs.declared.key.Key.TheVariants.{PasteBegins, PasteEnds}
-use Rattle.keys.specs.declared.decoder.Answer.{Answer}
-use Rattle.keys.specs.declared.decoder.Taken.{Taken}
 
 -- what was asked for, whether a text is being pasted, and the bytes of the sequence that was begun
 pub record State : Type 0 where

@@ -1,13 +1,10 @@
 -- Words for the laws of readings: sequences, where bytes are, and which bytes are a key.
-use Rattle.std.specs.Prelude.{◌≡◌, ℕ, ◌<◌, ◌≤◌, ◌+◌, ◌∷◌, ◌++◌, Bool, true, false, List, [], length, map, take, slice_index}
-use Rattle.std.specs.List.{AllByRecursion, flat_map}
+use Rattle.std.specs.Prelude.{◌++◌, ◌+◌, ◌<◌, ◌∷◌, ◌≡◌, ◌≤◌}
+use Rattle.keys.specs.Names.{AllByRecursion, Asked, Bool, Key, LONGEST, List, Taken, [], false, flat_map, length, map}
+use Rattle.keys.specs.Names.{slice_index, take, true, ℕ}
 use Rattle.keys.specs.Grammar.{continues, is_whole}
 use Rattle.keys.specs.Meanings.{as_asked, key_of}
-use Rattle.keys.specs.Readings.{State, Item, Event, Byte, Delay, Reading, HasRead, pasting_after}
-use Rattle.keys.specs.declared.grammar.TheConstants.{LONGEST}
-use Rattle.keys.specs.declared.asked.Asked.{Asked}
-use Rattle.keys.specs.declared.key.Key.{Key}
-use Rattle.keys.specs.declared.decoder.Taken.{Taken}
+use Rattle.keys.specs.Readings.{Byte, Delay, Event, HasRead, Item, Reading, State, pasting_after}
 
 -- the bytes among some events
 abbrev pub byte_of : Event → List ℕ

@@ -1,7 +1,7 @@
 //! What a terminal was asked to tell beside the keys.
 
 ghost use Rattle.std.specs.Prelude.{◌≡◌};
-ghost use Rattle.keys.specs.Meanings.{as_asked};
+ghost use Rattle.keys.specs.{as_asked};
 
 use crate::key::Key;
 

@@ -1,8 +1,9 @@
 //! A decoder: it takes the bytes of a terminal, and answers keys.
 
-ghost use Rattle.std.specs.Prelude.{◌≡◌, ◌∷◌, ◌++◌, List, [], map, take, false, ◌<◌, ◌≤◌, length, if◌then◌else◌, ◌+◌};
-ghost use Rattle.std.specs.Option.{is_some, option_map};
-ghost use Rattle.keys.specs.Grammar.{is_whole, leaves_escape};
+ghost use Rattle.std.specs.Prelude.{if◌then◌else◌, ◌++◌, ◌+◌, ◌<◌, ◌∷◌, ◌≡◌, ◌≤◌};
+ghost use Rattle.keys.specs.{Byte, Delay, Event, HasRead, List, [], after_bytes, after_delay, answered, cut_by};
+ghost use Rattle.keys.specs.{cut_by_delay, ended_by, false, is_some, is_whole, item, leaves_escape, left_by, length};
+ghost use Rattle.keys.specs.{map, option_list, option_map, pasting_after, start, take, taken_by, taken_of, whole_of};
 
 use crate::asked::Asked;
 use crate::grammar::{ESCAPE, LONGEST, continues, is_whole, leaves_escape};
@@ -53,7 +54,6 @@ impl Model for Decoder {
     ghost invariant = { λ d. d.count < LONGEST };
 }
 
-ghost use Rattle.keys.specs.Readings.{start, pasting_after, item, taken_of, cut_by, left_by, whole_of, after_bytes, ended_by, taken_by, cut_by_delay, after_delay, Event, Byte, Delay, option_list, answered, HasRead};
 
 impl Answer {
     /// No byte ends a key.

@@ -1,8 +1,10 @@
 //! Which bytes go on a sequence of bytes that was begun, and where a sequence is whole.
 
-ghost use Rattle.std.specs.Prelude.{◌≡◌, ◌≢◌, ◌&&◌, ◌≤◌, true, false, length};
-ghost use Rattle.keys.specs.Grammar.{is_digit, opens_string, begins_string, goes_on_string, goes_on_control, goes_on_shift, goes_on_escape, continues};
-ghost use Rattle.keys.specs.Grammar.{are_digits, is_numbered, is_whole_control, is_whole_string, is_whole_shift, is_whole_escape, is_whole, leaves_escape};
+ghost use Rattle.std.specs.Prelude.{◌&&◌, ◌≡◌, ◌≢◌, ◌≤◌};
+ghost use Rattle.keys.specs.{are_digits, begins_string, continues, false, goes_on_control, goes_on_escape};
+ghost use Rattle.keys.specs.{goes_on_shift, goes_on_string, is_digit, is_numbered, is_whole, is_whole_control};
+ghost use Rattle.keys.specs.{is_whole_escape, is_whole_shift, is_whole_string, leaves_escape, length, opens_string};
+ghost use Rattle.keys.specs.{true};
 
 use crate::utf8::{is_in_character, size_by};
 

@@ -1,7 +1,7 @@
 //! Keys as values.
 
 ghost use Rattle.std.specs.Prelude.{◌≡◌};
-ghost use Rattle.keys.specs.PressedKeys.{key_named, with_alt};
+ghost use Rattle.keys.specs.{key_named, with_alt};
 
 /// What a key is called, without its modifiers.
 #[derive(Clone, Copy, PartialEq, Eq)]

@@ -2,23 +2,13 @@
 
 #![tactic(auto, using(crate::proofs::LawLemmas::laws))]
 
-ghost use Rattle.std.specs.Prelude.{◌≡◌, ◌≢◌, ◌⊎◌, ◌+◌, ◌<◌, ◌≤◌, ◌∷◌, ◌++◌, ℕ, List, [], length, map, slice_index, take, true, false, Some};
-ghost use Rattle.std.specs.Char.{IsScalar, encode_utf8};
-ghost use Rattle.std.specs.Fmt.{decimal};
-ghost use Rattle.keys.specs.PressedKeys.{key_named};
-ghost use Rattle.keys.specs.Grammar.{escape, terminator, paste_end};
-ghost use Rattle.keys.specs.Parameters.{control_sequence, parameter_of, two_parameters, three_parameters};
-ghost use Rattle.keys.specs.Meanings.{as_asked, ascii_key, is_typed, name_of_code, name_of_final, name_of_number};
-ghost use Rattle.keys.specs.declared.grammar.TheConstants.{LONGEST};
-ghost use Rattle.keys.specs.Readings.{Event, State, Item, HasRead, Byte, start, reading};
-ghost use Rattle.keys.specs.declared.asked.Asked.{Asked};
-ghost use Rattle.keys.specs.Sequences.{IsOfSequences, IsSequence, IsPending, AreKey, Resumes, after_key, all_bytes, bytes_of, bytes_taken};
-ghost use Rattle.keys.specs.declared.decoder.Taken.{Taken};
-ghost use Rattle.keys.specs.declared.key.Key.{Key};
-ghost use Rattle.keys.specs.declared.key.Key.TheVariants.{Pressed, Pasted, PasteEnds};
-ghost use Rattle.keys.specs.declared.key.Modifiers.{Modifiers};
-ghost use Rattle.keys.specs.declared.key.Name.{Name};
-ghost use Rattle.keys.specs.declared.key.Name.TheVariants.{Character};
+ghost use Rattle.std.specs.Prelude.{◌++◌, ◌+◌, ◌<◌, ◌∷◌, ◌≡◌, ◌≢◌, ◌≤◌, ◌⊎◌};
+ghost use Rattle.keys.specs.{AreKey, Asked, Byte, Character, Event, HasRead, IsOfSequences, IsPending, IsScalar};
+ghost use Rattle.keys.specs.{IsSequence, Item, Key, LONGEST, List, Modifiers, Name, PasteEnds, Pasted, Pressed};
+ghost use Rattle.keys.specs.{Resumes, Some, State, Taken, [], after_key, all_bytes, as_asked, ascii_key, bytes_of};
+ghost use Rattle.keys.specs.{bytes_taken, control_sequence, decimal, encode_utf8, escape, false, is_typed, key_named};
+ghost use Rattle.keys.specs.{length, map, name_of_code, name_of_final, name_of_number, parameter_of, paste_end};
+ghost use Rattle.keys.specs.{reading, slice_index, start, take, terminator, three_parameters, true, two_parameters, ℕ};
 
 /// Each byte is in exactly one sequence: those of all sequences, in their order, and then those that are pending are the
 /// bytes that came.

@@ -1,9 +1,11 @@
 //! Which key a sequence of bytes is.
 
-ghost use Rattle.std.specs.Prelude.{◌≡◌, ◌<◌, ◌≤◌, length};
-ghost use Rattle.keys.specs.Meanings.{ascii_key, key_of_code, character_key, name_of_letter, name_of_keypad, name_of_number, name_of_code, name_of_final};
-ghost use Rattle.keys.specs.Meanings.{is_odd, modifiers_of, pressed, pressed_below, pressed_with, coded_with, console_key, numbered_key, lettered_key, controlled_key};
-ghost use Rattle.keys.specs.Meanings.{is_ending, held_by_ending, ended_key, button_of, action_of, pointed, mouse_key, three_bytes_key, control_key, shifted_key, escaped_key, key_of};
+ghost use Rattle.std.specs.Prelude.{◌<◌, ◌≡◌, ◌≤◌};
+ghost use Rattle.keys.specs.{action_of, ascii_key, button_of, character_key, coded_with, console_key, control_key};
+ghost use Rattle.keys.specs.{controlled_key, ended_key, escaped_key, held_by_ending, is_ending, is_odd, key_of};
+ghost use Rattle.keys.specs.{key_of_code, length, lettered_key, modifiers_of, mouse_key, name_of_code, name_of_final};
+ghost use Rattle.keys.specs.{name_of_keypad, name_of_letter, name_of_number, numbered_key, pointed, pressed};
+ghost use Rattle.keys.specs.{pressed_below, pressed_with, shifted_key, three_bytes_key};
 
 use crate::grammar::{
     BRACKET, ESCAPE, SHIFT_THREE, THREE_BYTES, is_digit, is_numbered, opens_string,

@@ -1,7 +1,7 @@
 //! The parameters of a control sequence.
 
-ghost use Rattle.std.specs.Prelude.{◌≡◌, ◌≤◌, true};
-ghost use Rattle.keys.specs.Grammar.{is_digit};
+ghost use Rattle.std.specs.Prelude.{if◌then◌else◌, ◌==◌, ◌≡◌, ◌≤◌};
+ghost use Rattle.keys.specs.{is_digit, nat_lt, true, with_digit};
 
 use crate::grammar::is_digit;
 
@@ -24,7 +24,7 @@ pub struct Parameters {
 }
 
 impl Parameters {
-    ghost use Rattle.keys.specs.Parameters.{after_byte, after_digit, no_parameters, parameters};
+    ghost use Rattle.keys.specs.{after_byte, after_digit, parameters};
 
     pub const NONE: Parameters = Parameters {
         first: 0,
@@ -38,16 +38,8 @@ impl Parameters {
 
     /// What one more digit makes of them.
     fn after_digit(self, digit: u8) -> Parameters
-        requires first { self.first ≤ TOO_LARGE }
-        requires second { self.second ≤ TOO_LARGE }
-        requires third { self.third ≤ TOO_LARGE }
-        requires event { self.event ≤ TOO_LARGE }
-        requires digit { is_digit digit ≡ true }
-        ensures after { result ≡ after_digit self digit }
-        ensures first { result.first ≤ TOO_LARGE }
-        ensures second { result.second ≤ TOO_LARGE }
-        ensures third { result.third ≤ TOO_LARGE }
-        ensures event { result.event ≤ TOO_LARGE }
+        requires { is_digit digit ≡ true }
+        ensures { result ≡ after_digit self digit }
     {
         let mut next = self;
         if self.is_behind {
@@ -66,15 +58,7 @@ impl Parameters {
 
     /// What one more byte makes of them.
     fn after(self, byte: u8) -> Parameters
-        requires first { self.first ≤ TOO_LARGE }
-        requires second { self.second ≤ TOO_LARGE }
-        requires third { self.third ≤ TOO_LARGE }
-        requires event { self.event ≤ TOO_LARGE }
-        ensures after { result ≡ after_byte self byte }
-        ensures first { result.first ≤ TOO_LARGE }
-        ensures second { result.second ≤ TOO_LARGE }
-        ensures third { result.third ≤ TOO_LARGE }
-        ensures event { result.event ≤ TOO_LARGE }
+        ensures { result ≡ after_byte self byte }
     {
         if is_digit(byte) {
             return self.after_digit(byte);
@@ -114,14 +98,11 @@ impl Parameters {
     }
 }
 
-ghost use Rattle.std.specs.Prelude.{if◌then◌else◌, ◌==◌, nat_lt};
-ghost use Rattle.keys.specs.Parameters.{with_digit};
 
 /// A number with one more digit.
 fn with_digit(number: u32, digit: u8) -> u32
-    requires number { number ≤ TOO_LARGE }
-    requires digit { is_digit digit ≡ true }
+    requires { is_digit digit ≡ true }
     ensures { result ≡ with_digit number digit }
 {
-    (number * 10 + u32::from(digit - b'0')).min(TOO_LARGE)
+    number.saturating_mul(10).saturating_add(u32::from(digit - b'0')).min(TOO_LARGE)
 }

@@ -1,7 +1,7 @@
 //! Characters as bytes: UTF-8.
 
-ghost use Rattle.std.specs.Prelude.{◌≡◌, ◌<◌, ◌≤◌, length};
-ghost use Rattle.keys.specs.Characters.{size_by, is_in_character, code_of};
+ghost use Rattle.std.specs.Prelude.{◌<◌, ◌≡◌, ◌≤◌};
+ghost use Rattle.keys.specs.{code_of, is_in_character, length, size_by};
 
 /// How many bytes a character has that begins with this one, and 1 for a byte that begins none.
 pub fn size_by(first: u8) -> usize

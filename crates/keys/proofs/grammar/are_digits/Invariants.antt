@@ -1,5 +1,5 @@
-use Rattle.std.proofs.Common.{◌≡◌, take}
-use Rattle.keys.specs.Grammar.{are_digits}
+use Rattle.std.specs.Prelude.{◌≡◌}
+use Rattle.keys.specs.{are_digits, take}
 use Rattle.keys.proofs.grammar.are_digits.Given as goal
 
 abbrev pub invariant-loop-byte : goal.invariant-loop-byte

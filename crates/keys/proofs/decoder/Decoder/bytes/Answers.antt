@@ -1,5 +1,5 @@
 -- `bytes`: one more byte of the piece (`Steps`).
-use Rattle.std.proofs.Common.{◌∙◌, sym}
+use Rattle.keys.specs.{sym, ◌∙◌}
 use Rattle.keys.proofs.Steps.{HasRead-none, HasRead-piece, is_none}
 use Rattle.keys.proofs.decoder.Decoder.bytes.Goals as goal
 

@@ -1,7 +1,6 @@
 -- `bytes`: what was taken so far has answered nothing.
-use Rattle.std.proofs.Common.{◌≡◌, ◌++◌, List, map, take}
-use Rattle.keys.specs.Readings.{Byte, Event, HasRead}
-use Rattle.keys.specs.declared.decoder.Taken.{Taken}
+use Rattle.std.specs.Prelude.{◌++◌, ◌≡◌}
+use Rattle.keys.specs.{Byte, Event, HasRead, List, Taken, map, take}
 use Rattle.keys.proofs.decoder.Decoder.bytes.Given as goal
 
 abbrev pub invariant-loop-at : goal.invariant-loop-at

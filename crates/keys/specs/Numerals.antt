@@ -2,13 +2,9 @@
 -- ECMA-48, 5th edition, 5.4.1 and 5.4.2: numbers in decimal digits, with ; between them. One that has no digits is 0
 -- here. kitty's keyboard protocol has further numbers behind a : in the first one, which are passed over here, and in
 -- the second one whether the key was pressed (1), repeated (2) or released (3).
-use Rattle.std.specs.Prelude.{ℕ, ◌+◌, ◌-◌, ◌*◌, ◌==◌, ◌&&◌, List, min, nat_lt, true, false, if◌then◌else◌, [], ◌∷◌, ◌++◌}
-use Rattle.std.specs.List.{fold}
-use Rattle.std.specs.Fmt.{decimal}
+use Rattle.std.specs.Prelude.{if◌then◌else◌, ◌&&◌, ◌*◌, ◌++◌, ◌+◌, ◌-◌, ◌==◌, ◌∷◌}
+use Rattle.keys.specs.Names.{List, Modifiers, Parameters, TOO_LARGE, [], decimal, false, fold, min, nat_lt, true, ℕ}
 use Rattle.keys.specs.Grammar.{bracket, escape, is_digit}
-use Rattle.keys.specs.declared.key.Modifiers.{Modifiers}
-use Rattle.keys.specs.declared.parameters.Parameters.{Parameters}
-use Rattle.keys.specs.declared.parameters.TheConstants.{TOO_LARGE}
 
 -- none was read yet
 abbrev pub no_parameters : Parameters
