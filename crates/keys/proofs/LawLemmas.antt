@@ -2,7 +2,6 @@
 use Rattle.std.specs.Prelude.{◌+◌, ◌∷◌, ◌≡◌}
 use Rattle.keys.specs.{Event, HasRead, IsPending, Item, List, State, Taken, [], ap, bytes_of, bytes_taken, flat_map}
 use Rattle.keys.specs.{length, length-append, map, reading, refl, subst, sym, taken_of, ◌∙◌}
-use Rattle.keys.proofs.Pastes.{paste-part, paste-short}
 use Rattle.keys.proofs.Sequences.{all_bytes-reading, sequences-reading}
 
 counted : (items : List Item) → bytes_taken (map taken_of items) ≡ length (flat_map (λ i. i.bytes) items)
@@ -36,4 +35,4 @@ pending-reading events taken state h =
     let P : State → Type 0 = λ s. IsPending s in subst P (sym h.state_is) (sequences-reading state.asked events).pending
 
 pub ruleset laws =
-    (paste-part, paste-short, all_bytes-reading, sequences-reading, counts, one-taken, one-state, pending-reading)
+    (all_bytes-reading, sequences-reading, counts, one-taken, one-state, pending-reading)

@@ -14,8 +14,6 @@ pub mod Encoded
 pub mod Controls
 -- Parameters that are numbers in decimal digits; for `laws`
 pub mod Numbers
--- Which keys there are outside of pasted texts; for `laws`
-pub mod Typed
 -- No other bytes are a character's; for `laws`
 pub mod Decoded
 -- What begins with an escape is read whatever was pending before it; for `laws`

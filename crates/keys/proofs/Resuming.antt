@@ -7,8 +7,6 @@ use Rattle.keys.specs.{fold-append, get_or, get_or_append_left, goes_on_control,
 use Rattle.keys.specs.{goes_on_string, inl, inr, is_in_character, is_whole, item, key_of, leaves_escape, left_by}
 use Rattle.keys.specs.{length, length-append, map, map-append, nat_tests, ne_eqb, opens_string, option_list, paste_end}
 use Rattle.keys.specs.{read_event, reading, refl, subst, suc, sym, taken_by, taken_of, true, zero, ℕ, ◌∙◌}
-use Rattle.keys.proofs.LawLemmas.{pending-reading}
-use Rattle.keys.proofs.Pastes.{paste-short}
 use Rattle.keys.proofs.Sequences.{get-last}
 use Rattle.keys.proofs.Whole.{ended, ended-read, outside, read-whole}
 

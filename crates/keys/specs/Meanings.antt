@@ -265,11 +265,3 @@ as_asked asked (Pointed mouse) = if asked.mouse then Pointed mouse else Unknown
 as_asked asked FocusIn = if asked.focus then FocusIn else Unknown
 as_asked asked FocusOut = if asked.focus then FocusOut else Unknown
 as_asked asked key = key
-
--- ---- a law of all keys
-
--- a key outside of pasted texts
-abbrev pub is_typed : Key → Bool
-is_typed Pasted = false
-is_typed PasteEnds = false
-is_typed key = true

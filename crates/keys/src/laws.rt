@@ -4,11 +4,11 @@
 
 ghost use Rattle.std.specs.Prelude.{◌++◌, ◌+◌, ◌<◌, ◌∷◌, ◌≡◌, ◌≢◌, ◌≤◌, ◌⊎◌};
 ghost use Rattle.keys.specs.{AreKey, Asked, Byte, Character, Event, HasRead, IsOfSequences, IsPending, IsScalar};
-ghost use Rattle.keys.specs.{IsSequence, Item, Key, LONGEST, List, Modifiers, Name, PasteEnds, Pasted, Pressed};
+ghost use Rattle.keys.specs.{IsSequence, Item, Key, LONGEST, List, Modifiers, Name, PasteEnds, Pressed};
 ghost use Rattle.keys.specs.{Resumes, Some, State, Taken, [], after_key, all_bytes, as_asked, ascii_key, bytes_of};
-ghost use Rattle.keys.specs.{bytes_taken, control_sequence, decimal, encode_utf8, escape, false, is_typed, key_named};
+ghost use Rattle.keys.specs.{bytes_taken, control_sequence, decimal, encode_utf8, escape, key_named};
 ghost use Rattle.keys.specs.{length, map, name_of_code, name_of_final, name_of_number, parameter_of, paste_end};
-ghost use Rattle.keys.specs.{reading, slice_index, start, take, terminator, three_parameters, true, two_parameters, ℕ};
+ghost use Rattle.keys.specs.{false, reading, slice_index, start, take, terminator, three_parameters, true, two_parameters, ℕ};
 
 /// Each byte is in exactly one sequence: those of all sequences, in their order, and then those that are pending are the
 /// bytes that came.
@@ -38,20 +38,9 @@ pub fn all_are_sequences()
         → IsPending state }
 {}
 
-/// Outside of a pasted text no key is a part or the end of one. Within it there are no other keys.
-pub fn keys_are_typed_or_pasted()
-    ensures typed { (item : Item) (is : IsSequence item) → is.pasting ≡ false → is_typed item.key ≡ true }
-    ensures pasted { (item : Item) (is : IsSequence item) → is.pasting ≡ true
-        → (item.key ≡ Pasted) ⊎ (item.key ≡ PasteEnds) }
-{}
-
-/// A pasted text ends with these bytes, and what is pending before that begins them.
+/// A pasted text ends with these bytes alone.
 pub fn pastes_end_so()
-    ensures end { (item : Item) (is : IsSequence item) → is.pasting ≡ true → item.key ≡ PasteEnds
-        → item.bytes ≡ paste_end }
-    ensures pending { (state : State) → IsPending state → state.pasting ≡ true
-        → state.pending ≡ take (length state.pending) paste_end }
-    ensures short { (state : State) → IsPending state → state.pasting ≡ true → length state.pending < 6 }
+    ensures { (item : Item) (is : IsSequence item) → is.pasting ≡ true → item.key ≡ PasteEnds → item.bytes ≡ paste_end }
 {}
 
 /// The bytes of a key, where nothing is pending and no text is pasted, are answered by that key, if it was asked for, and

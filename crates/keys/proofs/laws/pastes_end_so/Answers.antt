@@ -2,5 +2,5 @@
 use Rattle.keys.proofs.Pastes.{paste-whole}
 use Rattle.keys.proofs.laws.pastes_end_so.Goals as goal
 
-pub returns-clause-end : goal.returns-clause-end
-returns-clause-end c = paste-whole
+pub returns : goal.returns
+returns c = paste-whole
