@@ -54,7 +54,6 @@ impl Model for Decoder {
     ghost invariant = { λ d. d.count < LONGEST };
 }
 
-
 impl Answer {
     /// No byte ends a key.
     const NONE: Answer = Answer {

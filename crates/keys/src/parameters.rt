@@ -98,11 +98,13 @@ impl Parameters {
     }
 }
 
-
 /// A number with one more digit.
 fn with_digit(number: u32, digit: u8) -> u32
     requires { is_digit digit ≡ true }
     ensures { result ≡ with_digit number digit }
 {
-    number.saturating_mul(10).saturating_add(u32::from(digit - b'0')).min(TOO_LARGE)
+    number
+        .saturating_mul(10)
+        .saturating_add(u32::from(digit - b'0'))
+        .min(TOO_LARGE)
 }
