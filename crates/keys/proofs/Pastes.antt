@@ -1,5 +1,5 @@
 -- How a pasted text ends.
-use Rattle.std.specs.Prelude.{◌-◌, ◌∷◌, ◌≡◌, ◌≤◌}
+use Rattle.std.specs.Prelude.{◌∷◌, ◌≡◌, ◌≤◌}
 use Rattle.keys.specs.{Asked, Bool, IsBegun, IsSequence, Item, List, PasteEnds, [], ap, arith, as_asked, cases_eq}
 use Rattle.keys.specs.{continues, get_or, inl, inr, is_whole, key_of, length, nat_tests, ne_eqb, paste_end, refl, subst, sym}
 use Rattle.keys.specs.{false, true, ℕ, ◌∙◌}

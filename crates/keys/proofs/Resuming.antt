@@ -1,14 +1,14 @@
 -- What begins with an escape is read whatever was pending before it.
-use Rattle.std.specs.Prelude.{if◌then◌else◌, ◌++◌, ◌+◌, ◌-◌, ◌<◌, ◌==◌, ◌∷◌, ◌≡◌, ◌≤◌, ◌⊎◌}
-use Rattle.keys.specs.{AreKey, Asked, Bool, Byte, Event, HasRead, Item, Key, LONGEST, List, None, PasteEnds, Reading}
-use Rattle.keys.specs.{Resumes, State, Taken, [], after_key, ap, append-nil, append_assoc, arith, as_asked}
+use Rattle.std.specs.Prelude.{if◌then◌else◌, ◌++◌, ◌+◌, ◌-◌, ◌<◌, ◌==◌, ◌∷◌, ◌≡◌, ◌≤◌}
+use Rattle.keys.specs.{AreKey, keys_of, items_of, state_after, Asked, Bool, Byte, Event, HasRead, Item, Key, LONGEST, List, None, PasteEnds, Reading}
+use Rattle.keys.specs.{Resumes, State, Taken, [], ap, append-nil, append_assoc, arith, as_asked}
 use Rattle.keys.specs.{begins_string, cases_Bool, cases_eq, continues, cut_by, ended_by, eq-eqb, false, fold}
 use Rattle.keys.specs.{fold-append, get_or, get_or_append_left, goes_on_control, goes_on_escape, goes_on_shift}
-use Rattle.keys.specs.{goes_on_string, inl, inr, is_in_character, is_whole, item, key_of, leaves_escape, left_by}
+use Rattle.keys.specs.{inl, inr, is_in_character, is_whole, key_of, leaves_escape, left_by}
 use Rattle.keys.specs.{length, length-append, map, map-append, nat_tests, ne_eqb, opens_string, option_list, paste_end}
-use Rattle.keys.specs.{read_event, reading, refl, subst, suc, sym, taken_by, taken_of, true, zero, ℕ, ◌∙◌}
+use Rattle.keys.specs.{read_event, reading, refl, suc, sym, taken_by, taken_of, true, zero, ℕ, ◌∙◌}
 use Rattle.keys.proofs.Sequences.{get-last}
-use Rattle.keys.proofs.Whole.{ended, ended-read, outside, read-whole}
+use Rattle.keys.proofs.Whole.{ended-read, outside, read-whole}
 
 -- a state outside of a pasted text
 abbrev typed_state : Asked → List ℕ → State
@@ -149,7 +149,7 @@ with-escape pending is short =
 
 -- the state after an escape
 abbrev after_escape : Asked → List ℕ → State
-after_escape asked pending = taken_by (left_by (typed_state asked pending) 27) 27
+after_escape asked pending = state_after (typed_state asked pending) (Byte 27)
 
 record IsEscaped (asked : Asked) (pending : List ℕ) : Type 0 where
   q : List ℕ
@@ -169,23 +169,21 @@ escaped asked (a ∷ l) short = elim (cases_Bool (continues false (a ∷ l) 27))
   ]
 ]
 
--- what is answered of it
-abbrev cut_by_escape : Asked → List ℕ → List Item
-cut_by_escape asked pending =
-    option_list (cut_by (typed_state asked pending) 27)
-    ++ option_list (ended_by (left_by (typed_state asked pending) 27) 27)
-
 -- after the byte behind it
 read-behind : (asked : Asked) (items : List Item) (q : List ℕ) (byte : ℕ) → Escaped q → (byte ≡ 27 → ⊥) → (byte ≡ 92 → ⊥)
     → read_event (outside asked items q) (Byte byte)
     ≡ read_event (outside asked (items ++ option_list (cut_by (typed_state asked q) byte)) (27 ∷ [])) (Byte byte)
 unfolding Escaped
 read-behind asked items q byte is other string =
-    let L = items ++ option_list (cut_by (typed_state asked q) byte) in
+    let cut = option_list (cut_by (typed_state asked q) byte) in
+    let left = left_by (typed_state asked (27 ∷ [])) byte in
     let none : cut_by (typed_state asked (27 ∷ [])) byte ≡ None = rw (one-on byte other) refl in
-    let F : State → List Item → Reading = λ s l. record { items = l ++ option_list (ended_by s byte); state = taken_by s byte } in
-    ap (λ s. F s L) (is asked byte other string ∙ sym (escaped-one asked byte other string))
-    ∙ ap (F (left_by (typed_state asked (27 ∷ [])) byte)) (sym (append-nil L) ∙ ap (λ c. L ++ option_list c) (sym none))
+    let F : List Item → State → Reading = λ l s. record { items = l ++ option_list (ended_by s byte); state = taken_by s byte } in
+    ap (λ s. record { items = items ++ (cut ++ option_list (ended_by s byte)); state = taken_by s byte })
+    (is asked byte other string ∙ sym (escaped-one asked byte other string))
+    ∙ ap (λ l. record { items = l; state = taken_by left byte }) (sym (append_assoc items cut (option_list (ended_by left byte))))
+    ∙ ap (λ c. record { items = (items ++ cut) ++ (option_list c ++ option_list (ended_by left byte)); state = taken_by left byte })
+    (sym none)
 
 module _ (asked : Asked) (pending : List ℕ) (byte : ℕ) (short : length pending + 1 < LONGEST) (other : byte ≡ 27 → ⊥)
     (string : byte ≡ 92 → ⊥) where
@@ -194,22 +192,19 @@ module _ (asked : Asked) (pending : List ℕ) (byte : ℕ) (short : length pendi
 
   -- what was cut short before a whole sequence that begins with an escape
   cut_before : List Item
-  cut_before = cut_by_escape asked pending ++ option_list (cut_by (typed_state asked is.q) byte)
+  cut_before = items_of (typed_state asked pending) (Byte 27) ++ option_list (cut_by (typed_state asked is.q) byte)
 
   read-both : (items : List Item)
       → read_event (read_event (outside asked items pending) (Byte 27)) (Byte byte)
       ≡ read_event (read_event (outside asked (items ++ cut_before) []) (Byte 27)) (Byte byte)
   unfolding continues is_whole cut_before
   read-both items =
-      let cut = option_list (cut_by (typed_state asked pending) 27) in
-      let alone = option_list (ended_by (left_by (typed_state asked pending) 27) 27) in
+      let cut = items_of (typed_state asked pending) (Byte 27) in
       let behind = option_list (cut_by (typed_state asked is.q) byte) in
-      ap (λ s. read_event (record { items = (items ++ cut) ++ alone; state = s }) (Byte byte)) is.state
-      ∙ read-behind asked ((items ++ cut) ++ alone) is.q byte is.escaped other string
-      ∙ ap (λ l. read_event (outside asked (l ++ behind) (27 ∷ [])) (Byte byte)) (append_assoc items cut alone)
-      ∙ ap (λ l. read_event (outside asked l (27 ∷ [])) (Byte byte)) (append_assoc items (cut ++ alone) behind)
+      ap (λ s. read_event (record { items = items ++ cut; state = s }) (Byte byte)) is.state
+      ∙ read-behind asked (items ++ cut) is.q byte is.escaped other string
       ∙ ap (λ l. read_event (outside asked l (27 ∷ [])) (Byte byte))
-      (sym (append-nil (items ++ cut_before)) ∙ sym (append-nil ((items ++ cut_before) ++ [])))
+      (append_assoc items cut behind ∙ sym (append-nil (items ++ cut_before)))
 
   resumed : (items : List Item) (rest : List ℕ)
       → fold read_event (outside asked items pending) (map Byte (27 ∷ byte ∷ rest))
@@ -227,10 +222,10 @@ key-resumes events taken s byte rest key h typed short string are =
     let other = one-off byte (are.begun.goes_on 1 (omega arith)) in
     let cut = cut_before s.asked s.pending byte short other string in
     record {
-      before = map taken_of cut;
+      before = keys_of cut;
       read =
-          ended-read s.asked (events ++ map Byte bytes) (taken ++ map taken_of cut) (r.items ++ cut) bytes key
-          (ap (λ l. l ++ map taken_of cut) h.taken_are ∙ sym (map-append taken_of r.items cut)) are.means
+          ended-read s.asked (events ++ map Byte bytes) (taken ++ keys_of cut) (r.items ++ cut) bytes key
+          (ap (λ l. l ++ keys_of cut) h.taken_are ∙ sym (map-append taken_of r.items cut)) are.means
           (fold-append read_event (outside s.asked [] []) events (map Byte bytes)
           ∙ ap (λ r. fold read_event r (map Byte bytes)) at
           ∙ resumed s.asked s.pending byte short other string r.items rest
@@ -275,11 +270,11 @@ module _ (asked : Asked) (items : List Item) where
   paste-on : (pending : List ℕ) (byte : ℕ) → continues true pending byte ≡ true
       → is_whole true (pending ++ byte ∷ []) ≡ false
       → read_event (pasting asked items pending) (Byte byte) ≡ pasting asked items (pending ++ byte ∷ [])
-  paste-on pending byte on more = rw on (rw on (rw more (rw append-nil (rw append-nil refl))))
+  paste-on pending byte on more = rw on (rw on (rw more (rw append-nil refl)))
 
   paste-last : read_event (pasting asked items (27 ∷ 91 ∷ 50 ∷ 48 ∷ 49 ∷ [])) (Byte 126) ≡ pasted asked items
   unfolding continues is_whole key_of
-  paste-last = rw append-nil refl
+  paste-last = refl
 
   paste-rest : fold read_event (pasting asked items (27 ∷ [])) (map Byte behind_escape) ≡ pasted asked items
   unfolding continues is_whole
@@ -313,13 +308,13 @@ paste-ends events taken s h pastes =
     ∙ ap (λ r. fold read_event r (map Byte behind_escape)) (paste-first s.asked r.items s.pending)
     ∙ paste-rest s.asked (r.items ++ cut) in
     record {
-      before = map taken_of cut;
+      before = keys_of cut;
       read = record {
         taken_are =
-            ap (λ l. (l ++ map taken_of cut) ++ record { key = PasteEnds; count = 6 } ∷ []) h.taken_are
+            ap (λ l. (l ++ keys_of cut) ++ record { key = PasteEnds; count = 6 } ∷ []) h.taken_are
             ∙ ap (λ l. l ++ record { key = PasteEnds; count = 6 } ∷ []) (sym (map-append taken_of r.items cut))
             ∙ sym (map-append taken_of (r.items ++ cut) (last ∷ []))
-            ∙ ap (λ (r : Reading). map taken_of r.items) (sym whole);
+            ∙ ap (λ (r : Reading). keys_of r.items) (sym whole);
         state_is = ap (λ (r : Reading). r.state) (sym whole);
       };
     }

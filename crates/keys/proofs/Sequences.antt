@@ -1,7 +1,7 @@
 -- No byte is lost, and each sequence is one.
 use Rattle.std.specs.Prelude.{◌++◌, ◌+◌, ◌-◌, ◌<◌, ◌∷◌, ◌≡◌, ◌≤◌}
 use Rattle.keys.specs.{AllByRecursion, Asked, Bool, Byte, Delay, Event, IsBegun, IsOfSequences, IsPending, IsSequence}
-use Rattle.keys.specs.{Item, LONGEST, List, Option, Reading, State, [], after_bytes, after_delay, all_bytes, ap}
+use Rattle.keys.specs.{Item, LONGEST, List, Option, Reading, State, [], after_bytes, all_bytes, items_of, state_after, ap}
 use Rattle.keys.specs.{append-nil, append_assoc, arith, byte_of, bytes_of, cases_Bool, cases_eq, cases_lt, continues}
 use Rattle.keys.specs.{cut_by, cut_by_delay, ended_by, eq-eqb, escape, false, flat_map, flat_map-append, fold, get_or}
 use Rattle.keys.specs.{get_or-append_right, get_or-take, get_or_append_left, inl, inr, is_whole, item, leaves_escape}
@@ -66,7 +66,7 @@ bytes-ended s byte = elim (cases_Bool (continues s.pasting s.pending byte)) [
   | inr off ↦ rw off (ap (λ l. l ++ byte ∷ []) (append-nil s.pending))
 ]
 
-bytes-delay : (s : State) → bytes_in (cut_by_delay s) ++ (after_delay s).pending ≡ s.pending
+bytes-delay : (s : State) → bytes_in (cut_by_delay s) ++ (state_after s Delay).pending ≡ s.pending
 unfolding bytes_in
 bytes-delay s = elim (cases_Bool s.pasting) [
   | inl pastes ↦ rw pastes refl
@@ -76,31 +76,29 @@ bytes-delay s = elim (cases_Bool s.pasting) [
   ]
 ]
 
-all_bytes-event : (r : Reading) (event : Event) → all_bytes (read_event r event) ≡ all_bytes r ++ byte_of event
+bytes-event : (s : State) (event : Event)
+    → flat_map (λ i. i.bytes) (items_of s event) ++ (state_after s event).pending ≡ s.pending ++ byte_of event
 unfolding bytes_in
-all_bytes-event r (Byte byte) =
+bytes-event s (Byte byte) =
     let f : Item → List ℕ = λ i. i.bytes in
-    let s = left_by r.state byte in
-    let cut = option_list (cut_by r.state byte) in
-    let ended = option_list (ended_by s byte) in
-    let pending = (taken_by s byte).pending in
-    let before = flat_map f r.items in
-    ap (λ l. l ++ pending)
-    (flat_map-append f (r.items ++ cut) ended ∙ ap (λ l. l ++ flat_map f ended) (flat_map-append f r.items cut))
-    ∙ append_assoc (before ++ flat_map f cut) (flat_map f ended) pending
-    ∙ ap (λ l. (before ++ flat_map f cut) ++ l) (bytes-ended s byte)
-    ∙ append_assoc before (flat_map f cut) (s.pending ++ byte ∷ [])
-    ∙ ap (λ l. before ++ l) (sym (append_assoc (flat_map f cut) s.pending (byte ∷ [])))
-    ∙ ap (λ l. before ++ (l ++ byte ∷ [])) (bytes-cut r.state byte)
-    ∙ sym (append_assoc before r.state.pending (byte ∷ []))
-all_bytes-event r Delay =
+    let left = left_by s byte in
+    let cut = option_list (cut_by s byte) in
+    let ended = option_list (ended_by left byte) in
+    let pending = (taken_by left byte).pending in
+    ap (λ l. l ++ pending) (flat_map-append f cut ended)
+    ∙ append_assoc (flat_map f cut) (flat_map f ended) pending
+    ∙ ap (λ l. flat_map f cut ++ l) (bytes-ended left byte)
+    ∙ sym (append_assoc (flat_map f cut) left.pending (byte ∷ []))
+    ∙ ap (λ l. l ++ byte ∷ []) (bytes-cut s byte)
+bytes-event s Delay = bytes-delay s ∙ sym (append-nil s.pending)
+
+all_bytes-event : (r : Reading) (event : Event) → all_bytes (read_event r event) ≡ all_bytes r ++ byte_of event
+all_bytes-event r event =
     let f : Item → List ℕ = λ i. i.bytes in
-    let cut = option_list (cut_by_delay r.state) in
-    let pending = (after_delay r.state).pending in
-    ap (λ l. l ++ pending) (flat_map-append f r.items cut)
-    ∙ append_assoc (flat_map f r.items) (flat_map f cut) pending
-    ∙ ap (λ l. flat_map f r.items ++ l) (bytes-delay r.state)
-    ∙ sym (append-nil (all_bytes r))
+    ap (λ l. l ++ (state_after r.state event).pending) (flat_map-append f r.items (items_of r.state event))
+    ∙ append_assoc (flat_map f r.items) (flat_map f (items_of r.state event)) (state_after r.state event).pending
+    ∙ ap (λ l. flat_map f r.items ++ l) (bytes-event r.state event)
+    ∙ sym (append_assoc (flat_map f r.items) r.state.pending (byte_of event))
 
 all_bytes-fold : (events : List Event) (r : Reading) → all_bytes (fold read_event r events) ≡ all_bytes r ++ bytes_of events
 all_bytes-fold [] r = sym (append-nil (all_bytes r))
@@ -278,9 +276,13 @@ all-append : (xs ys : List Item) → AllByRecursion IsSequence xs → AllByRecur
 all-append [] ys all others = others
 all-append (x ∷ xs) ys all others = (all.0, all-append xs ys all.1 others)
 
-sequences-delay : (s : State) → IsPending s
-    → AllByRecursion IsSequence (option_list (cut_by_delay s)) × IsPending (after_delay s)
-sequences-delay s is = elim (cases_Bool s.pasting) [
+sequences-event : (s : State) (event : Event) → IsPending s
+    → AllByRecursion IsSequence (items_of s event) × IsPending (state_after s event)
+sequences-event s (Byte byte) is =
+    let cut = sequences-cut s byte is in
+    let ended = sequences-ended (left_by s byte) byte cut.1 (left-off s byte) in
+    (all-append (option_list (cut_by s byte)) (option_list (ended_by (left_by s byte) byte)) cut.0 ended.0, ended.1)
+sequences-event s Delay is = elim (cases_Bool s.pasting) [
   | inl pastes ↦ rw pastes (tt, let P : Bool → Type 0 = λ p. IsPending (record s { pasting = p }) in subst P pastes is)
   | inr typed ↦ elim (cases_eq (length s.pending) 0) [
     | inl none ↦ rw (typed, eq-eqb (length s.pending) 0 none) (tt, pending-none s.asked false)
@@ -291,26 +293,14 @@ sequences-delay s is = elim (cases_Bool s.pasting) [
   ]
 ]
 
-sequences-event : (r : Reading) (event : Event) → IsOfSequences r → IsOfSequences (read_event r event)
-sequences-event r (Byte byte) is =
-    let cut = sequences-cut r.state byte is.pending in
-    let ended = sequences-ended (left_by r.state byte) byte cut.1 (left-off r.state byte) in
-    record {
-      sequences =
-          all-append (r.items ++ option_list (cut_by r.state byte)) (option_list (ended_by (left_by r.state byte) byte))
-          (all-append r.items (option_list (cut_by r.state byte)) is.sequences cut.0) ended.0;
-      pending = ended.1;
-    }
-sequences-event r Delay is =
-    let cut = sequences-delay r.state is.pending in
-    record {
-      sequences = all-append r.items (option_list (cut_by_delay r.state)) is.sequences cut.0;
-      pending = cut.1;
-    }
-
 sequences-fold : (events : List Event) (r : Reading) → IsOfSequences r → IsOfSequences (fold read_event r events)
 sequences-fold [] r is = is
-sequences-fold (event ∷ events) r is = sequences-fold events (read_event r event) (sequences-event r event is)
+sequences-fold (event ∷ events) r is =
+    let next = sequences-event r.state event is.pending in
+    sequences-fold events (read_event r event) (record {
+      sequences = all-append r.items (items_of r.state event) is.sequences next.0;
+      pending = next.1;
+    })
 
 pub sequences-reading : (asked : Asked) (events : List Event) → IsOfSequences (reading asked events)
 sequences-reading asked events =

@@ -1,86 +1,36 @@
 -- What one more event adds to a reading.
 use Rattle.std.specs.Prelude.{◌++◌, ◌+◌, ◌<◌, ◌∷◌, ◌≡◌}
-use Rattle.keys.specs.{Answer, Asked, Byte, Delay, Event, HasRead, Item, List, None, Option, Reading, Some, State}
-use Rattle.keys.specs.{Taken, [], after_delay, answered, ap, append-nil, append_assoc, cut_by, cut_by_delay, ended_by}
-use Rattle.keys.specs.{false, fold-append, get_or, is_some, left_by, length, map, map-append, option_list, option_map}
-use Rattle.keys.specs.{read_event, reading, refl, start, subst, sym, take, take_more, taken_by, taken_of, ℕ, ◌∙◌}
+use Rattle.keys.specs.{Answer, Byte, Event, HasRead, Item, List, None, Option, Reading, Some, State}
+use Rattle.keys.specs.{Taken, [], answered, ap₂, items_of, keys_of, state_after, ap, append-nil, append_assoc}
+use Rattle.keys.specs.{false, fold-append, get_or, is_some, length, map, map-append, option_list, option_map}
+use Rattle.keys.specs.{read_event, reading, refl, start, subst, sym, take, take_more, taken_of, ℕ, ◌∙◌}
 
-pub reading-next : (asked : Asked) (events : List Event) (event : Event)
-    → reading asked (events ++ event ∷ []) ≡ read_event (reading asked events) event
-reading-next asked events event = fold-append read_event (record { items = []; state = start asked }) events (event ∷ [])
+pub answers : (a : Answer) (one other : Option Taken) (x y : Option Item)
+    → answered a ≡ option_list one ++ option_list other → one ≡ option_map taken_of x → other ≡ option_map taken_of y
+    → answered a ≡ keys_of (option_list x ++ option_list y)
+answers a one other None None is one_is other_is = is ∙ ap₂ (λ o p. option_list o ++ option_list p) one_is other_is
+answers a one other None (Some y) is one_is other_is = is ∙ ap₂ (λ o p. option_list o ++ option_list p) one_is other_is
+answers a one other (Some x) None is one_is other_is = is ∙ ap₂ (λ o p. option_list o ++ option_list p) one_is other_is
+answers a one other (Some x) (Some y) is one_is other_is = is ∙ ap₂ (λ o p. option_list o ++ option_list p) one_is other_is
 
-map-option_list : (o : Option Item) → map taken_of (option_list o) ≡ option_list (option_map taken_of o)
-map-option_list None = refl
-map-option_list (Some i) = refl
-
--- what is answered to an event
-answer : State → Event → List Taken
-answer s (Byte byte) =
-    option_list (option_map taken_of (cut_by s byte)) ++ option_list (option_map taken_of (ended_by (left_by s byte) byte))
-answer s Delay = option_list (option_map taken_of (cut_by_delay s))
-
-after : State → Event → State
-after s (Byte byte) = taken_by (left_by s byte) byte
-after s Delay = after_delay s
-
-taken-event : (r : Reading) (event : Event)
-    → map taken_of (read_event r event).items ≡ map taken_of r.items ++ answer r.state event
-unfolding answer
-taken-event r (Byte byte) =
-    let cut = cut_by r.state byte in
-    let ended = ended_by (left_by r.state byte) byte in
-    let before = map taken_of r.items in
-    map-append taken_of (r.items ++ option_list cut) (option_list ended)
-    ∙ ap (λ l. l ++ map taken_of (option_list ended)) (map-append taken_of r.items (option_list cut))
-    ∙ append_assoc before (map taken_of (option_list cut)) (map taken_of (option_list ended))
-    ∙ ap (λ l. before ++ (l ++ map taken_of (option_list ended))) (map-option_list cut)
-    ∙ ap (λ l. before ++ (option_list (option_map taken_of cut) ++ l)) (map-option_list ended)
-taken-event r Delay =
-    map-append taken_of r.items (option_list (cut_by_delay r.state))
-    ∙ ap (λ l. map taken_of r.items ++ l) (map-option_list (cut_by_delay r.state))
-
-state-event : (r : Reading) (event : Event) → (read_event r event).state ≡ after r.state event
-unfolding after
-state-event r (Byte byte) = refl
-state-event r Delay = refl
-
-HasRead-event : (events : List Event) (taken : List Taken) (s t : State) (event : Event) (more : List Taken)
-    → HasRead events taken s → more ≡ answer s event → t ≡ after s event → t.asked ≡ s.asked
+pub HasRead-event : (events : List Event) (taken : List Taken) (s t : State) (event : Event) (more : List Taken)
+    → HasRead events taken s → more ≡ keys_of (items_of s event) → t ≡ state_after s event → t.asked ≡ s.asked
     → HasRead (events ++ event ∷ []) (taken ++ more) t
 HasRead-event events taken s t event more h is_more is_after is_asked =
     let r = reading s.asked events in
     let next : reading t.asked (events ++ event ∷ []) ≡ read_event r event =
-    ap (λ asked. reading asked (events ++ event ∷ [])) is_asked ∙ reading-next s.asked events event in
+    ap (λ asked. reading asked (events ++ event ∷ [])) is_asked
+    ∙ fold-append read_event (record { items = []; state = start s.asked }) events (event ∷ []) in
     record {
       taken_are =
           ap (λ l. l ++ more) h.taken_are
-          ∙ ap (λ l. map taken_of r.items ++ l) (is_more ∙ ap (λ v. answer v event) h.state_is)
-          ∙ sym (taken-event r event)
-          ∙ ap (λ (r : Reading). map taken_of r.items) (sym next);
-      state_is =
-          is_after ∙ ap (λ v. after v event) h.state_is ∙ sym (state-event r event)
-          ∙ ap (λ (r : Reading). r.state) (sym next);
+          ∙ ap (λ l. keys_of r.items ++ l) (is_more ∙ ap (λ v. keys_of (items_of v event)) h.state_is)
+          ∙ sym (map-append taken_of r.items (items_of r.state event))
+          ∙ ap (λ (r : Reading). keys_of r.items) (sym next);
+      state_is = is_after ∙ ap (λ v. state_after v event) h.state_is ∙ ap (λ (r : Reading). r.state) (sym next);
     }
 
-pub HasRead-byte : (events : List Event) (taken : List Taken) (s t : State) (byte : ℕ) (a : Answer)
-    → HasRead events taken s
-    → answered a ≡ option_list (option_map taken_of (cut_by s byte))
-    ++ option_list (option_map taken_of (ended_by (left_by s byte) byte))
-    → t ≡ taken_by (left_by s byte) byte → t.asked ≡ s.asked
-    → HasRead (events ++ Byte byte ∷ []) (taken ++ answered a) t
-unfolding answer after
-HasRead-byte events taken s t byte a h keys is_after is_asked =
-    HasRead-event events taken s t (Byte byte) (answered a) h keys is_after is_asked
-
-pub HasRead-delay : (events : List Event) (taken : List Taken) (s t : State) (cut : Option Taken)
-    → HasRead events taken s → cut ≡ option_map taken_of (cut_by_delay s) → t ≡ after_delay s
-    → HasRead (events ++ Delay ∷ []) (taken ++ option_list cut) t
-unfolding answer after
-HasRead-delay events taken s t cut h is_cut is_after =
-    HasRead-event events taken s t Delay (option_list cut) h (ap option_list is_cut) is_after
-    (ap (λ (s : State). s.asked) is_after)
-
-pub ruleset steps = (HasRead-byte, HasRead-delay)
+pub ruleset steps = (answers, HasRead-event)
 
 -- one more byte of a piece
 pub piece-next : (events : List Event) (piece : List ℕ) (at : ℕ) → at < length piece

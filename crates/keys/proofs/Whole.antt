@@ -1,6 +1,6 @@
 -- What is read of the bytes of a whole sequence.
 use Rattle.std.specs.Prelude.{◌++◌, ◌+◌, ◌-◌, ◌<◌, ◌∷◌, ◌≡◌, ◌≤◌}
-use Rattle.keys.specs.{AreKey, Asked, Byte, Event, HasRead, IsBegun, Item, Key, List, Reading, Taken, [], after_key, ap}
+use Rattle.keys.specs.{keys_of, AreKey, Asked, Byte, Event, HasRead, IsBegun, Item, Key, List, Reading, Taken, [], after_key, ap}
 use Rattle.keys.specs.{append-nil, arith, as_asked, continues, false, fold, fold-append, get_or, is_whole, item, key_of}
 use Rattle.keys.specs.{length, map, map-append, read_event, reading, refl, start, suc, sym, take, take_more, taken_of}
 use Rattle.keys.specs.{true, zero, ℕ, ◌∙◌}
@@ -22,12 +22,12 @@ module _ (asked : Asked) (items : List Item) where
   read-on : (pending : List ℕ) (byte : ℕ) → continues false pending byte ≡ true
       → is_whole false (pending ++ byte ∷ []) ≡ false
       → read_event (outside asked items pending) (Byte byte) ≡ outside asked items (pending ++ byte ∷ [])
-  read-on pending byte on more = rw on (rw on (rw more (rw append-nil (rw append-nil refl))))
+  read-on pending byte on more = rw on (rw on (rw more (rw append-nil refl)))
 
   read-last : (pending : List ℕ) (byte : ℕ) → continues false pending byte ≡ true
       → is_whole false (pending ++ byte ∷ []) ≡ true
       → read_event (outside asked items pending) (Byte byte) ≡ ended asked items (pending ++ byte ∷ [])
-  read-last pending byte on whole = rw on (rw on (rw whole (rw append-nil refl)))
+  read-last pending byte on whole = rw on (rw on (rw whole refl))
 
   -- the beginning of a sequence is pending
   read-part : (bytes : List ℕ) → IsBegun false bytes → (n : ℕ) → n < length bytes
@@ -62,16 +62,16 @@ module _ (asked : Asked) (items : List Item) where
 
 -- what is answered, where a reading has ended a sequence
 pub ended-read : (asked : Asked) (events : List Event) (taken : List Taken) (items : List Item) (bytes : List ℕ) (key : Key)
-    → taken ≡ map taken_of items → key_of false bytes ≡ key → reading asked events ≡ ended asked items bytes
+    → taken ≡ keys_of items → key_of false bytes ≡ key → reading asked events ≡ ended asked items bytes
     → HasRead events (taken ++ record { key = as_asked asked key; count = length bytes } ∷ [])
     (after_key asked (as_asked asked key))
 ended-read asked events taken items bytes key are means whole =
     record {
       taken_are =
           ap (λ l. l ++ record { key = as_asked asked key; count = length bytes } ∷ []) are
-          ∙ ap (λ k. map taken_of items ++ record { key = as_asked asked k; count = length bytes } ∷ []) (sym means)
+          ∙ ap (λ k. keys_of items ++ record { key = as_asked asked k; count = length bytes } ∷ []) (sym means)
           ∙ sym (map-append taken_of items (item (start asked) bytes ∷ []))
-          ∙ ap (λ (r : Reading). map taken_of r.items) (sym whole);
+          ∙ ap (λ (r : Reading). keys_of r.items) (sym whole);
       state_is =
           ap (λ k. after_key asked (as_asked asked k)) (sym means) ∙ ap (λ (r : Reading). r.state) (sym whole);
     }

@@ -69,9 +69,6 @@ taken_by s byte =
 abbrev pub cut_by_delay : State → Option Item
 cut_by_delay s = if s.pasting || length s.pending == 0 then None else Some (item s s.pending)
 
-abbrev pub after_delay : State → State
-after_delay s = record s { pending = if s.pasting then s.pending else [] }
-
 -- ---- events
 
 pub data Event : Type 0 where
@@ -82,24 +79,32 @@ abbrev pub option_list : {A : Type 0} → Option A → List A
 option_list None = []
 option_list (Some x) = x ∷ []
 
+-- the sequences that an event ends
+abbrev pub items_of : State → Event → List Item
+items_of s (Byte byte) = option_list (cut_by s byte) ++ option_list (ended_by (left_by s byte) byte)
+items_of s Delay = option_list (cut_by_delay s)
+
+abbrev pub state_after : State → Event → State
+state_after s (Byte byte) = taken_by (left_by s byte) byte
+state_after s Delay = record s { pending = if s.pasting then s.pending else [] }
+
 pub record Reading : Type 0 where
   pub items : List Item
   pub state : State
 
 abbrev pub read_event : Reading → Event → Reading
-read_event r (Byte byte) = record {
-  items = r.items ++ option_list (cut_by r.state byte) ++ option_list (ended_by (left_by r.state byte) byte);
-  state = taken_by (left_by r.state byte) byte;
-}
-read_event r Delay = record { items = r.items ++ option_list (cut_by_delay r.state); state = after_delay r.state }
+read_event r event = record { items = r.items ++ items_of r.state event; state = state_after r.state event }
 
 -- what is read of events: the sequences in their order, and the state after the last event
 abbrev pub reading : Asked → List Event → Reading
 reading asked events = fold read_event (record { items = []; state = start asked }) events
 
--- what a decoder answers of a sequence: its key, and how many bytes it has
+-- what a decoder answers of sequences: their keys, and how many bytes each has
 abbrev pub taken_of : Item → Taken
 taken_of i = record { key = i.key; count = length i.bytes }
+
+abbrev pub keys_of : List Item → List Taken
+keys_of items = map taken_of items
 
 -- the keys of an answer
 abbrev pub answered : Answer → List Taken
@@ -107,5 +112,5 @@ answered a = option_list a.first ++ option_list a.second
 
 -- A decoder has answered these keys of these events, and has this state.
 pub record HasRead (events : List Event) (taken : List Taken) (state : State) : Type 0 where
-  pub taken_are : taken ≡ map taken_of (reading state.asked events).items
+  pub taken_are : taken ≡ keys_of (reading state.asked events).items
   pub state_is : state ≡ (reading state.asked events).state

@@ -1,7 +1,7 @@
 //! A decoder: it takes the bytes of a terminal, and answers keys.
 
 ghost use Rattle.std.specs.Prelude.{if◌then◌else◌, ◌++◌, ◌+◌, ◌<◌, ◌∷◌, ◌≡◌, ◌≤◌};
-ghost use Rattle.keys.specs.{Byte, Delay, Event, HasRead, List, [], after_bytes, after_delay, answered, cut_by};
+ghost use Rattle.keys.specs.{Byte, Delay, items_of, keys_of, state_after, Event, HasRead, List, [], after_bytes, answered, cut_by};
 ghost use Rattle.keys.specs.{cut_by_delay, ended_by, false, is_some, is_whole, item, leaves_escape, left_by, length};
 ghost use Rattle.keys.specs.{map, option_list, option_map, pasting_after, start, take, taken_by, taken_of, whole_of};
 
@@ -119,10 +119,9 @@ impl Decoder {
     /// Takes a byte.
     #[tactic(auto, using(crate::proofs::Steps::steps))]
     pub fn byte(&mut self, byte: u8) -> Answer
-        ensures keys { answered result ≡ option_list (option_map taken_of (cut_by self.old byte))
-            ++ option_list (option_map taken_of (ended_by (left_by self.old byte) byte)) }
+        ensures keys { answered result ≡ keys_of (items_of self.old (Byte byte)) }
         ensures in_order { result.first ≡ None → result.second ≡ None }
-        ensures after { self.new ≡ taken_by (left_by self.old byte) byte }
+        ensures after { self.new ≡ state_after self.old (Byte byte) }
         ensures asked { self.new.asked ≡ self.old.asked }
         ensures read { (events : List Event) (taken : List Taken) → HasRead events taken self.old
             → HasRead (events ++ Byte byte ∷ []) (taken ++ answered result) self.new }
@@ -219,8 +218,9 @@ impl Decoder {
     /// Says that nothing came until the delay was over.
     #[tactic(auto, using(crate::proofs::Steps::steps))]
     pub fn delay(&mut self) -> Option<Taken>
-        ensures cut { result ≡ option_map taken_of (cut_by_delay self.old) }
-        ensures after { self.new ≡ after_delay self.old }
+        ensures keys { option_list result ≡ keys_of (items_of self.old Delay) }
+        ensures after { self.new ≡ state_after self.old Delay }
+        ensures asked { self.new.asked ≡ self.old.asked }
         ensures read { (events : List Event) (taken : List Taken) → HasRead events taken self.old
             → HasRead (events ++ Delay ∷ []) (taken ++ option_list result) self.new }
     {
