@@ -1,6 +1,6 @@
 -- Control sequences by their parameters.
-use Rattle.std.specs.Prelude.{◌++◌, ◌+◌, ◌-◌, ◌<◌, ◌∷◌, ◌≡◌, ◌≤◌}
-use Rattle.keys.specs.{AreKey, IsBegun, List, [], ap, arith, continues, control_key, controlled_key, eq-eqb, false}
+use Rattle.std.specs.Prelude.{◌&&◌, ◌==◌, ◌++◌, ◌+◌, ◌-◌, ◌<◌, ◌∷◌, ◌≡◌, ◌≤◌}
+use Rattle.keys.specs.{Bool, nat_le, nat_lt, not, AreKey, IsBegun, List, [], ap, arith, continues, control_key, controlled_key, eq-eqb, false}
 use Rattle.keys.specs.{get_or, get_or-take, is_whole, key_of, length, length-append, length-take-le, nat_tests, ne_eqb}
 use Rattle.keys.specs.{parameters, refl, slice_range, subst, suc, sym, take, take-append_seam, take-length, take_more}
 use Rattle.keys.specs.{true, zero, ℕ, ◌∙◌}
@@ -45,10 +45,20 @@ final-whole x l byte short first high =
     grind (arith, nat_tests, short, first.0, first.1, high, last, long)
 
 -- a final byte that isn't one of rxvt's endings
-pub record IsFinal (byte : ℕ) : Type 0 where
-  pub low : 0x40 < byte
-  pub high : byte ≤ 0x7e
-  pub no_ending : byte ≡ 94 → ⊥
+abbrev pub is_final : ℕ → Bool
+is_final byte = nat_lt 0x40 byte && nat_le byte 0x7e && not (byte == 94)
+
+record IsFinal (byte : ℕ) : Type 0 where
+  low : 0x40 < byte
+  high : byte ≤ 0x7e
+  no_ending : byte ≡ 94 → ⊥
+
+finals : (byte : ℕ) → is_final byte ≡ true → IsFinal byte
+finals byte is = record {
+  low = grind (arith, nat_tests, is);
+  high = grind (arith, nat_tests, is);
+  no_ending = λ e. grind (arith, nat_tests, is, e);
+}
 
 -- a control sequence, but for what it reads of its bytes
 control-by : (bytes between : List ℕ) (byte : ℕ) → get_or bytes 0 0 ≡ 27 → get_or bytes 1 0 ≡ 91 → 4 ≤ length bytes
@@ -97,9 +107,10 @@ module _ (x : ℕ) (l : List ℕ) (all : (k : ℕ) → k < length (x ∷ l) → 
       (λ h. parameters-open x (take n l) (omega (arith, length-take-le n l (omega (arith, few)), short)) (all 0 (omega arith)) (last-taken n (omega (arith, few))))
       (bracket-on (x ∷ take n l) (get_or l n 0) (omega (arith, at.0)) (omega (arith, at.1))))
 
-  pub control : (byte : ℕ) → IsFinal byte
+  pub control : (byte : ℕ) → is_final byte ≡ true
       → AreKey (27 ∷ 91 ∷ x ∷ (l ++ byte ∷ [])) (controlled_key (parameters (x ∷ l)) byte)
-  control byte final =
+  control byte is =
+      let final = finals byte is in
       let P : List ℕ → Type 0 = λ t. IsBegun false (27 ∷ 91 ∷ x ∷ t) in
       let Q : List ℕ → Type 0 = λ t. IsParameter (get_or (x ∷ t) (length t) 0) in
       record {

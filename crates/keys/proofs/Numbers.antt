@@ -1,13 +1,13 @@
 -- Parameters that are numbers in decimal digits.
 use Rattle.std.specs.Prelude.{◌%◌, ◌*◌, ◌++◌, ◌+◌, ◌-◌, ◌/◌, ◌<◌, ◌^◌, ◌∷◌, ◌≡◌, ◌≤◌, ◌⊎◌}
-use Rattle.keys.specs.{AreKey, Bool, Character, IsScalar, Key, List, Modifiers, Name, None, Option, Parameters, Pressed}
+use Rattle.keys.specs.{AreKey, Bool, Character, IsScalar, Key, List, Modifiers, Name, Option, Parameters, Pressed}
 use Rattle.keys.specs.{Some, TOO_LARGE, [], after_byte, ap, arith, cases_lt, control_sequence, controlled_key, decimal}
 use Rattle.keys.specs.{decimal_by_steps, false, fold, fold-append, get_or, get_or-append_right, get_or_append_left, inl}
 use Rattle.keys.specs.{inr, is_digit, key_named, length, length-append, length-decimal-le, min, modifiers_of}
 use Rattle.keys.specs.{name_of_code, name_of_final, name_of_number, nat_le, nat_lt, nat_tests, ne_eqb, no_modifiers}
 use Rattle.keys.specs.{no_parameters, parameter_of, parameters, pressed_below, refl, scalar_cases, subst, suc}
 use Rattle.keys.specs.{three_parameters, true, two_parameters, with_digit, zero, ℕ, ◌∙◌}
-use Rattle.keys.proofs.Controls.{IsFinal, IsParameter, control}
+use Rattle.keys.proofs.Controls.{IsParameter, control, is_final}
 use Rattle.keys.proofs.Sequences.{get-last}
 
 -- digits that spell a number
@@ -128,7 +128,7 @@ parameters-both ds es d e are others =
       few = omega (arith, long, are.few, others.few);
     }
 
-controlled : (between : List ℕ) (most : ℕ) → AreParameters between most → most < 4000 → (byte : ℕ) → IsFinal byte
+controlled : (between : List ℕ) (most : ℕ) → AreParameters between most → most < 4000 → (byte : ℕ) → is_final byte ≡ true
     → (p : Parameters) → parameters between ≡ p → (key : Key) → controlled_key p byte ≡ key
     → AreKey (control_sequence between byte) key
 controlled [] most are short byte final p spelled key means = absurd (omega (arith, are.some))
@@ -167,38 +167,14 @@ pressed-back limit option name held wide is =
 few-held : (held : Modifiers) → parameter_of held ≤ TOO_LARGE
 few-held held = let e = (back held.shift held.alt held.ctrl).0 in omega (arith, e)
 
-tilde : IsFinal 126
-tilde = record { low = omega arith; high = omega arith; no_ending = λ e. omega (arith, e) }
-
-small_u : IsFinal 117
-small_u = record { low = omega arith; high = omega arith; no_ending = λ e. omega (arith, e) }
-
-none-some : (name : Name) (o : Option Name) → o ≡ None → o ≡ Some name → ⊥
-none-some name o none is = absurd (cc)
-
 few-number : (n : ℕ) (name : Name) → name_of_number n ≡ Some name → n ≤ 34
-few-number n name is = elim (cases_lt 34 n) [
-  | inl more ↦ absurd (none-some name (name_of_number n) (grind (arith, nat_tests, more)) is)
-  | inr few ↦ few
-]
+few-number n name is = grind (arith, nat_tests, is)
 
-few-code : (n : ℕ) (name : Name) → name_of_code n ≡ Some name → n < TOO_LARGE
-few-code n name is = elim (cases_lt n TOO_LARGE) [
-  | inl few ↦ few
-  | inr more ↦ absurd (none-some name (name_of_code n) (grind (arith, nat_tests, more)) is)
-]
+few-code : (n : ℕ) (name : Name) → name_of_code n ≡ Some name → n ≤ TOO_LARGE
+few-code n name is = grind (arith, nat_tests, is)
 
 final-letter : (letter : ℕ) (name : Name) → name_of_final letter ≡ Some name → (65 ≤ letter) × (letter ≤ 83)
-final-letter letter name is = (
-  elim (cases_lt letter 65) [
-    | inl less ↦ absurd (none-some name (name_of_final letter) (grind (arith, nat_tests, less)) is)
-    | inr low ↦ low
-  ],
-  elim (cases_lt 83 letter) [
-    | inl more ↦ absurd (none-some name (name_of_final letter) (grind (arith, nat_tests, more)) is)
-    | inr high ↦ high
-  ],
-)
+final-letter letter name is = (grind (arith, nat_tests, is), grind (arith, nat_tests, is))
 
 -- ESC [ n ~
 pub numbered-one : (n : ℕ) (name : Name) → name_of_number n ≡ Some name
@@ -207,7 +183,7 @@ unfolding controlled_key
 numbered-one n name is =
     let small = few-number n name is in
     let few : n ≤ TOO_LARGE = omega (arith, small) in
-    controlled (decimal n) 7 (parameters-decimal n few) (omega arith) 126 tilde (one_number n) (parameters-one n few)
+    controlled (decimal n) 7 (parameters-decimal n few) (omega arith) 126 refl (one_number n) (parameters-one n few)
     (key_named name)
     (rw (ne_eqb n 200 (λ e. omega (arith, e, small))) (pressed-back 16 (name_of_number n) name no_modifiers (omega arith) is))
 
@@ -220,7 +196,7 @@ numbered-two n name held is =
     let m = parameter_of held in
     controlled (two_parameters n m) 15
     (parameters-both (decimal n) (decimal m) 7 7 (parameters-decimal n few) (parameters-decimal m (few-held held)))
-    (omega arith) 126 tilde (two_numbers n m) (parameters-two n m few (few-held held)) (Pressed name held)
+    (omega arith) 126 refl (two_numbers n m) (parameters-two n m few (few-held held)) (Pressed name held)
     (pressed-back 16 (name_of_number n) name held (omega arith) is)
 
 -- ESC [ n ; m u
@@ -228,11 +204,11 @@ pub coded-two : (n : ℕ) (name : Name) (held : Modifiers) → name_of_code n �
     → AreKey (control_sequence (two_parameters n (parameter_of held)) 117) (Pressed name held)
 unfolding controlled_key
 coded-two n name held is =
-    let few : n ≤ TOO_LARGE = (let e = few-code n name is in omega (arith, e)) in
+    let few : n ≤ TOO_LARGE = few-code n name is in
     let m = parameter_of held in
     controlled (two_parameters n m) 15
     (parameters-both (decimal n) (decimal m) 7 7 (parameters-decimal n few) (parameters-decimal m (few-held held)))
-    (omega arith) 117 small_u (two_numbers n m) (parameters-two n m few (few-held held)) (Pressed name held)
+    (omega arith) 117 refl (two_numbers n m) (parameters-two n m few (few-held held)) (Pressed name held)
     (pressed-back 8 (name_of_code n) name held (omega arith) is)
 
 -- ESC [ 27 ; m ; n ~
@@ -240,13 +216,13 @@ pub coded-three : (n : ℕ) (name : Name) (held : Modifiers) → name_of_code n 
     → AreKey (control_sequence (three_parameters 27 (parameter_of held) n) 126) (Pressed name held)
 unfolding controlled_key
 coded-three n name held is =
-    let few : n ≤ TOO_LARGE = (let e = few-code n name is in omega (arith, e)) in
+    let few : n ≤ TOO_LARGE = few-code n name is in
     let m = parameter_of held in
     let both = parameters-both (decimal 27) (decimal m) 7 7 (parameters-decimal 27 (omega arith))
     (parameters-decimal m (few-held held)) in
     controlled (three_parameters 27 m n) 23
     (parameters-both (two_parameters 27 m) (decimal n) 15 7 both (parameters-decimal n few))
-    (omega arith) 126 tilde (three_numbers 27 m n) (parameters-three 27 m n (omega arith) (few-held held) few)
+    (omega arith) 126 refl (three_numbers 27 m n) (parameters-three 27 m n (omega arith) (few-held held) few)
     (Pressed name held) (pressed-back 8 (name_of_code n) name held (omega arith) is)
 
 -- ESC [ 1 ; m and a letter
@@ -259,11 +235,7 @@ lettered-two letter name held is =
     controlled (two_parameters 1 m) 15
     (parameters-both (decimal 1) (decimal m) 7 7 (parameters-decimal 1 (omega arith)) (parameters-decimal m (few-held held)))
     (omega arith) letter
-    (record {
-      low = omega (arith, bounds.0);
-      high = omega (arith, bounds.1);
-      no_ending = λ e. omega (arith, e, bounds.1);
-    })
+    (grind (arith, nat_tests, bounds.0, bounds.1))
     (two_numbers 1 m) (parameters-two 1 m (omega arith) (few-held held)) (Pressed name held)
     (rw (ne_eqb letter 126 (λ e. omega (arith, e, bounds.1)), ne_eqb letter 117 (λ e. omega (arith, e, bounds.1)))
     (pressed-back 16 (name_of_final letter) name held (omega arith) is))
