@@ -1,9 +1,9 @@
 -- Control sequences by their parameters.
-use Rattle.std.specs.Prelude.{◌&&◌, ◌==◌, ◌++◌, ◌+◌, ◌-◌, ◌<◌, ◌∷◌, ◌≡◌, ◌≤◌}
-use Rattle.keys.specs.{Bool, nat_le, nat_lt, not, AreKey, IsBegun, List, [], ap, arith, continues, control_key, controlled_key, eq-eqb, false}
-use Rattle.keys.specs.{get_or, get_or-take, is_whole, key_of, length, length-append, length-take-le, nat_tests, ne_eqb}
-use Rattle.keys.specs.{parameters, refl, slice_range, subst, suc, sym, take, take-append_seam, take-length, take_more}
-use Rattle.keys.specs.{true, zero, ℕ, ◌∙◌}
+use Rattle.std.specs.Prelude.{◌&&◌, ◌++◌, ◌+◌, ◌-◌, ◌<◌, ◌==◌, ◌∷◌, ◌≡◌, ◌≤◌}
+use Rattle.keys.specs.{AreKey, Bool, IsBegun, List, [], ap, arith, continues, control_key, controlled_key, eq-eqb}
+use Rattle.keys.specs.{false, get_or, get_or-take, is_whole, key_of, length, length-append, length-take-le, nat_le}
+use Rattle.keys.specs.{nat_lt, nat_tests, ne_eqb, not, parameters, refl, slice_range, subst, suc, sym, take}
+use Rattle.keys.specs.{take-append_seam, take-length, take_more, true, zero, ℕ, ◌∙◌}
 use Rattle.keys.proofs.Sequences.{begun-next, begun-one, get-last}
 
 -- a digit or ;
@@ -28,7 +28,8 @@ bracket-open : is_whole false (27 ∷ 91 ∷ []) ≡ false
 unfolding is_whole
 bracket-open = refl
 
-parameters-open : (x : ℕ) (l : List ℕ) → length l < 4000 → IsParameter x → IsParameter (get_or (x ∷ l) (length l) 0) → is_whole false (27 ∷ 91 ∷ x ∷ l) ≡ false
+parameters-open : (x : ℕ) (l : List ℕ) → length l < 4000 → IsParameter x → IsParameter (get_or (x ∷ l) (length l) 0)
+    → is_whole false (27 ∷ 91 ∷ x ∷ l) ≡ false
 unfolding is_whole
 parameters-open x l short first last = grind (arith, nat_tests, short, first.0, first.1, last.0, last.1)
 
@@ -37,7 +38,8 @@ last-final l byte =
     ap (λ k. get_or (l ++ byte ∷ []) k 0) (let e : length (l ++ byte ∷ []) - 1 ≡ length l = omega (arith, length-append l (byte ∷ [])) in e)
     ∙ get-last l byte
 
-final-whole : (x : ℕ) (l : List ℕ) (byte : ℕ) → length l < 4000 → IsParameter x → 0x40 ≤ byte → is_whole false (27 ∷ 91 ∷ x ∷ (l ++ byte ∷ [])) ≡ true
+final-whole : (x : ℕ) (l : List ℕ) (byte : ℕ) → length l < 4000 → IsParameter x → 0x40 ≤ byte
+    → is_whole false (27 ∷ 91 ∷ x ∷ (l ++ byte ∷ [])) ≡ true
 unfolding is_whole
 final-whole x l byte short first high =
     let last : get_or (27 ∷ 91 ∷ x ∷ (l ++ byte ∷ [])) (length (27 ∷ 91 ∷ x ∷ (l ++ byte ∷ [])) - 1) 0 ≡ byte = last-final (27 ∷ 91 ∷ x ∷ l) byte in

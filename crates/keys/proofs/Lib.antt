@@ -8,13 +8,11 @@ pub mod Pastes
 pub mod LawLemmas
 -- What is read of the bytes of a whole sequence; for `laws`
 pub mod Whole
--- The bytes of each character are its key; for `laws`
-pub mod Encoded
+-- The bytes of each character are its key, and no others are; for `laws`
+pub mod Characters
 -- Control sequences by their parameters; for `laws`
 pub mod Controls
 -- Parameters that are numbers in decimal digits; for `laws`
 pub mod Numbers
--- No other bytes are a character's; for `laws`
-pub mod Decoded
 -- What begins with an escape is read whatever was pending before it; for `laws`
 pub mod Resuming

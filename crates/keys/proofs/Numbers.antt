@@ -1,7 +1,7 @@
 -- Parameters that are numbers in decimal digits.
 use Rattle.std.specs.Prelude.{◌%◌, ◌*◌, ◌++◌, ◌+◌, ◌-◌, ◌/◌, ◌<◌, ◌^◌, ◌∷◌, ◌≡◌, ◌≤◌, ◌⊎◌}
-use Rattle.keys.specs.{AreKey, Bool, Character, IsScalar, Key, List, Modifiers, Name, Option, Parameters, Pressed}
-use Rattle.keys.specs.{Some, TOO_LARGE, [], after_byte, ap, arith, cases_lt, control_sequence, controlled_key, decimal}
+use Rattle.keys.specs.{AreKey, Bool, Character, IsScalar, Key, List, Modifiers, Name, Option, Parameters, Pressed, Some}
+use Rattle.keys.specs.{TOO_LARGE, [], after_byte, ap, arith, cases_lt, control_sequence, controlled_key, decimal}
 use Rattle.keys.specs.{decimal_by_steps, false, fold, fold-append, get_or, get_or-append_right, get_or_append_left, inl}
 use Rattle.keys.specs.{inr, is_digit, key_named, length, length-append, length-decimal-le, min, modifiers_of}
 use Rattle.keys.specs.{name_of_code, name_of_final, name_of_number, nat_le, nat_lt, nat_tests, ne_eqb, no_modifiers}
@@ -128,7 +128,8 @@ parameters-both ds es d e are others =
       few = omega (arith, long, are.few, others.few);
     }
 
-controlled : (between : List ℕ) (most : ℕ) → AreParameters between most → most < 4000 → (byte : ℕ) → is_final byte ≡ true
+controlled : (between : List ℕ) (most : ℕ) → AreParameters between most → most < 4000 → (byte : ℕ)
+    → is_final byte ≡ true
     → (p : Parameters) → parameters between ≡ p → (key : Key) → controlled_key p byte ≡ key
     → AreKey (control_sequence between byte) key
 controlled [] most are short byte final p spelled key means = absurd (omega (arith, are.some))

@@ -1,12 +1,12 @@
 -- What begins with an escape is read whatever was pending before it.
 use Rattle.std.specs.Prelude.{if◌then◌else◌, ◌++◌, ◌+◌, ◌-◌, ◌<◌, ◌==◌, ◌∷◌, ◌≡◌, ◌≤◌}
-use Rattle.keys.specs.{AreKey, keys_of, items_of, state_after, Asked, Bool, Byte, Event, HasRead, Item, Key, LONGEST, List, None, PasteEnds, Reading}
-use Rattle.keys.specs.{Resumes, State, Taken, [], ap, append-nil, append_assoc, arith, as_asked}
-use Rattle.keys.specs.{begins_string, cases_Bool, cases_eq, continues, cut_by, ended_by, eq-eqb, false, fold}
-use Rattle.keys.specs.{fold-append, get_or, get_or_append_left, goes_on_control, goes_on_escape, goes_on_shift}
-use Rattle.keys.specs.{inl, inr, is_in_character, is_whole, key_of, leaves_escape, left_by}
-use Rattle.keys.specs.{length, length-append, map, map-append, nat_tests, ne_eqb, opens_string, option_list, paste_end}
-use Rattle.keys.specs.{read_event, reading, refl, suc, sym, taken_by, taken_of, true, zero, ℕ, ◌∙◌}
+use Rattle.keys.specs.{AreKey, Asked, Bool, Byte, Event, HasRead, Item, Key, LONGEST, List, None, PasteEnds, Reading}
+use Rattle.keys.specs.{Resumes, State, Taken, [], ap, append-nil, append_assoc, arith, as_asked, begins_string}
+use Rattle.keys.specs.{cases_Bool, cases_eq, continues, cut_by, ended_by, eq-eqb, false, fold, fold-append, get_or}
+use Rattle.keys.specs.{get_or_append_left, goes_on_control, goes_on_escape, goes_on_shift, inl, inr, is_in_character}
+use Rattle.keys.specs.{is_whole, items_of, key_of, keys_of, leaves_escape, left_by, length, length-append, map}
+use Rattle.keys.specs.{map-append, nat_tests, ne_eqb, opens_string, option_list, paste_end, read_event, reading, refl}
+use Rattle.keys.specs.{state_after, suc, sym, taken_by, taken_of, true, zero, ℕ, ◌∙◌}
 use Rattle.keys.proofs.Sequences.{get-last}
 use Rattle.keys.proofs.Whole.{ended-read, outside, read-whole}
 
@@ -170,7 +170,8 @@ escaped asked (a ∷ l) short = elim (cases_Bool (continues false (a ∷ l) 27))
 ]
 
 -- after the byte behind it
-read-behind : (asked : Asked) (items : List Item) (q : List ℕ) (byte : ℕ) → Escaped q → (byte ≡ 27 → ⊥) → (byte ≡ 92 → ⊥)
+read-behind : (asked : Asked) (items : List Item) (q : List ℕ) (byte : ℕ) → Escaped q → (byte ≡ 27 → ⊥)
+    → (byte ≡ 92 → ⊥)
     → read_event (outside asked items q) (Byte byte)
     ≡ read_event (outside asked (items ++ option_list (cut_by (typed_state asked q) byte)) (27 ∷ [])) (Byte byte)
 unfolding Escaped

@@ -1,13 +1,13 @@
 -- No byte is lost, and each sequence is one.
 use Rattle.std.specs.Prelude.{◌++◌, ◌+◌, ◌-◌, ◌<◌, ◌∷◌, ◌≡◌, ◌≤◌}
 use Rattle.keys.specs.{AllByRecursion, Asked, Bool, Byte, Delay, Event, IsBegun, IsOfSequences, IsPending, IsSequence}
-use Rattle.keys.specs.{Item, LONGEST, List, Option, Reading, State, [], after_bytes, all_bytes, items_of, state_after, ap}
-use Rattle.keys.specs.{append-nil, append_assoc, arith, byte_of, bytes_of, cases_Bool, cases_eq, cases_lt, continues}
-use Rattle.keys.specs.{cut_by, cut_by_delay, ended_by, eq-eqb, escape, false, flat_map, flat_map-append, fold, get_or}
-use Rattle.keys.specs.{get_or-append_right, get_or-take, get_or_append_left, inl, inr, is_whole, item, leaves_escape}
-use Rattle.keys.specs.{left_by, length, length-append, length-take-le, nat_tests, ne_eqb, option_list, read_event}
-use Rattle.keys.specs.{reading, refl, start, subst, sym, take, take-append-le, take-append_seam, take-length, take-take}
-use Rattle.keys.specs.{take_more, taken_by, true, whole_of, ℕ, ◌∙◌}
+use Rattle.keys.specs.{Item, LONGEST, List, Option, Reading, State, [], after_bytes, all_bytes, ap, append-nil}
+use Rattle.keys.specs.{append_assoc, arith, byte_of, bytes_of, cases_Bool, cases_eq, cases_lt, continues, cut_by}
+use Rattle.keys.specs.{cut_by_delay, ended_by, eq-eqb, escape, false, flat_map, flat_map-append, fold, get_or}
+use Rattle.keys.specs.{get_or-append_right, get_or-take, get_or_append_left, inl, inr, is_whole, item, items_of}
+use Rattle.keys.specs.{leaves_escape, left_by, length, length-append, length-take-le, nat_tests, ne_eqb, option_list}
+use Rattle.keys.specs.{read_event, reading, refl, start, state_after, subst, sym, take, take-append-le}
+use Rattle.keys.specs.{take-append_seam, take-length, take-take, take_more, taken_by, true, whole_of, ℕ, ◌∙◌}
 
 -- ---- no byte is lost
 
@@ -31,7 +31,8 @@ without_last l some =
     ∙ ap (λ n. take n l) (let e : length l - 1 + 1 ≡ length l = omega (arith, some) in e)
     ∙ take-length l
 
-left-bytes : (pasting : Bool) (pending : List ℕ) → leaves_escape pasting pending ≡ true → take (length pending - 1) pending ++ escape ∷ [] ≡ pending
+left-bytes : (pasting : Bool) (pending : List ℕ) → leaves_escape pasting pending ≡ true
+    → take (length pending - 1) pending ++ escape ∷ [] ≡ pending
 left-bytes pasting pending leaves =
     let is = left pasting pending leaves in
     ap (λ b. take (length pending - 1) pending ++ b ∷ []) (sym is.ends) ∙ without_last pending (omega (arith, is.long))
@@ -100,7 +101,8 @@ all_bytes-event r event =
     ∙ ap (λ l. flat_map f r.items ++ l) (bytes-event r.state event)
     ∙ sym (append_assoc (flat_map f r.items) r.state.pending (byte_of event))
 
-all_bytes-fold : (events : List Event) (r : Reading) → all_bytes (fold read_event r events) ≡ all_bytes r ++ bytes_of events
+all_bytes-fold : (events : List Event) (r : Reading)
+    → all_bytes (fold read_event r events) ≡ all_bytes r ++ bytes_of events
 all_bytes-fold [] r = sym (append-nil (all_bytes r))
 all_bytes-fold (event ∷ events) r =
     all_bytes-fold events (read_event r event)
@@ -121,7 +123,8 @@ get-last bytes byte =
 pub begun-none : (pasting : Bool) → IsBegun pasting []
 begun-none pasting = record { goes_on = λ n h. absurd (omega (arith, h)); not_whole = λ n some h. absurd (omega (arith, h)) }
 
-pub begun-next : (pasting : Bool) (bytes : List ℕ) (byte : ℕ) → IsBegun pasting bytes → (0 < length bytes → is_whole pasting bytes ≡ false)
+pub begun-next : (pasting : Bool) (bytes : List ℕ) (byte : ℕ) → IsBegun pasting bytes
+    → (0 < length bytes → is_whole pasting bytes ≡ false)
     → continues pasting bytes byte ≡ true → IsBegun pasting (bytes ++ byte ∷ [])
 begun-next pasting bytes byte begun open_yet on =
     record {
@@ -139,7 +142,8 @@ begun-next pasting bytes byte begun open_yet on =
       ];
     }
 
-begun-take : (pasting : Bool) (bytes : List ℕ) (m : ℕ) → m ≤ length bytes → IsBegun pasting bytes → IsBegun pasting (take m bytes)
+begun-take : (pasting : Bool) (bytes : List ℕ) (m : ℕ) → m ≤ length bytes → IsBegun pasting bytes
+    → IsBegun pasting (take m bytes)
 begun-take pasting bytes m few begun =
     record {
       goes_on = λ n h.
@@ -174,7 +178,8 @@ cut-some pasting (b ∷ l) byte cut = omega arith
 begins-pending : (s : State) → IsPending s → 1 ≤ length s.pending → Begins s.pasting s.pending
 begins-pending s is some = record { begun = is.begun; some = some; few = omega (arith, is.short) }
 
-pub pending-none : (asked : Asked) (pasting : Bool) → IsPending (record { asked = asked; pasting = pasting; pending = [] })
+pub pending-none : (asked : Asked) (pasting : Bool)
+    → IsPending (record { asked = asked; pasting = pasting; pending = [] })
 pending-none asked pasting =
     record { begun = begun-none pasting; open_yet = λ h. absurd (omega (arith, h)); short = omega arith }
 
@@ -272,7 +277,8 @@ sequences-ended s byte is alone = elim (cases_Bool (continues s.pasting s.pendin
       )
 ]
 
-all-append : (xs ys : List Item) → AllByRecursion IsSequence xs → AllByRecursion IsSequence ys → AllByRecursion IsSequence (xs ++ ys)
+all-append : (xs ys : List Item) → AllByRecursion IsSequence xs → AllByRecursion IsSequence ys
+    → AllByRecursion IsSequence (xs ++ ys)
 all-append [] ys all others = others
 all-append (x ∷ xs) ys all others = (all.0, all-append xs ys all.1 others)
 

@@ -1,9 +1,9 @@
 -- What one more event adds to a reading.
 use Rattle.std.specs.Prelude.{◌++◌, ◌+◌, ◌<◌, ◌∷◌, ◌≡◌}
-use Rattle.keys.specs.{Answer, Byte, Event, HasRead, Item, List, None, Option, Reading, Some, State}
-use Rattle.keys.specs.{Taken, [], answered, ap₂, items_of, keys_of, state_after, ap, append-nil, append_assoc}
-use Rattle.keys.specs.{false, fold-append, get_or, is_some, length, map, map-append, option_list, option_map}
-use Rattle.keys.specs.{read_event, reading, refl, start, subst, sym, take, take_more, taken_of, ℕ, ◌∙◌}
+use Rattle.keys.specs.{Answer, Byte, Event, HasRead, Item, List, None, Option, Reading, Some, State, Taken, []}
+use Rattle.keys.specs.{answered, ap, append-nil, append_assoc, ap₂, false, fold-append, get_or, is_some, items_of}
+use Rattle.keys.specs.{keys_of, length, map, map-append, option_list, option_map, read_event, reading, refl, start}
+use Rattle.keys.specs.{state_after, subst, sym, take, take_more, taken_of, ℕ, ◌∙◌}
 
 pub answers : (a : Answer) (one other : Option Taken) (x y : Option Item)
     → answered a ≡ option_list one ++ option_list other → one ≡ option_map taken_of x → other ≡ option_map taken_of y

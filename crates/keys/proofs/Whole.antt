@@ -1,9 +1,9 @@
 -- What is read of the bytes of a whole sequence.
 use Rattle.std.specs.Prelude.{◌++◌, ◌+◌, ◌-◌, ◌<◌, ◌∷◌, ◌≡◌, ◌≤◌}
-use Rattle.keys.specs.{keys_of, AreKey, Asked, Byte, Event, HasRead, IsBegun, Item, Key, List, Reading, Taken, [], after_key, ap}
+use Rattle.keys.specs.{AreKey, Asked, Byte, Event, HasRead, IsBegun, Item, Key, List, Reading, Taken, [], after_key, ap}
 use Rattle.keys.specs.{append-nil, arith, as_asked, continues, false, fold, fold-append, get_or, is_whole, item, key_of}
-use Rattle.keys.specs.{length, map, map-append, read_event, reading, refl, start, suc, sym, take, take_more, taken_of}
-use Rattle.keys.specs.{true, zero, ℕ, ◌∙◌}
+use Rattle.keys.specs.{keys_of, length, map, map-append, read_event, reading, refl, start, suc, sym, take, take_more}
+use Rattle.keys.specs.{taken_of, true, zero, ℕ, ◌∙◌}
 use Rattle.keys.proofs.Sequences.{without_last}
 
 -- a reading outside of a pasted text

@@ -8,8 +8,8 @@ use Rattle.std.specs.Prelude.{if◌then◌else◌, ◌%◌, ◌&&◌, ◌+◌, �
 use Rattle.keys.specs.Names.{A1, A3, Action, Asked, B2, Backspace, Begin, Bool, C1, C3, Character, Delete, Down, End}
 use Rattle.keys.specs.Names.{Enter, Escape, FocusIn, FocusOut, Function, Home, Insert, Key, Left, List, Modifiers}
 use Rattle.keys.specs.Names.{Motion, Name, None, Option, PageDown, PageUp, Parameters, PasteBegins, PasteEnds, Pasted}
-use Rattle.keys.specs.Names.{Pointed, Press, Pressed, Release, Right, Some, TOO_LARGE, Tab, Unknown, Up, drop}
-use Rattle.keys.specs.Names.{length, nat_le, nat_lt, not, slice_index, slice_range, ℕ}
+use Rattle.keys.specs.Names.{Pointed, Press, Pressed, Release, Right, Some, TOO_LARGE, Tab, Unknown, Up, drop, length}
+use Rattle.keys.specs.Names.{nat_le, nat_lt, not, slice_index, slice_range, ℕ}
 use Rattle.keys.specs.PressedKeys.{ctrl_and_shift, key_named, no_modifiers, only_ctrl, only_shift, with_alt}
 use Rattle.keys.specs.Characters.{code_of, size_by}
 use Rattle.keys.specs.Grammar.{bracket, escape, first, is_digit, is_numbered, last, middle, opens_string, second}

@@ -16,9 +16,9 @@ pub use Rattle.keys.specs.declared.key.Name.TheVariants.{End, Enter, Escape, Fun
 pub use Rattle.keys.specs.declared.key.Name.TheVariants.{PageUp, Right, Tab, Up}
 pub use Rattle.keys.specs.declared.parameters.Parameters.{Parameters}
 pub use Rattle.keys.specs.declared.parameters.TheConstants.{TOO_LARGE}
-pub use Rattle.std.proofs.Common.{Bool, List, None, Option, Some, [], ap, ap₂, append_assoc, arith, false, get_or, inl, inr}
-pub use Rattle.std.proofs.Common.{length, length-append, map, min, nat_le, nat_lt, refl, subst, suc, sym, take, true}
-pub use Rattle.std.proofs.Common.{zero, ℕ, ◌∙◌}
+pub use Rattle.std.proofs.Common.{Bool, List, None, Option, Some, [], ap, append_assoc, ap₂, arith, false, get_or, inl}
+pub use Rattle.std.proofs.Common.{inr, length, length-append, map, min, nat_le, nat_lt, refl, subst, suc, sym, take}
+pub use Rattle.std.proofs.Common.{true, zero, ℕ, ◌∙◌}
 pub use Rattle.std.proofs.Math.Seq.{take-append_seam, take-length}
 unfoldable pub use Rattle.std.proofs.Math.Utf8.{encode}
 pub use Rattle.std.proofs.Math.Utf8.{scalar_cases}

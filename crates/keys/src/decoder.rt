@@ -1,9 +1,10 @@
 //! A decoder: it takes the bytes of a terminal, and answers keys.
 
 ghost use Rattle.std.specs.Prelude.{if◌then◌else◌, ◌++◌, ◌+◌, ◌<◌, ◌∷◌, ◌≡◌, ◌≤◌};
-ghost use Rattle.keys.specs.{Byte, Delay, items_of, keys_of, state_after, Event, HasRead, List, [], after_bytes, answered, cut_by};
-ghost use Rattle.keys.specs.{cut_by_delay, ended_by, false, is_some, is_whole, item, leaves_escape, left_by, length};
-ghost use Rattle.keys.specs.{map, option_list, option_map, pasting_after, start, take, taken_by, taken_of, whole_of};
+ghost use Rattle.keys.specs.{Byte, Delay, Event, HasRead, List, [], after_bytes, answered, cut_by, cut_by_delay};
+ghost use Rattle.keys.specs.{ended_by, false, is_some, is_whole, item, items_of, keys_of, leaves_escape, left_by};
+ghost use Rattle.keys.specs.{length, map, option_list, option_map, pasting_after, start, state_after, take, taken_by};
+ghost use Rattle.keys.specs.{taken_of, whole_of};
 
 use crate::asked::Asked;
 use crate::grammar::{ESCAPE, LONGEST, continues, is_whole, leaves_escape};

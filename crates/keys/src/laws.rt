@@ -4,11 +4,11 @@
 
 ghost use Rattle.std.specs.Prelude.{◌++◌, ◌+◌, ◌<◌, ◌∷◌, ◌≡◌, ◌≢◌, ◌≤◌, ◌⊎◌};
 ghost use Rattle.keys.specs.{AreKey, Asked, Byte, Character, Event, HasRead, IsOfSequences, IsPending, IsScalar};
-ghost use Rattle.keys.specs.{IsSequence, Item, Key, LONGEST, List, Modifiers, Name, PasteEnds, Pressed};
-ghost use Rattle.keys.specs.{Resumes, Some, State, Taken, [], after_key, all_bytes, as_asked, ascii_key, bytes_of};
-ghost use Rattle.keys.specs.{bytes_taken, control_sequence, decimal, encode_utf8, escape, key_named};
-ghost use Rattle.keys.specs.{length, map, name_of_code, name_of_final, name_of_number, parameter_of, paste_end};
-ghost use Rattle.keys.specs.{false, reading, slice_index, start, take, terminator, three_parameters, true, two_parameters, ℕ};
+ghost use Rattle.keys.specs.{IsSequence, Item, Key, LONGEST, List, Modifiers, Name, PasteEnds, Pressed, Resumes, Some};
+ghost use Rattle.keys.specs.{State, Taken, [], after_key, all_bytes, as_asked, ascii_key, bytes_of, bytes_taken};
+ghost use Rattle.keys.specs.{control_sequence, decimal, encode_utf8, escape, false, key_named, length, map};
+ghost use Rattle.keys.specs.{name_of_code, name_of_final, name_of_number, parameter_of, paste_end, reading};
+ghost use Rattle.keys.specs.{slice_index, start, take, terminator, three_parameters, true, two_parameters, ℕ};
 
 /// Each byte is in exactly one sequence: those of all sequences, in their order, and then those that are pending are the
 /// bytes that came.

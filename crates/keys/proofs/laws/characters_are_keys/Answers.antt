@@ -1,6 +1,5 @@
--- `characters_are_keys`: the bytes of each character are its key (`Encoded`), and no others (`Decoded`).
-use Rattle.keys.proofs.Decoded.{decoded}
-use Rattle.keys.proofs.Encoded.{ascii, encoded-scalar}
+-- `characters_are_keys`: the bytes of each character are its key and no others are (`Characters`).
+use Rattle.keys.proofs.Characters.{ascii, decoded, encoded-scalar}
 use Rattle.keys.proofs.laws.characters_are_keys.Goals as goal
 
 pub returns-clause-ascii : goal.returns-clause-ascii
