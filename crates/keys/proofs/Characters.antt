@@ -1,9 +1,10 @@
 -- The bytes of each character are its key, and no others are.
-use Rattle.std.specs.Prelude.{◌%◌, ◌*◌, ◌==◌, ◌+◌, ◌/◌, ◌<◌, ◌∷◌, ◌≡◌, ◌≤◌}
-use Rattle.keys.specs.{AreKey, Character, IsScalar, Key, LONGEST, List, Unknown, [], ap, arith, ascii_key, cases_eq, cases_lt}
-use Rattle.keys.specs.{character_key, code_of, continues, encode, eq-eqb, false, get_or, inl, inr, is_in_character, suc, zero}
-use Rattle.keys.specs.{is_whole, key_named, key_of, key_of_code, le-ltb, length, lt-ltb, nat_tests, ne_eqb, refl, true}
-use Rattle.keys.specs.{scalar_cases, ap₂, size_by, subst, sym, take, length-take-le, ℕ, ◌∙◌}
+use Rattle.std.specs.Prelude.{◌%◌, ◌*◌, ◌+◌, ◌/◌, ◌<◌, ◌==◌, ◌∷◌, ◌≡◌, ◌≤◌}
+use Rattle.keys.specs.{AreKey, Character, IsScalar, Key, LONGEST, List, Unknown, [], ap, ap₂, arith, ascii_key}
+use Rattle.keys.specs.{cases_eq, cases_lt, character_key, code_of, continues, encode, eq-eqb, false, get_or, inl, inr}
+use Rattle.keys.specs.{is_in_character, is_whole, key_named, key_of, key_of_code, le-ltb, length, length-take-le}
+use Rattle.keys.specs.{lt-ltb, nat_tests, ne_eqb, refl, scalar_cases, size_by, subst, suc, sym, take, true, zero, ℕ}
+use Rattle.keys.specs.{◌∙◌}
 use Rattle.keys.proofs.Sequences.{begun-one}
 
 pub ascii : (a : ℕ) → a < 128 → (a ≡ 27 → ⊥) → AreKey (a ∷ []) (ascii_key a)
@@ -117,8 +118,20 @@ later-on a n b low most = grind (arith, nat_tests, low, most)
 second-on : (a b : ℕ) → 128 ≤ b → b < 192 → (a ≡ 0xe0 → 0xa0 ≤ b) → (a ≡ 0xf0 → 0x90 ≤ b) → (a ≡ 0xed → b ≤ 0x9f)
     → (a ≡ 0xf4 → b ≤ 0x8f) → is_in_character a 1 b ≡ true
 second-on a b low most three four surrogate last =
-    grind (arith, nat_tests, low, most, three, four, surrogate, last, cases_eq a 0xe0, cases_eq a 0xf0, cases_eq a 0xed,
-      cases_eq a 0xf4)
+    grind (
+      arith,
+      nat_tests,
+      low,
+      most,
+      three,
+      four,
+      surrogate,
+      last,
+      cases_eq a 0xe0,
+      cases_eq a 0xf0,
+      cases_eq a 0xed,
+      cases_eq a 0xf4,
+    )
 
 two-on : (c : ℕ) → 128 ≤ c → c < 2048 → (n : ℕ) → n < 1
     → is_in_character (192 + c / 64) (n + 1) (get_or ((128 + c % 64) ∷ []) n 0) ≡ true
@@ -157,20 +170,20 @@ encoded c high is =
     let P : List ℕ → Type 0 = λ l. AreKey l (key_named (Character c)) in
     elim (cases_lt c 2048) [
       | inl short ↦ subst P (sym (encode-two c high short)) (along _ c
-        ((192 + c / 64) % 32 * 64 + (128 + c % 64) % 64) (omega (arith, high, short)) is
-        (formed (192 + c / 64) ((128 + c % 64) ∷ []) (omega arith) (grind (arith, nat_tests, high, short)) (omega arith)
-        (two-on c high short)))
+          ((192 + c / 64) % 32 * 64 + (128 + c % 64) % 64) (omega (arith, high, short)) is
+          (formed (192 + c / 64) ((128 + c % 64) ∷ []) (omega arith) (grind (arith, nat_tests, high, short)) (omega arith)
+          (two-on c high short)))
       | inr more ↦ elim (cases_lt c 65536) [
         | inl short ↦ subst P (sym (encode-three c more short)) (along _ c
-          ((224 + c / 4096) % 16 * 4096 + (128 + c / 64 % 64) % 64 * 64 + (128 + c % 64) % 64)
-          (omega (arith, more, short)) is
-          (formed (224 + c / 4096) ((128 + c / 64 % 64) ∷ (128 + c % 64) ∷ []) (omega arith)
-          (grind (arith, nat_tests, more, short)) (omega arith) (three-on c more short is)))
+            ((224 + c / 4096) % 16 * 4096 + (128 + c / 64 % 64) % 64 * 64 + (128 + c % 64) % 64)
+            (omega (arith, more, short)) is
+            (formed (224 + c / 4096) ((128 + c / 64 % 64) ∷ (128 + c % 64) ∷ []) (omega arith)
+            (grind (arith, nat_tests, more, short)) (omega arith) (three-on c more short is)))
         | inr most ↦ subst P (sym (encode-four c most)) (along _ c
-          ((240 + c / 262144) % 8 * 262144 + (128 + c / 4096 % 64) % 64 * 4096 + (128 + c / 64 % 64) % 64 * 64
-          + (128 + c % 64) % 64) (omega (arith, most, is.0)) is
-          (formed (240 + c / 262144) ((128 + c / 4096 % 64) ∷ (128 + c / 64 % 64) ∷ (128 + c % 64) ∷ []) (omega arith)
-          (grind (arith, nat_tests, most, is.0)) (omega arith) (four-on c most is)))
+            ((240 + c / 262144) % 8 * 262144 + (128 + c / 4096 % 64) % 64 * 4096 + (128 + c / 64 % 64) % 64 * 64
+            + (128 + c % 64) % 64) (omega (arith, most, is.0)) is
+            (formed (240 + c / 262144) ((128 + c / 4096 % 64) ∷ (128 + c / 64 % 64) ∷ (128 + c % 64) ∷ []) (omega arith)
+            (grind (arith, nat_tests, most, is.0)) (omega arith) (four-on c most is)))
       ]
     ]
 
@@ -287,7 +300,8 @@ decoded-four a b c d k first goes third last is =
     ∙ ap₂ (λ y z. (240 + k / 262144) ∷ (128 + k / 4096 % 64) ∷ y ∷ z ∷ []) g h ∙ sym (encode-four k least)
 
 -- Bytes from 128 on that are the key of a character are its UTF-8.
-pub decoded : (bytes : List ℕ) (k : ℕ) → 128 ≤ get_or bytes 0 0 → AreKey bytes (key_named (Character k)) → bytes ≡ encode k
+pub decoded : (bytes : List ℕ) (k : ℕ) → 128 ≤ get_or bytes 0 0 → AreKey bytes (key_named (Character k))
+    → bytes ≡ encode k
 decoded [] k high are = absurd (omega (arith, high))
 decoded (a ∷ []) k high are = absurd ((says a [] k high are).long refl)
 decoded (a ∷ b ∷ []) k high are =

@@ -1,10 +1,10 @@
 -- Control sequences by their parameters.
 use Rattle.std.specs.Prelude.{◌&&◌, ◌++◌, ◌+◌, ◌-◌, ◌<◌, ◌==◌, ◌∷◌, ◌≡◌, ◌≤◌}
-use Rattle.keys.specs.{AreKey, Bool, IsBegun, List, [], ap, arith, continues, control_key, controlled_key, eq-eqb}
-use Rattle.keys.specs.{false, get_or, get_or-take, is_whole, key_of, length, length-append, length-take-le, nat_le}
-use Rattle.keys.specs.{nat_lt, nat_tests, ne_eqb, not, parameters, refl, slice_range, subst, suc, sym, take}
-use Rattle.keys.specs.{take-append_seam, take-length, take_more, true, zero, ℕ, ◌∙◌}
-use Rattle.keys.proofs.Sequences.{begun-next, begun-one, get-last}
+use Rattle.keys.specs.{AreKey, Bool, List, [], ap, arith, cases_lt, continues, control_key, controlled_key}
+use Rattle.keys.specs.{eq-eqb, false, get_or, get_or-take, get_or_append_left, inl, inr, is_whole, key_of, length}
+use Rattle.keys.specs.{length-append, length-take-le, nat_le, nat_lt, nat_tests, ne_eqb, not, parameters, refl}
+use Rattle.keys.specs.{slice_range, subst, suc, sym, take, take-append_seam, true, zero, ℕ, ◌∙◌}
+use Rattle.keys.proofs.Sequences.{get-last}
 
 -- a digit or ;
 abbrev pub IsParameter : ℕ → Type 0
@@ -16,18 +16,6 @@ bracket-on : (l : List ℕ) (byte : ℕ) → 0x20 ≤ byte → byte ≤ 0x7e →
 unfolding continues
 bracket-on l byte low high = grind (arith, nat_tests, low, high)
 
-one-open : is_whole false (27 ∷ []) ≡ false
-unfolding is_whole
-one-open = refl
-
-one-on : continues false (27 ∷ []) 91 ≡ true
-unfolding continues
-one-on = refl
-
-bracket-open : is_whole false (27 ∷ 91 ∷ []) ≡ false
-unfolding is_whole
-bracket-open = refl
-
 parameters-open : (x : ℕ) (l : List ℕ) → length l < 4000 → IsParameter x → IsParameter (get_or (x ∷ l) (length l) 0)
     → is_whole false (27 ∷ 91 ∷ x ∷ l) ≡ false
 unfolding is_whole
@@ -35,14 +23,15 @@ parameters-open x l short first last = grind (arith, nat_tests, short, first.0, 
 
 last-final : (l : List ℕ) (byte : ℕ) → get_or (l ++ byte ∷ []) (length (l ++ byte ∷ []) - 1) 0 ≡ byte
 last-final l byte =
-    ap (λ k. get_or (l ++ byte ∷ []) k 0) (let e : length (l ++ byte ∷ []) - 1 ≡ length l = omega (arith, length-append l (byte ∷ [])) in e)
-    ∙ get-last l byte
+    let at : length (l ++ byte ∷ []) - 1 ≡ length l = omega (arith, length-append l (byte ∷ [])) in
+    ap (λ k. get_or (l ++ byte ∷ []) k 0) at ∙ get-last l byte
 
 final-whole : (x : ℕ) (l : List ℕ) (byte : ℕ) → length l < 4000 → IsParameter x → 0x40 ≤ byte
     → is_whole false (27 ∷ 91 ∷ x ∷ (l ++ byte ∷ [])) ≡ true
 unfolding is_whole
 final-whole x l byte short first high =
-    let last : get_or (27 ∷ 91 ∷ x ∷ (l ++ byte ∷ [])) (length (27 ∷ 91 ∷ x ∷ (l ++ byte ∷ [])) - 1) 0 ≡ byte = last-final (27 ∷ 91 ∷ x ∷ l) byte in
+    let bytes : List ℕ = 27 ∷ 91 ∷ x ∷ (l ++ byte ∷ []) in
+    let last : get_or bytes (length bytes - 1) 0 ≡ byte = last-final (27 ∷ 91 ∷ x ∷ l) byte in
     let long : length (l ++ byte ∷ []) ≡ length l + 1 = length-append l (byte ∷ []) in
     grind (arith, nat_tests, short, first.0, first.1, high, last, long)
 
@@ -86,41 +75,66 @@ final-key x l byte first final =
     let count : length bytes - 1 - 2 ≡ length (x ∷ l) = omega (arith, long) in
     let between : slice_range bytes 2 (length bytes - 1) ≡ x ∷ l =
     ap (λ k. take k (x ∷ (l ++ byte ∷ []))) count ∙ take-append_seam (x ∷ l) (byte ∷ []) in
-    control-by bytes (x ∷ l) byte refl refl (omega (arith, long)) first (λ e. omega (arith, e, first.1)) last final between
+    control-by bytes (x ∷ l) byte refl refl (omega (arith, long)) first (λ e. omega (arith, e, first.1)) last final
+    between
 
-module _ (x : ℕ) (l : List ℕ) (all : (k : ℕ) → k < length (x ∷ l) → IsParameter (get_or (x ∷ l) k 0)) (short : length l < 4000) where
-  last-taken : (n : ℕ) → n ≤ length l → IsParameter (get_or (x ∷ take n l) (length (take n l)) 0)
-  last-taken n few =
+module _ (x : ℕ) (l : List ℕ) (all : (k : ℕ) → k < length (x ∷ l) → IsParameter (get_or (x ∷ l) k 0))
+    (short : length l < 4000) (byte : ℕ) (is : is_final byte ≡ true) where
+  rest : List ℕ
+  rest = l ++ byte ∷ []
+
+  final : IsFinal byte
+  final = finals byte is
+
+  long : length rest ≡ length l + 1
+  unfolding rest
+  long = length-append l (byte ∷ [])
+
+  parameter : (k : ℕ) → k < length (x ∷ l) → IsParameter (get_or (x ∷ rest) k 0)
+  unfolding rest
+  parameter k h = rw (get_or_append_left (x ∷ l) (byte ∷ []) 0 k h) (all k h)
+
+  on-at : (k : ℕ) → k < length (x ∷ rest)
+      → continues false (27 ∷ 91 ∷ take k (x ∷ rest)) (get_or (x ∷ rest) k 0) ≡ true
+  unfolding rest
+  on-at k h = elim (cases_lt k (length (x ∷ l))) [
+    | inl before ↦
+        let at = parameter k before in
+        bracket-on (take k (x ∷ rest)) (get_or (x ∷ rest) k 0) (omega (arith, at.0)) (omega (arith, at.1))
+    | inr after ↦
+        let last : k ≡ length (x ∷ l) = omega (arith, after, h, long) in
+        rw (last, get-last (x ∷ l) byte)
+        (bracket-on (take (length (x ∷ l)) (x ∷ rest)) byte (omega (arith, final.low)) final.high)
+  ]
+
+  open-at : (k : ℕ) → k < length rest → is_whole false (27 ∷ 91 ∷ x ∷ take k rest) ≡ false
+  open-at k h =
+      let taken : length (take k rest) ≡ k = length-take-le k rest (omega (arith, h)) in
       let P : ℕ → Type 0 = λ b. IsParameter b in
-      subst P
-      (sym (ap (λ k. get_or (x ∷ take n l) k 0) (length-take-le n l few) ∙ get_or-take (suc n) (x ∷ l) n 0 (omega arith)))
-      (all n (omega (arith, few)))
+      parameters-open x (take k rest) (omega (arith, taken, h, long, short)) (parameter 0 (omega arith))
+      (subst P (sym (ap (λ n. get_or (x ∷ take k rest) n 0) taken ∙ get_or-take (suc k) (x ∷ rest) k 0 (omega arith)))
+      (parameter k (omega (arith, h, long))))
 
-  begun-parameters : (n : ℕ) → n ≤ length l → IsBegun false (27 ∷ 91 ∷ x ∷ take n l)
-  begun-parameters zero few =
-      begun-next false (27 ∷ 91 ∷ []) x (begun-next false (27 ∷ []) 91 (begun-one false 27) (λ h. one-open) one-on) (λ h. bracket-open)
-      (bracket-on [] x (omega (arith, (all 0 (omega arith)).0)) (omega (arith, (all 0 (omega arith)).1)))
-  begun-parameters (suc n) few =
-      let within : n < length l = omega (arith, few) in
-      let longer : take (suc n) l ≡ take n l ++ get_or l n 0 ∷ [] = ap (λ k. take k l) (let e : suc n ≡ n + 1 = omega arith in e) ∙ take_more l n 0 within in
-      let P : List ℕ → Type 0 = λ t. IsBegun false (27 ∷ 91 ∷ x ∷ t) in
-      let at = all (suc n) (omega (arith, few)) in
-      subst P (sym longer) (begun-next false (27 ∷ 91 ∷ x ∷ take n l) (get_or l n 0) (begun-parameters n (omega (arith, few)))
-      (λ h. parameters-open x (take n l) (omega (arith, length-take-le n l (omega (arith, few)), short)) (all 0 (omega arith)) (last-taken n (omega (arith, few))))
-      (bracket-on (x ∷ take n l) (get_or l n 0) (omega (arith, at.0)) (omega (arith, at.1))))
+  goes_on : (n : ℕ) → n < length (27 ∷ 91 ∷ x ∷ rest)
+      → continues false (take n (27 ∷ 91 ∷ x ∷ rest)) (get_or (27 ∷ 91 ∷ x ∷ rest) n 0) ≡ true
+  unfolding continues
+  goes_on zero h = refl
+  goes_on (suc zero) h = refl
+  goes_on (suc (suc k)) h = on-at k (omega (arith, h))
 
-  pub control : (byte : ℕ) → is_final byte ≡ true
-      → AreKey (27 ∷ 91 ∷ x ∷ (l ++ byte ∷ [])) (controlled_key (parameters (x ∷ l)) byte)
-  control byte is =
-      let final = finals byte is in
-      let P : List ℕ → Type 0 = λ t. IsBegun false (27 ∷ 91 ∷ x ∷ t) in
-      let Q : List ℕ → Type 0 = λ t. IsParameter (get_or (x ∷ t) (length t) 0) in
-      record {
-        begun =
-            begun-next false (27 ∷ 91 ∷ x ∷ l) byte (subst P (take-length l) (begun-parameters (length l) (omega arith)))
-            (λ h. parameters-open x l short (all 0 (omega arith)) (subst Q (take-length l) (last-taken (length l) (omega arith))))
-            (bracket-on (x ∷ l) byte (omega (arith, final.low)) final.high);
-        some = omega arith;
-        whole = final-whole x l byte short (all 0 (omega arith)) (omega (arith, final.low));
-        means = final-key x l byte (all 0 (omega arith)) final;
-      }
+  not_whole : (n : ℕ) → 0 < n → n < length (27 ∷ 91 ∷ x ∷ rest)
+      → is_whole false (take n (27 ∷ 91 ∷ x ∷ rest)) ≡ false
+  unfolding is_whole
+  not_whole zero some h = absurd (omega (arith, some))
+  not_whole (suc zero) some h = refl
+  not_whole (suc (suc zero)) some h = refl
+  not_whole (suc (suc (suc k))) some h = open-at k (omega (arith, h))
+
+  pub control : AreKey (27 ∷ 91 ∷ x ∷ (l ++ byte ∷ [])) (controlled_key (parameters (x ∷ l)) byte)
+  unfolding rest
+  control = record {
+    begun = record { goes_on = goes_on; not_whole = not_whole };
+    some = omega arith;
+    whole = final-whole x l byte short (all 0 (omega arith)) (omega (arith, final.low));
+    means = final-key x l byte (all 0 (omega arith)) final;
+  }

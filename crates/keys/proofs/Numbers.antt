@@ -18,7 +18,8 @@ pub record Spells (n : ℕ) (ds : List ℕ) : Type 0 where
 
 spells-one : (n : ℕ) → n < 10 → Spells n ((48 + n) ∷ [])
 spells-one n small = record {
-  digits = λ k h. (let e : k ≡ 0 = omega (arith, h) in rw e (omega (arith, small)), let e : k ≡ 0 = omega (arith, h) in rw e (omega (arith, small)));
+  digits = λ k h.
+      let e : k ≡ 0 = omega (arith, h) in (rw e (omega (arith, small)), rw e (omega (arith, small)));
   value = λ few. omega (arith, small);
   some = omega arith;
 }
@@ -186,7 +187,8 @@ numbered-one n name is =
     let few : n ≤ TOO_LARGE = omega (arith, small) in
     controlled (decimal n) 7 (parameters-decimal n few) (omega arith) 126 refl (one_number n) (parameters-one n few)
     (key_named name)
-    (rw (ne_eqb n 200 (λ e. omega (arith, e, small))) (pressed-back 16 (name_of_number n) name no_modifiers (omega arith) is))
+    (rw (ne_eqb n 200 (λ e. omega (arith, e, small)))
+    (pressed-back 16 (name_of_number n) name no_modifiers (omega arith) is))
 
 -- ESC [ n ; m ~
 pub numbered-two : (n : ℕ) (name : Name) (held : Modifiers) → name_of_number n ≡ Some name
@@ -234,7 +236,8 @@ lettered-two letter name held is =
     let bounds = final-letter letter name is in
     let m = parameter_of held in
     controlled (two_parameters 1 m) 15
-    (parameters-both (decimal 1) (decimal m) 7 7 (parameters-decimal 1 (omega arith)) (parameters-decimal m (few-held held)))
+    (parameters-both (decimal 1) (decimal m) 7 7 (parameters-decimal 1 (omega arith))
+    (parameters-decimal m (few-held held)))
     (omega arith) letter
     (grind (arith, nat_tests, bounds.0, bounds.1))
     (two_numbers 1 m) (parameters-two 1 m (omega arith) (few-held held)) (Pressed name held)

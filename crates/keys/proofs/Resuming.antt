@@ -178,13 +178,13 @@ unfolding Escaped
 read-behind asked items q byte is other string =
     let cut = option_list (cut_by (typed_state asked q) byte) in
     let left = left_by (typed_state asked (27 ∷ [])) byte in
+    let ended = option_list (ended_by left byte) in
+    let after : List Item → Reading = λ l. record { items = l; state = taken_by left byte } in
     let none : cut_by (typed_state asked (27 ∷ [])) byte ≡ None = rw (one-on byte other) refl in
-    let F : List Item → State → Reading = λ l s. record { items = l ++ option_list (ended_by s byte); state = taken_by s byte } in
     ap (λ s. record { items = items ++ (cut ++ option_list (ended_by s byte)); state = taken_by s byte })
     (is asked byte other string ∙ sym (escaped-one asked byte other string))
-    ∙ ap (λ l. record { items = l; state = taken_by left byte }) (sym (append_assoc items cut (option_list (ended_by left byte))))
-    ∙ ap (λ c. record { items = (items ++ cut) ++ (option_list c ++ option_list (ended_by left byte)); state = taken_by left byte })
-    (sym none)
+    ∙ ap after (sym (append_assoc items cut ended))
+    ∙ ap (λ c. after ((items ++ cut) ++ (option_list c ++ ended))) (sym none)
 
 module _ (asked : Asked) (pending : List ℕ) (byte : ℕ) (short : length pending + 1 < LONGEST) (other : byte ≡ 27 → ⊥)
     (string : byte ≡ 92 → ⊥) where

@@ -23,7 +23,8 @@ record Left (pasting : Bool) (pending : List ℕ) : Type 0 where
 left : (pasting : Bool) (pending : List ℕ) → leaves_escape pasting pending ≡ true → Left pasting pending
 unfolding leaves_escape
 left true pending leaves = absurd (cc)
-left false pending leaves = record { outside = refl; long = grind (arith, nat_tests, leaves); ends = grind (arith, nat_tests, leaves) }
+left false pending leaves =
+    record { outside = refl; long = grind (arith, nat_tests, leaves); ends = grind (arith, nat_tests, leaves) }
 
 pub without_last : (l : List ℕ) → 1 ≤ length l → take (length l - 1) l ++ get_or l (length l - 1) 0 ∷ [] ≡ l
 without_last l some =
@@ -121,7 +122,8 @@ get-last bytes byte =
     ∙ ap (λ k. get_or (byte ∷ []) k 0) (let e : length bytes - length bytes ≡ 0 = omega arith in e)
 
 pub begun-none : (pasting : Bool) → IsBegun pasting []
-begun-none pasting = record { goes_on = λ n h. absurd (omega (arith, h)); not_whole = λ n some h. absurd (omega (arith, h)) }
+begun-none pasting =
+    record { goes_on = λ n h. absurd (omega (arith, h)); not_whole = λ n some h. absurd (omega (arith, h)) }
 
 pub begun-next : (pasting : Bool) (bytes : List ℕ) (byte : ℕ) → IsBegun pasting bytes
     → (0 < length bytes → is_whole pasting bytes ≡ false)
@@ -129,7 +131,9 @@ pub begun-next : (pasting : Bool) (bytes : List ℕ) (byte : ℕ) → IsBegun pa
 begun-next pasting bytes byte begun open_yet on =
     record {
       goes_on = λ n h. elim (cases_lt n (length bytes)) [
-        | inl before ↦ rw (take-append-le n bytes (byte ∷ []) (omega (arith, before)), get_or_append_left bytes (byte ∷ []) 0 n before) (begun.goes_on n before)
+        | inl before ↦
+            rw (take-append-le n bytes (byte ∷ []) (omega (arith, before)))
+            (rw (get_or_append_left bytes (byte ∷ []) 0 n before) (begun.goes_on n before))
         | inr after ↦
             let at : n ≡ length bytes = omega (arith, after, h, length-append bytes (byte ∷ [])) in
             rw (at, take-append_seam bytes (byte ∷ []), get-last bytes byte) on
@@ -148,7 +152,8 @@ begun-take pasting bytes m few begun =
     record {
       goes_on = λ n h.
           let within : n < m = omega (arith, h, length-take-le m bytes few) in
-          rw (take-take n m bytes (omega (arith, within)), get_or-take m bytes n 0 within) (begun.goes_on n (omega (arith, within, few)));
+          rw (take-take n m bytes (omega (arith, within)), get_or-take m bytes n 0 within)
+          (begun.goes_on n (omega (arith, within, few)));
       not_whole = λ n some h.
           let within : n < m = omega (arith, h, length-take-le m bytes few) in
           rw (take-take n m bytes (omega (arith, within))) (begun.not_whole n some (omega (arith, within, few)));

@@ -5,13 +5,19 @@ use Rattle.keys.specs.{answered, ap, append-nil, append_assoc, ap₂, false, fol
 use Rattle.keys.specs.{keys_of, length, map, map-append, option_list, option_map, read_event, reading, refl, start}
 use Rattle.keys.specs.{state_after, subst, sym, take, take_more, taken_of, ℕ, ◌∙◌}
 
+spread : (x y : Option Item)
+    → option_list (option_map taken_of x) ++ option_list (option_map taken_of y)
+    ≡ keys_of (option_list x ++ option_list y)
+spread None None = refl
+spread None (Some y) = refl
+spread (Some x) None = refl
+spread (Some x) (Some y) = refl
+
 pub answers : (a : Answer) (one other : Option Taken) (x y : Option Item)
     → answered a ≡ option_list one ++ option_list other → one ≡ option_map taken_of x → other ≡ option_map taken_of y
     → answered a ≡ keys_of (option_list x ++ option_list y)
-answers a one other None None is one_is other_is = is ∙ ap₂ (λ o p. option_list o ++ option_list p) one_is other_is
-answers a one other None (Some y) is one_is other_is = is ∙ ap₂ (λ o p. option_list o ++ option_list p) one_is other_is
-answers a one other (Some x) None is one_is other_is = is ∙ ap₂ (λ o p. option_list o ++ option_list p) one_is other_is
-answers a one other (Some x) (Some y) is one_is other_is = is ∙ ap₂ (λ o p. option_list o ++ option_list p) one_is other_is
+answers a one other x y is one_is other_is =
+    is ∙ ap₂ (λ o p. option_list o ++ option_list p) one_is other_is ∙ spread x y
 
 pub HasRead-event : (events : List Event) (taken : List Taken) (s t : State) (event : Event) (more : List Taken)
     → HasRead events taken s → more ≡ keys_of (items_of s event) → t ≡ state_after s event → t.asked ≡ s.asked

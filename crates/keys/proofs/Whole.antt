@@ -61,7 +61,8 @@ module _ (asked : Asked) (items : List Item) where
       ∙ ap (ended asked items) split
 
 -- what is answered, where a reading has ended a sequence
-pub ended-read : (asked : Asked) (events : List Event) (taken : List Taken) (items : List Item) (bytes : List ℕ) (key : Key)
+pub ended-read : (asked : Asked) (events : List Event) (taken : List Taken) (items : List Item) (bytes : List ℕ)
+    (key : Key)
     → taken ≡ keys_of items → key_of false bytes ≡ key → reading asked events ≡ ended asked items bytes
     → HasRead events (taken ++ record { key = as_asked asked key; count = length bytes } ∷ [])
     (after_key asked (as_asked asked key))

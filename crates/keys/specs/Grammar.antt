@@ -110,8 +110,8 @@ middle bytes = slice_range bytes 2 (length bytes - 1)
 abbrev pub is_numbered : List ℕ → Bool
 is_numbered bytes = nat_lt 3 (length bytes) && are_digits (middle bytes)
 
--- a control sequence ends with its final byte; the Linux console has a letter more after ESC [ [, and rxvt ends some by a
--- $ after a number
+-- a control sequence ends with its final byte; the Linux console has a letter more after ESC [ [, and rxvt ends some by
+-- a $ after a number
 abbrev pub is_whole_control : List ℕ → Bool
 is_whole_control bytes =
     if nat_lt (length bytes) 3 then false

@@ -59,9 +59,10 @@ pub record AreKey (bytes : List ℕ) (key : Key) : Type 0 where
   pub whole : is_whole false bytes ≡ true
   pub means : key_of false bytes ≡ key
 
--- After the events the bytes are answered by this key, and nothing is pending then. Before it come only keys of what was
--- pending, which they cut short.
-pub record Resumes (asked : Asked) (events : List Event) (taken : List Taken) (bytes : List ℕ) (key : Key) : Type 0 where
+-- After the events the bytes are answered by this key, and nothing is pending then. Before it come only keys of what
+-- was pending, which they cut short.
+pub record Resumes (asked : Asked) (events : List Event) (taken : List Taken) (bytes : List ℕ) (key : Key) :
+    Type 0 where
   pub before : List Taken
   pub read : HasRead (events ++ map Byte bytes) ((taken ++ before) ++ record { key = key; count = length bytes } ∷ [])
       (after_key asked key)

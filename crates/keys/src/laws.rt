@@ -10,8 +10,8 @@ ghost use Rattle.keys.specs.{control_sequence, decimal, encode_utf8, escape, fal
 ghost use Rattle.keys.specs.{name_of_code, name_of_final, name_of_number, parameter_of, paste_end, reading};
 ghost use Rattle.keys.specs.{slice_index, start, take, terminator, three_parameters, true, two_parameters, ℕ};
 
-/// Each byte is in exactly one sequence: those of all sequences, in their order, and then those that are pending are the
-/// bytes that came.
+/// Each byte is in exactly one sequence: those of all sequences, in their order, and then those that are pending are
+/// the bytes that came.
 pub fn each_byte_is_in_one_sequence()
     ensures { (asked : Asked) (events : List Event) → all_bytes (reading asked events) ≡ bytes_of events }
 {}
@@ -43,8 +43,8 @@ pub fn pastes_end_so()
     ensures { (item : Item) (is : IsSequence item) → is.pasting ≡ true → item.key ≡ PasteEnds → item.bytes ≡ paste_end }
 {}
 
-/// The bytes of a key, where nothing is pending and no text is pasted, are answered by that key, if it was asked for, and
-/// nothing is pending then.
+/// The bytes of a key, where nothing is pending and no text is pasted, are answered by that key, if it was asked for,
+/// and nothing is pending then.
 pub fn key_is_answered()
     ensures { (asked : Asked) (events : List Event) (taken : List Taken) (bytes : List ℕ) (key : Key)
         → HasRead events taken (start asked) → AreKey bytes key
@@ -53,8 +53,8 @@ pub fn key_is_answered()
 {}
 
 /// No sequence is eaten by what was pending before it: a whole one that begins with an escape is answered after any
-/// events outside of a pasted text, unless it is ESC \, which ends a string, or its escape is the last byte that a string
-/// can have.
+/// events outside of a pasted text, unless it is ESC \, which ends a string, or its escape is the last byte that a
+/// string can have.
 pub fn no_sequence_is_eaten()
     ensures { (events : List Event) (taken : List Taken) (state : State) (byte : ℕ) (rest : List ℕ) (key : Key)
         → HasRead events taken state → state.pasting ≡ false → length state.pending + 1 < LONGEST → byte ≢ terminator
