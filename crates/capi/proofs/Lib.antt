@@ -1,4 +1,4 @@
--- The machine values of a handle, and what it owns; for `empty`, `into_raw_box`, `of`
+-- A handle as a struct of one pointer; for its `of`, `into_nullable_box`
 pub mod Handles
 -- A buffer into which numbers are put one by one; for `put_cells`
 pub mod Lines

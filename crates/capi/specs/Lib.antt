@@ -1,5 +1,4 @@
 pub mod Outlets
-pub mod Owned
 pub mod Held
 pub mod Answers
 pub mod Numbers
