@@ -7,3 +7,5 @@ pub mod Lives
 pub mod Questions
 pub mod Lines
 pub mod Giving
+pub mod Keys
+pub mod KeyHandles

@@ -114,6 +114,7 @@ fn goes_on_escape(pending: &[u8], byte: u8) -> bool
 
 /// Whether a byte belongs to the sequence whose first bytes are pending.
 #[tactic(auto, unfolding(crate::specs::Grammar::continues))]
+#[inline(always)]
 pub fn continues(pasting: bool, pending: &[u8], byte: u8) -> bool
     ensures continues { result ≡ continues pasting pending.now byte }
     ensures begun { result ≡ false → 1 ≤ length pending.now }
