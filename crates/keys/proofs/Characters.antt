@@ -171,7 +171,8 @@ encoded c high is =
     elim (cases_lt c 2048) [
       | inl short ↦ subst P (sym (encode-two c high short)) (along _ c
           ((192 + c / 64) % 32 * 64 + (128 + c % 64) % 64) (omega (arith, high, short)) is
-          (formed (192 + c / 64) ((128 + c % 64) ∷ []) (omega arith) (grind (arith, nat_tests, high, short)) (omega arith)
+          (formed (192 + c / 64) ((128 + c % 64) ∷ []) (omega arith) (grind (arith, nat_tests, high, short))
+          (omega arith)
           (two-on c high short)))
       | inr more ↦ elim (cases_lt c 65536) [
         | inl short ↦ subst P (sym (encode-three c more short)) (along _ c

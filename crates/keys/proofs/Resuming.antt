@@ -8,7 +8,7 @@ use Rattle.keys.specs.{is_whole, items_of, key_of, keys_of, leaves_escape, left_
 use Rattle.keys.specs.{map-append, nat_tests, ne_eqb, opens_string, option_list, paste_end, read_event, reading, refl}
 use Rattle.keys.specs.{state_after, suc, sym, taken_by, taken_of, true, zero, ℕ, ◌∙◌}
 use Rattle.keys.proofs.Sequences.{get-last}
-use Rattle.keys.proofs.Whole.{ended-read, outside, read-whole}
+use Rattle.keys.proofs.Readings.{ended-read, outside, read-whole}
 
 -- a state outside of a pasted text
 abbrev typed_state : Asked → List ℕ → State

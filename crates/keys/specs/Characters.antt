@@ -1,5 +1,6 @@
 -- Characters as bytes.
--- Unicode 3.9, definition D92 with table 3-6 (what the bits of a byte are) and table 3-7 (which bytes are well formed).
+-- Unicode 3.9, the definition of UTF-8 with table 3-6 (what the bits of a byte are) and table 3-7 (which bytes are well
+-- formed).
 use Rattle.std.specs.Prelude.{if◌then◌else◌, ◌%◌, ◌&&◌, ◌*◌, ◌+◌, ◌==◌}
 use Rattle.keys.specs.Names.{Bool, List, length, nat_le, nat_lt, slice_index, ℕ}
 

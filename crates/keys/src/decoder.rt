@@ -118,7 +118,7 @@ impl Decoder {
     }
 
     /// Takes a byte.
-    #[tactic(auto, using(crate::proofs::Steps::steps))]
+    #[tactic(auto, using(crate::proofs::Readings::steps))]
     pub fn byte(&mut self, byte: u8) -> Answer
         ensures keys { answered result ≡ keys_of (items_of self.old (Byte byte)) }
         ensures in_order { result.first ≡ None → result.second ≡ None }
@@ -217,7 +217,7 @@ impl Decoder {
     }
 
     /// Says that nothing came until the delay was over.
-    #[tactic(auto, using(crate::proofs::Steps::steps))]
+    #[tactic(auto, using(crate::proofs::Readings::steps))]
     pub fn delay(&mut self) -> Option<Taken>
         ensures keys { option_list result ≡ keys_of (items_of self.old Delay) }
         ensures after { self.new ≡ state_after self.old Delay }

@@ -1,6 +1,6 @@
 //! What holds of readings by definition. Each function does nothing, and its contract is the law.
 
-#![tactic(auto, using(crate::proofs::LawLemmas::laws))]
+#![tactic(auto, using(crate::proofs::Readings::laws))]
 
 ghost use Rattle.std.specs.Prelude.{◌++◌, ◌+◌, ◌<◌, ◌∷◌, ◌≡◌, ◌≢◌, ◌≤◌, ◌⊎◌};
 ghost use Rattle.keys.specs.{AreKey, Asked, Byte, Character, Event, HasRead, IsOfSequences, IsPending, IsScalar};

@@ -1,6 +1,6 @@
--- `bytes`: one more byte of the piece (`Steps`).
+-- `bytes`: one more byte of the piece (`Readings`).
 use Rattle.keys.specs.{sym, ◌∙◌}
-use Rattle.keys.proofs.Steps.{HasRead-none, HasRead-piece, is_none}
+use Rattle.keys.proofs.Readings.{HasRead-none, HasRead-piece, is_none}
 use Rattle.keys.proofs.decoder.Decoder.bytes.Goals as goal
 
 pub returns-then-is_some-clause-read : goal.returns-then-is_some-clause-read
