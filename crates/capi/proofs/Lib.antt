@@ -1,5 +1,7 @@
--- The machine values of a handle, and what it owns; for `empty`, `into_raw_box`, `of`
+-- A handle as a struct of one pointer; for its `of`, `into_nullable_box`
 pub mod Handles
+-- The same of a handle of keys
+pub mod KeyHandles
 -- A buffer into which numbers are put one by one; for `put_cells`
 pub mod Lines
 -- A line of a window has the columns that it says; for `line_of_window`

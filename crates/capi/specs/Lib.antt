@@ -1,5 +1,4 @@
 pub mod Outlets
-pub mod Owned
 pub mod Held
 pub mod Answers
 pub mod Numbers
@@ -8,3 +7,5 @@ pub mod Lives
 pub mod Questions
 pub mod Lines
 pub mod Giving
+pub mod Keys
+pub mod KeyHandles

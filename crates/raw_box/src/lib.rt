@@ -1,9 +1,17 @@
 //! Takes a box apart into its pointer, and makes the box from it again.
+//!
+//! - `holds_box`: handles for C, each of which holds a box or nothing
+//! - `nullable_box`: a box or nothing, by a pointer that may be null
 #![tactic(auto)]
 
 ghost use Rattle.std.specs.Prelude.{◌≡◌};
 ghost use Rattle.std_alloc.specs.Box.Ownership.{box_owns};
 
+mod holds_box;
+mod nullable_box;
+
+pub use holds_box::HoldsBox;
+pub use nullable_box::NullableBox;
 use std::alloc::Allocator;
 use std::marker::Model;
 

@@ -7,6 +7,7 @@ ghost use Rattle.capi.specs.Numbers.{saturated};
 use crate::answer::Answer;
 use crate::handle::Handle;
 use crate::number::saturated;
+use raw_box::HoldsBox;
 use std::alloc::Global;
 
 /// Puts a blank screen of 1 to 999 lines and columns into a handle, in place of one that was there.

@@ -1,0 +1,321 @@
+-- What begins with an escape is read whatever was pending before it.
+use Rattle.std.specs.Prelude.{if◌then◌else◌, ◌++◌, ◌+◌, ◌-◌, ◌<◌, ◌==◌, ◌∷◌, ◌≡◌, ◌≤◌}
+use Rattle.keys.specs.{AreKey, Asked, Bool, Byte, Event, HasRead, Item, Key, LONGEST, List, None, PasteEnds, Reading}
+use Rattle.keys.specs.{Resumes, State, Taken, [], ap, append-nil, append_assoc, arith, as_asked, begins_string}
+use Rattle.keys.specs.{cases_Bool, cases_eq, continues, cut_by, ended_by, eq-eqb, false, fold, fold-append, get_or}
+use Rattle.keys.specs.{get_or_append_left, goes_on_control, goes_on_escape, goes_on_shift, inl, inr, is_in_character}
+use Rattle.keys.specs.{is_whole, items_of, key_of, keys_of, leaves_escape, left_by, length, length-append, map}
+use Rattle.keys.specs.{map-append, nat_tests, ne_eqb, opens_string, option_list, paste_end, read_event, reading, refl}
+use Rattle.keys.specs.{state_after, suc, sym, taken_by, taken_of, true, zero, ℕ, ◌∙◌}
+use Rattle.keys.proofs.Sequences.{get-last}
+use Rattle.keys.proofs.Readings.{ended-read, outside, read-whole}
+
+-- a state outside of a pasted text
+abbrev typed_state : Asked → List ℕ → State
+typed_state asked pending = record { asked = asked; pasting = false; pending = pending }
+
+-- Behind an escape any byte but \ and another escape goes on the escape alone: it is the last byte of a string, or all
+-- that is pending.
+Escaped : List ℕ → Type 0
+Escaped pending = (asked : Asked) (byte : ℕ) → (byte ≡ 27 → ⊥) → (byte ≡ 92 → ⊥)
+    → left_by (typed_state asked pending) byte ≡ typed_state asked (27 ∷ [])
+
+one-on : (byte : ℕ) → (byte ≡ 27 → ⊥) → continues false (27 ∷ []) byte ≡ true
+unfolding continues
+one-on byte other = rw (ne_eqb byte 27 other) refl
+
+one-off : (byte : ℕ) → continues false (27 ∷ []) byte ≡ true → byte ≡ 27 → ⊥
+unfolding continues
+one-off byte on is = absurd (let e : continues false (27 ∷ []) byte ≡ false = rw (eq-eqb byte 27 is) refl in cc)
+
+escaped-one : Escaped (27 ∷ [])
+unfolding Escaped
+escaped-one asked byte other string = rw (one-on byte other) refl
+
+-- a string that was begun
+record IsString (pending : List ℕ) : Type 0 where
+  long : 3 ≤ length pending
+  one : get_or pending 0 0 ≡ 27
+  opens : opens_string (get_or pending 1 0) ≡ true
+
+no-sequence : (letter : ℕ) → opens_string letter ≡ true → (letter ≡ 91 → ⊥) × (letter ≡ 79 → ⊥)
+no-sequence letter opens = (λ e. grind (arith, nat_tests, opens, e), λ e. grind (arith, nat_tests, opens, e))
+
+-- a string that ends in an escape
+module _ (q : List ℕ) (is : IsString q) (short : length q < LONGEST) (ends : get_or q (length q - 1) 0 ≡ 27) where
+  string-open : is_whole false q ≡ false
+  unfolding is_whole
+  string-open =
+      let letter = no-sequence (get_or q 1 0) is.opens in
+      rw (ne_eqb (length q) LONGEST (λ e. omega (arith, e, short)), eq-eqb (get_or q 0 0) 27 is.one)
+      (rw (ne_eqb (length q) 1 (λ e. omega (arith, e, is.long)), ne_eqb (get_or q 1 0) 91 letter.0)
+      (rw (ne_eqb (get_or q 1 0) 79 letter.1, is.opens) (grind (arith, nat_tests, is.long, ends))))
+
+  string-off : (byte : ℕ) → (byte ≡ 92 → ⊥) → continues false q byte ≡ false
+  unfolding continues
+  string-off byte string =
+      let letter = no-sequence (get_or q 1 0) is.opens in
+      rw (ne_eqb (length q) 0 (λ e. omega (arith, e, is.long)), eq-eqb (get_or q 0 0) 27 is.one)
+      (rw (ne_eqb (length q) 1 (λ e. omega (arith, e, is.long)), ne_eqb (get_or q 1 0) 91 letter.0)
+      (rw (ne_eqb (get_or q 1 0) 79 letter.1, is.opens)
+      (rw (ne_eqb (length q) 2 (λ e. omega (arith, e, is.long)), eq-eqb (get_or q (length q - 1) 0) 27 ends)
+      (ne_eqb byte 92 string))))
+
+  string-leaves : leaves_escape false q ≡ true
+  unfolding leaves_escape
+  string-leaves = grind (arith, nat_tests, is.long, is.one, is.opens, ends)
+
+  string-escaped : Escaped q
+  unfolding Escaped
+  string-escaped asked byte other string = rw (string-off byte string, string-leaves) refl
+
+-- what an escape goes on
+
+no-character : (first count : ℕ) → is_in_character first count 27 ≡ false
+no-character first count = grind (arith, nat_tests)
+
+no-control : (pending : List ℕ) → goes_on_control pending 27 ≡ false
+no-control pending = grind (arith, nat_tests)
+
+no-shift : (pending : List ℕ) → goes_on_shift pending 27 ≡ false
+no-shift pending = grind (arith, nat_tests)
+
+no-begin : (letter : ℕ) → begins_string letter 27 ≡ false
+no-begin letter = grind (arith, nat_tests)
+
+if-false : (b x y : Bool) → x ≡ false → y ≡ false → (if b then x else y) ≡ false
+if-false true x y first second = first
+if-false false x y first second = second
+
+module _ (pending : List ℕ) where
+  off-short : length pending ≡ 1 → goes_on_escape pending 27 ≡ false
+  off-short one = rw (eq-eqb (length pending) 1 one) refl
+
+  off-two : length pending ≡ 2 → goes_on_escape pending 27 ≡ false
+  off-two two =
+      if-false (length pending == 1) _ _ refl
+      (if-false (get_or pending 1 0 == 91) _ _ (no-control pending)
+      (if-false (get_or pending 1 0 == 79) _ _ (no-shift pending)
+      (if-false (opens_string (get_or pending 1 0)) _ _
+      (rw (eq-eqb (length pending) 2 two) (no-begin (get_or pending 1 0)))
+      (no-character (get_or pending 1 0) (length pending - 1)))))
+
+  off-plain : opens_string (get_or pending 1 0) ≡ false → goes_on_escape pending 27 ≡ false
+  off-plain none =
+      if-false (length pending == 1) _ _ refl
+      (if-false (get_or pending 1 0 == 91) _ _ (no-control pending)
+      (if-false (get_or pending 1 0 == 79) _ _ (no-shift pending)
+      (rw none (no-character (get_or pending 1 0) (length pending - 1)))))
+
+on-escape : (a : ℕ) (l : List ℕ) → continues false (a ∷ l) 27 ≡ true
+    → (a ≡ 27) × (goes_on_escape (a ∷ l) 27 ≡ true)
+unfolding continues
+on-escape a l on =
+    let some = ne_eqb (length (a ∷ l)) 0 (λ e. omega (arith, e)) in
+    elim (cases_eq a 27) [
+      | inl one ↦ (one, rw (some, eq-eqb a 27 one) at on)
+      | inr other ↦ absurd (let e = rw (some, ne_eqb a 27 other, no-character a (length (a ∷ l))) at on in cc)
+    ]
+
+met-string : (a : ℕ) (l : List ℕ) → continues false (a ∷ l) 27 ≡ true → IsString (a ∷ l)
+met-string a l on =
+    let is = on-escape a l on in
+    elim (cases_eq (length (a ∷ l)) 1) [
+      | inl one ↦ absurd (let e = off-short (a ∷ l) one in cc)
+      | inr more ↦ elim (cases_eq (length (a ∷ l)) 2) [
+        | inl two ↦ absurd (let e = off-two (a ∷ l) two in cc)
+        | inr several ↦ elim (cases_Bool (opens_string (get_or (a ∷ l) 1 0))) [
+          | inl opens ↦ record { long = omega (arith, more, several); one = is.0; opens = opens }
+          | inr none ↦ absurd (let e = off-plain (a ∷ l) none in cc)
+        ]
+      ]
+    ]
+
+-- An escape, whatever was pending: it is alone then, or the last byte of a string.
+with-escape : (pending : List ℕ) → IsString pending → length pending + 1 < LONGEST
+    → (is_whole false (pending ++ 27 ∷ []) ≡ false) × Escaped (pending ++ 27 ∷ [])
+with-escape pending is short =
+    let q = pending ++ 27 ∷ [] in
+    let long : length q ≡ length pending + 1 = length-append pending (27 ∷ []) in
+    let string : IsString q = record {
+      long = omega (arith, long, is.long);
+      one = get_or_append_left pending (27 ∷ []) 0 0 (omega (arith, is.long)) ∙ is.one;
+      opens = ap opens_string (get_or_append_left pending (27 ∷ []) 0 1 (omega (arith, is.long))) ∙ is.opens;
+    } in
+    let few : length q < LONGEST = omega (arith, long, short) in
+    let ends : get_or q (length q - 1) 0 ≡ 27 =
+    ap (λ k. get_or q k 0) (let e : length q - 1 ≡ length pending = omega (arith, long) in e) ∙ get-last pending 27 in
+    (string-open q string few ends, string-escaped q string few ends)
+
+-- the state after an escape
+abbrev after_escape : Asked → List ℕ → State
+after_escape asked pending = state_after (typed_state asked pending) (Byte 27)
+
+record IsEscaped (asked : Asked) (pending : List ℕ) : Type 0 where
+  q : List ℕ
+  state : after_escape asked pending ≡ typed_state asked q
+  escaped : Escaped q
+
+escaped : (asked : Asked) (pending : List ℕ) → length pending + 1 < LONGEST → IsEscaped asked pending
+unfolding continues is_whole
+escaped asked [] short = record { q = 27 ∷ []; state = refl; escaped = escaped-one }
+escaped asked (a ∷ l) short = elim (cases_Bool (continues false (a ∷ l) 27)) [
+  | inl on ↦
+      let is = with-escape (a ∷ l) (met-string a l on) short in
+      record { q = (a ∷ l) ++ 27 ∷ []; state = rw on (rw on (rw is.0 refl)); escaped = is.1 }
+  | inr off ↦ elim (cases_Bool (leaves_escape false (a ∷ l))) [
+    | inl leaves ↦ record { q = 27 ∷ []; state = rw (off, leaves) refl; escaped = escaped-one }
+    | inr none ↦ record { q = 27 ∷ []; state = rw (off, none) refl; escaped = escaped-one }
+  ]
+]
+
+-- after the byte behind it
+read-behind : (asked : Asked) (items : List Item) (q : List ℕ) (byte : ℕ) → Escaped q → (byte ≡ 27 → ⊥)
+    → (byte ≡ 92 → ⊥)
+    → read_event (outside asked items q) (Byte byte)
+    ≡ read_event (outside asked (items ++ option_list (cut_by (typed_state asked q) byte)) (27 ∷ [])) (Byte byte)
+unfolding Escaped
+read-behind asked items q byte is other string =
+    let cut = option_list (cut_by (typed_state asked q) byte) in
+    let left = left_by (typed_state asked (27 ∷ [])) byte in
+    let ended = option_list (ended_by left byte) in
+    let after : List Item → Reading = λ l. record { items = l; state = taken_by left byte } in
+    let none : cut_by (typed_state asked (27 ∷ [])) byte ≡ None = rw (one-on byte other) refl in
+    ap (λ s. record { items = items ++ (cut ++ option_list (ended_by s byte)); state = taken_by s byte })
+    (is asked byte other string ∙ sym (escaped-one asked byte other string))
+    ∙ ap after (sym (append_assoc items cut ended))
+    ∙ ap (λ c. after ((items ++ cut) ++ (option_list c ++ ended))) (sym none)
+
+module _ (asked : Asked) (pending : List ℕ) (byte : ℕ) (short : length pending + 1 < LONGEST) (other : byte ≡ 27 → ⊥)
+    (string : byte ≡ 92 → ⊥) where
+  is : IsEscaped asked pending
+  is = escaped asked pending short
+
+  -- what was cut short before a whole sequence that begins with an escape
+  cut_before : List Item
+  cut_before = items_of (typed_state asked pending) (Byte 27) ++ option_list (cut_by (typed_state asked is.q) byte)
+
+  read-both : (items : List Item)
+      → read_event (read_event (outside asked items pending) (Byte 27)) (Byte byte)
+      ≡ read_event (read_event (outside asked (items ++ cut_before) []) (Byte 27)) (Byte byte)
+  unfolding continues is_whole cut_before
+  read-both items =
+      let cut = items_of (typed_state asked pending) (Byte 27) in
+      let behind = option_list (cut_by (typed_state asked is.q) byte) in
+      ap (λ s. read_event (record { items = items ++ cut; state = s }) (Byte byte)) is.state
+      ∙ read-behind asked (items ++ cut) is.q byte is.escaped other string
+      ∙ ap (λ l. read_event (outside asked l (27 ∷ [])) (Byte byte))
+      (append_assoc items cut behind ∙ sym (append-nil (items ++ cut_before)))
+
+  resumed : (items : List Item) (rest : List ℕ)
+      → fold read_event (outside asked items pending) (map Byte (27 ∷ byte ∷ rest))
+      ≡ fold read_event (outside asked (items ++ cut_before) []) (map Byte (27 ∷ byte ∷ rest))
+  resumed items rest = ap (λ r. fold read_event r (map Byte rest)) (read-both items)
+
+pub key-resumes : (events : List Event) (taken : List Taken) (s : State) (byte : ℕ) (rest : List ℕ) (key : Key)
+    → HasRead events taken s → s.pasting ≡ false → length s.pending + 1 < LONGEST → (byte ≡ 92 → ⊥)
+    → AreKey (27 ∷ byte ∷ rest) key → Resumes s.asked events taken (27 ∷ byte ∷ rest) (as_asked s.asked key)
+key-resumes events taken s byte rest key h typed short string are =
+    let bytes : List ℕ = 27 ∷ byte ∷ rest in
+    let r = reading s.asked events in
+    let at : r ≡ outside s.asked r.items s.pending =
+    ap (λ t. record { items = r.items; state = t }) (sym h.state_is ∙ ap (λ p. record s { pasting = p }) typed) in
+    let other = one-off byte (are.begun.goes_on 1 (omega arith)) in
+    let cut = cut_before s.asked s.pending byte short other string in
+    record {
+      before = keys_of cut;
+      read =
+          ended-read s.asked (events ++ map Byte bytes) (taken ++ keys_of cut) (r.items ++ cut) bytes key
+          (ap (λ l. l ++ keys_of cut) h.taken_are ∙ sym (map-append taken_of r.items cut)) are.means
+          (fold-append read_event (outside s.asked [] []) events (map Byte bytes)
+          ∙ ap (λ r. fold read_event r (map Byte bytes)) at
+          ∙ resumed s.asked s.pending byte short other string r.items rest
+          ∙ read-whole s.asked (r.items ++ cut) bytes are.begun are.some are.whole);
+    }
+
+-- ---- the end of a pasted text
+
+abbrev pasting : Asked → List Item → List ℕ → Reading
+pasting asked items pending =
+    record { items = items; state = record { asked = asked; pasting = true; pending = pending } }
+
+-- after the end
+abbrev pasted : Asked → List Item → Reading
+pasted asked items = outside asked (items ++ record { bytes = paste_end; key = PasteEnds } ∷ []) []
+
+-- the end has one escape
+abbrev behind_escape : List ℕ
+behind_escape = 91 ∷ 50 ∷ 48 ∷ 49 ∷ 126 ∷ []
+
+no-escape : (n : ℕ) → get_or behind_escape n 0 ≡ 27 → ⊥
+no-escape zero e = omega (arith, e)
+no-escape (suc zero) e = omega (arith, e)
+no-escape (suc (suc zero)) e = omega (arith, e)
+no-escape (suc (suc (suc zero))) e = omega (arith, e)
+no-escape (suc (suc (suc (suc zero)))) e = omega (arith, e)
+no-escape (suc (suc (suc (suc (suc n))))) e = omega (arith, e)
+
+paste-off : (a : ℕ) (l : List ℕ) → continues true (a ∷ l) 27 ≡ false
+unfolding continues
+paste-off a l =
+    grind (arith, nat_tests, ne_eqb 27 (get_or behind_escape (length l) 0) (λ e. no-escape (length l) (sym e)))
+
+paste-left : (asked : Asked) (pending : List ℕ)
+    → left_by (record { asked = asked; pasting = true; pending = pending }) 27
+    ≡ record { asked = asked; pasting = true; pending = [] }
+unfolding continues leaves_escape
+paste-left asked [] = refl
+paste-left asked (a ∷ l) = rw (paste-off a l) refl
+
+module _ (asked : Asked) (items : List Item) where
+  paste-on : (pending : List ℕ) (byte : ℕ) → continues true pending byte ≡ true
+      → is_whole true (pending ++ byte ∷ []) ≡ false
+      → read_event (pasting asked items pending) (Byte byte) ≡ pasting asked items (pending ++ byte ∷ [])
+  paste-on pending byte on more = rw on (rw on (rw more (rw append-nil refl)))
+
+  paste-last : read_event (pasting asked items (27 ∷ 91 ∷ 50 ∷ 48 ∷ 49 ∷ [])) (Byte 126) ≡ pasted asked items
+  unfolding continues is_whole key_of
+  paste-last = refl
+
+  paste-rest : fold read_event (pasting asked items (27 ∷ [])) (map Byte behind_escape) ≡ pasted asked items
+  unfolding continues is_whole
+  paste-rest =
+      ap (λ r. fold read_event r (map Byte (50 ∷ 48 ∷ 49 ∷ 126 ∷ []))) (paste-on (27 ∷ []) 91 refl refl)
+      ∙ ap (λ r. fold read_event r (map Byte (48 ∷ 49 ∷ 126 ∷ []))) (paste-on (27 ∷ 91 ∷ []) 50 refl refl)
+      ∙ ap (λ r. fold read_event r (map Byte (49 ∷ 126 ∷ []))) (paste-on (27 ∷ 91 ∷ 50 ∷ []) 48 refl refl)
+      ∙ ap (λ r. fold read_event r (map Byte (126 ∷ []))) (paste-on (27 ∷ 91 ∷ 50 ∷ 48 ∷ []) 49 refl refl)
+      ∙ paste-last
+
+abbrev cut_in_paste : Asked → List ℕ → List Item
+cut_in_paste asked pending = option_list (cut_by (record { asked = asked; pasting = true; pending = pending }) 27)
+
+paste-first : (asked : Asked) (items : List Item) (pending : List ℕ)
+    → read_event (pasting asked items pending) (Byte 27)
+    ≡ pasting asked (items ++ cut_in_paste asked pending) (27 ∷ [])
+unfolding continues is_whole
+paste-first asked items pending = rw (paste-left asked pending) (rw append-nil refl)
+
+pub paste-ends : (events : List Event) (taken : List Taken) (s : State) → HasRead events taken s → s.pasting ≡ true
+    → Resumes s.asked events taken paste_end PasteEnds
+paste-ends events taken s h pastes =
+    let r = reading s.asked events in
+    let at : r ≡ pasting s.asked r.items s.pending =
+    ap (λ t. record { items = r.items; state = t }) (sym h.state_is ∙ ap (λ p. record s { pasting = p }) pastes) in
+    let cut = cut_in_paste s.asked s.pending in
+    let last : Item = record { bytes = paste_end; key = PasteEnds } in
+    let whole : reading s.asked (events ++ map Byte paste_end) ≡ pasted s.asked (r.items ++ cut) =
+    fold-append read_event (outside s.asked [] []) events (map Byte paste_end)
+    ∙ ap (λ r. fold read_event r (map Byte paste_end)) at
+    ∙ ap (λ r. fold read_event r (map Byte behind_escape)) (paste-first s.asked r.items s.pending)
+    ∙ paste-rest s.asked (r.items ++ cut) in
+    record {
+      before = keys_of cut;
+      read = record {
+        taken_are =
+            ap (λ l. (l ++ keys_of cut) ++ record { key = PasteEnds; count = 6 } ∷ []) h.taken_are
+            ∙ ap (λ l. l ++ record { key = PasteEnds; count = 6 } ∷ []) (sym (map-append taken_of r.items cut))
+            ∙ sym (map-append taken_of (r.items ++ cut) (last ∷ []))
+            ∙ ap (λ (r : Reading). keys_of r.items) (sym whole);
+        state_is = ap (λ (r : Reading). r.state) (sym whole);
+      };
+    }

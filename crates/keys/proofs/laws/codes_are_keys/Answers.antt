@@ -1,0 +1,12 @@
+-- `codes_are_keys`: control sequences of numbers (`Numbers`).
+use Rattle.keys.proofs.Numbers.{coded-character, coded-three, coded-two}
+use Rattle.keys.proofs.laws.codes_are_keys.Goals as goal
+
+pub returns-clause-u : goal.returns-clause-u
+returns-clause-u c = coded-two
+
+pub returns-clause-other : goal.returns-clause-other
+returns-clause-other c = coded-three
+
+pub returns-clause-characters : goal.returns-clause-characters
+returns-clause-characters c = coded-character
