@@ -11,6 +11,9 @@ interruptible() {
         "$@"
         return
     fi
+    room='' group=''
+    # shellcheck disable=SC2064 # the name is known now
+    for signal in HUP INT TERM; do trap "end_group '$name' $signal" "$signal"; done
     room=$(mktemp -d)
     chmod 711 "$room" # rt runs programs as nobody
     set -m
@@ -20,8 +23,6 @@ interruptible() {
     ) < /dev/null &
     group=$!
     set +m
-    # shellcheck disable=SC2064 # the name is known now
-    for signal in HUP INT TERM; do trap "end_group '$name' $signal" "$signal"; done
     trap stop_group TSTP
     while
         status=0
@@ -104,9 +105,11 @@ strike() {
 end_group() {
     local struck=()
     trap '' HUP INT TERM TSTP
-    strike TERM 30
-    strike KILL 10
-    clear_room
+    if [ -n "$group" ]; then
+        strike TERM 30
+        strike KILL 10
+    fi
+    [ -z "$room" ] || clear_room
     end_telling
     echo "$1: ended by SIG$2, with all that it began; what was proved until then is kept" >&2
     trap - "$2"
