@@ -117,8 +117,6 @@ typedef struct {
 } curspan_spelling;
 
 curspan_spelling curspan_spell_part(curspan_unfinished *begun, uint8_t byte);
-/* The character that some bytes begin with, and its length: 0 where more must come, and ERR where they begin none. */
-int curspan_decode(const uint8_t *bytes, size_t count, uint32_t *character);
 /* Says that a character is begun at the cursor, or that it was finished there. */
 void curspan_keep_begun(WINDOW *win);
 /* Forgets the character that is begun where the cursor was moved since. */

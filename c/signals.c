@@ -231,6 +231,7 @@ enum curspan_entry curspan_attend(struct curspan_tty *tty, bool shall_own) {
     static bool is_registered;
     pthread_mutex_lock(&terminals.lock);
     if (!is_registered) is_registered = atexit(give_back_at_exit) == 0;
+    tty->bell = -1;
     tty->device = device_of(tty->out);
     tty->was_stopped = tty->was_resized = tty->is_held = tty->stop_is_due = tty->rings = tty->is_suspended = false;
     tty->typed = (struct curspan_typed){.count = 0};
@@ -255,7 +256,7 @@ enum curspan_entry curspan_attend(struct curspan_tty *tty, bool shall_own) {
 
 /* Handlers that look at it are waited for. */
 void curspan_abandon(struct curspan_tty *tty) {
-    bool was_mine = is_mine(tty);
+    bool was_mine = CURSPAN_LOOK(tty->owner) == getpid();
     pthread_mutex_lock(&terminals.lock);
     if (terminals.signalled == tty) {
         if (was_mine) leave_signals();

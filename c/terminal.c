@@ -185,7 +185,13 @@ uint32_t curspan_terminal_write(curspan_terminal *terminal, const void *bytes, s
     WRITE(done(curspan_send(&it->tty, bytes, length)));
 }
 
+/* What was kept when the terminal was given back from elsewhere is of a page that is gone. */
+static void drop_stale(struct curspan_tty *tty) {
+    if (CURSPAN_LOOK(tty->was_away) && !tty->is_suspended) tty->kept_count = 0;
+}
+
 static uint32_t flush(struct terminal *it, int milliseconds, size_t *kept) {
+    drop_stale(&it->tty);
     bool is_done = curspan_flush(&it->tty, milliseconds);
     *kept = it->tty.kept_count;
     return done(is_done);
@@ -232,12 +238,12 @@ int curspan_terminal_output(const curspan_terminal *terminal) {
 
 /* ---- pictures */
 
-/* Takes the terminal for a screen. What was kept when it was given back from elsewhere is of a page that is gone. */
+/* Takes the terminal for a screen. */
 static uint32_t take_for(struct terminal *it, const void *screen) {
     struct curspan_tty *tty = &it->tty;
+    drop_stale(tty);
     bool was_away = CURSPAN_TAKE(tty->was_away);
     bool is_there = !was_away && curspan_is_shown(tty) && (!it->shown || !screen || it->shown == screen);
-    if (was_away && !tty->is_suspended) tty->kept_count = 0;
     tty->is_suspended = false;
     if (!curspan_come_back(tty)) return CURSPAN_TERMINAL_FAILED;
     if (screen) it->shown = screen;

@@ -220,11 +220,12 @@ static void arm(struct curspan_reader *reader, bool is_none) {
     struct curspan_tty *tty = reader->tty;
     int delay = delay_of(reader);
     bool is_more = tty->typed.count > 0 || reader->second.kind != CURSPAN_TAKEN_NONE;
-    bool shall_ring = is_more || curspan_is_told(tty) || was_taken(tty);
     uint64_t ticks;
-    if (shall_ring && !tty->rings) curspan_ring(tty);
-    else if (!shall_ring && tty->rings) curspan_silence(tty);
-    tty->rings = shall_ring;
+    if (!is_more && tty->rings) curspan_silence(tty); /* and what a handler told meanwhile is looked at after that */
+    if (!tty->rings && (is_more || curspan_is_told(tty) || was_taken(tty))) {
+        curspan_ring(tty);
+        tty->rings = true;
+    }
     long due = delay >= 0 ? tty->typed.came + delay : 0;
     if (due != reader->due) set_timer(reader, due);
     else if (is_none && !tty->owns && read(reader->timer, &ticks, sizeof ticks) < 0) return; /* it didn't tick */

@@ -123,9 +123,15 @@ bool curspan_come_back(struct curspan_tty *tty) {
     return true;
 }
 
+/* Leaves the page. Who doesn't wait drops what the terminal didn't take yet where there is no room for it. */
+static bool leave(const struct curspan_tty *tty, int milliseconds) {
+    if (write_text(tty, tty->leave, milliseconds)) return true;
+    return milliseconds == 0 && tcflush(tty->out, TCOFLUSH) == 0 && write_text(tty, tty->leave, 0);
+}
+
 /* What is owed stays so until all is done: a signal may come in between. */
 bool curspan_give_back(struct curspan_tty *tty, int milliseconds) {
-    bool is_done = CURSPAN_LOOK(tty->page) == PAGE_LEFT || write_text(tty, tty->leave, milliseconds);
+    bool is_done = CURSPAN_LOOK(tty->page) == PAGE_LEFT || leave(tty, milliseconds);
     CURSPAN_SET(tty->page, is_done ? PAGE_LEFT : PAGE_ENTERING);
     if (CURSPAN_LOOK(tty->is_keypad) && !curspan_switch_keypad(tty, false, milliseconds)) is_done = false;
     if (tty->line >= 0 && !curspan_set_modes(tty, &tty->shell, when_of(milliseconds != 0))) is_done = false;

@@ -82,21 +82,20 @@ curspan_spelling curspan_spell_part(curspan_unfinished *begun, uint8_t byte) {
     return is_character(character, count) ? drawn(character) : spelled(byte);
 }
 
-int curspan_decode(const uint8_t *bytes, size_t count, uint32_t *character) {
+/* The length of the character that some bytes begin with, or 0 where they begin none. */
+static int decode(const uint8_t *bytes, size_t count, uint32_t *character) {
     int length = bytes[0] < 128 ? 1 : length_by(bytes[0]);
-    for (int i = 1; i < length && (size_t)i < count; i++)
-        if (!is_begun(bytes, i + 1)) return ERR;
-    if (length == 0) return ERR;
-    if (count < (size_t)length) return 0;
+    for (int i = 1; i < length; i++)
+        if ((size_t)i >= count || !is_begun(bytes, i + 1)) return 0;
     *character = length == 1 ? bytes[0] : decoded(bytes, length);
-    return length == 1 || is_character(*character, length) ? length : ERR;
+    return length == 1 || (length > 0 && is_character(*character, length)) ? length : 0;
 }
 
 size_t curspan_plain_text(const char *text, size_t length, char *out) {
     size_t count = 0;
     for (size_t at = 0; at < length;) {
         uint32_t character = '?';
-        int size = curspan_decode((const uint8_t *)text + at, length - at, &character);
+        int size = decode((const uint8_t *)text + at, length - at, &character);
         bool moves = character == '\b' || character == '\n' || character == '\r';
         bool is_plain = size > 0 && ((character >= ' ' && character < 127) || moves);
         curspan_spelling is = {{is_plain ? (char)character : '?'}, 1, false};

@@ -73,9 +73,9 @@ enum curspan_terminal_options {
 /* Opens the terminal of a file, or where that is NULL the one that controls the process, /dev/tty. Keys come as they
    are typed and aren't echoed. One that owns the signals is given back, with those that are open beside it, before a
    signal ends the program, also SIGSEGV or SIGABRT; before SIGTSTP stops it; and SIGWINCH tells of a new size. That
-   waits for no terminal: one that takes no bytes then gets its modes back, and not its page. Signals that the program
-   has caught or ignores stay so, but faults, whose handlers come after. At exit each that is open is given back.
-   SIGKILL and _exit give nothing back. */
+   waits for no terminal: what one didn't take yet is dropped, and one that was stopped by Ctrl-S gets its modes back,
+   but not its page. Signals that the program has caught or ignores stay so, but faults, whose handlers come after. At
+   exit each that is open is given back. SIGKILL and _exit give nothing back. */
 uint32_t curspan_terminal_open(curspan_terminal *terminal, const char *path, uint32_t options);
 
 /* The same over descriptors that are open already and stay so: keys are read of `in`, and bytes written to `out`. Their

@@ -181,8 +181,8 @@ int main(void) {
     struct rlimit none = {0, 0};
     setrlimit(RLIMIT_CORE, &none);
     setenv("TERM", "xterm", 1);
-    ends("SIGTERM", fill, SIGTERM, false);
-    ends("SIGINT", fill, SIGINT, false);
+    ends("SIGTERM", fill, SIGTERM, true);
+    ends("SIGINT", fill, SIGINT, true);
     ends("SIGHUP", fill, SIGHUP, false);
     ends("SIGUSR1", fill, SIGUSR1, false);
     ends("SIGKILL", fill, SIGKILL, false);
