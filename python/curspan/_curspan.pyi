@@ -1,6 +1,7 @@
 """Types of the extension."""
 from types import TracebackType
-from typing import AsyncIterator, Iterable, Iterator, List, Literal, Optional, Protocol, Tuple, Type, Union, final, overload
+from typing import (AsyncIterator, Iterable, Iterator, List, Literal, Optional, Protocol, Tuple, Type, Union, final,
+                    overload)
 
 from ._values import Attr, Cell, Key, Paste, Shown
 import os

@@ -42,7 +42,8 @@ class Shown(NamedTuple):
 
 
 class Key(str):
-    """A key, which is its name: a character, or a word as 'up', 'f1', 'ctrl+left' or 'resize'. So it compares with texts, and Key.UP is 'up'."""
+    """A key, which is its name: a character, or a word as 'up', 'f1', 'ctrl+left' or 'resize'. So it compares with
+    texts, and Key.UP is 'up'."""
     UP = DOWN = LEFT = RIGHT = HOME = END = PAGEUP = PAGEDOWN = INSERT = DELETE = cast('Key', '')
     ENTER = TAB = ESCAPE = BACKSPACE = BEGIN = A1 = A3 = B2 = C1 = C3 = RESIZE = UNKNOWN = cast('Key', '')
     F1 = F2 = F3 = F4 = F5 = F6 = F7 = F8 = F9 = F10 = cast('Key', '')
@@ -55,7 +56,8 @@ for _name in [*filter(str.isupper, vars(Key))]:
 
 
 class Paste(NamedTuple):
-    """A text that was pasted into the terminal, which equals no key. Where it pauses for a second, or is long, it comes in parts."""
+    """A text that was pasted into the terminal, or a part of it, where it pauses for a second or is long. It equals no
+    key."""
     text: str
     ended: bool = True
 

@@ -95,8 +95,9 @@ PyObject *curspan_screen_doupdate(PyObject *self, PyObject *none) {
         bool is_away = false;
         curspan_answer answer = curspan_doupdate(&screen->handle);
         bool goes_out = answer.status == CURSPAN_OK && (screen->terminal || screen->file);
-        if (!goes_out) return number(answer);
-        if (send(screen, &is_away)) return screen->terminal && !curspan_wait_for_reader(screen->terminal) ? NULL : number(answer);
+        bool is_sent = !goes_out || send(screen, &is_away);
+        if (is_sent && goes_out && screen->terminal) is_sent = curspan_wait_for_reader(screen->terminal);
+        if (is_sent) return number(answer);
         if (!is_away) return NULL;
     }
 }

@@ -357,14 +357,14 @@ static PyMethodDef methods[] = {
      "screen($self, *, errors='strict')\n--\n\nThe Screen that the terminal shows. Where the terminal has another size since, it is a new one, whose standard\n"
      "screen has what the one before showed, and that is closed. Of errors see Screen, where it is made."},
     {"write", terminal_write, METH_O,
-     "write($self, data, /)\n--\n\nWrites all of some bytes, as they are. Where an exception interrupts that, the rest is\n"
-     "written before what comes next."},
+     "write($self, data, /)\n--\n\nWrites all of some bytes, as they are. Where an exception interrupts that, the\n"
+     "rest is written before what comes next."},
     {"fileno", terminal_fileno, METH_NOARGS,
      "fileno($self)\n--\n\nA descriptor to wait for, which is ready to be read where key(0) has something to answer."},
     {"suspend", terminal_suspend, METH_NOARGS, "suspend($self)\n--\n\nGives the terminal back for a while, until resume() or the next doupdate()."},
     {"resume", terminal_resume, METH_NOARGS, "resume($self)\n--\n\nTakes the terminal again."},
     {"close", terminal_close, METH_NOARGS,
-     "close($self)\n--\n\nGives the terminal back. Any thread may close it, but while another one waits in a call of it."},
+     "close($self)\n--\n\nGives the terminal back. Any thread may close it, but while another waits in a call of it."},
     {"__enter__", terminal_enter, METH_NOARGS, NULL},
     {"__exit__", terminal_exit, METH_VARARGS, NULL},
     {NULL, NULL, 0, NULL},
@@ -390,7 +390,8 @@ static const char about[] =
 
 static PyType_Slot slots[] = {
     {Py_tp_doc, (void *)about}, {Py_tp_new, make}, {Py_tp_dealloc, free_terminal}, {Py_tp_traverse, visit}, {Py_tp_clear, clear},
-    {Py_tp_methods, methods}, {Py_tp_getset, properties}, {Py_tp_members, members}, {Py_am_aiter, terminal_keys}, {0, NULL},
+    {Py_tp_methods, methods}, {Py_tp_getset, properties}, {Py_tp_members, members}, {Py_am_aiter, terminal_keys},
+    {0, NULL},
 };
 
 PyType_Spec curspan_terminal_spec = {"curspan.Terminal", sizeof(Terminal), 0, Py_TPFLAGS_DEFAULT | Py_TPFLAGS_HAVE_GC, slots};

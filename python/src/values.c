@@ -3,7 +3,8 @@
 
 enum { ATTRIBUTES = 64, COLOURS = 8, KEPT = 256 };
 
-static PyObject *attribute_type, *cell_type, *shown_type, *colour_type, *errors, *error_of_terminals, *paste_type, *key_type;
+static PyObject *attribute_type, *cell_type, *shown_type, *colour_type, *errors, *error_of_terminals;
+static PyObject *paste_type, *key_type;
 static PyObject *attributes[ATTRIBUTES]; /* of each sum of bits the one object of the enum */
 static PyObject *colours[COLOURS];
 
