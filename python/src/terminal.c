@@ -153,14 +153,19 @@ static int visit(PyObject *self, visitproc visit, void *arg) {
 /* The terminal is closed also where waiting for it is interrupted: then it gets its modes back. */
 static PyObject *close_within(PyObject *self, int patience) {
     Terminal *it = TERMINAL(self);
+    PyObject *type, *value, *trace;
     if (it->is_waiting) return fail(CURSPAN_TERMINAL_OTHER_THREAD);
     uint32_t status = curspan_terminal_suspend(&it->handle);
     if (status == CURSPAN_TERMINAL_FAILED) fail(status);
     if (status == CURSPAN_TERMINAL_OK) wait_for_reader(it, patience);
+    PyErr_Fetch(&type, &value, &trace);
     curspan_terminal_close(&it->handle);
-    if (PyErr_Occurred()) return NULL;
     Py_CLEAR(it->screen);
-    return call("forget", self);
+    PyObject *answer = call("forget", self);
+    if (!type) return answer;
+    Py_XDECREF(answer);
+    PyErr_Restore(type, value, trace);
+    return NULL;
 }
 
 static PyObject *terminal_close(PyObject *self, PyObject *none) {
