@@ -305,7 +305,7 @@ class GivenBack(Over):
         script = ('import curspan, sys\nbefore = sys.excepthook\n{}\nterminal = curspan.Terminal({})\n'
                   'terminal.screen().doupdate()\n{}')
         own = 'def told(*what): print("told by", what[0].__name__, flush=True)\nsys.excepthook = before = told'
-        for hook, end, text in (('', 'raise ValueError("who reads this")', b'who reads this'),
+        for hook, end, text in (('', 'raise ValueError("who reads this")', b'ValueError: who reads this'),
                                 (own, 'raise ValueError', b'told by ValueError'),
                                 ('', 'terminal.close()\nprint(sys.excepthook is before)', b'True')):
             with self.subTest(end=end):
