@@ -31,13 +31,14 @@ struct curspan_taken {
     size_t count;
 };
 
-/* How many bytes were read, what they cut short, and the key that they end. */
+/* How many bytes were read, and the keys that the last of them answered, in their order. */
 struct curspan_fed {
     size_t used;
     struct curspan_taken cut, whole;
 };
 
-/* Answers 0, or 1 where there is no memory. */
+/* Answers CURSPAN_OK, CURSPAN_NO_MEMORY, or CURSPAN_BAD_CHARACTER where something is asked for that there isn't. The
+   handle is as before where it isn't CURSPAN_OK. */
 uint32_t curspan_keys_open(struct curspan_keys *keys, uint32_t asked);
 void curspan_keys_close(struct curspan_keys *keys);
 /* Reads bytes up to the first one that answers a key. */

@@ -26,7 +26,8 @@ int curspan_left_until(int milliseconds, long end) {
 
 /* ---- what is written */
 
-enum { PIPED = 512 /* bytes that a pipe takes at once where it is ready */ };
+/* Bytes that a pipe takes at once where it is ready, and those that switch the keypad. */
+enum { PIPED = 512, KEYPAD = 7 };
 
 int curspan_open_anew(int descriptor) {
     char path[32];
@@ -40,31 +41,45 @@ void curspan_set_output(struct curspan_tty *tty, int out) {
     tty->most = isatty(out) ? 1 : PIPED;
 }
 
-static ssize_t write_some(const struct curspan_tty *tty, const uint8_t *bytes, size_t length, bool waits) {
+/* Whether the terminal takes bytes within some time, or at once. */
+static bool is_ready(const struct curspan_tty *tty, int milliseconds) {
     struct pollfd ready = {tty->out, POLLOUT, 0};
-    if (waits || tty->own >= 0) return write(waits ? tty->out : tty->own, bytes, length);
-    if (poll(&ready, 1, 0) > 0) return write(tty->out, bytes, length < tty->most ? length : tty->most);
+    return poll(&ready, 1, milliseconds) > 0;
+}
+
+static ssize_t write_now(const struct curspan_tty *tty, const uint8_t *bytes, size_t length) {
+    if (tty->own >= 0) return write(tty->own, bytes, length);
+    if (is_ready(tty, 0)) return write(tty->out, bytes, length < tty->most ? length : tty->most);
     errno = EAGAIN;
     return -1;
 }
 
-ssize_t curspan_write(const struct curspan_tty *tty, const void *bytes, size_t length, int milliseconds) {
+/* Writes all but what is done already. */
+static __attribute__((noinline)) ssize_t write_on(const struct curspan_tty *tty, const uint8_t *bytes, size_t length,
+                                                  size_t done, int milliseconds) {
     long end = milliseconds > 0 ? curspan_now() + milliseconds : 0;
-    size_t done = 0;
     while (done < length) {
-        ssize_t count = write_some(tty, (const uint8_t *)bytes + done, length - done, milliseconds < 0);
+        const uint8_t *next = bytes + done;
+        size_t left = length - done;
+        ssize_t count = milliseconds < 0 ? write(tty->out, next, left) : write_now(tty, next, left);
         if (count > 0) {
             done += (size_t)count;
         } else if (count < 0 && errno == EAGAIN) {
-            struct pollfd ready = {tty->out, POLLOUT, 0};
-            int left = curspan_left_until(milliseconds, end);
-            if (left == 0) break;
-            if (poll(&ready, 1, left) < 0 && errno != EINTR) return -1;
+            int time = curspan_left_until(milliseconds, end);
+            if (time == 0) break;
+            if (!is_ready(tty, time) && errno != EAGAIN && errno != EINTR) return -1;
         } else if (count == 0 || errno != EINTR) {
             return -1;
         }
     }
     return (ssize_t)done;
+}
+
+/* Mostly one call does. */
+ssize_t curspan_write(const struct curspan_tty *tty, const void *bytes, size_t length, int milliseconds) {
+    ssize_t count = milliseconds < 0 ? write(tty->out, bytes, length) : 0;
+    if (count == (ssize_t)length) return count;
+    return write_on(tty, bytes, length, count > 0 ? (size_t)count : 0, milliseconds);
 }
 
 bool curspan_flush(struct curspan_tty *tty, int milliseconds) {
@@ -93,12 +108,13 @@ bool curspan_send_text(struct curspan_tty *tty, const char *text) { return cursp
 /* ---- modes and pages */
 
 static bool write_text(const struct curspan_tty *tty, const char *text, int milliseconds) {
-    return curspan_write(tty, text, strlen(text), milliseconds) == (ssize_t)strlen(text);
+    size_t length = strlen(text);
+    return curspan_write(tty, text, length, milliseconds) == (ssize_t)length;
 }
 
 bool curspan_switch_keypad(struct curspan_tty *tty, bool flag, int milliseconds) {
     CURSPAN_SET(tty->is_keypad, flag);
-    return write_text(tty, flag ? "\033[?1h\033=" : "\033[?1l\033>", milliseconds);
+    return curspan_write(tty, flag ? "\033[?1h\033=" : "\033[?1l\033>", KEYPAD, milliseconds) == KEYPAD;
 }
 
 bool curspan_set_modes(const struct curspan_tty *tty, const struct termios *modes, int when) {
