@@ -13,7 +13,7 @@ typedef struct Terminal {
     PyObject *file;      /* what it was opened over, or NULL */
     PyObject *screen;    /* the one that it shows, or NULL */
     PyObject *weak;      /* references to it */
-    bool is_waiting;     /* within the library, while other threads run */
+    int waiting;         /* how many threads are within the library */
     char cut[4];         /* the first bytes of a character of a pasted text, whose rest is to come, */
     Py_ssize_t cut_size; /* and how many they are */
 } Terminal;
@@ -26,11 +26,11 @@ enum { SLICE = 250, SHORT_SLICE = 50, PATIENCE = 1000 };
 
 /* Waits in the library while other threads run, which don't close the terminal then. */
 #define WAIT(self, call) \
-    (self)->is_waiting = true; \
+    (self)->waiting++; \
     Py_BEGIN_ALLOW_THREADS \
     call; \
     Py_END_ALLOW_THREADS \
-    (self)->is_waiting = false
+    (self)->waiting--
 
 /* Raises the exception of a status. */
 static PyObject *fail(uint32_t status) {
@@ -38,11 +38,6 @@ static PyObject *fail(uint32_t status) {
     if (status == CURSPAN_TERMINAL_NO_MEMORY) return PyErr_NoMemory();
     PyErr_SetString(curspan_terminal_error(), curspan_terminal_text(status));
     return NULL;
-}
-
-static PyObject *nothing_of(uint32_t status) {
-    if (status != CURSPAN_TERMINAL_OK) return fail(status);
-    Py_RETURN_NONE;
 }
 
 /* Calls a function of the package with the terminal. */
@@ -154,7 +149,7 @@ static int visit(PyObject *self, visitproc visit, void *arg) {
 static PyObject *close_within(PyObject *self, int patience) {
     Terminal *it = TERMINAL(self);
     PyObject *type, *value, *trace;
-    if (it->is_waiting) return fail(CURSPAN_TERMINAL_OTHER_THREAD);
+    if (it->waiting > 0) return fail(CURSPAN_TERMINAL_OTHER_THREAD);
     uint32_t status = curspan_terminal_suspend(&it->handle);
     if (status == CURSPAN_TERMINAL_FAILED) fail(status);
     if (status == CURSPAN_TERMINAL_OK) wait_for_reader(it, patience);
@@ -348,7 +343,8 @@ bool curspan_draw_on(PyObject *self, PyObject *bytes, bool *is_away) {
 PyObject *curspan_give_pair(PyObject *self, Screen *screen, uint32_t pair, int foreground, int background) {
     uint32_t status = curspan_terminal_init_pair(&TERMINAL(self)->handle, &screen->handle, pair, foreground, background);
     if (status == CURSPAN_TERMINAL_REFUSED) return curspan_refuse(curspan_is_closed(screen) ? CURSPAN_CLOSED : CURSPAN_BAD_PAIR);
-    return nothing_of(status);
+    if (status != CURSPAN_TERMINAL_OK) return fail(status);
+    Py_RETURN_NONE;
 }
 
 /* ---- the type */
