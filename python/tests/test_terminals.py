@@ -1,4 +1,4 @@
-"""Terminals in pseudoterminals: keys and pasted texts as values, what waits for a terminal that takes no bytes, what one
+"""Terminals in pseudoterminals: keys and pasted texts as values, what waits where a terminal takes no bytes, what one
 descriptor tells of, and how terminals are given back. A test that hangs ends all."""
 import asyncio
 import contextlib
@@ -121,7 +121,8 @@ class Keys(Over):
     def test_match(self):
         names = {'curspan': curspan}
         exec('def name(key):\n    match key:\n        case curspan.Key.UP: return "up"\n        case "q": return "q"\n'
-             '        case curspan.Paste(text, True): return "pasted " + text\n        case curspan.Key(): return "key"',
+             '        case curspan.Paste(text, True): return "pasted " + text\n'
+             '        case curspan.Key(): return "key"',
              names)
         self.assertEqual([names['name'](it) for it in (Key('up'), Key('q'), Paste('q'), Key('x'), None)],
                          ['up', 'q', 'pasted q', 'key', None])
@@ -272,6 +273,24 @@ class Stalls(Over):
 
 
 class GivenBack(Over):
+    def run_script(self, script, size=65536):
+        """Runs a script over the terminal, of which so many bytes are read at a time."""
+        words = [sys.executable, '-B', '-c', script]
+        process = subprocess.Popen(words, stdout=self.slave, stderr=self.slave, pass_fds=[self.slave],
+                                   env={**os.environ, 'NO_COLOR': '1'})
+        self.came = b''
+        while process.poll() is None:
+            if select.select([self.master], [], [], 0.01)[0]:
+                self.came += os.read(self.master, size)
+        self.read()
+        self.assertTrue(self.is_given_back())
+
+    def test_the_page_is_left_at_exit(self):
+        """Also without `with`, and where the terminal is slow."""
+        self.run_script(f'import curspan\nterminal = curspan.Terminal({self.slave})\nterminal.write(b"x" * 40000)', 500)
+        self.assertEqual(self.came.count(b'x'), 40000)
+        self.assertTrue(self.came.endswith(b'\x1b[?1049l'))
+
     def test_another_thread_drops_it(self):
         kept = [Terminal(self.slave)]
         thread = threading.Thread(target=kept.clear)
@@ -309,16 +328,10 @@ class GivenBack(Over):
                                 (own, 'raise ValueError', b'told by ValueError'),
                                 ('', 'terminal.close()\nprint(sys.excepthook is before)', b'True')):
             with self.subTest(end=end):
-                self.came = b''
-                words = [sys.executable, '-B', '-c', script.format(hook, self.slave, end)]
-                process = subprocess.Popen(words, stdout=self.slave, stderr=self.slave, pass_fds=[self.slave])
-                while process.poll() is None:
-                    self.read()
-                self.read()
+                self.run_script(script.format(hook, self.slave, end))
                 self.assertGreater(self.came.find(text), self.came.find(b'\x1b[?1049l'))
                 self.assertGreater(self.came.find(b'\x1b[?1049l'), 0)
                 self.assertEqual(self.came.count(text), 1)
-                self.assertTrue(self.is_given_back())
 
 
 if __name__ == '__main__':
