@@ -67,8 +67,8 @@ def main(terminal: curspan.Terminal) -> None:
         if asked and key not in (None, 'resize'):
             ended, asked, key = asked[0] if key == 'y' else ended, None, None
         asked = processes[chosen] if key == 'k' else asked
-        order = key if key in ORDERS else order
-        chosen += {'up': -1, 'down': 1}.get(key or '', 0)
+        order = str(key) if key in ORDERS else order
+        chosen += (key == 'down') - (key == 'up')
 
 
 if __name__ == '__main__':

@@ -26,9 +26,10 @@ def open_screen(raw: bool = False) -> Iterator[curspan.Screen]:
         yield screen
 
 
-def read_key(seconds: Optional[float] = None) -> Optional[str]:
+def read_key(seconds: Optional[float] = None) -> Optional[curspan.Key]:
     """The next key, or None where none comes in time."""
-    return opened[-1].key(seconds)
+    key = opened[-1].key(seconds)
+    return key if isinstance(key, curspan.Key) else None
 
 
 def show(screen: curspan.Screen) -> None:

@@ -14,13 +14,13 @@ OutsideWindow. The page docs/python.md explains all.
 """
 from ._curspan import Pad, Panel, Screen, Terminal, Window, commit as __commit__, version as __version__
 from ._errors import Closed, Error, Refusal, TerminalError, WriteFailed
-from ._values import Attr, Cell, Color, Paste, Shown
+from ._values import Attr, Cell, Color, Key, Paste, Shown
 from ._wrapper import wrapper
 from . import _written_errors
 from ._written_errors import *
 
 __all__ = [
-    'Terminal', 'wrapper', 'Screen', 'Window', 'Pad', 'Panel', 'Attr', 'Color', 'Cell', 'Shown', 'Paste',
+    'Terminal', 'wrapper', 'Screen', 'Window', 'Pad', 'Panel', 'Attr', 'Color', 'Cell', 'Shown', 'Key', 'Paste',
     'Closed', 'Error', 'Refusal', 'TerminalError', 'WriteFailed', '__commit__', '__version__',
 ]
 __all__ += _written_errors.__all__

@@ -1,6 +1,6 @@
-"""The values that windows have: attributes, colours and cells."""
+"""The values that windows have, attributes, colours and cells; and those that terminals send, keys and pasted texts."""
 import enum
-from typing import NamedTuple, Optional
+from typing import NamedTuple, Optional, cast
 
 
 class Attr(enum.Flag):
@@ -41,9 +41,26 @@ class Shown(NamedTuple):
     background: Optional[Color] = None
 
 
-class Paste(str):
-    """A text that was pasted into the terminal."""
+class Key(str):
+    """A key, which is its name: a character, or a word as 'up', 'f1', 'ctrl+left' or 'resize'. So it compares with
+    texts, and Key.UP is 'up'."""
+    UP = DOWN = LEFT = RIGHT = HOME = END = PAGEUP = PAGEDOWN = INSERT = DELETE = cast('Key', '')
+    ENTER = TAB = ESCAPE = BACKSPACE = BEGIN = A1 = A3 = B2 = C1 = C3 = RESIZE = UNKNOWN = cast('Key', '')
+    F1 = F2 = F3 = F4 = F5 = F6 = F7 = F8 = F9 = F10 = cast('Key', '')
+    F11 = F12 = F13 = F14 = F15 = F16 = F17 = F18 = F19 = F20 = cast('Key', '')
+    sent = b''    # what the terminal sent
 
 
-for _it in (Attr, Color, Cell, Shown, Paste):
+for _name in [*filter(str.isupper, vars(Key))]:
+    setattr(Key, _name, Key(_name.lower()))
+
+
+class Paste(NamedTuple):
+    """A text that was pasted into the terminal, or a part of it, where it pauses for a second or is long. It equals no
+    key."""
+    text: str
+    ended: bool = True
+
+
+for _it in (Attr, Color, Cell, Shown, Key, Paste):
     _it.__module__ = 'curspan'

@@ -69,7 +69,9 @@ bool curspan_find_values(void);
 PyObject *curspan_refuse(uint32_t status);
 PyObject *curspan_refuse_character(const char *message, PyObject *character, Py_ssize_t position);
 PyObject *curspan_terminal_error(void);
-PyObject *curspan_paste(const char *text, Py_ssize_t length);
+PyObject *curspan_key_object(const curspan_key *key);
+/* Takes the text over. */
+PyObject *curspan_paste(PyObject *text, bool is_ended);
 PyObject *curspan_attributes(uint32_t bits);
 PyObject *curspan_found_cell(uint32_t cell);
 PyObject *curspan_shown(uint32_t cell);
@@ -134,6 +136,8 @@ PyObject *curspan_iterate_lines(PyObject *self, uint32_t lines, PyObject *(*line
 
 /* Writes bytes of a screen, with its colours; or none, without an exception, where the terminal was given back meanwhile. */
 bool curspan_draw_on(PyObject *terminal, PyObject *bytes, bool *is_away);
+/* Waits until the terminal has taken all of them. Other threads run meanwhile, and Python's handlers of signals. */
+bool curspan_wait_for_reader(PyObject *terminal);
 PyObject *curspan_give_pair(PyObject *terminal, Screen *screen, uint32_t pair, int foreground, int background);
 
 /* ---- the other files: methods that are written by hand, in the order of their tables */

@@ -85,15 +85,19 @@ static bool send(Screen *screen, bool *is_away) {
     return is_sent;
 }
 
-/* Where the terminal was given back meanwhile, the update is made again, of all. */
+/* Where the terminal was given back meanwhile, the update is made again, of all. Where a wait is interrupted, what the
+   terminal didn't take is written before the next update. */
 PyObject *curspan_screen_doupdate(PyObject *self, PyObject *none) {
     (void)none;
     Screen *screen = SCREEN(self);
+    if (screen->terminal && !curspan_wait_for_reader(screen->terminal)) return NULL;
     for (;;) {
         bool is_away = false;
         curspan_answer answer = curspan_doupdate(&screen->handle);
         bool goes_out = answer.status == CURSPAN_OK && (screen->terminal || screen->file);
-        if (!goes_out || send(screen, &is_away)) return number(answer);
+        bool is_sent = !goes_out || send(screen, &is_away);
+        if (is_sent && goes_out && screen->terminal) is_sent = curspan_wait_for_reader(screen->terminal);
+        if (is_sent) return number(answer);
         if (!is_away) return NULL;
     }
 }

@@ -3,7 +3,8 @@
 
 enum { ATTRIBUTES = 64, COLOURS = 8, KEPT = 256 };
 
-static PyObject *attribute_type, *cell_type, *shown_type, *colour_type, *errors, *error_of_terminals, *paste_type;
+static PyObject *attribute_type, *cell_type, *shown_type, *colour_type, *errors, *error_of_terminals;
+static PyObject *paste_type, *key_type;
 static PyObject *attributes[ATTRIBUTES]; /* of each sum of bits the one object of the enum */
 static PyObject *colours[COLOURS];
 
@@ -35,7 +36,7 @@ bool curspan_find_values(void) {
     if (!find(&attribute_type, "curspan._values", "Attr") || !find(&cell_type, "curspan._values", "Cell")) return false;
     if (!find(&shown_type, "curspan._values", "Shown") || !find(&colour_type, "curspan._values", "Color")) return false;
     if (!find(&errors, "curspan._statuses", "BY_STATUS") || !find(&error_of_terminals, "curspan._errors", "TerminalError")) return false;
-    if (!find(&paste_type, "curspan._values", "Paste")) return false;
+    if (!find(&paste_type, "curspan._values", "Paste") || !find(&key_type, "curspan._values", "Key")) return false;
     for (int bits = 0; bits < ATTRIBUTES; bits++)
         if (!put(&attributes[bits], PyObject_CallFunction(attribute_type, "i", bits))) return false;
     for (int colour = 0; colour < COLOURS; colour++)
@@ -75,11 +76,18 @@ PyObject *curspan_refuse_character(const char *message, PyObject *character, Py_
 
 PyObject *curspan_terminal_error(void) { return error_of_terminals; }
 
-PyObject *curspan_paste(const char *text, Py_ssize_t length) {
-    PyObject *decoded = PyUnicode_DecodeUTF8(text, length, "replace");
-    PyObject *paste = decoded ? PyObject_CallFunctionObjArgs(paste_type, decoded, NULL) : NULL;
-    Py_XDECREF(decoded);
-    return paste;
+PyObject *curspan_key_object(const curspan_key *key) {
+    char name[48];
+    PyObject *sent = PyBytes_FromStringAndSize(key->text, (Py_ssize_t)key->length);
+    Py_ssize_t length = (Py_ssize_t)curspan_key_name(key, name, sizeof name);
+    PyObject *object = sent ? PyObject_CallFunction(key_type, "s#", name, length) : NULL;
+    if (object && PyObject_SetAttrString(object, "sent", sent) < 0) Py_CLEAR(object);
+    Py_XDECREF(sent);
+    return object;
+}
+
+PyObject *curspan_paste(PyObject *text, bool is_ended) {
+    return PyObject_CallFunction(paste_type, "NO", text, is_ended ? Py_True : Py_False);
 }
 
 PyObject *curspan_attributes(uint32_t bits) {

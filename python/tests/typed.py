@@ -5,6 +5,15 @@ from typing import List, Optional, Tuple
 import curspan
 
 
+async def read(terminal: curspan.Terminal) -> List[str]:
+    key = terminal.key(0.5)
+    text: str = key.text if isinstance(key, curspan.Paste) else key or ''
+    name: str = curspan.Key.UP if key == curspan.Key.UP else curspan.Key('ctrl+left')
+    curspan.Key.PGUP  # type: ignore[attr-defined]
+    name = key  # type: ignore[assignment]
+    return [text, name, *[it.text if isinstance(it, curspan.Paste) else it async for it in terminal]]
+
+
 def use(screen: curspan.Screen) -> None:
     window: curspan.Window = screen.newwin(lines=2, x=3)
     pad: curspan.Pad = screen.newpad(1, 1).subpad()

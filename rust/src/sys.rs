@@ -218,12 +218,7 @@ extern "C" {
     fn curspan_terminal_use(terminal: &Terminal, input: i32, out: i32, options: u32) -> u32;
     fn curspan_terminal_close(terminal: &Terminal) -> u32;
     fn curspan_terminal_size(terminal: &Terminal, lines: &mut i32, columns: &mut i32) -> u32;
-    fn curspan_terminal_draw(
-        terminal: &Terminal,
-        screen: *const c_void,
-        bytes: *const u8,
-        length: usize,
-    ) -> u32;
+    fn curspan_terminal_draw(t: &Terminal, s: *const c_void, bytes: *const u8, n: usize) -> u32;
     fn curspan_terminal_write(terminal: &Terminal, bytes: *const c_void, length: usize) -> u32;
     fn curspan_terminal_init_pair(t: &Terminal, s: &mut Screen, pair: u32, f: i32, b: i32) -> u32;
     fn curspan_terminal_suspend(terminal: &Terminal) -> u32;

@@ -69,7 +69,7 @@ want(b';31;49mscreen 0' in read(masters[0]) and b';32;49mscreen 1' in read(maste
 
 os.write(masters[0], b'\x1b[200~one\rtwo\x1b[201~')
 pasted = terminals[0].key(2)
-want(isinstance(pasted, curspan.Paste) and pasted == 'one\ntwo', 'a text is pasted')
+want(pasted == curspan.Paste('one\ntwo'), 'a text is pasted')
 old = terminals[0].screen()
 os.system(f'stty rows 12 cols 50 < {os.ttyname(slaves[0])}')
 want(terminals[0].key(2) == 'resize', 'a new size is a key')

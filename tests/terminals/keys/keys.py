@@ -8,4 +8,4 @@ with open(sys.argv[1], 'w', encoding='utf-8') as file, curspan.Terminal('/dev/tt
     key = ''
     while key != 'ctrl+d':
         key = terminal.key()
-        file.write(f'paste {key}\n' if isinstance(key, curspan.Paste) else f'{key}\n')
+        file.write(f'paste {key.text}\n' if isinstance(key, curspan.Paste) else f'{key}\n')
