@@ -59,16 +59,20 @@ WITHOUT_MOUSE(mouseinterval, int, 0)
 WITHOUT_MOUSE(getmouse, MEVENT *, ERR)
 WITHOUT_MOUSE(ungetmouse, MEVENT *, ERR)
 
+/* Whether a window has a place, counted from its first one. */
+static bool has_place(const WINDOW *win, unsigned y, unsigned x) {
+    return y < (unsigned)getmaxy(win) && x < (unsigned)getmaxx(win);
+}
+
 bool wenclose(const WINDOW *win, int y, int x) {
     int top = getbegy(win), left = getbegx(win);
-    return top != ERR && y >= top && y < top + getmaxy(win) && x >= left && x < left + getmaxx(win);
+    return top != ERR && has_place(win, (unsigned)y - (unsigned)top, (unsigned)x - (unsigned)left);
 }
 
 bool wmouse_trafo(const WINDOW *win, int *y, int *x, bool to_screen) {
     int sign = to_screen ? 1 : -1, top = getbegy(win), left = getbegx(win);
     if (top == ERR || !y || !x) return false;
-    int screen_y = to_screen ? *y + top : *y, screen_x = to_screen ? *x + left : *x;
-    if (!wenclose(win, screen_y, screen_x)) return false;
+    if (!(to_screen ? has_place(win, (unsigned)*y, (unsigned)*x) : wenclose(win, *y, *x))) return false;
     *y += sign * top;
     *x += sign * left;
     return true;

@@ -42,7 +42,8 @@ static void append_byte(WINDOW *win, row *row, uint8_t byte, attr_t attrs) {
         curspan_spelling spelling = curspan_spell_part(&win->begun, byte);
         if (byte < ' ' || byte > 126) append(win, row, spelling.text, spelling.count, attrs);
     } else if (byte == '\t') {
-        for (int count = TABSIZE - row->to % TABSIZE; count > 0; count--) append(win, row, " ", 1, attrs);
+        int count = least(curspan_to_stop(row->to), row->columns - row->to);
+        while (count-- > 0) append(win, row, " ", 1, attrs);
     } else if (byte >= ' ' && byte != 127) {
         append(win, row, (const char *)&byte, 1, attrs);
     } else {
@@ -131,7 +132,7 @@ int wscrl(WINDOW *win, int n) {
 
 int winsdelln(WINDOW *win, int n) {
     if (!is_there(win)) return ERR;
-    return curspan_changed(win, curspan_scroll_lines(win, win->y, (int)win->lines - 1, -n));
+    return curspan_changed(win, curspan_scroll_lines(win, win->y, (int)win->lines - 1, -most(n, -LONGEST)));
 }
 
 int winsertln(WINDOW *win) { return winsdelln(win, 1); }

@@ -39,6 +39,7 @@ struct curspan_window {
     int top, bottom;         /* its scroll region */
     bool scrolls;
     bool has_ended; /* a character was written in the last place, and the cursor wasn't moved since */
+    unsigned left;  /* how many lines its cursor has left for the next one, by what was written */
     bool is_plain;  /* a letter is a cell of curspan.h as it is added to this one, and a blank is that one: */
     uint32_t plain, blank;
     attr_t other;   /* the attributes that a character had last, and what those with them are added to then */
@@ -107,6 +108,9 @@ static inline int curspan_changed(WINDOW *win, int answer) {
 }
 
 void curspan_measure(WINDOW *win);
+
+/* How many columns there are from one to the next tab stop. Where TABSIZE is no positive number it is one. */
+static inline int curspan_to_stop(int x) { return TABSIZE > 0 ? TABSIZE - x % TABSIZE : 1; }
 
 /* What a byte is drawn as, after those that begin a character: nothing where that isn't finished or has no width, the
    character in ASCII, or how a byte that belongs to none is spelled. */

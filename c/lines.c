@@ -8,9 +8,22 @@ struct line {
     WINDOW *win;
     char *text;
     int length, most;
-    int y, x; /* where it begins */
+    int y, x;      /* where it begins */
+    unsigned left; /* how many lines the window's cursor had left there */
     bool echo;
 };
+
+/* How many columns there are from the first of the line where it begins to the cursor, however often it was wrapped. */
+static int columns_to_cursor(const struct line *line) {
+    return (int)(line->win->left - line->left) * (int)line->win->columns + line->win->x;
+}
+
+/* Writes the text once more from where the line begins. */
+static void rewrite(struct line *line) {
+    wmove(line->win, line->y, line->x);
+    line->left = line->win->left;
+    waddstr(line->win, line->text);
+}
 
 /* Takes the last character away, all its bytes, and writes spaces over it, however many columns it has. */
 static void rub_out(struct line *line) {
@@ -18,27 +31,30 @@ static void rub_out(struct line *line) {
     while (--line->length > 0 && (line->text[line->length] & 0xc0) == 0x80) continue;
     line->text[line->length] = 0;
     if (!line->echo) return;
-    int y = getcury(line->win), x = getcurx(line->win);
-    wmove(line->win, line->y, line->x);
-    waddstr(line->win, line->text);
-    int end_y = getcury(line->win), end_x = getcurx(line->win);
-    while (getcury(line->win) < y || (getcury(line->win) == y && getcurx(line->win) < x))
-        if (waddch(line->win, ' ') == ERR) break;
-    wmove(line->win, end_y, end_x);
+    WINDOW *win = line->win;
+    int y = win->y, x = win->x, columns = columns_to_cursor(line);
+    rewrite(line);
+    int end_y = win->y, end_x = win->x;
+    unsigned left = win->left;
+    bool wraps_in_place = win->y > win->bottom;
+    while (win->y < y || (win->y == y && win->x < x) || (wraps_in_place && columns_to_cursor(line) < columns))
+        if (waddch(win, ' ') == ERR) break;
+    wmove(win, end_y, end_x);
+    line->left += win->left - left;
 }
 
 /* Writes a character that was added to the line. One that doesn't fit in the window is taken away again. */
 static void show_last(struct line *line) {
     WINDOW *win = line->win;
-    int y = getcury(win), x = getcurx(win), last = getmaxy(win) - 1;
+    int y = win->y;
+    unsigned left = win->left;
     if (waddch(win, (unsigned char)line->text[line->length - 1]) == ERR) {
         waddch(win, ' ');
         line->text[line->length] = 0;
         rub_out(line);
         return;
     }
-    bool wrapped = getcurx(win) < x;
-    if (wrapped && is_scrollok(win) && y == last && getcury(win) == last && line->y > 0) line->y--;
+    if (y == win->bottom) line->y = most(line->y - (int)(win->left - left), least(line->y, win->top));
     wrefresh(win);
 }
 
@@ -62,7 +78,7 @@ int wgetnstr(WINDOW *win, char *text, int n) {
     struct termios before;
     if (!is_there(win) || !text) return ERR;
     int room = n < 0 ? LONGEST_LINE : least(n, LONGEST_LINE);
-    struct line line = {win, text, 0, room, getcury(win), getcurx(win), curspan_modes.echo};
+    struct line line = {win, text, 0, room, win->y, win->x, win->left, curspan_modes.echo};
     curspan_begin_raw(&modes, &before);
     if (win->moved || is_wintouched(win)) wrefresh(win);
     int key = wgetch(win);

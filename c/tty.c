@@ -54,14 +54,16 @@ static ssize_t write_now(const struct curspan_tty *tty, const uint8_t *bytes, si
     return -1;
 }
 
-ssize_t curspan_write(const struct curspan_tty *tty, const void *bytes, size_t length, int milliseconds) {
+/* Writes all but what is done already. */
+static __attribute__((noinline)) ssize_t write_on(const struct curspan_tty *tty, const uint8_t *bytes, size_t length,
+                                                  size_t done, int milliseconds) {
     long end = milliseconds > 0 ? curspan_now() + milliseconds : 0;
-    const uint8_t *next = bytes, *last = next + length;
-    while (next < last) {
-        size_t left = (size_t)(last - next);
+    while (done < length) {
+        const uint8_t *next = bytes + done;
+        size_t left = length - done;
         ssize_t count = milliseconds < 0 ? write(tty->out, next, left) : write_now(tty, next, left);
         if (count > 0) {
-            next += count;
+            done += (size_t)count;
         } else if (count < 0 && errno == EAGAIN) {
             int time = curspan_left_until(milliseconds, end);
             if (time == 0) break;
@@ -70,7 +72,14 @@ ssize_t curspan_write(const struct curspan_tty *tty, const void *bytes, size_t l
             return -1;
         }
     }
-    return next - (const uint8_t *)bytes;
+    return (ssize_t)done;
+}
+
+/* Mostly one call does. */
+ssize_t curspan_write(const struct curspan_tty *tty, const void *bytes, size_t length, int milliseconds) {
+    ssize_t count = milliseconds < 0 ? write(tty->out, bytes, length) : 0;
+    if (count == (ssize_t)length) return count;
+    return write_on(tty, bytes, length, count > 0 ? (size_t)count : 0, milliseconds);
 }
 
 bool curspan_flush(struct curspan_tty *tty, int milliseconds) {

@@ -25,9 +25,10 @@ int wmove(WINDOW *win, int y, int x) {
 
 /* Goes to the next line, for which the region scrolls where it ends. In one that doesn't scroll that is an error. */
 static int leave_line(WINDOW *win) {
-    if (win->y != win->bottom) return go(win, least(win->y + 1, (int)win->lines - 1), 0);
-    if (!win->scrolls || curspan_scroll_lines(win, win->top, win->bottom, 1) == ERR) return ERR;
-    return go(win, win->y, 0);
+    bool is_last = win->y == win->bottom;
+    if (is_last && (!win->scrolls || curspan_scroll_lines(win, win->top, win->bottom, 1) == ERR)) return ERR;
+    win->left++;
+    return go(win, is_last ? win->y : least(win->y + 1, (int)win->lines - 1), 0);
 }
 
 /* From now on the cells that are written in a window wait. */
@@ -64,9 +65,9 @@ static int end_line(WINDOW *win) {
 }
 
 static int add_tab(WINDOW *win, attr_t attrs) {
-    int stop = win->x + TABSIZE - win->x % TABSIZE;
+    int count = curspan_to_stop(win->x), room = (int)win->columns - win->x;
     bool stops = win->y == win->bottom && !win->scrolls;
-    return stop < (int)win->columns || stops ? add_blanks(win, stop - win->x, attrs) : end_line(win);
+    return count < room || stops ? add_blanks(win, count, attrs) : end_line(win);
 }
 
 /* ---- characters that are spelled */

@@ -1,6 +1,7 @@
 """Ends programs by signals by chance, at moments by chance, each of them COUNT times, a third with a terminal that
 takes no bytes, since Ctrl-S was typed: COUNT SEED COMMAND.., of which the modes are as before each time, and where
-bytes are taken the page and the cursor too."""
+bytes are taken the page and the cursor too. A script's terminal takes bytes always, since bash itself waits for it, and
+no script gets SIGQUIT, which bash passes over."""
 import os
 import pathlib
 import random
@@ -43,8 +44,10 @@ def try_one(command, number, moment, is_stopped):
 failed = 0
 for program in PROGRAMS:
     name = pathlib.Path(program[-1]).name
+    is_script = program[0] == 'bash'
     for i in range(COUNT):
-        failed += not try_one(program, CHANCE.choice(SIGNALS), CHANCE.uniform(0, 0.3), i % 3 == 2)
+        number = CHANCE.choice([it for it in SIGNALS if not is_script or it != signal.SIGQUIT])
+        failed += not try_one(program, number, CHANCE.uniform(0, 0.3), i % 3 == 2 and not is_script)
         print(f'\rendings: {name}: {i + 1} of {COUNT}, {failed} failed', end='', file=sys.stderr, flush=True)
     print(file=sys.stderr)
 sys.exit(bool(failed))

@@ -1,5 +1,5 @@
-"""Runs the clock of each language, whose commands are the words: it goes on while nothing is typed, draws at once at a new size and
-after a stop, and q ends it at once."""
+"""Runs the clock of each language, whose commands are the words: it goes on while nothing is typed, draws at once at a
+new size and after a stop, and q ends it at once."""
 import re
 import shlex
 import sys

@@ -1,6 +1,6 @@
 """Types what is in tests/c/typed at programs that name keys, cut at each byte, and the keys of terminals also at once, and compares what
 these name in each language, and with the names of the keys that the table of sequences has. The words are the folder of tests, and of each
-program its command."""
+program its command. One of bash, which has no raw mode, is compared in what terminals send at once and in the table."""
 import pathlib
 import re
 import shlex
@@ -11,7 +11,8 @@ import time
 from pseudoterminal import Terminal
 
 TESTS = pathlib.Path(sys.argv[1])
-PROGRAMS = [shlex.split(it) for it in sys.argv[2:]]
+PROGRAMS = [shlex.split(it) for it in sys.argv[2:] if not it.startswith('bash ')]
+SCRIPTS = [shlex.split(it) for it in sys.argv[2:] if it.startswith('bash ')]
 NAMES = {'PPAGE': 'pageup', 'NPAGE': 'pagedown', 'IC': 'insert', 'DC': 'delete', 'BEG': 'begin', 'SR': 'shift+up', 'SF': 'shift+down', 'BTAB': 'shift+tab',
          'SPREVIOUS': 'shift+pageup', 'SNEXT': 'shift+pagedown', 'SIC': 'shift+insert', 'SDC': 'shift+delete', 'SHOME': 'shift+home', 'SEND': 'shift+end',
          'SRIGHT': 'shift+right', 'SLEFT': 'shift+left', 'EOL': 'ctrl+end'}
@@ -79,15 +80,19 @@ for typed in sorted((TESTS / 'c/typed').iterdir()):
         continue
     at_once = [keys_of(command, kind, [bytes_of(lines[0])], 0) for command in PROGRAMS]
     good &= compare(f'{kind}, at once', at_once)
+    for command in SCRIPTS:
+        keys = keys_of(command, kind, [bytes_of(lines[0]).replace(b'\x1a', b'')], 0)
+        good &= compare(f'{kind}, at once, in bash', [[it for it in at_once[0] if it != 'ctrl+z'], keys])
     if at_once[0] != cut[0][:len(at_once[0])] or 'unknown' in at_once[0] or 'escape' in at_once[0]:
         print(f'keys: {kind}: cut at each byte they are others, or some are unknown: {at_once[0]} and {cut[0]}')
         good = False
     good &= compare(f'{kind}, all that is typed', [keys_of(command, kind, whole, 0.02) for command in PROGRAMS])
 table = list(sequences())
-named = keys_of(PROGRAMS[0], 'xterm', [it for it, _ in table], 0)
-if named != [it for _, it in table]:
-    print('keys: of the table:', [it for it in zip(table, named) if it[0][1] != it[1]])
-    good = False
+for command in [PROGRAMS[0], *SCRIPTS]:
+    named = keys_of(command, 'xterm', [it for it, _ in table], 0)
+    if named != [it for _, it in table]:
+        print(f'keys: of the table, {command[0]}:', [it for it in zip(table, named) if it[0][1] != it[1]])
+        good = False
 texts = [b'a\xc3\xa9', b'\x1b[1;5D\x1b[1;6H\x1b[5;3~', b'\x1b[200~two\rlines\x1b[201~x', b'\x01\x1a\x1c\r\t', b'\x1bx\x1b\r', b'\xff\xe6\x97']
 wanted = ['a', 'é', 'ctrl+left', 'ctrl+shift+home', 'alt+pageup', 'paste two', 'lines', 'x', 'ctrl+a', 'ctrl+z', 'ctrl+\\', 'enter', 'tab', 'alt+x', 'alt+enter', 'unknown', 'unknown']
 for command in PROGRAMS:
@@ -95,5 +100,5 @@ for command in PROGRAMS:
     if keys != wanted:
         print(f'keys: {command[0]}: {keys}, and not {wanted}')
         good = False
-print(f'keys: {count} keys, and {len(table)} of the table, are the same in {len(PROGRAMS)} languages' if good else 'keys: they are not the same')
+print(f'keys: {count} keys, and {len(table)} of the table, are the same in {len(PROGRAMS) + len(SCRIPTS)} languages' if good else 'keys: they are not the same')
 sys.exit(not good)
