@@ -1,16 +1,17 @@
 # What tests use besides the kit, a line each: a command, a header in angle brackets, or a path; the packages of Debian
 # that have it; and the parts of ./test that are skipped without it, wholly or not.
-used_by_tests='gcc:gcc libc6-dev:library for C, ended commands, budgets, refused allocations, small frames, faulty streams, C programs, keys of C programs, programs of others, memory of C programs, decoder, terminals, long runs, packages, Python, many screens, other languages, Rust, crossterm
-ar:binutils:library for C, C programs, keys of C programs, programs of others, memory of C programs, decoder, terminals, packages, Python, many screens, other languages, Rust, crossterm
+used_by_tests='gcc:gcc libc6-dev:library for C, ended commands, budgets, refused allocations, small frames, faulty streams, C programs, keys of C programs, programs of others, memory of C programs, decoder, terminals, long runs, packages, Python, many screens, other languages, Rust, other crates
+ar:binutils:library for C, C programs, keys of C programs, programs of others, memory of C programs, decoder, terminals, packages, Python, many screens, other languages, Rust, other crates
 pkg-config:pkg-config:packages
 dpkg-deb:dpkg:packages
 lintian:lintian:packages
 valgrind:valgrind libc6-dbg:budgets, memory, small frames, memory of C programs, Rust
-python3:python3:random, small frames, pictures, terminal, interrupted scripts, building, ended commands, C programs, keys of C programs, programs of others, decoder, terminals, long runs, packages, Python, many screens, other languages, crossterm
+python3:python3:random, small frames, pictures, terminal, interrupted scripts, building, ended commands, C programs, keys of C programs, programs of others, decoder, terminals, long runs, packages, Python, many screens, other languages, other crates
 python3-config:python3-dev:packages, terminals, long runs, Python
 mypy:mypy:Python
-cargo:cargo:terminals, long runs, other languages, Rust, crossterm, packages
-/usr/share/cargo/registry/crossterm-*:librust-crossterm-dev:crossterm
+cargo:cargo:terminals, long runs, other languages, Rust, other crates, packages
+/usr/share/cargo/registry/crossterm-*:librust-crossterm-dev:other crates
+/usr/share/cargo/registry/tokio-[0-9]*:librust-tokio-dev:other crates
 rustfmt:rustfmt:Rust
 clippy-driver:rust-clippy:Rust
 chromium:chromium:pictures

@@ -70,7 +70,7 @@ def main(terminal: curspan.Terminal) -> None:
         elif names:
             is_asked = is_asked or key == 'd'
             ticked ^= {names[chosen]} if key == ' ' else set()
-            chosen += {'up': -1, 'down': 1}.get(key or '', 0)
+            chosen += (key == 'down') - (key == 'up')
         chosen = max(0, min(chosen, len(names) - 1))
 
 

@@ -1,8 +1,10 @@
 //! Puts the names of the keys that are typed into a file, a line each, up to Ctrl-D.
 
-use curspan::terminal::Options;
+use curspan::terminal::{Code, Event, Key, Modifiers, Options};
 use std::fs::File;
 use std::io::{self, Write};
+
+const END: Key = Code::Char('d').with(Modifiers::CTRL);
 
 fn main() -> io::Result<()> {
     let name = std::env::args().nth(1).unwrap_or_else(|| "keys.txt".into());
@@ -10,13 +12,16 @@ fn main() -> io::Result<()> {
     let options = Options::new().raw(true).page(false).cursor(true);
     let terminal = options.open("/dev/tty")?;
     terminal.write(b"ready")?;
-    while let Some(key) = terminal.key(None)? {
-        let text = String::from_utf8_lossy(key.text());
-        match key.name() {
-            "paste" => writeln!(file, "paste {text}")?,
-            name => writeln!(file, "{name}")?,
+    while let Some(event) = terminal.key(None)? {
+        match &event {
+            Event::Key(key) => writeln!(file, "{key}")?,
+            Event::Paste(paste) => {
+                writeln!(file, "paste {}", String::from_utf8_lossy(&paste.text))?;
+            }
+            Event::Unknown(_) => writeln!(file, "unknown")?,
+            _ => writeln!(file, "resize")?,
         }
-        if key == "ctrl+d" {
+        if event == Event::Key(END) {
             break;
         }
     }

@@ -1,7 +1,7 @@
 //! A list that scrolls: the arrows, Page Up, Page Down, Home and End choose a line of a file, Enter
 //! ends the list and puts that line out, and `q` ends it. It follows the size of the terminal.
 
-use curspan::terminal::{Key, Output, Terminal};
+use curspan::terminal::{Code, Event, Output, Terminal};
 use curspan::{plain, Attributes, Error, Screen, STDSCR};
 
 /// Draws the lines that there is room for from one on, the chosen one in reverse.
@@ -34,16 +34,23 @@ fn choose(lines: &[&str]) -> Result<Option<usize>, Error> {
         chosen = chosen.min(lines.len().saturating_sub(1));
         first = first.clamp((chosen + 1).saturating_sub(room), chosen);
         draw(&mut screen, lines, (first, chosen))?;
-        match terminal.key(None)?.as_ref().map_or("q", Key::name) {
-            "up" => chosen = chosen.saturating_sub(1),
-            "down" => chosen += 1,
-            "pageup" => chosen = chosen.saturating_sub(room),
-            "pagedown" => chosen += room,
-            "home" => chosen = 0,
-            "end" => chosen = lines.len(),
-            "resize" => screen = terminal.screen_after(screen)?,
-            "enter" => return Ok(Some(chosen)),
-            "q" => return Ok(None),
+        let key = match terminal.key(None)? {
+            Some(Event::Key(key)) => key,
+            Some(Event::Resize) => {
+                screen = terminal.screen_after(screen)?;
+                continue;
+            }
+            _ => continue,
+        };
+        match key.code {
+            Code::Up => chosen = chosen.saturating_sub(1),
+            Code::Down => chosen += 1,
+            Code::PageUp => chosen = chosen.saturating_sub(room),
+            Code::PageDown => chosen += room,
+            Code::Home => chosen = 0,
+            Code::End => chosen = lines.len(),
+            Code::Enter => return Ok(Some(chosen)),
+            Code::Char('q') => return Ok(None),
             _ => {}
         }
     }

@@ -2,10 +2,9 @@
 //! arrows choose one, `k` asks before it would end it, and `q` ends the monitor. It looks again
 //! each second, follows the size of the terminal, and ends no process: it says which one it would.
 
-use curspan::terminal::{Key, Output, Terminal};
+use curspan::terminal::{Code, Event, Modifiers, Output, Terminal};
 use curspan::{plain, Attributes, Color, Error, Refusal, Screen, STDSCR};
-use std::time::Duration;
-use std::{cmp, fs};
+use std::{cmp, fs, time::Duration};
 
 const TITLE: u32 = 1;
 const CHOSEN: u32 = 2;
@@ -21,13 +20,13 @@ fn process(number: &str) -> Option<Process> {
     Some((number.parse().ok()?, name, pages * 4))
 }
 
-fn look(order: &str) -> Vec<Process> {
+fn look(order: char) -> Vec<Process> {
     let folders = fs::read_dir("/proc").into_iter().flatten().flatten();
     let names = folders.filter_map(|folder| folder.file_name().into_string().ok());
     let mut found: Vec<Process> = names.filter_map(|name| process(&name)).collect();
     match order {
-        "p" => found.sort_by_key(|it| it.0),
-        "n" => found.sort_by(|one, other| one.1.cmp(&other.1)),
+        'p' => found.sort_by_key(|it| it.0),
+        'n' => found.sort_by(|one, other| one.1.cmp(&other.1)),
         _ => found.sort_by_key(|it| cmp::Reverse(it.2)),
     }
     found
@@ -73,12 +72,11 @@ fn ask(screen: &mut Screen<Output>, it: &Process) -> Result<(), Refusal> {
 fn main() -> Result<(), Error> {
     let terminal = Terminal::open()?;
     let mut screen = terminal.screen()?;
-    let (mut order, mut first, mut chosen, mut ended) = ("m".to_string(), 0, 0, 0);
-    let mut asked = None;
+    let (mut order, mut first, mut chosen, mut ended, mut asked) = ('m', 0, 0, 0, None);
     terminal.init_pair(&mut screen, TITLE, Color::White, Color::Blue)?;
     terminal.init_pair(&mut screen, CHOSEN, Color::Red, Color::Default)?;
     loop {
-        let found = look(&order);
+        let found = look(order);
         let lines = screen.getmaxyx(STDSCR)?.0;
         chosen = cmp::min(chosen, found.len() - 1);
         let least = (chosen + 3).saturating_sub(lines as usize);
@@ -91,16 +89,18 @@ fn main() -> Result<(), Error> {
             ask(&mut screen, it)?;
         }
         screen.doupdate()?;
-        let key = terminal.key(Some(Duration::from_secs(1)))?;
-        match (key.as_ref().map_or("", Key::name), &asked) {
-            ("" | "resize", _) => screen = terminal.screen_after(screen)?,
-            ("y", Some(it)) => (ended, asked) = (it.0, None),
+        match (terminal.key(Some(Duration::from_secs(1)))?, &asked) {
+            (None | Some(Event::Resize), _) => screen = terminal.screen_after(screen)?,
+            (Some(Event::Key(key)), Some(it)) if key == 'y' => (ended, asked) = (it.0, None),
             (_, Some(_)) => asked = None,
-            ("q", _) => return Ok(()),
-            ("up", _) => chosen = chosen.saturating_sub(1),
-            ("down", _) => chosen += 1,
-            ("k", _) => asked = Some(found[chosen].clone()),
-            (name @ ("p" | "n" | "m"), _) => order = name.to_string(),
+            (Some(Event::Key(key)), _) if key.modifiers == Modifiers::NONE => match key.code {
+                Code::Char('q') => return Ok(()),
+                Code::Up => chosen = chosen.saturating_sub(1),
+                Code::Down => chosen += 1,
+                Code::Char('k') => asked = Some(found[chosen].clone()),
+                Code::Char(name @ ('p' | 'n' | 'm')) => order = name,
+                _ => {}
+            },
             _ => {}
         }
     }

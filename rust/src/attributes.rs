@@ -1,8 +1,5 @@
 #![forbid(unsafe_code)]
 
-use std::fmt;
-use std::ops::{BitAnd, BitAndAssign, BitOr, BitOrAssign, Not};
-
 /// A set of attributes of characters.
 ///
 /// ```
@@ -42,84 +39,6 @@ impl Attributes {
         (Attributes::REVERSE, "REVERSE"),
         (Attributes::INVIS, "INVIS"),
     ];
-
-    /// The bits of the set, as `curspan.h` and scripts have them.
-    #[must_use]
-    pub const fn bits(self) -> u8 {
-        self.0
-    }
-
-    /// The set of some bits, if each is an attribute's.
-    #[must_use]
-    pub const fn from_bits(bits: u8) -> Option<Attributes> {
-        if bits & !Attributes::ALL.0 == 0 {
-            Some(Attributes(bits))
-        } else {
-            None
-        }
-    }
-
-    /// The set of the eight lowest bits, without those that are no attribute's.
-    pub(crate) const fn of_bits(bits: u32) -> Attributes {
-        Attributes(bits.to_le_bytes()[0] & Attributes::ALL.0)
-    }
-
-    /// Whether all of another set are in this one.
-    #[must_use]
-    pub const fn contains(self, other: Attributes) -> bool {
-        self.0 & other.0 == other.0
-    }
 }
 
-impl BitOr for Attributes {
-    type Output = Attributes;
-
-    fn bitor(self, other: Attributes) -> Attributes {
-        Attributes(self.0 | other.0)
-    }
-}
-
-impl BitOrAssign for Attributes {
-    fn bitor_assign(&mut self, other: Attributes) {
-        *self = *self | other;
-    }
-}
-
-impl BitAnd for Attributes {
-    type Output = Attributes;
-
-    fn bitand(self, other: Attributes) -> Attributes {
-        Attributes(self.0 & other.0)
-    }
-}
-
-impl BitAndAssign for Attributes {
-    fn bitand_assign(&mut self, other: Attributes) {
-        *self = *self & other;
-    }
-}
-
-impl Not for Attributes {
-    type Output = Attributes;
-
-    /// All attributes that aren't in the set.
-    fn not(self) -> Attributes {
-        Attributes(!self.0 & Attributes::ALL.0)
-    }
-}
-
-impl fmt::Debug for Attributes {
-    fn fmt(&self, f: &mut fmt::Formatter<'_>) -> fmt::Result {
-        if *self == Attributes::NONE {
-            return f.write_str("NONE");
-        }
-        let mut between = "";
-        for (attribute, name) in Attributes::NAMED {
-            if self.contains(attribute) {
-                write!(f, "{between}{name}")?;
-                between = " | ";
-            }
-        }
-        Ok(())
-    }
-}
+set_of_bits! { Attributes }

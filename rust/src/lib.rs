@@ -45,6 +45,8 @@
 #![warn(missing_docs, clippy::pedantic)]
 
 #[macro_use]
+mod bits;
+#[macro_use]
 mod written_functions;
 
 mod attributes;
@@ -52,6 +54,7 @@ mod cells;
 mod drawing;
 mod error;
 mod handles;
+mod keys;
 mod queries;
 mod refusal;
 mod screen;

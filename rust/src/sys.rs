@@ -2,12 +2,14 @@
 #![allow(clippy::too_many_arguments)]
 
 use crate::cells::{Cell, ShownCell};
+use crate::keys::{Event, Key, Paste};
 use crate::{Color, Refusal};
 use std::cell::UnsafeCell;
 use std::collections::TryReserveError;
 use std::ffi::{CStr, CString};
 use std::os::raw::{c_char, c_void};
 use std::os::unix::ffi::OsStrExt;
+use std::os::unix::io::BorrowedFd;
 use std::path::Path;
 use std::time::Duration;
 use std::{io, ptr};
@@ -202,7 +204,7 @@ pub(crate) struct Terminal {
 
 /// C's `curspan_key`.
 #[repr(C)]
-struct Key {
+struct Told {
     code: u32,
     modifiers: u32,
     text: *const u8,
@@ -224,9 +226,11 @@ extern "C" {
     fn curspan_terminal_suspend(terminal: &Terminal) -> u32;
     fn curspan_terminal_resume(terminal: &Terminal) -> u32;
     fn curspan_terminal_descriptor(terminal: &Terminal) -> i32;
+    fn curspan_terminal_output(terminal: &Terminal) -> i32;
+    fn curspan_terminal_flush(t: &Terminal, milliseconds: i32, kept: &mut usize) -> u32;
     fn curspan_terminal_give_back();
-    fn curspan_terminal_key(terminal: &Terminal, milliseconds: i32, key: &mut Key) -> u32;
-    fn curspan_key_name(key: &Key, out: *mut c_char, room: usize) -> usize;
+    fn curspan_terminal_key(terminal: &Terminal, milliseconds: i32, key: &mut Told) -> u32;
+    fn curspan_key_name(key: &Told, out: *mut c_char, room: usize) -> usize;
     fn curspan_terminal_text(status: u32) -> *const c_char;
     fn curspan_plain_text(text: *const c_char, length: usize, out: *mut c_char) -> usize;
 }
@@ -247,12 +251,67 @@ fn check_terminal(status: u32) -> io::Result<()> {
     }
 }
 
-/// What kind of key came.
-pub(crate) enum Code {
-    Key,
+/// The code of C that no key in time has. The next tell of what is no key, and then the named ones
+/// begin.
+const NONE: u32 = 0x11_0000;
+pub(crate) const FIRST_NAMED: u32 = NONE + 6;
+
+/// What a call for a key was answered.
+pub(crate) enum Answered {
+    Event(Event),
     None,
     Eof,
     Interrupted,
+}
+
+impl Told {
+    const fn new(code: u32, modifiers: u32) -> Told {
+        Told {
+            code,
+            modifiers,
+            text: ptr::null(),
+            length: 0,
+            flags: 0,
+            button: 0,
+            line: 0,
+            column: 0,
+        }
+    }
+
+    fn answer(&self) -> Answered {
+        // SAFETY: the text has so many bytes until the next call.
+        let text = unsafe { std::slice::from_raw_parts(self.text, self.length) };
+        Answered::Event(match self.code.wrapping_sub(NONE) {
+            0 => return Answered::None,
+            1 => Event::Resize,
+            2 => Event::Paste(Paste {
+                text: text.into(),
+                is_ended: self.flags & 1 != 0,
+            }),
+            4 => return Answered::Eof,
+            5 => return Answered::Interrupted,
+            _ => match Key::of_numbers(self.code, self.modifiers) {
+                Some(key) => Event::Key(key),
+                None => Event::Unknown(text.into()),
+            },
+        })
+    }
+}
+
+/// The name of a key.
+pub(crate) fn key_name(code: u32, modifiers: u8) -> String {
+    let key = Told::new(code, modifiers.into());
+    let mut name = [0_u8; 64];
+    // SAFETY: the name has so much room, which is enough for each, and no text is looked at.
+    let length = unsafe { curspan_key_name(&key, name.as_mut_ptr().cast(), name.len()) };
+    String::from_utf8_lossy(&name[..length]).into_owned()
+}
+
+/// Milliseconds of C, which aren't less than a time.
+fn milliseconds(time: Option<Duration>) -> i32 {
+    time.map_or(-1, |time| {
+        i32::try_from(time.as_micros().saturating_add(999) / 1000).unwrap_or(i32::MAX)
+    })
 }
 
 impl Terminal {
@@ -287,10 +346,11 @@ impl Terminal {
         (lines.unsigned_abs(), columns.unsigned_abs())
     }
 
-    pub(crate) fn draw(&self, bytes: &[u8]) -> io::Result<()> {
-        // SAFETY: the bytes have this length.
+    /// Writes the bytes of a screen, which a place of memory stands for.
+    pub(crate) fn draw(&self, screen: *const u8, bytes: &[u8]) -> io::Result<()> {
+        // SAFETY: the bytes have this length, and the address is only compared.
         check_terminal(unsafe {
-            curspan_terminal_draw(self, ptr::null(), bytes.as_ptr(), bytes.len())
+            curspan_terminal_draw(self, screen.cast(), bytes.as_ptr(), bytes.len())
         })
     }
 
@@ -327,48 +387,32 @@ impl Terminal {
         check_terminal(unsafe { curspan_terminal_resume(self) })
     }
 
-    pub(crate) fn descriptor(&self) -> i32 {
-        // SAFETY: the terminal is open.
-        unsafe { curspan_terminal_descriptor(self) }
+    /// What tells of keys.
+    pub(crate) fn descriptor(&self) -> BorrowedFd<'_> {
+        // SAFETY: the terminal is open, as long as it is borrowed, and so is its descriptor.
+        unsafe { BorrowedFd::borrow_raw(curspan_terminal_descriptor(self)) }
     }
 
-    /// Waits for a key: its kind, its name, and its text.
-    pub(crate) fn key(&self, time: Option<Duration>) -> io::Result<(Code, String, Vec<u8>)> {
-        const NONE: u32 = 0x11_0000;
-        let milliseconds = time.map_or(-1, |time| {
-            i32::try_from(time.as_micros().saturating_add(999) / 1000).unwrap_or(i32::MAX)
-        });
-        let mut key = Key {
-            code: 0,
-            modifiers: 0,
-            text: ptr::null(),
-            length: 0,
-            flags: 0,
-            button: 0,
-            line: 0,
-            column: 0,
-        };
-        let mut name = [0_u8; 64];
+    /// What takes the bytes.
+    pub(crate) fn output(&self) -> i32 {
+        // SAFETY: the terminal is open.
+        unsafe { curspan_terminal_output(self) }
+    }
+
+    /// Writes what was kept, and answers how many bytes of it still are.
+    pub(crate) fn flush(&self, time: Option<Duration>) -> io::Result<usize> {
+        let mut kept = 0;
+        // SAFETY: the terminal is open, and the number is lent.
+        check_terminal(unsafe { curspan_terminal_flush(self, milliseconds(time), &mut kept) })?;
+        Ok(kept)
+    }
+
+    /// Waits for a key.
+    pub(crate) fn key(&self, time: Option<Duration>) -> io::Result<Answered> {
+        let mut key = Told::new(NONE, 0);
         // SAFETY: the terminal is open, and the key is lent.
-        check_terminal(unsafe { curspan_terminal_key(self, milliseconds, &mut key) })?;
-        // SAFETY: the name has so much room, and the text so many bytes until the next call.
-        let (length, text) = unsafe {
-            (
-                curspan_key_name(&key, name.as_mut_ptr().cast(), name.len()),
-                std::slice::from_raw_parts(key.text, key.length).to_vec(),
-            )
-        };
-        let code = match key.code.wrapping_sub(NONE) {
-            0 => Code::None,
-            4 => Code::Eof,
-            5 => Code::Interrupted,
-            _ => Code::Key,
-        };
-        Ok((
-            code,
-            String::from_utf8_lossy(&name[..length]).into_owned(),
-            text,
-        ))
+        check_terminal(unsafe { curspan_terminal_key(self, milliseconds(time), &mut key) })?;
+        Ok(key.answer())
     }
 }
 

@@ -4,7 +4,7 @@
 //! told of, at exit, and before a signal ends or stops the program:
 //!
 //! ```no_run
-//! use curspan::terminal::Terminal;
+//! use curspan::terminal::{Event, Terminal};
 //! use curspan::STDSCR;
 //!
 //! # fn main() -> Result<(), curspan::Error> {
@@ -15,8 +15,8 @@
 //!     screen.update_panels();
 //!     screen.doupdate()?;
 //!     match terminal.key(None)? {
-//!         Some(key) if key == "q" => break,
-//!         Some(key) if key == "resize" => screen = terminal.screen_after(screen)?,
+//!         Some(Event::Key(key)) if key == 'q' => break,
+//!         Some(Event::Resize) => screen = terminal.screen_after(screen)?,
 //!         _ => {}
 //!     }
 //! }
@@ -25,11 +25,12 @@
 //! ```
 #![forbid(unsafe_code)]
 
-use crate::sys::{self, Code};
+pub use crate::keys::{Code, Event, Key, Modifiers, NoSuchKey, Paste};
+use crate::sys::{self, Answered};
 use crate::{Attributes, Color, Refusal, Screen, STDSCR};
 use std::fmt;
 use std::io::{self, Write};
-use std::os::unix::io::RawFd;
+use std::os::unix::io::{AsFd, AsRawFd, BorrowedFd, RawFd};
 use std::path::Path;
 use std::rc::Rc;
 use std::sync::Once;
@@ -45,6 +46,7 @@ impl Options {
     const HIDE_CURSOR: u32 = 4;
     const PASTE: u32 = 8;
     const SIGNALS: u32 = 16;
+    const KEEP: u32 = 32;
 
     /// Keys come as they are typed, the terminal has a page of its own, its cursor is hidden, a
     /// text that is pasted is one key, and it owns the signals.
@@ -85,6 +87,13 @@ impl Options {
     #[must_use]
     pub const fn signals(self, flag: bool) -> Options {
         self.with(Options::SIGNALS, flag)
+    }
+
+    /// Whether no call waits until the terminal takes bytes: then [`flush`](Terminal::flush) tells of
+    /// those that it didn't take.
+    #[must_use]
+    pub const fn keep(self, flag: bool) -> Options {
+        self.with(Options::KEEP, flag)
     }
 
     /// Opens the terminal of a file.
@@ -151,23 +160,24 @@ impl Terminal {
         self.0.size()
     }
 
-    /// Waits for a key, for some time, or for ever where that is `None`. The answer is `None` where
-    /// none came in that time.
+    /// Waits for a key or what else comes, for some time, or for ever where that is `None`, and not
+    /// at all where it is zero. The answer is `None` where nothing came in that time.
     ///
     /// # Errors
     ///
     /// Those of the system; and [`UnexpectedEof`](io::ErrorKind::UnexpectedEof) where the terminal is
     /// gone.
-    pub fn key(&self, timeout: Option<Duration>) -> io::Result<Option<Key>> {
-        let end = timeout.map(|time| Instant::now() + time);
+    pub fn key(&self, timeout: Option<Duration>) -> io::Result<Option<Event>> {
+        let end = timeout.and_then(|time| Instant::now().checked_add(time));
         loop {
             let left = end.map(|end| end.saturating_duration_since(Instant::now()));
-            let (code, name, text) = self.0.key(left)?;
-            match code {
-                Code::None => return Ok(None),
-                Code::Eof => return Err(io::ErrorKind::UnexpectedEof.into()),
-                Code::Interrupted => {}
-                Code::Key => return Ok(Some(Key { name, text })),
+            match self.0.key(left)? {
+                Answered::None if end.map_or(false, |end| end <= Instant::now()) => {
+                    return Ok(None)
+                }
+                Answered::None | Answered::Interrupted => {}
+                Answered::Eof => return Err(io::ErrorKind::UnexpectedEof.into()),
+                Answered::Event(event) => return Ok(Some(event)),
             }
         }
     }
@@ -182,6 +192,7 @@ impl Terminal {
         let (lines, columns) = self.size();
         let output = Output {
             terminal: Rc::clone(&self.0),
+            place: Box::new(0),
             bytes: Vec::new(),
         };
         Screen::new(output, lines, columns)
@@ -251,10 +262,38 @@ impl Terminal {
         self.0.resume()
     }
 
-    /// The descriptor of which keys are read, to wait for it beside others.
+    /// Writes what a terminal of [`Options::keep`] didn't take, for some time at most, or without end
+    /// where that is `None`, and answers how many bytes are kept still. While there are some, nothing
+    /// is to be drawn, and [`output`](Terminal::output) to be waited for.
+    ///
+    /// # Errors
+    ///
+    /// Those of the system.
+    pub fn flush(&self, timeout: Option<Duration>) -> io::Result<usize> {
+        self.0.flush(timeout)
+    }
+
+    /// The descriptor to which bytes are written, to wait for it beside others.
     #[must_use]
-    pub fn descriptor(&self) -> RawFd {
+    pub fn output(&self) -> RawFd {
+        self.0.output()
+    }
+}
+
+/// A descriptor to wait for beside others: it is ready to be read whenever [`Terminal::key`] with a
+/// time of zero has something to answer. It may be ready without, as where half a sequence came:
+/// then that answers `None`, and the descriptor isn't ready again before more comes. Nothing else
+/// is to be done with it.
+impl AsFd for Terminal {
+    fn as_fd(&self) -> BorrowedFd<'_> {
         self.0.descriptor()
+    }
+}
+
+/// The same descriptor, as `AsyncFd` of tokio takes it.
+impl AsRawFd for Terminal {
+    fn as_raw_fd(&self) -> RawFd {
+        self.as_fd().as_raw_fd()
     }
 }
 
@@ -265,50 +304,12 @@ impl fmt::Debug for Terminal {
     }
 }
 
-/// A key: a character, with `" "` for the space, or a name. It is compared with a text, and shown
-/// as one.
-///
-/// The names are `up`, `down`, `left`, `right`, `home`, `end`, `pageup`, `pagedown`, `insert`,
-/// `delete`, `enter`, `tab`, `escape`, `backspace`, `f1` to `f20`, and `begin`, `a1`, `a3`, `b2`,
-/// `c1` and `c3` of the keypad, with `ctrl+`, `alt+` and `shift+` before them in this order, as
-/// `ctrl+left` and `alt+x`; `resize` after a new size and after a stop; `paste` for a text that was
-/// pasted; and `unknown` for a sequence that no key has.
-#[derive(Clone, PartialEq, Eq, Debug)]
-pub struct Key {
-    name: String,
-    text: Vec<u8>,
-}
-
-impl Key {
-    /// Its name.
-    #[must_use]
-    pub fn name(&self) -> &str {
-        &self.name
-    }
-
-    /// What the terminal sent, or of the key `paste` the text.
-    #[must_use]
-    pub fn text(&self) -> &[u8] {
-        &self.text
-    }
-}
-
-impl PartialEq<&str> for Key {
-    fn eq(&self, name: &&str) -> bool {
-        self.name == *name
-    }
-}
-
-impl fmt::Display for Key {
-    fn fmt(&self, f: &mut fmt::Formatter<'_>) -> fmt::Result {
-        f.pad(&self.name)
-    }
-}
-
 /// What a screen of a terminal writes to.
 #[derive(Debug)]
 pub struct Output {
     terminal: Rc<sys::Terminal>,
+    /// Its address tells this screen from others.
+    place: Box<u8>,
     bytes: Vec<u8>,
 }
 
@@ -319,10 +320,10 @@ impl Write for Output {
     }
 
     /// Fails as [`Interrupted`](io::ErrorKind::Interrupted) where the terminal was given back
-    /// meanwhile, so that the screen sends all.
+    /// meanwhile, or showed another screen, so that this one sends all.
     fn flush(&mut self) -> io::Result<()> {
         let bytes = std::mem::take(&mut self.bytes);
-        self.terminal.draw(&bytes)
+        self.terminal.draw(&*self.place, &bytes)
     }
 }
 

@@ -1,6 +1,8 @@
 //! Attributes, colours, cells and refusals by themselves, and numbers that are too great.
 
+use curspan::terminal::{Code, Key, Modifiers};
 use curspan::{Attributes, Cell, Color, Refusal, Screen, STDSCR};
+use std::collections::HashSet;
 use std::error::Error;
 
 #[test]
@@ -75,4 +77,40 @@ fn what_moves_first_is_as_the_move_and_the_call() {
     assert_eq!(text, ">aB       ");
     assert_eq!(screen.mvwinch(pad, 1, 2).unwrap().character(), 'B');
     assert_eq!(screen.mvwinch(pad, 2, 0), Err(Refusal::OutsideWindow));
+}
+
+#[test]
+fn keys_have_names() {
+    const LEFT: Key = Code::Left.with(Modifiers::CTRL);
+    for (key, name) in [
+        (LEFT, "ctrl+left"),
+        (Code::Char('é').into(), "é"),
+        (Code::Char(' ').into(), " "),
+        (Code::Char('+').with(Modifiers::CTRL), "ctrl++"),
+        (Code::Char('f').with(Modifiers::ALT), "alt+f"),
+        (Code::Enter.into(), "enter"),
+        (Code::C3.with(Modifiers::ALL), "ctrl+alt+shift+c3"),
+        (Code::F(12).with(Modifiers::SHIFT), "shift+f12"),
+    ] {
+        assert_eq!(key.to_string(), name);
+        assert_eq!(name.parse(), Ok(key));
+    }
+    for name in [
+        "",
+        "ctrl+",
+        "alt+ctrl+a",
+        "f01",
+        "f+1",
+        "f256",
+        "resize",
+        "ab",
+        "Up",
+        "\t",
+    ] {
+        assert!(name.parse::<Key>().is_err());
+    }
+    assert_eq!(format!("{LEFT:>10}|"), " ctrl+left|");
+    assert!(LEFT != Code::Left && Key::from(Code::Char('q')) == 'q');
+    assert_eq!(HashSet::from([LEFT, LEFT, Code::Left.into()]).len(), 2);
+    assert!(matches!("ctrl+left".parse(), Ok(LEFT)));
 }
