@@ -53,38 +53,31 @@ pub struct Key {
     pub modifiers: Modifiers,
 }
 
-/// Which key it is: a character, F1 and so on, or one with a name. Those from `Begin` on are of the
-/// keypad.
-///
-/// ```compile_fail,E0599
-/// let code = curspan::terminal::Code::Pagedown;
-/// ```
-#[derive(Clone, Copy, PartialEq, Eq, Hash, Debug)]
-#[non_exhaustive]
-#[allow(missing_docs)]
-pub enum Code {
-    Char(char),
-    F(u8),
-    Enter,
-    Tab,
-    Escape,
-    Backspace,
-    Up,
-    Down,
-    Left,
-    Right,
-    Home,
-    End,
-    PageUp,
-    PageDown,
-    Insert,
-    Delete,
-    Begin,
-    A1,
-    A3,
-    B2,
-    C1,
-    C3,
+/// Declares the codes, of which those with names are in the order of `curspan_terminal.h`.
+macro_rules! codes {
+    ($($name:ident)*) => {
+        /// Which key it is: a character, F1 and so on, or one with a name. Those from `Begin` on
+        /// are of the keypad.
+        ///
+        /// ```compile_fail,E0599
+        /// let code = curspan::terminal::Code::Pagedown;
+        /// ```
+        #[derive(Clone, Copy, PartialEq, Eq, Hash, Debug)]
+        #[non_exhaustive]
+        #[allow(missing_docs)]
+        pub enum Code {
+            Char(char),
+            F(u8),
+            $($name,)*
+        }
+
+        const NAMED: &[Code] = &[$(Code::$name),*];
+    };
+}
+
+codes! {
+    Enter Tab Escape Backspace Up Down Left Right Home End PageUp PageDown Insert Delete
+    Begin A1 A3 B2 C1 C3
 }
 
 /// A set of modifiers.
@@ -124,30 +117,6 @@ set_of_bits! { Modifiers }
 #[derive(Clone, Copy, PartialEq, Eq, Debug)]
 pub struct NoSuchKey;
 
-/// The codes that have names, in the order of `curspan_terminal.h`.
-const NAMED: [Code; 20] = [
-    Code::Enter,
-    Code::Tab,
-    Code::Escape,
-    Code::Backspace,
-    Code::Up,
-    Code::Down,
-    Code::Left,
-    Code::Right,
-    Code::Home,
-    Code::End,
-    Code::PageUp,
-    Code::PageDown,
-    Code::Insert,
-    Code::Delete,
-    Code::Begin,
-    Code::A1,
-    Code::A3,
-    Code::B2,
-    Code::C1,
-    Code::C3,
-];
-
 impl Code {
     /// The key of this code with some modifiers.
     #[must_use]
@@ -161,7 +130,7 @@ impl Code {
     /// The codes that aren't characters, with their numbers in C.
     fn numbered() -> impl Iterator<Item = (u32, Code)> {
         let functions = (0..=u8::MAX).map(Code::F);
-        (sys::FIRST_NAMED..).zip(NAMED.into_iter().chain(functions))
+        (sys::FIRST_NAMED..).zip(NAMED.iter().copied().chain(functions))
     }
 
     /// The code of a number of C, if it is one.
