@@ -135,6 +135,7 @@ fn a_string_is_one_unknown(rt: HostRuntime) {
         unknown(4),
     ];
     assert!(rt; reads(b"\x1b]0;x\x1b\x1b[A\x1b]0;", &wanted));
+    assert!(rt; reads(b"\x1b]1;\x1b", &[unknown(4), name(Name::Escape, 1)]));
     let wanted = [
         held(']', ALT, 2),
         character('x', 1),

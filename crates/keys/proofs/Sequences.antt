@@ -1,13 +1,13 @@
 -- No byte is lost, and each sequence is one.
 use Rattle.std.specs.Prelude.{◌++◌, ◌+◌, ◌-◌, ◌<◌, ◌∷◌, ◌≡◌, ◌≤◌}
 use Rattle.keys.specs.{AllByRecursion, Asked, Bool, Byte, Delay, Event, IsBegun, IsOfSequences, IsPending, IsSequence}
-use Rattle.keys.specs.{Item, LONGEST, List, Option, Reading, State, [], after_bytes, all_bytes, ap, append-nil}
-use Rattle.keys.specs.{append_assoc, arith, byte_of, bytes_of, cases_Bool, cases_eq, cases_lt, continues, cut_by}
+use Rattle.keys.specs.{Item, LONGEST, List, Option, Reading, State, [], after_bytes, after_cut, all_bytes, ap, append-nil}
+use Rattle.keys.specs.{append_assoc, arith, byte_of, bytes_of, cases_Bool, cases_eq, cases_lt, continues, cut_by, cut_short}
 use Rattle.keys.specs.{cut_by_delay, ended_by, eq-eqb, escape, false, flat_map, flat_map-append, fold, get_or}
 use Rattle.keys.specs.{get_or-append_right, get_or-take, get_or_append_left, inl, inr, is_whole, item, items_of}
 use Rattle.keys.specs.{leaves_escape, left_by, length, length-append, length-take-le, nat_tests, ne_eqb, option_list}
 use Rattle.keys.specs.{read_event, reading, refl, start, state_after, subst, sym, take, take-append-le}
-use Rattle.keys.specs.{take-append_seam, take-length, take-take, take_more, taken_by, true, whole_of, ℕ, ◌∙◌}
+use Rattle.keys.specs.{take-append_seam, take-length, take-take, take_more, taken_by, true, waits, whole_of, ℕ, ◌∙◌}
 
 -- ---- no byte is lost
 
@@ -38,19 +38,18 @@ left-bytes pasting pending leaves =
     let is = left pasting pending leaves in
     ap (λ b. take (length pending - 1) pending ++ b ∷ []) (sym is.ends) ∙ without_last pending (omega (arith, is.long))
 
-empty : (l : List ℕ) → length l ≡ 0 → l ≡ []
-empty [] none = refl
-empty (x ∷ l) none = absurd (omega (arith, none))
-
 -- the cut sequence and what is left have the bytes that were pending
+bytes-short : (s : State) → (cut_short s).bytes ++ (after_cut s).pending ≡ s.pending
+bytes-short s = elim (cases_Bool (leaves_escape s.pasting s.pending)) [
+  | inl leaves ↦ rw leaves (left-bytes s.pasting s.pending leaves)
+  | inr none ↦ rw none (append-nil s.pending)
+]
+
 bytes-cut : (s : State) (byte : ℕ) → bytes_in (cut_by s byte) ++ (left_by s byte).pending ≡ s.pending
 unfolding bytes_in
 bytes-cut s byte = elim (cases_Bool (continues s.pasting s.pending byte)) [
   | inl on ↦ rw on refl
-  | inr cut ↦ elim (cases_Bool (leaves_escape s.pasting s.pending)) [
-    | inl leaves ↦ rw (cut, leaves) (rw append-nil (left-bytes s.pasting s.pending leaves))
-    | inr none ↦ rw (cut, none) (append-nil (s.pending ++ []) ∙ append-nil s.pending)
-  ]
+  | inr cut ↦ rw cut (rw append-nil (bytes-short s))
 ]
 
 bytes-whole : (s : State) (bytes : List ℕ) → bytes_in (whole_of s bytes) ++ (after_bytes s bytes).pending ≡ bytes
@@ -70,12 +69,9 @@ bytes-ended s byte = elim (cases_Bool (continues s.pasting s.pending byte)) [
 
 bytes-delay : (s : State) → bytes_in (cut_by_delay s) ++ (state_after s Delay).pending ≡ s.pending
 unfolding bytes_in
-bytes-delay s = elim (cases_Bool s.pasting) [
-  | inl pastes ↦ rw pastes refl
-  | inr typed ↦ elim (cases_eq (length s.pending) 0) [
-    | inl none ↦ rw (typed, eq-eqb (length s.pending) 0 none) (sym (empty s.pending none))
-    | inr some ↦ rw (typed, ne_eqb (length s.pending) 0 some) (append-nil (s.pending ++ []) ∙ append-nil s.pending)
-  ]
+bytes-delay s = elim (cases_Bool (waits s)) [
+  | inl waits ↦ rw waits (rw append-nil (bytes-short s))
+  | inr other ↦ rw other refl
 ]
 
 bytes-event : (s : State) (event : Event)
@@ -193,32 +189,31 @@ pending-escape : (asked : Asked) → IsPending (record { asked = asked; pasting 
 unfolding is_whole
 pending-escape asked = record { begun = begun-one false escape; open_yet = λ h. refl; short = omega arith }
 
+sequences-short : (s : State) → IsPending s → 1 ≤ length s.pending
+    → IsSequence (cut_short s) × IsPending (after_cut s)
+sequences-short s is some = elim (cases_Bool (leaves_escape s.pasting s.pending)) [
+  | inl leaves ↦
+      let ends = left s.pasting s.pending leaves in
+      let n : length (take (length s.pending - 1) s.pending) ≡ length s.pending - 1 =
+      length-take-le (length s.pending - 1) s.pending (omega arith) in
+      let P : Bool → Type 0 = λ p. IsPending (record { asked = s.asked; pasting = p; pending = escape ∷ [] }) in
+      rw leaves (
+        sequence s (take (length s.pending - 1) s.pending) (record {
+          begun = begun-take s.pasting s.pending (length s.pending - 1) (omega arith) is.begun;
+          some = omega (arith, n, ends.long);
+          few = omega (arith, n, is.short);
+        }),
+        subst P (sym ends.outside) (pending-escape s.asked),
+      )
+  | inr none ↦ rw none (sequence s s.pending (begins-pending s is some), pending-none s.asked s.pasting)
+]
+
 sequences-cut : (s : State) (byte : ℕ) → IsPending s
     → AllByRecursion IsSequence (option_list (cut_by s byte)) × IsPending (left_by s byte)
 sequences-cut s byte is = elim (cases_Bool (continues s.pasting s.pending byte)) [
   | inl on ↦ rw on (tt, is)
-  | inr cut ↦ elim (cases_Bool (leaves_escape s.pasting s.pending)) [
-    | inl leaves ↦
-        let ends = left s.pasting s.pending leaves in
-        let n : length (take (length s.pending - 1) s.pending) ≡ length s.pending - 1 =
-        length-take-le (length s.pending - 1) s.pending (omega arith) in
-        let P : Bool → Type 0 = λ p. IsPending (record { asked = s.asked; pasting = p; pending = escape ∷ [] }) in
-        rw (cut, leaves) (
-          (
-            sequence s (take (length s.pending - 1) s.pending) (record {
-              begun = begun-take s.pasting s.pending (length s.pending - 1) (omega arith) is.begun;
-              some = omega (arith, n, ends.long);
-              few = omega (arith, n, is.short);
-            }),
-            tt,
-          ),
-          subst P (sym ends.outside) (pending-escape s.asked),
-        )
-    | inr none ↦ rw (cut, none) (
-      (sequence s s.pending (begins-pending s is (cut-some s.pasting s.pending byte cut)), tt),
-      pending-none s.asked s.pasting,
-    )
-  ]
+  | inr cut ↦
+      let short = sequences-short s is (cut-some s.pasting s.pending byte cut) in rw cut ((short.0, tt), short.1)
 ]
 
 -- what has as many bytes as a sequence may have is whole
@@ -287,22 +282,20 @@ all-append : (xs ys : List Item) → AllByRecursion IsSequence xs → AllByRecur
 all-append [] ys all others = others
 all-append (x ∷ xs) ys all others = (all.0, all-append xs ys all.1 others)
 
+sequences-delay : (s : State) → IsPending s
+    → AllByRecursion IsSequence (option_list (cut_by_delay s)) × IsPending (state_after s Delay)
+sequences-delay s is = elim (cases_Bool (waits s)) [
+  | inl waits ↦ let short = sequences-short s is (grind (arith, nat_tests, waits)) in rw waits ((short.0, tt), short.1)
+  | inr other ↦ rw other (tt, is)
+]
+
 sequences-event : (s : State) (event : Event) → IsPending s
     → AllByRecursion IsSequence (items_of s event) × IsPending (state_after s event)
 sequences-event s (Byte byte) is =
     let cut = sequences-cut s byte is in
     let ended = sequences-ended (left_by s byte) byte cut.1 (left-off s byte) in
     (all-append (option_list (cut_by s byte)) (option_list (ended_by (left_by s byte) byte)) cut.0 ended.0, ended.1)
-sequences-event s Delay is = elim (cases_Bool s.pasting) [
-  | inl pastes ↦ rw pastes (tt, let P : Bool → Type 0 = λ p. IsPending (record s { pasting = p }) in subst P pastes is)
-  | inr typed ↦ elim (cases_eq (length s.pending) 0) [
-    | inl none ↦ rw (typed, eq-eqb (length s.pending) 0 none) (tt, pending-none s.asked false)
-    | inr some ↦
-        let one : IsSequence (item s s.pending) = sequence s s.pending (begins-pending s is (omega (arith, some))) in
-        let P : Bool → Type 0 = λ p. IsSequence (item (record s { pasting = p }) s.pending) in
-        rw (typed, ne_eqb (length s.pending) 0 some) ((subst P typed one, tt), pending-none s.asked false)
-  ]
-]
+sequences-event s Delay is = sequences-delay s is
 
 sequences-fold : (events : List Event) (r : Reading) → IsOfSequences r → IsOfSequences (fold read_event r events)
 sequences-fold [] r is = is
