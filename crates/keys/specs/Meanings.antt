@@ -11,6 +11,7 @@ use Rattle.keys.specs.Names.{Motion, Name, None, Option, PageDown, PageUp, Param
 use Rattle.keys.specs.Names.{Pointed, Press, Pressed, Release, Right, Some, TOO_LARGE, Tab, Unknown, Up, drop, length}
 use Rattle.keys.specs.Names.{nat_le, nat_lt, not, slice_index, slice_range, ℕ}
 use Rattle.keys.specs.PressedKeys.{ctrl_and_shift, key_named, no_modifiers, only_ctrl, only_shift, with_alt}
+use Rattle.keys.specs.PressedKeys.{with_shift}
 use Rattle.keys.specs.Characters.{code_of, size_by}
 use Rattle.keys.specs.Grammar.{bracket, escape, first, is_digit, is_numbered, last, middle, opens_string, second}
 use Rattle.keys.specs.Grammar.{shift_three, third, three_bytes}
@@ -143,19 +144,25 @@ console_key letter = if nat_le 65 letter && nat_le letter 69 then key_named (Fun
 abbrev pub numbered_key : Parameters → Key
 numbered_key p =
     if p.ended == 2 then (if p.first == 27 then coded_with p.third p.second else Unknown)
-    else if p.ended == 0 && p.first == 200 then PasteBegins
+    else if p.ended == 0 && p.first == 200 && not p.has_colon then PasteBegins
     else pressed_with (name_of_number p.first) p.second
 
--- those that end in a letter, with 1 or no number before the modifiers
-abbrev pub lettered_key : Parameters → ℕ → Key
-lettered_key p letter =
-    if nat_lt 1 p.first || nat_lt 1 p.ended then Unknown
-    else if p.ended == 1 then pressed_with (name_of_final letter) p.second
-    else if letter == 73 then FocusIn
+-- those that are a letter without parameters
+abbrev pub plain_key : ℕ → Key
+plain_key letter =
+    if letter == 73 then FocusIn
     else if letter == 79 then FocusOut
     else if letter == 90 then Pressed Tab only_shift
     else if nat_le 97 letter && nat_le letter 100 then pressed (name_of_letter (letter - 32)) only_shift
     else pressed (name_of_final letter) no_modifiers
+
+-- those that end in a letter behind the modifiers, with 1, 0 or no number before these; Z has shift also where they
+-- don't say it (libvterm)
+abbrev pub lettered_key : Parameters → ℕ → Key
+lettered_key p letter =
+    if nat_lt 1 p.first || not (p.ended == 1) then Unknown
+    else if letter == 90 then with_shift (pressed_with (Some Tab) p.second)
+    else pressed_with (name_of_final letter) p.second
 
 -- by the parameters and the final byte; a key that is released (3) is unknown
 unfoldable pub controlled_key : Parameters → ℕ → Key
@@ -191,10 +198,14 @@ button_of bits =
 abbrev pub action_of : ℕ → Bool → Action
 action_of bits released = if is_odd (bits / 32) then Motion else if released then Release else Press
 
--- The bits have the button, what was held (4 shift, 8 alt, 16 ctrl) and motion. The column and the line count from 1.
+-- a column or a line, from 1 on
+abbrev pub is_place : ℕ → Bool
+is_place number = nat_lt 0 number && nat_lt number TOO_LARGE
+
+-- the bits have the button, what was held (4 shift, 8 alt, 16 ctrl) and motion
 abbrev pub pointed : ℕ → Bool → ℕ → ℕ → Key
 pointed bits released column line =
-    if nat_lt 191 bits || column == 0 || line == 0 then Unknown
+    if nat_lt 191 bits || not (is_place column && is_place line) then Unknown
     else Pointed (record {
       button = button_of bits;
       held = modifiers_of (bits / 4);
@@ -206,11 +217,11 @@ pointed bits released column line =
 -- ESC [ < and three numbers; m for a release
 unfoldable pub mouse_key : Parameters → ℕ → Key
 mouse_key p final =
-    if p.strange || not (p.ended == 2) then Unknown
+    if p.strange || p.has_colon || not (p.ended == 2) then Unknown
     else if final == 77 || final == 109 then pointed p.first (final == 109) p.second p.third
     else Unknown
 
--- ESC [ M and three bytes, each 32 more than its number; button 0 is a release
+-- ESC [ M and three bytes, each 32 more than its number; where they name no button it is a release, or motion
 unfoldable pub three_bytes_key : List ℕ → Key
 three_bytes_key bytes =
     if not (length bytes == 6) || nat_lt (slice_index bytes 3) 32 then Unknown
@@ -226,6 +237,7 @@ control_key bytes =
     else if is_ending (last bytes) then ended_key bytes
     else if nat_lt (last bytes) 0x40 then Unknown
     else if third bytes == 60 then mouse_key (parameters (slice_range bytes 3 (length bytes - 1))) (last bytes)
+    else if length bytes == 3 then plain_key (last bytes)
     else controlled_key (parameters (middle bytes)) (last bytes)
 
 -- ---- what an escape begins

@@ -21,3 +21,8 @@ key_named name = Pressed name no_modifiers
 abbrev pub with_alt : Key → Key
 with_alt (Pressed name held) = Pressed name (record held { alt = true })
 with_alt key = key
+
+-- the same with shift
+abbrev pub with_shift : Key → Key
+with_shift (Pressed name held) = Pressed name (record held { shift = true })
+with_shift key = key

@@ -1,7 +1,7 @@
 //! Keys as values.
 
 ghost use Rattle.std.specs.Prelude.{◌≡◌};
-ghost use Rattle.keys.specs.{key_named, with_alt};
+ghost use Rattle.keys.specs.{key_named, with_alt, with_shift};
 
 /// What a key is called, without its modifiers.
 #[derive(Clone, Copy, PartialEq, Eq)]
@@ -133,6 +133,23 @@ impl Key {
                 Modifiers {
                     shift: held.shift,
                     alt: true,
+                    ctrl: held.ctrl,
+                },
+            ),
+            other => other,
+        }
+    }
+
+    /// The same with shift.
+    pub(crate) fn with_shift(self) -> Key
+        ensures { result ≡ with_shift self }
+    {
+        match self {
+            Key::Pressed(name, held) => Key::Pressed(
+                name,
+                Modifiers {
+                    shift: true,
+                    alt: held.alt,
                     ctrl: held.ctrl,
                 },
             ),
