@@ -156,6 +156,8 @@ fn a_string_is_one_unknown(rt: HostRuntime) {
         held('P', ALT, 2),
     ];
     assert!(rt; reads(b"\x1b]x\x1bX1\x1bP", &wanted));
+    let wanted = [held(']', ALT, 2), held('\\', ALT, 2)];
+    assert!(rt; reads(b"\x1b]\x1b\\", &wanted));
 }
 
 #[test]

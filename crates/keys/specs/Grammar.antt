@@ -148,8 +148,10 @@ is_whole pasting bytes =
 
 -- ---- where a sequence is cut short
 
+-- a string was begun
+abbrev pub is_string : List ℕ → Bool
+is_string pending = nat_lt 2 (length pending) && first pending == escape && opens_string (second pending)
+
 -- the last escape in a string, if no \ follows, is no part of it: it begins what comes next
 unfoldable pub leaves_escape : Bool → List ℕ → Bool
-leaves_escape pasting pending =
-    not pasting && nat_lt 2 (length pending) && first pending == escape && opens_string (second pending)
-    && last pending == escape
+leaves_escape pasting pending = not pasting && is_string pending && last pending == escape

@@ -6,7 +6,7 @@ ghost use Rattle.std.specs.Prelude.{◌++◌, ◌+◌, ◌<◌, ◌∷◌, ◌�
 ghost use Rattle.keys.specs.{AreKey, Asked, Byte, Character, Event, HasRead, IsOfSequences, IsPending, IsScalar};
 ghost use Rattle.keys.specs.{IsSequence, Item, Key, LONGEST, List, Modifiers, Name, PasteEnds, Pressed, Resumes, Some};
 ghost use Rattle.keys.specs.{State, Taken, [], after_key, all_bytes, as_asked, ascii_key, bytes_of, bytes_taken};
-ghost use Rattle.keys.specs.{control_sequence, decimal, encode_utf8, escape, false, key_named, length, map};
+ghost use Rattle.keys.specs.{control_sequence, decimal, encode_utf8, escape, false, is_string, key_named, length, map};
 ghost use Rattle.keys.specs.{name_of_code, name_of_final, name_of_number, parameter_of, paste_end, reading};
 ghost use Rattle.keys.specs.{slice_index, start, take, terminator, three_parameters, true, two_parameters, ℕ};
 
@@ -53,11 +53,12 @@ pub fn key_is_answered()
 {}
 
 /// No sequence is eaten by what was pending before it: a whole one that begins with an escape is answered after any
-/// events outside of a pasted text, unless it is ESC \, which ends a string, or its escape is the last byte that a
-/// string can have.
+/// events outside of a pasted text. But where a string is pending ESC \ ends it, and an escape may be the last byte
+/// that a string can have.
 pub fn no_sequence_is_eaten()
     ensures { (events : List Event) (taken : List Taken) (state : State) (byte : ℕ) (rest : List ℕ) (key : Key)
-        → HasRead events taken state → state.pasting ≡ false → length state.pending + 1 < LONGEST → byte ≢ terminator
+        → HasRead events taken state → state.pasting ≡ false
+        → (is_string state.pending ≡ false) ⊎ ((length state.pending + 1 < LONGEST) × (byte ≢ terminator))
         → AreKey (escape ∷ byte ∷ rest) key
         → Resumes state.asked events taken (escape ∷ byte ∷ rest) (as_asked state.asked key) }
 {}
