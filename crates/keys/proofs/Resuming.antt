@@ -4,9 +4,9 @@ use Rattle.keys.specs.{AreKey, Asked, Bool, Byte, Event, HasRead, Item, Key, LON
 use Rattle.keys.specs.{Resumes, State, Taken, [], ap, append-nil, append_assoc, arith, as_asked, begins_string}
 use Rattle.keys.specs.{cases_Bool, cases_eq, continues, cut_by, ended_by, eq-eqb, false, fold, fold-append, get_or}
 use Rattle.keys.specs.{get_or_append_left, goes_on_control, goes_on_escape, goes_on_shift, inl, inr, is_in_character}
-use Rattle.keys.specs.{is_string, is_whole, items_of, key_of, keys_of, leaves_escape, left_by, length, length-append, map}
-use Rattle.keys.specs.{map-append, nat_tests, ne_eqb, opens_string, option_list, paste_end, read_event, reading, refl}
-use Rattle.keys.specs.{state_after, suc, sym, taken_by, taken_of, true, zero, ℕ, ◌∙◌}
+use Rattle.keys.specs.{is_string, is_whole, items_of, key_of, keys_of, leaves_escape, left_by, length, length-append}
+use Rattle.keys.specs.{map, map-append, nat_tests, ne_eqb, opens_string, option_list, paste_end, read_event, reading}
+use Rattle.keys.specs.{refl, state_after, suc, sym, taken_by, taken_of, true, zero, ℕ, ◌∙◌}
 use Rattle.keys.proofs.Sequences.{get-last}
 use Rattle.keys.proofs.Readings.{ended-read, outside, read-whole}
 

@@ -3,8 +3,8 @@
 ghost use Rattle.std.specs.Prelude.{if◌then◌else◌, ◌++◌, ◌+◌, ◌<◌, ◌∷◌, ◌≡◌, ◌≤◌};
 ghost use Rattle.keys.specs.{Byte, Delay, Event, HasRead, List, [], after_bytes, after_cut, answered, cut_by};
 ghost use Rattle.keys.specs.{cut_by_delay, cut_short, ended_by, false, is_some, is_whole, item, items_of, keys_of};
-ghost use Rattle.keys.specs.{leaves_escape, left_by, length, map, option_list, option_map, pasting_after, start, state_after, take, taken_by};
-ghost use Rattle.keys.specs.{taken_of, whole_of};
+ghost use Rattle.keys.specs.{leaves_escape, left_by, length, map, option_list, option_map, pasting_after, start};
+ghost use Rattle.keys.specs.{state_after, take, taken_by, taken_of, whole_of};
 
 use crate::asked::Asked;
 use crate::grammar::{ESCAPE, LONGEST, continues, is_whole, leaves_escape};

@@ -31,16 +31,18 @@ pub fn one_reading()
         → HasRead events others other → one.asked ≡ other.asked → one ≡ other }
 {}
 
-/// Each sequence has its key, and none of its beginnings is whole; and what is pending is such a beginning.
+/// Each sequence has the key that it has after those before it, of which whole ones alone begin and end pasted texts,
+/// by their keys. None of its beginnings is whole, and what is pending is such a beginning.
 pub fn all_are_sequences()
-    ensures sequences { (asked : Asked) (events : List Event) → IsOfSequences (reading asked events) }
+    ensures sequences { (asked : Asked) (events : List Event) → IsOfSequences asked (reading asked events) }
     ensures pending { (events : List Event) (taken : List Taken) (state : State) → HasRead events taken state
         → IsPending state }
 {}
 
 /// A pasted text ends with these bytes alone.
 pub fn pastes_end_so()
-    ensures { (item : Item) (is : IsSequence item) → is.pasting ≡ true → item.key ≡ PasteEnds → item.bytes ≡ paste_end }
+    ensures { (asked : Asked) (item : Item) → IsSequence asked true item → item.key ≡ PasteEnds
+        → item.bytes ≡ paste_end }
 {}
 
 /// The bytes of a key, where nothing is pending and no text is pasted, are answered by that key, if it was asked for,

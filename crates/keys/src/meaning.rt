@@ -2,10 +2,10 @@
 
 ghost use Rattle.std.specs.Prelude.{◌<◌, ◌≡◌, ◌≤◌};
 ghost use Rattle.keys.specs.{action_of, ascii_key, button_of, character_key, coded_with, console_key, control_key};
-ghost use Rattle.keys.specs.{controlled_key, ended_key, escaped_key, held_by_ending, is_ending, is_odd, key_of};
-ghost use Rattle.keys.specs.{key_of_code, length, lettered_key, modifiers_of, mouse_key, name_of_code, name_of_final};
-ghost use Rattle.keys.specs.{name_of_keypad, name_of_letter, name_of_number, numbered_key, plain_key, pointed};
-ghost use Rattle.keys.specs.{is_place, pressed, pressed_below, pressed_with, shifted_key, three_bytes_key};
+ghost use Rattle.keys.specs.{controlled_key, ended_key, escaped_key, held_by_ending, is_ending, is_odd, is_place};
+ghost use Rattle.keys.specs.{key_of, key_of_code, length, lettered_key, modifiers_of, mouse_key, name_of_code};
+ghost use Rattle.keys.specs.{name_of_final, name_of_keypad, name_of_letter, name_of_number, numbered_key, plain_key};
+ghost use Rattle.keys.specs.{pointed, pressed, pressed_below, pressed_with, shifted_key, three_bytes_key};
 
 use crate::grammar::{
     BRACKET, ESCAPE, SHIFT_THREE, THREE_BYTES, is_digit, is_numbered, opens_string,
