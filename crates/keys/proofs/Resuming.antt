@@ -1,7 +1,7 @@
 -- What begins with an escape is read whatever was pending before it.
 use Rattle.std.specs.Prelude.{if◌then◌else◌, ◌++◌, ◌+◌, ◌-◌, ◌<◌, ◌==◌, ◌∷◌, ◌≡◌, ◌≤◌, ◌⊎◌}
-use Rattle.keys.specs.{AreKey, Asked, Bool, Byte, Event, HasRead, Item, Key, LONGEST, List, None, PasteEnds, Reading}
-use Rattle.keys.specs.{Resumes, State, Taken, [], ap, append-nil, append_assoc, arith, as_asked, begins_string}
+use Rattle.keys.specs.{AreKey, Asked, Bool, Byte, Delay, Event, HasRead, Item, Key, LONGEST, List, None, PasteEnds}
+use Rattle.keys.specs.{Reading, Resumes, State, Taken, [], ap, append-nil, append_assoc, arith, as_asked, begins_string}
 use Rattle.keys.specs.{cases_Bool, cases_eq, continues, cut_by, ended_by, eq-eqb, false, fold, fold-append, get_or}
 use Rattle.keys.specs.{get_or_append_left, goes_on_control, goes_on_escape, goes_on_shift, inl, inr, is_in_character}
 use Rattle.keys.specs.{is_string, is_whole, items_of, key_of, keys_of, leaves_escape, left_by, length, length-append}
@@ -292,6 +292,26 @@ module _ (asked : Asked) (items : List Item) where
       ∙ ap (λ r. fold read_event r (map Byte (49 ∷ 126 ∷ []))) (paste-on (27 ∷ 91 ∷ 50 ∷ []) 48 refl refl)
       ∙ ap (λ r. fold read_event r (map Byte (126 ∷ []))) (paste-on (27 ∷ 91 ∷ 50 ∷ 48 ∷ []) 49 refl refl)
       ∙ paste-last
+
+-- a delay changes nothing
+delay-same : (r : Reading) → r.state.pasting ≡ true → read_event r Delay ≡ r
+delay-same r pastes = rw pastes (rw append-nil refl)
+
+pub paste-delays : (events more : List Event) (taken others : List Taken) (one other : State) → HasRead events taken one
+    → one.pasting ≡ true → one.asked ≡ other.asked → HasRead (events ++ more) others other
+    → HasRead (events ++ Delay ∷ more) others other
+paste-delays events more taken others one other h pastes asked k =
+    let r = reading other.asked events in
+    let at : r.state.pasting ≡ true =
+    ap (λ a. (reading a events).state.pasting) (sym asked) ∙ ap (λ (s : State). s.pasting) (sym h.state_is) ∙ pastes in
+    let same : reading other.asked (events ++ more) ≡ reading other.asked (events ++ Delay ∷ more) =
+    fold-append read_event (outside other.asked [] []) events more
+    ∙ ap (λ r. fold read_event r more) (sym (delay-same r at))
+    ∙ sym (fold-append read_event (outside other.asked [] []) events (Delay ∷ more)) in
+    record {
+      taken_are = k.taken_are ∙ ap (λ (r : Reading). keys_of r.items) same;
+      state_is = k.state_is ∙ ap (λ (r : Reading). r.state) same;
+    }
 
 abbrev cut_in_paste : Asked → List ℕ → List Item
 cut_in_paste asked pending = option_list (cut_by (record { asked = asked; pasting = true; pending = pending }) 27)

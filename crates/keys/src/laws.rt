@@ -3,12 +3,13 @@
 #![tactic(auto, using(crate::proofs::Readings::laws))]
 
 ghost use Rattle.std.specs.Prelude.{◌++◌, ◌+◌, ◌<◌, ◌∷◌, ◌≡◌, ◌≢◌, ◌≤◌, ◌⊎◌};
-ghost use Rattle.keys.specs.{AreKey, Asked, Byte, Character, Event, HasRead, IsOfSequences, IsPending, IsScalar};
-ghost use Rattle.keys.specs.{IsSequence, Item, Key, LONGEST, List, Modifiers, Name, PasteEnds, Pressed, Resumes, Some};
-ghost use Rattle.keys.specs.{State, Taken, [], after_key, all_bytes, as_asked, ascii_key, bytes_of, bytes_taken};
-ghost use Rattle.keys.specs.{control_sequence, decimal, encode_utf8, escape, false, is_string, key_named, length, map};
-ghost use Rattle.keys.specs.{name_of_code, name_of_final, name_of_number, parameter_of, paste_end, reading};
-ghost use Rattle.keys.specs.{slice_index, start, take, terminator, three_parameters, true, two_parameters, ℕ};
+ghost use Rattle.keys.specs.{AreKey, Asked, Backspace, Byte, Character, Delay, Enter, Escape, Event, HasRead, IsBegun};
+ghost use Rattle.keys.specs.{IsOfSequences, IsPending, IsScalar, IsSequence, Item, Key, LONGEST, List, Modifiers, Name};
+ghost use Rattle.keys.specs.{PasteEnds, Pressed, Resumes, Some, State, Tab, Taken, [], after_key, all_bytes, as_asked};
+ghost use Rattle.keys.specs.{ascii_key, bytes_of, bytes_taken, control_sequence, decimal, encode_utf8, escape, false};
+ghost use Rattle.keys.specs.{is_string, key_named, key_of, length, map, name_of_code, name_of_final, name_of_number};
+ghost use Rattle.keys.specs.{parameter_of, paste_end, reading, slice_index, start, take, terminator, three_parameters};
+ghost use Rattle.keys.specs.{true, two_parameters, ℕ};
 
 /// Each byte is in exactly one sequence: those of all sequences, in their order, and then those that are pending are
 /// the bytes that came.
@@ -65,19 +66,23 @@ pub fn no_sequence_is_eaten()
         → Resumes state.asked events taken (escape ∷ byte ∷ rest) (as_asked state.asked key) }
 {}
 
-/// The end of a pasted text is never missed, whatever was pending.
+/// The end of a pasted text is never missed, whatever was pending, nor by a delay between its bytes, which changes
+/// nothing.
 pub fn no_end_is_missed()
-    ensures { (events : List Event) (taken : List Taken) (state : State) → HasRead events taken state
+    ensures ends { (events : List Event) (taken : List Taken) (state : State) → HasRead events taken state
         → state.pasting ≡ true → Resumes state.asked events taken paste_end PasteEnds }
+    ensures delays { (events more : List Event) (taken others : List Taken) (one other : State)
+        → HasRead events taken one → one.pasting ≡ true → one.asked ≡ other.asked
+        → HasRead (events ++ more) others other → HasRead (events ++ Delay ∷ more) others other }
 {}
 
-/// The bytes of each character in UTF-8 are its key, and no other bytes that begin so are. Of those below 128, control
-/// characters have names and modifiers.
+/// The bytes of each character in UTF-8 are its key, and no others but sequences of an escape are, also where they were
+/// cut short. Of those below 128 the control characters have names or modifiers.
 pub fn characters_are_keys()
     ensures ascii { (code : ℕ) → code < 128 → code ≢ escape → AreKey (code ∷ []) (ascii_key code) }
     ensures others { (code : ℕ) → 128 ≤ code → IsScalar code → AreKey (encode_utf8 code) (key_named (Character code)) }
-    ensures only { (bytes : List ℕ) (code : ℕ) → 128 ≤ slice_index bytes 0 → AreKey bytes (key_named (Character code))
-        → bytes ≡ encode_utf8 code }
+    ensures only { (bytes : List ℕ) (code : ℕ) → IsBegun false bytes → slice_index bytes 0 ≢ escape
+        → key_of false bytes ≡ key_named (Character code) → bytes ≡ encode_utf8 code }
 {}
 
 /// Names by their control sequences, whose numbers are spelled in decimal digits: ESC [ n ~ without modifiers, and with
@@ -100,4 +105,6 @@ pub fn codes_are_keys()
         → AreKey (control_sequence (three_parameters 27 (parameter_of held) code) 126) (Pressed name held) }
     ensures characters { (code : ℕ) → IsScalar code → 32 ≤ code → code ≢ 127 → (code < 0xe000) ⊎ (0xf900 ≤ code)
         → name_of_code code ≡ Some (Character code) }
+    ensures names { (name_of_code 13 ≡ Some Enter) × (name_of_code 9 ≡ Some Tab) × (name_of_code 27 ≡ Some Escape)
+        × (name_of_code 8 ≡ Some Backspace) × (name_of_code 127 ≡ Some Backspace) }
 {}
