@@ -1,9 +1,10 @@
 -- Which key a sequence of bytes is: one that is whole, or one that was cut short.
--- xterm's control sequences (ctlseqs): "PC-Style Function Keys" for letters, numbers and modifiers, "Alt and Meta Keys"
+-- xterm's control sequences (ctlseqs): "PC-Style Function Keys" for letters, numbers and modifiers, "VT220-Style
+-- Function Keys" for numbers from 25 on, "Alt and Meta Keys" for an escape before a character, "Other modified keys"
 -- (modifyOtherKeys) for 27 and u, "Bracketed Paste Mode", "Normal tracking mode" and "Extended coordinates" (SGR, 1006)
 -- for the mouse, and "FocusIn/FocusOut" (1004). kitty's keyboard protocol for the bits of modifiers from 8 on.
--- The Linux console's ESC [ [ A and ESC [ G, rxvt's endings $, ^ and @ and its small letters (rxvtRef), and Konsole's
--- digit after a single shift.
+-- The Linux console's ESC [ [ A and ESC [ G, rxvt's 7 and 8, its endings $, ^ and @, its small letters and those of the
+-- keypad (rxvtRef), and Konsole's digit after a single shift.
 use Rattle.std.specs.Prelude.{if◌then◌else◌, ◌%◌, ◌&&◌, ◌+◌, ◌-◌, ◌/◌, ◌==◌, ◌||◌}
 use Rattle.keys.specs.Names.{A1, A3, Action, Asked, B2, Backspace, Begin, Bool, C1, C3, Character, Delete, Down, End}
 use Rattle.keys.specs.Names.{Enter, Escape, FocusIn, FocusOut, Function, Home, Insert, Key, Left, List, Modifiers}
@@ -89,8 +90,8 @@ name_of_number number =
     else if nat_le 31 number && nat_le number 34 then Some (Function (number - 14))
     else None
 
--- by the number of a character; the numbers for private use, E000 to F8FF, are other keys of some terminals, which have
--- no name here
+-- By the number of a character. Surrogates (D800 to DFFF) are none, and the numbers for private use, E000 to F8FF, are
+-- other keys of some terminals, which have no name here, nor have control characters but these.
 abbrev pub name_of_code : ℕ → Option Name
 name_of_code code =
     if code == 13 then Some Enter
@@ -121,7 +122,7 @@ pressed None held = Unknown
 pressed (Some name) held = Pressed name held
 
 -- A parameter of a control sequence is one more than the bits, and 0 for no modifiers. The locks' bits, 64 and 128, are
--- passed over. The others are below a limit.
+-- passed over. Where the others aren't below a limit the key is unknown.
 abbrev pub pressed_below : ℕ → Option Name → ℕ → Key
 pressed_below limit name number =
     if nat_lt 256 number || nat_le limit ((number - 1) % 64) then Unknown else pressed name (modifiers_of (number - 1))

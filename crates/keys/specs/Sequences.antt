@@ -68,8 +68,8 @@ pub record AreKey (bytes : List ℕ) (key : Key) : Type 0 where
   pub whole : is_whole false bytes ≡ true
   pub means : key_of false bytes ≡ key
 
--- After the events the bytes are answered by this key, and nothing is pending then. Before it come only keys of what
--- was pending, which they cut short.
+-- After the events the bytes are answered by this key, and nothing is pending then. Before it come keys of what was
+-- pending: by the counts, and since no byte is lost, they took those bytes alone.
 pub record Resumes (asked : Asked) (events : List Event) (taken : List Taken) (bytes : List ℕ) (key : Key) :
     Type 0 where
   pub before : List Taken

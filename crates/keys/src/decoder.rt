@@ -19,7 +19,7 @@ pub struct Taken {
     pub count: usize,
 }
 
-/// The keys that a byte ends, in their order: at most two, of which the first took none of this byte.
+/// The keys that a byte ends, in their order: at most two. Where there are two, the first took none of this byte.
 #[derive(Clone, Copy, PartialEq, Eq)]
 pub struct Answer {
     pub first: Option<Taken>,

@@ -97,7 +97,7 @@ pub fn names_are_keys()
 {}
 
 /// Characters, and enter, tab, escape and backspace, by their numbers with all modifiers: ESC [ n ; m u and
-/// ESC [ 27 ; m ; n ~. Of characters the control characters and those for private use, E000 to F8FF, have none.
+/// ESC [ 27 ; m ; n ~. Other characters below 32, and those for private use, E000 to F8FF, have none.
 pub fn codes_are_keys()
     ensures u { (code : ℕ) (name : Name) (held : Modifiers) → name_of_code code ≡ Some name
         → AreKey (control_sequence (two_parameters code (parameter_of held)) 117) (Pressed name held) }
