@@ -11,8 +11,8 @@ use Rattle.keys.specs.Names.{Enter, Escape, FocusIn, FocusOut, Function, Home, I
 use Rattle.keys.specs.Names.{Motion, Name, None, Option, PageDown, PageUp, Parameters, PasteBegins, PasteEnds, Pasted}
 use Rattle.keys.specs.Names.{Pointed, Press, Pressed, Release, Right, Some, TOO_LARGE, Tab, Unknown, Up, drop, length}
 use Rattle.keys.specs.Names.{nat_le, nat_lt, not, slice_index, slice_range, ℕ}
-use Rattle.keys.specs.PressedKeys.{ctrl_and_shift, key_named, no_modifiers, only_ctrl, only_shift, with_alt}
-use Rattle.keys.specs.PressedKeys.{with_shift}
+use Rattle.keys.specs.PressedKeys.{ctrl_and_shift, key_named, no_modifiers, only_alt, only_ctrl, only_shift}
+use Rattle.keys.specs.PressedKeys.{with_held}
 use Rattle.keys.specs.Characters.{code_of, size_by}
 use Rattle.keys.specs.Grammar.{bracket, escape, first, is_digit, is_numbered, last, middle, opens_string, second}
 use Rattle.keys.specs.Grammar.{shift_three, third, three_bytes}
@@ -162,7 +162,7 @@ plain_key letter =
 abbrev pub lettered_key : Parameters → ℕ → Key
 lettered_key p letter =
     if nat_lt 1 p.first || not (p.ended == 1) then Unknown
-    else if letter == 90 then with_shift (pressed_with (Some Tab) p.second)
+    else if letter == 90 then with_held only_shift (pressed_with (Some Tab) p.second)
     else pressed_with (name_of_final letter) p.second
 
 -- by the parameters and the final byte; a key that is released (3) is unknown
@@ -256,11 +256,11 @@ shifted_key bytes =
 abbrev pub escaped_key : List ℕ → Key
 escaped_key bytes =
     if length bytes == 1 then key_named Escape
-    else if length bytes == 2 then with_alt (character_key (drop 1 bytes))
+    else if length bytes == 2 then with_held only_alt (character_key (drop 1 bytes))
     else if second bytes == bracket then control_key bytes
     else if second bytes == shift_three then shifted_key bytes
     else if opens_string (second bytes) then Unknown
-    else with_alt (character_key (drop 1 bytes))
+    else with_held only_alt (character_key (drop 1 bytes))
 
 -- the key of a sequence; while a text is pasted, of its end or of a part of the text
 unfoldable pub key_of : Bool → List ℕ → Key

@@ -246,7 +246,7 @@ fn lettered_key(p: Parameters, letter: u8) -> Key
         return Key::Unknown;
     }
     if letter == b'Z' {
-        return pressed_with(Some(Name::Tab), p.second).with_shift();
+        return pressed_with(Some(Name::Tab), p.second).with(Modifiers::SHIFT);
     }
     pressed_with(name_of_final(letter), p.second)
 }
@@ -463,7 +463,7 @@ fn escaped_key(bytes: &[u8]) -> Key
         return Key::named(Name::Escape);
     }
     if bytes.len() == 2 {
-        return character_key(&bytes[1..]).with_alt();
+        return character_key(&bytes[1..]).with(Modifiers::ALT);
     }
     if bytes[1] == BRACKET {
         return control_key(bytes);
@@ -474,7 +474,7 @@ fn escaped_key(bytes: &[u8]) -> Key
     if opens_string(bytes[1]) {
         return Key::Unknown;
     }
-    character_key(&bytes[1..]).with_alt()
+    character_key(&bytes[1..]).with(Modifiers::ALT)
 }
 
 /// The key of a sequence.
