@@ -86,6 +86,18 @@ fn sequences_are_keys_with_modifiers(rt: HostRuntime) {
         held('x', ALT, 2),
     ];
     assert!(rt; reads(b"\x1bO\x1b[A\x1b\x1b[A\x1bx", &wanted));
+    let tab = |held| taken(Key::Pressed(Name::Tab, held), 6);
+    let shift_alt = Modifiers {
+        shift: true,
+        alt: true,
+        ctrl: false,
+    };
+    assert!(rt;
+        reads(
+            b"\x1b[1;3Z\x1b[1;6Z\x1b[1P",
+            &[tab(shift_alt), tab(Modifiers::CTRL_AND_SHIFT), unknown(4)]
+        )
+    );
 }
 
 #[test]
@@ -135,6 +147,7 @@ fn a_string_is_one_unknown(rt: HostRuntime) {
         unknown(4),
     ];
     assert!(rt; reads(b"\x1b]0;x\x1b\x1b[A\x1b]0;", &wanted));
+    assert!(rt; reads(b"\x1b]1;\x1b", &[unknown(4), name(Name::Escape, 1)]));
     let wanted = [
         held(']', ALT, 2),
         character('x', 1),
@@ -143,6 +156,8 @@ fn a_string_is_one_unknown(rt: HostRuntime) {
         held('P', ALT, 2),
     ];
     assert!(rt; reads(b"\x1b]x\x1bX1\x1bP", &wanted));
+    let wanted = [held(']', ALT, 2), held('\\', ALT, 2)];
+    assert!(rt; reads(b"\x1b]\x1b\\", &wanted));
 }
 
 #[test]
@@ -157,6 +172,7 @@ fn a_pasted_text_ends_by_its_end_alone(rt: HostRuntime) {
     ];
     assert!(rt; reads(b"\x1b[200~a\x1b[201A\x1b[201~b", &wanted));
     assert!(rt; read(Asked::NONE, b"\x1b[200~a").are(&[unknown(6), character('a', 1)]));
+    assert!(rt; reads(b"\x1b[200:1~a", &[unknown(8), character('a', 1)]));
 }
 
 fn mouse(
@@ -195,8 +211,14 @@ fn the_mouse_is_read_in_both_forms(rt: HostRuntime) {
     assert!(rt; read(Asked::NONE, b"\x1b[<0;1;2M\x1b[M#!!\x1b[I").are(&wanted));
     assert!(rt;
         reads(
-            b"\x1b[I\x1b[O",
-            &[taken(Key::FocusIn, 3), taken(Key::FocusOut, 3)]
+            b"\x1b[I\x1b[O\x1b[1I",
+            &[taken(Key::FocusIn, 3), taken(Key::FocusOut, 3), unknown(4)]
+        )
+    );
+    assert!(rt;
+        reads(
+            b"\x1b[<0;5:3;6M\x1b[<0;1114112;1M",
+            &[unknown(11), unknown(15)]
         )
     );
 }

@@ -39,13 +39,14 @@ impl Keys {
     }
 }
 
-/// Byte by byte, and then the delay.
+/// Byte by byte, and then the delay twice: the first one may leave an escape.
 pub fn read(asked: Asked, bytes: &[u8]) -> Keys {
     let mut decoder = Decoder::new(asked);
     let mut keys = Keys::NONE;
     for byte in bytes {
         keys.push_answer(decoder.byte(*byte));
     }
+    keys.push(decoder.delay());
     keys.push(decoder.delay());
     keys
 }

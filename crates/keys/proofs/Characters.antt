@@ -1,6 +1,6 @@
 -- The bytes of each character are its key, and no others are.
 use Rattle.std.specs.Prelude.{◌%◌, ◌*◌, ◌+◌, ◌/◌, ◌<◌, ◌==◌, ◌∷◌, ◌≡◌, ◌≤◌}
-use Rattle.keys.specs.{AreKey, Character, IsScalar, Key, LONGEST, List, Unknown, [], ap, ap₂, arith, ascii_key}
+use Rattle.keys.specs.{AreKey, Character, IsBegun, IsScalar, Key, LONGEST, List, Unknown, [], ap, ap₂, arith, ascii_key}
 use Rattle.keys.specs.{cases_eq, cases_lt, character_key, code_of, continues, encode, eq-eqb, false, get_or, inl, inr}
 use Rattle.keys.specs.{is_in_character, is_whole, key_named, key_of, key_of_code, le-ltb, length, length-take-le}
 use Rattle.keys.specs.{lt-ltb, nat_tests, ne_eqb, refl, scalar_cases, size_by, subst, suc, sym, take, true, zero, ℕ}
@@ -215,9 +215,10 @@ record Says (a : ℕ) (l : List ℕ) (c : ℕ) : Type 0 where
   code : code_of (a ∷ l) ≡ c
   each : (n : ℕ) → n < length l → is_in_character a (n + 1) (get_or l n 0) ≡ true
 
-says : (a : ℕ) (l : List ℕ) (c : ℕ) → 128 ≤ a → AreKey (a ∷ l) (key_named (Character c)) → Says a l c
-says a l c high are =
-    let meant : character_key (a ∷ l) ≡ key_named (Character c) = sym (key-high a l high) ∙ are.means in
+says : (a : ℕ) (l : List ℕ) (c : ℕ) → 128 ≤ a → IsBegun false (a ∷ l)
+    → key_of false (a ∷ l) ≡ key_named (Character c) → Says a l c
+says a l c high begun means =
+    let meant : character_key (a ∷ l) ≡ key_named (Character c) = sym (key-high a l high) ∙ means in
     elim (cases_eq (length (a ∷ l)) (size_by a)) [
       | inl same ↦ elim (cases_eq (length (a ∷ l)) 1) [
         | inl one ↦ absurd (let e = one-byte a l high same one in cc)
@@ -229,7 +230,7 @@ says a l c high are =
               let long : length (a ∷ take n l) ≡ n + 1 = omega (arith, length-take-le n l (omega (arith, h))) in
               sym (on-by a (take n l) high (get_or l n 0)
               ∙ ap (λ k. is_in_character a k (get_or l n 0)) long)
-              ∙ are.begun.goes_on (suc n) (omega (arith, h));
+              ∙ begun.goes_on (suc n) (omega (arith, h));
         }
       ]
       | inr other ↦ absurd (let e = other-size a l high other in cc)
@@ -300,22 +301,46 @@ decoded-four a b c d k first goes third last is =
     ap₂ (λ x y. x ∷ y ∷ c ∷ d ∷ []) e f
     ∙ ap₂ (λ y z. (240 + k / 262144) ∷ (128 + k / 4096 % 64) ∷ y ∷ z ∷ []) g h ∙ sym (encode-four k least)
 
--- Bytes from 128 on that are the key of a character are its UTF-8.
-pub decoded : (bytes : List ℕ) (k : ℕ) → 128 ≤ get_or bytes 0 0 → AreKey bytes (key_named (Character k))
-    → bytes ≡ encode k
-decoded [] k high are = absurd (omega (arith, high))
-decoded (a ∷ []) k high are = absurd ((says a [] k high are).long refl)
-decoded (a ∷ b ∷ []) k high are =
-    let said = says a (b ∷ []) k high are in
+-- bytes from 128 on that are the key of a character are its UTF-8
+decoded : (bytes : List ℕ) (k : ℕ) → 128 ≤ get_or bytes 0 0 → IsBegun false bytes
+    → key_of false bytes ≡ key_named (Character k) → bytes ≡ encode k
+decoded [] k high begun means = absurd (omega (arith, high))
+decoded (a ∷ []) k high begun means = absurd ((says a [] k high begun means).long refl)
+decoded (a ∷ b ∷ []) k high begun means =
+    let said = says a (b ∷ []) k high begun means in
     decoded-two a b k (first-two a said.size) (second a b (said.each 0 (omega arith))) said.code
-decoded (a ∷ b ∷ c ∷ []) k high are =
-    let said = says a (b ∷ c ∷ []) k high are in
+decoded (a ∷ b ∷ c ∷ []) k high begun means =
+    let said = says a (b ∷ c ∷ []) k high begun means in
     decoded-three a b c k (first-three a said.size) (second a b (said.each 0 (omega arith)))
     (later a 0 c (said.each 1 (omega arith))) said.code
-decoded (a ∷ b ∷ c ∷ d ∷ []) k high are =
-    let said = says a (b ∷ c ∷ d ∷ []) k high are in
+decoded (a ∷ b ∷ c ∷ d ∷ []) k high begun means =
+    let said = says a (b ∷ c ∷ d ∷ []) k high begun means in
     decoded-four a b c d k (first-four a said.size) (second a b (said.each 0 (omega arith)))
     (later a 0 c (said.each 1 (omega arith))) (later a 1 d (said.each 2 (omega arith))) said.code
-decoded (a ∷ b ∷ c ∷ d ∷ e ∷ more) k high are =
-    let said = says a (b ∷ c ∷ d ∷ e ∷ more) k high are in
+decoded (a ∷ b ∷ c ∷ d ∷ e ∷ more) k high begun means =
+    let said = says a (b ∷ c ∷ d ∷ e ∷ more) k high begun means in
     absurd (omega (arith, said.size, at-most-four a))
+
+-- below 128
+same-ascii : (a c : ℕ) → a < 128 → ascii_key a ≡ key_named (Character c) → a ≡ c
+same-ascii a c few is = grind (arith, nat_tests, few, is)
+
+decoded-low : (a : ℕ) (l : List ℕ) (k : ℕ) → a < 128 → (a ≡ 27 → ⊥)
+    → key_of false (a ∷ l) ≡ key_named (Character k) → a ∷ l ≡ encode k
+unfolding key_of character_key encode
+decoded-low a [] k few other means =
+    let same = same-ascii a k few (sym (ascii a few other).means ∙ means) in
+    rw (lt-ltb k 128 (omega (arith, few, same))) (ap (λ b. b ∷ []) same)
+decoded-low a (b ∷ l) k few other means =
+    let e = rw (ne_eqb a 27 other, lt-ltb a 194 (omega (arith, few))) at means in
+    let f = rw (ne_eqb (length (a ∷ b ∷ l)) 1 (λ e. omega (arith, e))) at e in absurd (cc)
+
+-- Bytes that are the key of a character, and no escape's, are its UTF-8.
+pub decoded-all : (bytes : List ℕ) (k : ℕ) → IsBegun false bytes → (get_or bytes 0 0 ≡ 27 → ⊥)
+    → key_of false bytes ≡ key_named (Character k) → bytes ≡ encode k
+unfolding key_of character_key
+decoded-all [] k begun other means = absurd (cc)
+decoded-all (a ∷ l) k begun other means = elim (cases_lt a 128) [
+  | inl few ↦ decoded-low a l k few other means
+  | inr high ↦ decoded (a ∷ l) k high begun means
+]

@@ -69,7 +69,8 @@ control-by bytes between byte one two some parameter mouse last final same =
     (rw (ne_eqb (get_or bytes 2 0) 77 (λ e. omega (arith, e, parameter.1)), last, same)
     (rw (ne_eqb byte 36 (λ e. omega (arith, e, final.low)), ne_eqb byte 94 final.no_ending)
     (rw (ne_eqb byte 64 (λ e. omega (arith, e, final.low)), ne_eqb (get_or bytes 2 0) 60 mouse)
-    (grind (arith, nat_tests, final.low)))))))
+    (rw (ne_eqb (length bytes) 3 (λ e. omega (arith, e, some)))
+    (grind (arith, nat_tests, final.low))))))))
 
 final-key : (x : ℕ) (l : List ℕ) (byte : ℕ) → IsParameter x → IsFinal byte
     → key_of false (27 ∷ 91 ∷ x ∷ (l ++ byte ∷ [])) ≡ controlled_key (parameters (x ∷ l)) byte
@@ -378,7 +379,8 @@ lettered-two letter name held is =
     (grind (arith, nat_tests, bounds.0, bounds.1))
     (two_numbers 1 m) (parameters-two 1 m (omega arith) (few-held held)) (Pressed name held)
     (rw (ne_eqb letter 126 (λ e. omega (arith, e, bounds.1)), ne_eqb letter 117 (λ e. omega (arith, e, bounds.1)))
-    (pressed-back 16 (name_of_final letter) name held (omega arith) is))
+    (rw (ne_eqb letter 90 (λ e. omega (arith, e, bounds.1)))
+    (pressed-back 16 (name_of_final letter) name held (omega arith) is)))
 
 -- which characters have a number
 pub coded-character : (code : ℕ) → IsScalar code → 32 ≤ code → (code ≡ 127 → ⊥) → (code < 0xe000) ⊎ (0xf900 ≤ code)

@@ -1,8 +1,8 @@
 -- How a pasted text ends.
 use Rattle.std.specs.Prelude.{◌∷◌, ◌≡◌, ◌≤◌}
-use Rattle.keys.specs.{Asked, Bool, IsBegun, IsSequence, Item, List, PasteEnds, [], ap, arith, as_asked, cases_eq}
-use Rattle.keys.specs.{continues, false, get_or, inl, inr, is_whole, key_of, length, nat_tests, ne_eqb, paste_end, refl}
-use Rattle.keys.specs.{subst, sym, true, ℕ, ◌∙◌}
+use Rattle.keys.specs.{Asked, IsBegun, IsSequence, Item, List, PasteEnds, [], arith, as_asked, cases_eq, continues}
+use Rattle.keys.specs.{false, get_or, inl, inr, is_whole, key_of, length, nat_tests, ne_eqb, paste_end, refl, sym, true}
+use Rattle.keys.specs.{ℕ, ◌∙◌}
 
 -- a byte that goes on is that of the end
 on : (bytes : List ℕ) (byte : ℕ) → 1 ≤ length bytes → continues true bytes byte ≡ true
@@ -33,11 +33,6 @@ key-ends asked bytes is = elim (cases_eq (length bytes) 6) [
   | inr other ↦ absurd (let e = rw (ne_eqb (length bytes) 6 other) at is in cc)
 ]
 
-pub paste-whole : (item : Item) (is : IsSequence item) → is.pasting ≡ true → item.key ≡ PasteEnds
+pub paste-whole : (asked : Asked) (item : Item) → IsSequence asked true item → item.key ≡ PasteEnds
     → item.bytes ≡ paste_end
-paste-whole item is pasting ends =
-    let P : Bool → Type 0 = λ p. IsBegun p item.bytes in
-    whole item.bytes
-    (key-ends is.asked item.bytes
-    (ap (λ p. as_asked is.asked (key_of p item.bytes)) (sym pasting) ∙ sym is.means ∙ ends))
-    (subst P pasting is.begun)
+paste-whole asked item is ends = whole item.bytes (key-ends asked item.bytes (sym is.means ∙ ends)) is.begun

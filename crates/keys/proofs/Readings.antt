@@ -100,7 +100,7 @@ pending-reading events taken state h =
     let P : State → Type 0 = λ s. IsPending s in subst P (sym h.state_is) (sequences-reading state.asked events).pending
 
 pub ruleset laws =
-    (all_bytes-reading, sequences-reading, counts, one-taken, one-state, pending-reading)
+    (all_bytes-reading, counts, one-taken, one-state)
 
 -- ---- a whole sequence
 

@@ -1,12 +1,12 @@
 -- What begins with an escape is read whatever was pending before it.
-use Rattle.std.specs.Prelude.{if◌then◌else◌, ◌++◌, ◌+◌, ◌-◌, ◌<◌, ◌==◌, ◌∷◌, ◌≡◌, ◌≤◌}
-use Rattle.keys.specs.{AreKey, Asked, Bool, Byte, Event, HasRead, Item, Key, LONGEST, List, None, PasteEnds, Reading}
-use Rattle.keys.specs.{Resumes, State, Taken, [], ap, append-nil, append_assoc, arith, as_asked, begins_string}
+use Rattle.std.specs.Prelude.{if◌then◌else◌, ◌++◌, ◌+◌, ◌-◌, ◌<◌, ◌==◌, ◌∷◌, ◌≡◌, ◌≤◌, ◌⊎◌}
+use Rattle.keys.specs.{AreKey, Asked, Bool, Byte, Delay, Event, HasRead, Item, Key, LONGEST, List, None, PasteEnds}
+use Rattle.keys.specs.{Reading, Resumes, State, Taken, [], ap, append-nil, append_assoc, arith, as_asked, begins_string}
 use Rattle.keys.specs.{cases_Bool, cases_eq, continues, cut_by, ended_by, eq-eqb, false, fold, fold-append, get_or}
 use Rattle.keys.specs.{get_or_append_left, goes_on_control, goes_on_escape, goes_on_shift, inl, inr, is_in_character}
-use Rattle.keys.specs.{is_whole, items_of, key_of, keys_of, leaves_escape, left_by, length, length-append, map}
-use Rattle.keys.specs.{map-append, nat_tests, ne_eqb, opens_string, option_list, paste_end, read_event, reading, refl}
-use Rattle.keys.specs.{state_after, suc, sym, taken_by, taken_of, true, zero, ℕ, ◌∙◌}
+use Rattle.keys.specs.{is_string, is_whole, items_of, key_of, keys_of, leaves_escape, left_by, length, length-append}
+use Rattle.keys.specs.{map, map-append, nat_tests, ne_eqb, opens_string, option_list, paste_end, read_event, reading}
+use Rattle.keys.specs.{refl, state_after, suc, sym, taken_by, taken_of, true, zero, ℕ, ◌∙◌}
 use Rattle.keys.proofs.Sequences.{get-last}
 use Rattle.keys.proofs.Readings.{ended-read, outside, read-whole}
 
@@ -14,11 +14,9 @@ use Rattle.keys.proofs.Readings.{ended-read, outside, read-whole}
 abbrev typed_state : Asked → List ℕ → State
 typed_state asked pending = record { asked = asked; pasting = false; pending = pending }
 
--- Behind an escape any byte but \ and another escape goes on the escape alone: it is the last byte of a string, or all
--- that is pending.
-Escaped : List ℕ → Type 0
-Escaped pending = (asked : Asked) (byte : ℕ) → (byte ≡ 27 → ⊥) → (byte ≡ 92 → ⊥)
-    → left_by (typed_state asked pending) byte ≡ typed_state asked (27 ∷ [])
+-- The byte goes on an escape alone, which is all that is pending, or the last byte of a string.
+Escaped : List ℕ → ℕ → Type 0
+Escaped pending byte = (asked : Asked) → left_by (typed_state asked pending) byte ≡ typed_state asked (27 ∷ [])
 
 one-on : (byte : ℕ) → (byte ≡ 27 → ⊥) → continues false (27 ∷ []) byte ≡ true
 unfolding continues
@@ -28,15 +26,22 @@ one-off : (byte : ℕ) → continues false (27 ∷ []) byte ≡ true → byte �
 unfolding continues
 one-off byte on is = absurd (let e : continues false (27 ∷ []) byte ≡ false = rw (eq-eqb byte 27 is) refl in cc)
 
-escaped-one : Escaped (27 ∷ [])
+escaped-one : (byte : ℕ) → (byte ≡ 27 → ⊥) → Escaped (27 ∷ []) byte
 unfolding Escaped
-escaped-one asked byte other string = rw (one-on byte other) refl
+escaped-one byte other asked = rw (one-on byte other) refl
 
 -- a string that was begun
 record IsString (pending : List ℕ) : Type 0 where
   long : 3 ≤ length pending
   one : get_or pending 0 0 ≡ 27
   opens : opens_string (get_or pending 1 0) ≡ true
+
+no-string : (pending : List ℕ) → IsString pending → is_string pending ≡ false → ⊥
+no-string pending is none = grind (arith, nat_tests, is.long, is.one, is.opens, none)
+
+-- no string is pending, or it goes on behind an escape, but not with the byte
+abbrev Passes : List ℕ → ℕ → Type 0
+Passes pending byte = (is_string pending ≡ false) ⊎ ((length pending + 1 < LONGEST) × (byte ≡ 92 → ⊥))
 
 no-sequence : (letter : ℕ) → opens_string letter ≡ true → (letter ≡ 91 → ⊥) × (letter ≡ 79 → ⊥)
 no-sequence letter opens = (λ e. grind (arith, nat_tests, opens, e), λ e. grind (arith, nat_tests, opens, e))
@@ -65,9 +70,9 @@ module _ (q : List ℕ) (is : IsString q) (short : length q < LONGEST) (ends : g
   unfolding leaves_escape
   string-leaves = grind (arith, nat_tests, is.long, is.one, is.opens, ends)
 
-  string-escaped : Escaped q
+  string-escaped : (byte : ℕ) → (byte ≡ 92 → ⊥) → Escaped q byte
   unfolding Escaped
-  string-escaped asked byte other string = rw (string-off byte string, string-leaves) refl
+  string-escaped byte string asked = rw (string-off byte string, string-leaves) refl
 
 -- what an escape goes on
 
@@ -132,9 +137,9 @@ met-string a l on =
     ]
 
 -- An escape, whatever was pending: it is alone then, or the last byte of a string.
-with-escape : (pending : List ℕ) → IsString pending → length pending + 1 < LONGEST
-    → (is_whole false (pending ++ 27 ∷ []) ≡ false) × Escaped (pending ++ 27 ∷ [])
-with-escape pending is short =
+with-escape : (pending : List ℕ) (byte : ℕ) → IsString pending → length pending + 1 < LONGEST → (byte ≡ 92 → ⊥)
+    → (is_whole false (pending ++ 27 ∷ []) ≡ false) × Escaped (pending ++ 27 ∷ []) byte
+with-escape pending byte is short string-none =
     let q = pending ++ 27 ∷ [] in
     let long : length q ≡ length pending + 1 = length-append pending (27 ∷ []) in
     let string : IsString q = record {
@@ -145,51 +150,53 @@ with-escape pending is short =
     let few : length q < LONGEST = omega (arith, long, short) in
     let ends : get_or q (length q - 1) 0 ≡ 27 =
     ap (λ k. get_or q k 0) (let e : length q - 1 ≡ length pending = omega (arith, long) in e) ∙ get-last pending 27 in
-    (string-open q string few ends, string-escaped q string few ends)
+    (string-open q string few ends, string-escaped q string few ends byte string-none)
 
 -- the state after an escape
 abbrev after_escape : Asked → List ℕ → State
 after_escape asked pending = state_after (typed_state asked pending) (Byte 27)
 
-record IsEscaped (asked : Asked) (pending : List ℕ) : Type 0 where
+record IsEscaped (asked : Asked) (pending : List ℕ) (byte : ℕ) : Type 0 where
   q : List ℕ
   state : after_escape asked pending ≡ typed_state asked q
-  escaped : Escaped q
+  escaped : Escaped q byte
 
-escaped : (asked : Asked) (pending : List ℕ) → length pending + 1 < LONGEST → IsEscaped asked pending
+escaped : (asked : Asked) (pending : List ℕ) (byte : ℕ) → (byte ≡ 27 → ⊥) → Passes pending byte
+    → IsEscaped asked pending byte
 unfolding continues is_whole
-escaped asked [] short = record { q = 27 ∷ []; state = refl; escaped = escaped-one }
-escaped asked (a ∷ l) short = elim (cases_Bool (continues false (a ∷ l) 27)) [
-  | inl on ↦
-      let is = with-escape (a ∷ l) (met-string a l on) short in
-      record { q = (a ∷ l) ++ 27 ∷ []; state = rw on (rw on (rw is.0 refl)); escaped = is.1 }
+escaped asked [] byte other passes = record { q = 27 ∷ []; state = refl; escaped = escaped-one byte other }
+escaped asked (a ∷ l) byte other passes = elim (cases_Bool (continues false (a ∷ l) 27)) [
+  | inl on ↦ elim passes [
+    | inl none ↦ absurd (no-string (a ∷ l) (met-string a l on) none)
+    | inr string ↦
+        let is = with-escape (a ∷ l) byte (met-string a l on) string.0 string.1 in
+        record { q = (a ∷ l) ++ 27 ∷ []; state = rw on (rw on (rw is.0 refl)); escaped = is.1 }
+  ]
   | inr off ↦ elim (cases_Bool (leaves_escape false (a ∷ l))) [
-    | inl leaves ↦ record { q = 27 ∷ []; state = rw (off, leaves) refl; escaped = escaped-one }
-    | inr none ↦ record { q = 27 ∷ []; state = rw (off, none) refl; escaped = escaped-one }
+    | inl leaves ↦ record { q = 27 ∷ []; state = rw (off, leaves) refl; escaped = escaped-one byte other }
+    | inr none ↦ record { q = 27 ∷ []; state = rw (off, none) refl; escaped = escaped-one byte other }
   ]
 ]
 
 -- after the byte behind it
-read-behind : (asked : Asked) (items : List Item) (q : List ℕ) (byte : ℕ) → Escaped q → (byte ≡ 27 → ⊥)
-    → (byte ≡ 92 → ⊥)
+read-behind : (asked : Asked) (items : List Item) (q : List ℕ) (byte : ℕ) → Escaped q byte → (byte ≡ 27 → ⊥)
     → read_event (outside asked items q) (Byte byte)
     ≡ read_event (outside asked (items ++ option_list (cut_by (typed_state asked q) byte)) (27 ∷ [])) (Byte byte)
 unfolding Escaped
-read-behind asked items q byte is other string =
+read-behind asked items q byte is other =
     let cut = option_list (cut_by (typed_state asked q) byte) in
     let left = left_by (typed_state asked (27 ∷ [])) byte in
     let ended = option_list (ended_by left byte) in
     let after : List Item → Reading = λ l. record { items = l; state = taken_by left byte } in
     let none : cut_by (typed_state asked (27 ∷ [])) byte ≡ None = rw (one-on byte other) refl in
     ap (λ s. record { items = items ++ (cut ++ option_list (ended_by s byte)); state = taken_by s byte })
-    (is asked byte other string ∙ sym (escaped-one asked byte other string))
+    (is asked ∙ sym (escaped-one byte other asked))
     ∙ ap after (sym (append_assoc items cut ended))
     ∙ ap (λ c. after ((items ++ cut) ++ (option_list c ++ ended))) (sym none)
 
-module _ (asked : Asked) (pending : List ℕ) (byte : ℕ) (short : length pending + 1 < LONGEST) (other : byte ≡ 27 → ⊥)
-    (string : byte ≡ 92 → ⊥) where
-  is : IsEscaped asked pending
-  is = escaped asked pending short
+module _ (asked : Asked) (pending : List ℕ) (byte : ℕ) (other : byte ≡ 27 → ⊥) (passes : Passes pending byte) where
+  is : IsEscaped asked pending byte
+  is = escaped asked pending byte other passes
 
   -- what was cut short before a whole sequence that begins with an escape
   cut_before : List Item
@@ -203,7 +210,7 @@ module _ (asked : Asked) (pending : List ℕ) (byte : ℕ) (short : length pendi
       let cut = items_of (typed_state asked pending) (Byte 27) in
       let behind = option_list (cut_by (typed_state asked is.q) byte) in
       ap (λ s. read_event (record { items = items ++ cut; state = s }) (Byte byte)) is.state
-      ∙ read-behind asked (items ++ cut) is.q byte is.escaped other string
+      ∙ read-behind asked (items ++ cut) is.q byte is.escaped other
       ∙ ap (λ l. read_event (outside asked l (27 ∷ [])) (Byte byte))
       (append_assoc items cut behind ∙ sym (append-nil (items ++ cut_before)))
 
@@ -213,15 +220,15 @@ module _ (asked : Asked) (pending : List ℕ) (byte : ℕ) (short : length pendi
   resumed items rest = ap (λ r. fold read_event r (map Byte rest)) (read-both items)
 
 pub key-resumes : (events : List Event) (taken : List Taken) (s : State) (byte : ℕ) (rest : List ℕ) (key : Key)
-    → HasRead events taken s → s.pasting ≡ false → length s.pending + 1 < LONGEST → (byte ≡ 92 → ⊥)
+    → HasRead events taken s → s.pasting ≡ false → Passes s.pending byte
     → AreKey (27 ∷ byte ∷ rest) key → Resumes s.asked events taken (27 ∷ byte ∷ rest) (as_asked s.asked key)
-key-resumes events taken s byte rest key h typed short string are =
+key-resumes events taken s byte rest key h typed passes are =
     let bytes : List ℕ = 27 ∷ byte ∷ rest in
     let r = reading s.asked events in
     let at : r ≡ outside s.asked r.items s.pending =
     ap (λ t. record { items = r.items; state = t }) (sym h.state_is ∙ ap (λ p. record s { pasting = p }) typed) in
     let other = one-off byte (are.begun.goes_on 1 (omega arith)) in
-    let cut = cut_before s.asked s.pending byte short other string in
+    let cut = cut_before s.asked s.pending byte other passes in
     record {
       before = keys_of cut;
       read =
@@ -229,7 +236,7 @@ key-resumes events taken s byte rest key h typed short string are =
           (ap (λ l. l ++ keys_of cut) h.taken_are ∙ sym (map-append taken_of r.items cut)) are.means
           (fold-append read_event (outside s.asked [] []) events (map Byte bytes)
           ∙ ap (λ r. fold read_event r (map Byte bytes)) at
-          ∙ resumed s.asked s.pending byte short other string r.items rest
+          ∙ resumed s.asked s.pending byte other passes r.items rest
           ∙ read-whole s.asked (r.items ++ cut) bytes are.begun are.some are.whole);
     }
 
@@ -285,6 +292,26 @@ module _ (asked : Asked) (items : List Item) where
       ∙ ap (λ r. fold read_event r (map Byte (49 ∷ 126 ∷ []))) (paste-on (27 ∷ 91 ∷ 50 ∷ []) 48 refl refl)
       ∙ ap (λ r. fold read_event r (map Byte (126 ∷ []))) (paste-on (27 ∷ 91 ∷ 50 ∷ 48 ∷ []) 49 refl refl)
       ∙ paste-last
+
+-- a delay changes nothing
+delay-same : (r : Reading) → r.state.pasting ≡ true → read_event r Delay ≡ r
+delay-same r pastes = rw pastes (rw append-nil refl)
+
+pub paste-delays : (events more : List Event) (taken others : List Taken) (one other : State) → HasRead events taken one
+    → one.pasting ≡ true → one.asked ≡ other.asked → HasRead (events ++ more) others other
+    → HasRead (events ++ Delay ∷ more) others other
+paste-delays events more taken others one other h pastes asked k =
+    let r = reading other.asked events in
+    let at : r.state.pasting ≡ true =
+    ap (λ a. (reading a events).state.pasting) (sym asked) ∙ ap (λ (s : State). s.pasting) (sym h.state_is) ∙ pastes in
+    let same : reading other.asked (events ++ more) ≡ reading other.asked (events ++ Delay ∷ more) =
+    fold-append read_event (outside other.asked [] []) events more
+    ∙ ap (λ r. fold read_event r more) (sym (delay-same r at))
+    ∙ sym (fold-append read_event (outside other.asked [] []) events (Delay ∷ more)) in
+    record {
+      taken_are = k.taken_are ∙ ap (λ (r : Reading). keys_of r.items) same;
+      state_is = k.state_is ∙ ap (λ (r : Reading). r.state) same;
+    }
 
 abbrev cut_in_paste : Asked → List ℕ → List Item
 cut_in_paste asked pending = option_list (cut_by (record { asked = asked; pasting = true; pending = pending }) 27)

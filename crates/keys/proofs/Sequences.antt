@@ -1,13 +1,14 @@
 -- No byte is lost, and each sequence is one.
 use Rattle.std.specs.Prelude.{◌++◌, ◌+◌, ◌-◌, ◌<◌, ◌∷◌, ◌≡◌, ◌≤◌}
-use Rattle.keys.specs.{AllByRecursion, Asked, Bool, Byte, Delay, Event, IsBegun, IsOfSequences, IsPending, IsSequence}
-use Rattle.keys.specs.{Item, LONGEST, List, Option, Reading, State, [], after_bytes, all_bytes, ap, append-nil}
-use Rattle.keys.specs.{append_assoc, arith, byte_of, bytes_of, cases_Bool, cases_eq, cases_lt, continues, cut_by}
-use Rattle.keys.specs.{cut_by_delay, ended_by, eq-eqb, escape, false, flat_map, flat_map-append, fold, get_or}
-use Rattle.keys.specs.{get_or-append_right, get_or-take, get_or_append_left, inl, inr, is_whole, item, items_of}
-use Rattle.keys.specs.{leaves_escape, left_by, length, length-append, length-take-le, nat_tests, ne_eqb, option_list}
-use Rattle.keys.specs.{read_event, reading, refl, start, state_after, subst, sym, take, take-append-le}
-use Rattle.keys.specs.{take-append_seam, take-length, take-take, take_more, taken_by, true, whole_of, ℕ, ◌∙◌}
+use Rattle.keys.specs.{AreSequences, Asked, Bool, Byte, Delay, Event, IsBegun, IsOfSequences, IsPending, IsSequence}
+use Rattle.keys.specs.{Item, LONGEST, List, Option, Reading, State, [], after_bytes, after_cut, all_bytes, ap}
+use Rattle.keys.specs.{append-nil, append_assoc, arith, byte_of, bytes_of, cases_Bool, cases_eq, cases_lt, continues}
+use Rattle.keys.specs.{cut_by, cut_by_delay, cut_short, ended_by, eq-eqb, escape, false, flat_map, flat_map-append}
+use Rattle.keys.specs.{fold, get_or, get_or-append_right, get_or-take, get_or_append_left, inl, inr, is_whole, item}
+use Rattle.keys.specs.{items_of, leaves_escape, left_by, length, length-append, length-take-le, nat_tests, ne_eqb}
+use Rattle.keys.specs.{option_list, pasting_past, read_event, reading, refl, start, state_after, subst, sym, take}
+use Rattle.keys.specs.{take-append-le, take-append_seam, take-length, take-take, take_more, taken_by, true, waits}
+use Rattle.keys.specs.{whole_of, ℕ, ◌∙◌}
 
 -- ---- no byte is lost
 
@@ -38,19 +39,18 @@ left-bytes pasting pending leaves =
     let is = left pasting pending leaves in
     ap (λ b. take (length pending - 1) pending ++ b ∷ []) (sym is.ends) ∙ without_last pending (omega (arith, is.long))
 
-empty : (l : List ℕ) → length l ≡ 0 → l ≡ []
-empty [] none = refl
-empty (x ∷ l) none = absurd (omega (arith, none))
-
 -- the cut sequence and what is left have the bytes that were pending
+bytes-short : (s : State) → (cut_short s).bytes ++ (after_cut s).pending ≡ s.pending
+bytes-short s = elim (cases_Bool (leaves_escape s.pasting s.pending)) [
+  | inl leaves ↦ rw leaves (left-bytes s.pasting s.pending leaves)
+  | inr none ↦ rw none (append-nil s.pending)
+]
+
 bytes-cut : (s : State) (byte : ℕ) → bytes_in (cut_by s byte) ++ (left_by s byte).pending ≡ s.pending
 unfolding bytes_in
 bytes-cut s byte = elim (cases_Bool (continues s.pasting s.pending byte)) [
   | inl on ↦ rw on refl
-  | inr cut ↦ elim (cases_Bool (leaves_escape s.pasting s.pending)) [
-    | inl leaves ↦ rw (cut, leaves) (rw append-nil (left-bytes s.pasting s.pending leaves))
-    | inr none ↦ rw (cut, none) (append-nil (s.pending ++ []) ∙ append-nil s.pending)
-  ]
+  | inr cut ↦ rw cut (rw append-nil (bytes-short s))
 ]
 
 bytes-whole : (s : State) (bytes : List ℕ) → bytes_in (whole_of s bytes) ++ (after_bytes s bytes).pending ≡ bytes
@@ -70,12 +70,9 @@ bytes-ended s byte = elim (cases_Bool (continues s.pasting s.pending byte)) [
 
 bytes-delay : (s : State) → bytes_in (cut_by_delay s) ++ (state_after s Delay).pending ≡ s.pending
 unfolding bytes_in
-bytes-delay s = elim (cases_Bool s.pasting) [
-  | inl pastes ↦ rw pastes refl
-  | inr typed ↦ elim (cases_eq (length s.pending) 0) [
-    | inl none ↦ rw (typed, eq-eqb (length s.pending) 0 none) (sym (empty s.pending none))
-    | inr some ↦ rw (typed, ne_eqb (length s.pending) 0 some) (append-nil (s.pending ++ []) ∙ append-nil s.pending)
-  ]
+bytes-delay s = elim (cases_Bool (waits s)) [
+  | inl waits ↦ rw waits (rw append-nil (bytes-short s))
+  | inr other ↦ rw other refl
 ]
 
 bytes-event : (s : State) (event : Event)
@@ -169,9 +166,9 @@ record Begins (pasting : Bool) (bytes : List ℕ) : Type 0 where
   some : 1 ≤ length bytes
   few : length bytes ≤ LONGEST
 
-sequence : (s : State) (bytes : List ℕ) → Begins s.pasting bytes → IsSequence (item s bytes)
+sequence : (s : State) (bytes : List ℕ) → Begins s.pasting bytes → IsSequence s.asked s.pasting (item s bytes)
 sequence s bytes is =
-    record { asked = s.asked; pasting = s.pasting; begun = is.begun; some = is.some; few = is.few; means = refl }
+    record { begun = is.begun; some = is.some; few = is.few; means = refl }
 
 -- what doesn't go on was begun
 cut-some : (pasting : Bool) (pending : List ℕ) (byte : ℕ) → continues pasting pending byte ≡ false → 1 ≤ length pending
@@ -193,32 +190,45 @@ pending-escape : (asked : Asked) → IsPending (record { asked = asked; pasting 
 unfolding is_whole
 pending-escape asked = record { begun = begun-one false escape; open_yet = λ h. refl; short = omega arith }
 
-sequences-cut : (s : State) (byte : ℕ) → IsPending s
-    → AllByRecursion IsSequence (option_list (cut_by s byte)) × IsPending (left_by s byte)
+-- sequences from one state to another
+record To (s : State) (items : List Item) (t : State) : Type 0 where
+  sequences : AreSequences s.asked s.pasting items t.pasting
+  pending : IsPending t
+  asked_is : t.asked ≡ s.asked
+
+sequences-short : (s : State) → IsPending s → 1 ≤ length s.pending → To s (cut_short s ∷ []) (after_cut s)
+sequences-short s is some = elim (cases_Bool (leaves_escape s.pasting s.pending)) [
+  | inl leaves ↦
+      let ends = left s.pasting s.pending leaves in
+      let n : length (take (length s.pending - 1) s.pending) ≡ length s.pending - 1 =
+      length-take-le (length s.pending - 1) s.pending (omega arith) in
+      let P : Bool → Type 0 = λ p. IsPending (record { asked = s.asked; pasting = p; pending = escape ∷ [] }) in
+      rw leaves (record {
+        sequences = (
+          sequence s (take (length s.pending - 1) s.pending) (record {
+            begun = begun-take s.pasting s.pending (length s.pending - 1) (omega arith) is.begun;
+            some = omega (arith, n, ends.long);
+            few = omega (arith, n, is.short);
+          }),
+          rw (is.begun.not_whole (length s.pending - 1) (omega (arith, ends.long)) (omega (arith, ends.long))) refl,
+        );
+        pending = subst P (sym ends.outside) (pending-escape s.asked);
+        asked_is = refl;
+      })
+  | inr none ↦ rw none (record {
+    sequences = (sequence s s.pending (begins-pending s is some), rw (is.open_yet some) refl);
+    pending = pending-none s.asked s.pasting;
+    asked_is = refl;
+  })
+]
+
+to-same : (s : State) → IsPending s → To s [] s
+to-same s is = record { sequences = refl; pending = is; asked_is = refl }
+
+sequences-cut : (s : State) (byte : ℕ) → IsPending s → To s (option_list (cut_by s byte)) (left_by s byte)
 sequences-cut s byte is = elim (cases_Bool (continues s.pasting s.pending byte)) [
-  | inl on ↦ rw on (tt, is)
-  | inr cut ↦ elim (cases_Bool (leaves_escape s.pasting s.pending)) [
-    | inl leaves ↦
-        let ends = left s.pasting s.pending leaves in
-        let n : length (take (length s.pending - 1) s.pending) ≡ length s.pending - 1 =
-        length-take-le (length s.pending - 1) s.pending (omega arith) in
-        let P : Bool → Type 0 = λ p. IsPending (record { asked = s.asked; pasting = p; pending = escape ∷ [] }) in
-        rw (cut, leaves) (
-          (
-            sequence s (take (length s.pending - 1) s.pending) (record {
-              begun = begun-take s.pasting s.pending (length s.pending - 1) (omega arith) is.begun;
-              some = omega (arith, n, ends.long);
-              few = omega (arith, n, is.short);
-            }),
-            tt,
-          ),
-          subst P (sym ends.outside) (pending-escape s.asked),
-        )
-    | inr none ↦ rw (cut, none) (
-      (sequence s s.pending (begins-pending s is (cut-some s.pasting s.pending byte cut)), tt),
-      pending-none s.asked s.pasting,
-    )
-  ]
+  | inl on ↦ rw on (to-same s is)
+  | inr cut ↦ rw cut (sequences-short s is (cut-some s.pasting s.pending byte cut))
 ]
 
 -- what has as many bytes as a sequence may have is whole
@@ -227,20 +237,25 @@ unfolding is_whole
 whole-longest pasting bytes long = rw (eq-eqb (length bytes) LONGEST long) refl
 
 sequences-whole : (s : State) (bytes : List ℕ) → Begins s.pasting bytes
-    → AllByRecursion IsSequence (option_list (whole_of s bytes)) × IsPending (after_bytes s bytes)
+    → To s (option_list (whole_of s bytes)) (after_bytes s bytes)
 sequences-whole s bytes is = elim (cases_Bool (is_whole s.pasting bytes)) [
-  | inl whole ↦ rw whole ((sequence s bytes is, tt), pending-none s.asked _)
-  | inr more ↦ rw more (
-    tt,
-    record {
+  | inl whole ↦ rw whole (record {
+    sequences = (sequence s bytes is, rw whole refl);
+    pending = pending-none s.asked _;
+    asked_is = refl;
+  })
+  | inr more ↦ rw more (record {
+    sequences = refl;
+    pending = record {
       begun = is.begun;
       open_yet = λ h. more;
       short = elim (cases_eq (length bytes) LONGEST) [
         | inl long ↦ absurd (let whole = whole-longest s.pasting bytes long in cc)
         | inr other ↦ omega (arith, is.few, other)
       ];
-    },
-  )
+    };
+    asked_is = refl;
+  })
 ]
 
 -- what is left goes on, but for an escape where another follows
@@ -266,7 +281,7 @@ left-off s byte off = elim (cases_Bool (continues s.pasting s.pending byte)) [
 
 sequences-ended : (s : State) (byte : ℕ) → IsPending s
     → (continues s.pasting s.pending byte ≡ false → (byte ≡ escape) × (s.pasting ≡ false))
-    → AllByRecursion IsSequence (option_list (ended_by s byte)) × IsPending (taken_by s byte)
+    → To s (option_list (ended_by s byte)) (taken_by s byte)
 sequences-ended s byte is alone = elim (cases_Bool (continues s.pasting s.pending byte)) [
   | inl on ↦ rw on (sequences-whole s (s.pending ++ byte ∷ []) (record {
     begun = begun-next s.pasting s.pending byte is.begun is.open_yet on;
@@ -276,44 +291,48 @@ sequences-ended s byte is alone = elim (cases_Bool (continues s.pasting s.pendin
   | inr off ↦
       let at = alone off in
       let some = cut-some s.pasting s.pending byte off in
-      rw off (
-        (sequence s s.pending (begins-pending s is some), tt),
-        rw (at.0, at.1) (pending-escape s.asked),
-      )
+      rw off (record {
+        sequences = (sequence s s.pending (begins-pending s is some), rw (is.open_yet some) refl);
+        pending = rw (at.0, at.1) (pending-escape s.asked);
+        asked_is = refl;
+      })
 ]
 
-all-append : (xs ys : List Item) → AllByRecursion IsSequence xs → AllByRecursion IsSequence ys
-    → AllByRecursion IsSequence (xs ++ ys)
-all-append [] ys all others = others
-all-append (x ∷ xs) ys all others = (all.0, all-append xs ys all.1 others)
+all-append : (asked : Asked) (xs ys : List Item) (p q r : Bool) → AreSequences asked p xs q → AreSequences asked q ys r
+    → AreSequences asked p (xs ++ ys) r
+all-append asked [] ys p q r all others =
+    let P : Bool → Type 0 = λ b. AreSequences asked b ys r in subst P (sym all) others
+all-append asked (x ∷ xs) ys p q r all others = (all.0, all-append asked xs ys (pasting_past p x) q r all.1 others)
 
-sequences-event : (s : State) (event : Event) → IsPending s
-    → AllByRecursion IsSequence (items_of s event) × IsPending (state_after s event)
+to-append : (s t u : State) (xs ys : List Item) → To s xs t → To t ys u → To s (xs ++ ys) u
+to-append s t u xs ys one other =
+    let P : Asked → Type 0 = λ a. AreSequences a t.pasting ys u.pasting in
+    record {
+      sequences =
+          all-append s.asked xs ys s.pasting t.pasting u.pasting one.sequences (subst P one.asked_is other.sequences);
+      pending = other.pending;
+      asked_is = other.asked_is ∙ one.asked_is;
+    }
+
+sequences-event : (s : State) (event : Event) → IsPending s → To s (items_of s event) (state_after s event)
 sequences-event s (Byte byte) is =
     let cut = sequences-cut s byte is in
-    let ended = sequences-ended (left_by s byte) byte cut.1 (left-off s byte) in
-    (all-append (option_list (cut_by s byte)) (option_list (ended_by (left_by s byte) byte)) cut.0 ended.0, ended.1)
-sequences-event s Delay is = elim (cases_Bool s.pasting) [
-  | inl pastes ↦ rw pastes (tt, let P : Bool → Type 0 = λ p. IsPending (record s { pasting = p }) in subst P pastes is)
-  | inr typed ↦ elim (cases_eq (length s.pending) 0) [
-    | inl none ↦ rw (typed, eq-eqb (length s.pending) 0 none) (tt, pending-none s.asked false)
-    | inr some ↦
-        let one : IsSequence (item s s.pending) = sequence s s.pending (begins-pending s is (omega (arith, some))) in
-        let P : Bool → Type 0 = λ p. IsSequence (item (record s { pasting = p }) s.pending) in
-        rw (typed, ne_eqb (length s.pending) 0 some) ((subst P typed one, tt), pending-none s.asked false)
-  ]
+    to-append s (left_by s byte) _ (option_list (cut_by s byte)) _ cut
+    (sequences-ended (left_by s byte) byte cut.pending (left-off s byte))
+sequences-event s Delay is = elim (cases_Bool (waits s)) [
+  | inl waits ↦ rw waits (sequences-short s is (grind (arith, nat_tests, waits)))
+  | inr other ↦ rw other (to-same s is)
 ]
 
-sequences-fold : (events : List Event) (r : Reading) → IsOfSequences r → IsOfSequences (fold read_event r events)
-sequences-fold [] r is = is
-sequences-fold (event ∷ events) r is =
-    let next = sequences-event r.state event is.pending in
-    sequences-fold events (read_event r event) (record {
-      sequences = all-append r.items (items_of r.state event) is.sequences next.0;
-      pending = next.1;
-    })
+sequences-fold : (asked : Asked) (events : List Event) (r : Reading) → To (start asked) r.items r.state
+    → To (start asked) (fold read_event r events).items (fold read_event r events).state
+sequences-fold asked [] r is = is
+sequences-fold asked (event ∷ events) r is =
+    sequences-fold asked events (read_event r event)
+    (to-append (start asked) r.state _ r.items _ is (sequences-event r.state event is.pending))
 
-pub sequences-reading : (asked : Asked) (events : List Event) → IsOfSequences (reading asked events)
+pub sequences-reading : (asked : Asked) (events : List Event) → IsOfSequences asked (reading asked events)
 sequences-reading asked events =
-    sequences-fold events (record { items = []; state = start asked })
-    (record { sequences = tt; pending = pending-none asked false })
+    let is = sequences-fold asked events (record { items = []; state = start asked })
+    (to-same (start asked) (pending-none asked false)) in
+    record { sequences = is.sequences; pending = is.pending; asked_is = is.asked_is }

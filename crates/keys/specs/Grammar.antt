@@ -1,9 +1,9 @@
 -- Which bytes go on a sequence of bytes that was begun, and where a sequence is whole.
 -- ECMA-48, 5th edition: 5.3 for what an escape introduces, 5.4 for control sequences, 5.6 and 8.3.143 for control
--- strings, and 8.3.142 for SS3.
+-- strings, and 8.3.142 for SS3; its C1 controls of one byte aren't read.
 -- Unicode 3.9 for characters (`Characters`).
--- xterm's control sequences (ctlseqs): "Bracketed Paste Mode" for the end of a pasted text, and "Normal tracking mode"
--- for the mouse's three bytes after ESC [ M.
+-- xterm's control sequences (ctlseqs): BEL as a string's end, what answers begin with, as ESC ] l, "Bracketed Paste
+-- Mode" for the end of a pasted text, and "Normal tracking mode" for the mouse's three bytes after ESC [ M.
 use Rattle.std.specs.Prelude.{if◌then◌else◌, ◌&&◌, ◌+◌, ◌-◌, ◌==◌, ◌||◌, ◌∷◌}
 use Rattle.keys.specs.Names.{Bool, LONGEST, List, [], false, fold, length, nat_le, nat_lt, not, slice_index}
 use Rattle.keys.specs.Names.{slice_range, true, ℕ}
@@ -70,12 +70,12 @@ goes_on_string pending byte =
     else if last pending == escape then byte == terminator
     else true
 
--- parameters, intermediates and the final byte; for the mouse any three bytes
+-- parameters and intermediates, in any order, and the final byte; for the mouse three bytes, of which none is an escape
 abbrev pub goes_on_control : List ℕ → ℕ → Bool
 goes_on_control pending byte =
     if third pending == three_bytes then not (byte == escape) else nat_le 0x20 byte && nat_le byte 0x7e
 
--- after a single shift a letter, or a digit and a letter (Konsole)
+-- after a single shift a byte from 21 to 7E, and after a digit (Konsole) one from 40 on
 abbrev pub goes_on_shift : List ℕ → ℕ → Bool
 goes_on_shift pending byte = nat_le (if length pending == 2 then 0x21 else 0x40) byte && nat_le byte 0x7e
 
@@ -110,8 +110,8 @@ middle bytes = slice_range bytes 2 (length bytes - 1)
 abbrev pub is_numbered : List ℕ → Bool
 is_numbered bytes = nat_lt 3 (length bytes) && are_digits (middle bytes)
 
--- a control sequence ends with its final byte; the Linux console has a letter more after ESC [ [, and rxvt ends some by
--- a $ after a number
+-- a control sequence ends with its final byte; the Linux console has a letter more after ESC [ [, the mouse three bytes
+-- after ESC [ M, and rxvt ends some by a $ after a number
 abbrev pub is_whole_control : List ℕ → Bool
 is_whole_control bytes =
     if nat_lt (length bytes) 3 then false
@@ -148,8 +148,10 @@ is_whole pasting bytes =
 
 -- ---- where a sequence is cut short
 
+-- a string was begun
+abbrev pub is_string : List ℕ → Bool
+is_string pending = nat_lt 2 (length pending) && first pending == escape && opens_string (second pending)
+
 -- the last escape in a string, if no \ follows, is no part of it: it begins what comes next
 unfoldable pub leaves_escape : Bool → List ℕ → Bool
-leaves_escape pasting pending =
-    not pasting && nat_lt 2 (length pending) && first pending == escape && opens_string (second pending)
-    && last pending == escape
+leaves_escape pasting pending = not pasting && is_string pending && last pending == escape

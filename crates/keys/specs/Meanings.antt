@@ -1,16 +1,18 @@
 -- Which key a sequence of bytes is: one that is whole, or one that was cut short.
--- xterm's control sequences (ctlseqs): "PC-Style Function Keys" for letters, numbers and modifiers, "Alt and Meta Keys"
+-- xterm's control sequences (ctlseqs): "PC-Style Function Keys" for letters, numbers and modifiers, "VT220-Style
+-- Function Keys" for numbers from 25 on, "Alt and Meta Keys" for an escape before a character, "Other modified keys"
 -- (modifyOtherKeys) for 27 and u, "Bracketed Paste Mode", "Normal tracking mode" and "Extended coordinates" (SGR, 1006)
 -- for the mouse, and "FocusIn/FocusOut" (1004). kitty's keyboard protocol for the bits of modifiers from 8 on.
--- The Linux console's ESC [ [ A and ESC [ G, rxvt's endings $, ^ and @ and its small letters (rxvtRef), and Konsole's
--- digit after a single shift.
+-- The Linux console's ESC [ [ A and ESC [ G, rxvt's 7 and 8, its endings $, ^ and @, its small letters and those of the
+-- keypad (rxvtRef), and Konsole's digit after a single shift.
 use Rattle.std.specs.Prelude.{if◌then◌else◌, ◌%◌, ◌&&◌, ◌+◌, ◌-◌, ◌/◌, ◌==◌, ◌||◌}
 use Rattle.keys.specs.Names.{A1, A3, Action, Asked, B2, Backspace, Begin, Bool, C1, C3, Character, Delete, Down, End}
 use Rattle.keys.specs.Names.{Enter, Escape, FocusIn, FocusOut, Function, Home, Insert, Key, Left, List, Modifiers}
 use Rattle.keys.specs.Names.{Motion, Name, None, Option, PageDown, PageUp, Parameters, PasteBegins, PasteEnds, Pasted}
 use Rattle.keys.specs.Names.{Pointed, Press, Pressed, Release, Right, Some, TOO_LARGE, Tab, Unknown, Up, drop, length}
 use Rattle.keys.specs.Names.{nat_le, nat_lt, not, slice_index, slice_range, ℕ}
-use Rattle.keys.specs.PressedKeys.{ctrl_and_shift, key_named, no_modifiers, only_ctrl, only_shift, with_alt}
+use Rattle.keys.specs.PressedKeys.{ctrl_and_shift, key_named, no_modifiers, only_alt, only_ctrl, only_shift}
+use Rattle.keys.specs.PressedKeys.{with_held}
 use Rattle.keys.specs.Characters.{code_of, size_by}
 use Rattle.keys.specs.Grammar.{bracket, escape, first, is_digit, is_numbered, last, middle, opens_string, second}
 use Rattle.keys.specs.Grammar.{shift_three, third, three_bytes}
@@ -88,8 +90,8 @@ name_of_number number =
     else if nat_le 31 number && nat_le number 34 then Some (Function (number - 14))
     else None
 
--- by the number of a character; the numbers for private use, E000 to F8FF, are other keys of some terminals, which have
--- no name here
+-- By the number of a character. Surrogates (D800 to DFFF) are none, and the numbers for private use, E000 to F8FF, are
+-- other keys of some terminals, which have no name here, nor have control characters but these.
 abbrev pub name_of_code : ℕ → Option Name
 name_of_code code =
     if code == 13 then Some Enter
@@ -120,7 +122,7 @@ pressed None held = Unknown
 pressed (Some name) held = Pressed name held
 
 -- A parameter of a control sequence is one more than the bits, and 0 for no modifiers. The locks' bits, 64 and 128, are
--- passed over. The others are below a limit.
+-- passed over. Where the others aren't below a limit the key is unknown.
 abbrev pub pressed_below : ℕ → Option Name → ℕ → Key
 pressed_below limit name number =
     if nat_lt 256 number || nat_le limit ((number - 1) % 64) then Unknown else pressed name (modifiers_of (number - 1))
@@ -143,19 +145,25 @@ console_key letter = if nat_le 65 letter && nat_le letter 69 then key_named (Fun
 abbrev pub numbered_key : Parameters → Key
 numbered_key p =
     if p.ended == 2 then (if p.first == 27 then coded_with p.third p.second else Unknown)
-    else if p.ended == 0 && p.first == 200 then PasteBegins
+    else if p.ended == 0 && p.first == 200 && not p.has_colon then PasteBegins
     else pressed_with (name_of_number p.first) p.second
 
--- those that end in a letter, with 1 or no number before the modifiers
-abbrev pub lettered_key : Parameters → ℕ → Key
-lettered_key p letter =
-    if nat_lt 1 p.first || nat_lt 1 p.ended then Unknown
-    else if p.ended == 1 then pressed_with (name_of_final letter) p.second
-    else if letter == 73 then FocusIn
+-- those that are a letter without parameters
+abbrev pub plain_key : ℕ → Key
+plain_key letter =
+    if letter == 73 then FocusIn
     else if letter == 79 then FocusOut
     else if letter == 90 then Pressed Tab only_shift
     else if nat_le 97 letter && nat_le letter 100 then pressed (name_of_letter (letter - 32)) only_shift
     else pressed (name_of_final letter) no_modifiers
+
+-- those that end in a letter behind the modifiers, with 1, 0 or no number before these; Z has shift also where they
+-- don't say it (libvterm)
+abbrev pub lettered_key : Parameters → ℕ → Key
+lettered_key p letter =
+    if nat_lt 1 p.first || not (p.ended == 1) then Unknown
+    else if letter == 90 then with_held only_shift (pressed_with (Some Tab) p.second)
+    else pressed_with (name_of_final letter) p.second
 
 -- by the parameters and the final byte; a key that is released (3) is unknown
 unfoldable pub controlled_key : Parameters → ℕ → Key
@@ -191,10 +199,14 @@ button_of bits =
 abbrev pub action_of : ℕ → Bool → Action
 action_of bits released = if is_odd (bits / 32) then Motion else if released then Release else Press
 
--- The bits have the button, what was held (4 shift, 8 alt, 16 ctrl) and motion. The column and the line count from 1.
+-- a column or a line, from 1 on
+abbrev pub is_place : ℕ → Bool
+is_place number = nat_lt 0 number && nat_lt number TOO_LARGE
+
+-- the bits have the button, what was held (4 shift, 8 alt, 16 ctrl) and motion
 abbrev pub pointed : ℕ → Bool → ℕ → ℕ → Key
 pointed bits released column line =
-    if nat_lt 191 bits || column == 0 || line == 0 then Unknown
+    if nat_lt 191 bits || not (is_place column && is_place line) then Unknown
     else Pointed (record {
       button = button_of bits;
       held = modifiers_of (bits / 4);
@@ -206,11 +218,11 @@ pointed bits released column line =
 -- ESC [ < and three numbers; m for a release
 unfoldable pub mouse_key : Parameters → ℕ → Key
 mouse_key p final =
-    if p.strange || not (p.ended == 2) then Unknown
+    if p.strange || p.has_colon || not (p.ended == 2) then Unknown
     else if final == 77 || final == 109 then pointed p.first (final == 109) p.second p.third
     else Unknown
 
--- ESC [ M and three bytes, each 32 more than its number; button 0 is a release
+-- ESC [ M and three bytes, each 32 more than its number; where they name no button it is a release, or motion
 unfoldable pub three_bytes_key : List ℕ → Key
 three_bytes_key bytes =
     if not (length bytes == 6) || nat_lt (slice_index bytes 3) 32 then Unknown
@@ -226,6 +238,7 @@ control_key bytes =
     else if is_ending (last bytes) then ended_key bytes
     else if nat_lt (last bytes) 0x40 then Unknown
     else if third bytes == 60 then mouse_key (parameters (slice_range bytes 3 (length bytes - 1))) (last bytes)
+    else if length bytes == 3 then plain_key (last bytes)
     else controlled_key (parameters (middle bytes)) (last bytes)
 
 -- ---- what an escape begins
@@ -243,11 +256,11 @@ shifted_key bytes =
 abbrev pub escaped_key : List ℕ → Key
 escaped_key bytes =
     if length bytes == 1 then key_named Escape
-    else if length bytes == 2 then with_alt (character_key (drop 1 bytes))
+    else if length bytes == 2 then with_held only_alt (character_key (drop 1 bytes))
     else if second bytes == bracket then control_key bytes
     else if second bytes == shift_three then shifted_key bytes
     else if opens_string (second bytes) then Unknown
-    else with_alt (character_key (drop 1 bytes))
+    else with_held only_alt (character_key (drop 1 bytes))
 
 -- the key of a sequence; while a text is pasted, of its end or of a part of the text
 unfoldable pub key_of : Bool → List ℕ → Key

@@ -30,6 +30,6 @@ pub use Rattle.std.proofs.lemmas.List.{append-nil, ext_get_or, get_or-append_rig
 pub use Rattle.std.proofs.lemmas.List.{length-take-le, map-append, take-append-le, take-take, take_more}
 pub use Rattle.std.specs.Char.{IsScalar, encode_utf8}
 pub use Rattle.std.specs.Fmt.{decimal}
-pub use Rattle.std.specs.List.{AllByRecursion, flat_map, fold, slice_range}
+pub use Rattle.std.specs.List.{flat_map, fold, slice_range}
 pub use Rattle.std.specs.Option.{is_some, option_map}
 pub use Rattle.std.specs.Prelude.{drop, not, slice_index}

@@ -8,9 +8,18 @@ use Rattle.keys.specs.Grammar.{bracket, escape, is_digit}
 
 -- none was read yet
 abbrev pub no_parameters : Parameters
-no_parameters = record { first = 0; second = 0; third = 0; event = 0; ended = 0; is_behind = false; strange = false }
+no_parameters = record {
+  first = 0;
+  second = 0;
+  third = 0;
+  event = 0;
+  ended = 0;
+  is_behind = false;
+  has_colon = false;
+  strange = false;
+}
 
--- a number with one more digit; from the first number on that is no character's it stays there
+-- a number with one more digit; from the first number on that is past all characters it stays there
 abbrev pub with_digit : ℕ → ℕ → ℕ
 with_digit number digit = min (number * 10 + (digit - 48)) TOO_LARGE
 
@@ -27,7 +36,8 @@ abbrev pub after_byte : Parameters → ℕ → Parameters
 after_byte p byte =
     if is_digit byte then after_digit p byte
     else if byte == 59 && nat_lt p.ended 2 then record p { ended = p.ended + 1; is_behind = false }
-    else if byte == 58 && (if p.is_behind then p.ended == 0 else nat_lt p.ended 2) then record p { is_behind = true }
+    else if byte == 58 && (if p.is_behind then p.ended == 0 else nat_lt p.ended 2) then
+    record p { is_behind = true; has_colon = true }
     else record p { strange = true }
 
 -- the parameters that some bytes spell

@@ -1,7 +1,7 @@
 -- What is read of the bytes of a terminal: a sequence after another, each of which is a key, and what is pending.
-use Rattle.std.specs.Prelude.{if◌then◌else◌, ◌++◌, ◌-◌, ◌==◌, ◌||◌, ◌∷◌, ◌≡◌}
+use Rattle.std.specs.Prelude.{if◌then◌else◌, ◌&&◌, ◌++◌, ◌-◌, ◌∷◌, ◌≡◌}
 use Rattle.keys.specs.Names.{Answer, Asked, Bool, Key, List, None, Option, PasteBegins, PasteEnds, Some, Taken, []}
-use Rattle.keys.specs.Names.{false, fold, length, map, take, true, ℕ}
+use Rattle.keys.specs.Names.{false, fold, length, map, nat_lt, not, take, true, ℕ}
 use Rattle.keys.specs.Grammar.{continues, escape, is_whole, leaves_escape}
 use Rattle.keys.specs.Meanings.{as_asked, key_of}
 
@@ -22,20 +22,24 @@ item s bytes = record { bytes = bytes; key = as_asked s.asked (key_of s.pasting 
 abbrev pub start : Asked → State
 start asked = record { asked = asked; pasting = false; pending = [] }
 
+-- What is pending as a sequence that is cut short. The last escape of a string isn't cut with it: it is left.
+abbrev pub cut_short : State → Item
+cut_short s =
+    item s (if leaves_escape s.pasting s.pending then take (length s.pending - 1) s.pending else s.pending)
+
+-- what is left
+abbrev pub after_cut : State → State
+after_cut s = record s { pending = if leaves_escape s.pasting s.pending then escape ∷ [] else [] }
+
 -- ---- a byte
 
--- A byte that doesn't go on what is pending cuts that short. The last escape of a string isn't cut with it.
+-- a byte that doesn't go on what is pending cuts that short
 abbrev pub cut_by : State → ℕ → Option Item
-cut_by s byte =
-    if continues s.pasting s.pending byte then None
-    else if leaves_escape s.pasting s.pending then Some (item s (take (length s.pending - 1) s.pending))
-    else Some (item s s.pending)
+cut_by s byte = if continues s.pasting s.pending byte then None else Some (cut_short s)
 
 -- what is left for the byte to go on
 abbrev pub left_by : State → ℕ → State
-left_by s byte =
-    if continues s.pasting s.pending byte then s
-    else record s { pending = if leaves_escape s.pasting s.pending then escape ∷ [] else [] }
+left_by s byte = if continues s.pasting s.pending byte then s else after_cut s
 
 -- a sequence as an item, if no byte goes on after it
 abbrev pub whole_of : State → List ℕ → Option Item
@@ -65,9 +69,13 @@ taken_by s byte =
 
 -- ---- the delay is over, and no byte came
 
--- what is pending is cut short, but of a pasted text nothing is: its end may come yet
+-- something is pending, and not of a pasted text, whose end may come yet
+abbrev pub waits : State → Bool
+waits s = not s.pasting && nat_lt 0 (length s.pending)
+
+-- what is pending is cut short; an escape that is left then is a key at the next delay, if no byte comes before
 abbrev pub cut_by_delay : State → Option Item
-cut_by_delay s = if s.pasting || length s.pending == 0 then None else Some (item s s.pending)
+cut_by_delay s = if waits s then Some (cut_short s) else None
 
 -- ---- events
 
@@ -86,7 +94,7 @@ items_of s Delay = option_list (cut_by_delay s)
 
 abbrev pub state_after : State → Event → State
 state_after s (Byte byte) = taken_by (left_by s byte) byte
-state_after s Delay = record s { pending = if s.pasting then s.pending else [] }
+state_after s Delay = if waits s then after_cut s else s
 
 pub record Reading : Type 0 where
   pub items : List Item

@@ -1,10 +1,10 @@
 //! A decoder: it takes the bytes of a terminal, and answers keys.
 
 ghost use Rattle.std.specs.Prelude.{if◌then◌else◌, ◌++◌, ◌+◌, ◌<◌, ◌∷◌, ◌≡◌, ◌≤◌};
-ghost use Rattle.keys.specs.{Byte, Delay, Event, HasRead, List, [], after_bytes, answered, cut_by, cut_by_delay};
-ghost use Rattle.keys.specs.{ended_by, false, is_some, is_whole, item, items_of, keys_of, leaves_escape, left_by};
-ghost use Rattle.keys.specs.{length, map, option_list, option_map, pasting_after, start, state_after, take, taken_by};
-ghost use Rattle.keys.specs.{taken_of, whole_of};
+ghost use Rattle.keys.specs.{Byte, Delay, Event, HasRead, List, [], after_bytes, after_cut, answered, cut_by};
+ghost use Rattle.keys.specs.{cut_by_delay, cut_short, ended_by, false, is_some, is_whole, item, items_of, keys_of};
+ghost use Rattle.keys.specs.{leaves_escape, left_by, length, map, option_list, option_map, pasting_after, start};
+ghost use Rattle.keys.specs.{state_after, take, taken_by, taken_of, whole_of};
 
 use crate::asked::Asked;
 use crate::grammar::{ESCAPE, LONGEST, continues, is_whole, leaves_escape};
@@ -19,7 +19,7 @@ pub struct Taken {
     pub count: usize,
 }
 
-/// The keys that a byte ends, in their order: at most two, of which the first took none of this byte.
+/// The keys that a byte ends, in their order: at most two. Where there are two, the first took none of this byte.
 #[derive(Clone, Copy, PartialEq, Eq)]
 pub struct Answer {
     pub first: Option<Taken>,
@@ -145,26 +145,35 @@ impl Decoder {
         }
     }
 
+    /// Cuts what is pending short. The last escape of a string is left.
+    fn cut_short(&mut self) -> Taken
+        requires some { 1 ≤ length self.now.pending }
+        ensures cut { result ≡ taken_of (cut_short self.old) }
+        ensures left { self.new ≡ after_cut self.old }
+        ensures asked { self.new.asked ≡ self.old.asked }
+    {
+        let count = self.count;
+        if leaves_escape(self.pasting, &self.bytes[..count]) {
+            let taken = self.key_of_first(count - 1);
+            self.bytes[0] = ESCAPE;
+            self.count = 1;
+            return taken;
+        }
+        let taken = self.key_of_first(count);
+        self.count = 0;
+        taken
+    }
+
     /// Cuts what is pending short, if the byte doesn't go on there.
     fn cut(&mut self, byte: u8) -> Option<Taken>
         ensures cut { result ≡ option_map taken_of (cut_by self.old byte) }
         ensures left { self.new ≡ left_by self.old byte }
         ensures asked { self.new.asked ≡ self.old.asked }
     {
-        let count = self.count;
-        let pending = &self.bytes[..count];
-        if continues(self.pasting, pending, byte) {
+        if continues(self.pasting, &self.bytes[..self.count], byte) {
             return None;
         }
-        if leaves_escape(self.pasting, pending) {
-            let taken = self.key_of_first(count - 1);
-            self.bytes[0] = ESCAPE;
-            self.count = 1;
-            return Some(taken);
-        }
-        let taken = self.key_of_first(count);
-        self.count = 0;
-        Some(taken)
+        Some(self.cut_short())
     }
 
     /// Takes a byte of the sequence that is pending, or another escape after an escape.
@@ -216,7 +225,8 @@ impl Decoder {
         }
     }
 
-    /// Says that nothing came until the delay was over.
+    /// Says that nothing came until the delay was over. Where the decoder still waits then, an escape is left, and the
+    /// next delay answers it.
     #[tactic(auto, using(crate::proofs::Readings::steps))]
     pub fn delay(&mut self) -> Option<Taken>
         ensures keys { option_list result ≡ keys_of (items_of self.old Delay) }
@@ -228,9 +238,7 @@ impl Decoder {
         if self.pasting || self.count == 0 {
             return None;
         }
-        let taken = self.key_of_first(self.count);
-        self.count = 0;
-        Some(taken)
+        Some(self.cut_short())
     }
 }
 

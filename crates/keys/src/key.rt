@@ -1,7 +1,7 @@
 //! Keys as values.
 
 ghost use Rattle.std.specs.Prelude.{◌≡◌};
-ghost use Rattle.keys.specs.{key_named, with_alt};
+ghost use Rattle.keys.specs.{key_named, with_held};
 
 /// What a key is called, without its modifiers.
 #[derive(Clone, Copy, PartialEq, Eq)]
@@ -55,6 +55,12 @@ impl Modifiers {
     pub const SHIFT: Modifiers = Modifiers {
         shift: true,
         alt: false,
+        ctrl: false,
+    };
+
+    pub const ALT: Modifiers = Modifiers {
+        shift: false,
+        alt: true,
         ctrl: false,
     };
 
@@ -123,17 +129,17 @@ impl Key {
         Key::Pressed(name, Modifiers::NONE)
     }
 
-    /// The same with alt. What is no key stays so.
-    pub(crate) fn with_alt(self) -> Key
-        ensures { result ≡ with_alt self }
+    /// The same with more modifiers. What is no key stays so.
+    pub(crate) fn with(self, more: Modifiers) -> Key
+        ensures { result ≡ with_held more self }
     {
         match self {
             Key::Pressed(name, held) => Key::Pressed(
                 name,
                 Modifiers {
-                    shift: held.shift,
-                    alt: true,
-                    ctrl: held.ctrl,
+                    shift: more.shift || held.shift,
+                    alt: more.alt || held.alt,
+                    ctrl: more.ctrl || held.ctrl,
                 },
             ),
             other => other,

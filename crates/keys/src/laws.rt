@@ -3,12 +3,13 @@
 #![tactic(auto, using(crate::proofs::Readings::laws))]
 
 ghost use Rattle.std.specs.Prelude.{◌++◌, ◌+◌, ◌<◌, ◌∷◌, ◌≡◌, ◌≢◌, ◌≤◌, ◌⊎◌};
-ghost use Rattle.keys.specs.{AreKey, Asked, Byte, Character, Event, HasRead, IsOfSequences, IsPending, IsScalar};
-ghost use Rattle.keys.specs.{IsSequence, Item, Key, LONGEST, List, Modifiers, Name, PasteEnds, Pressed, Resumes, Some};
-ghost use Rattle.keys.specs.{State, Taken, [], after_key, all_bytes, as_asked, ascii_key, bytes_of, bytes_taken};
-ghost use Rattle.keys.specs.{control_sequence, decimal, encode_utf8, escape, false, key_named, length, map};
-ghost use Rattle.keys.specs.{name_of_code, name_of_final, name_of_number, parameter_of, paste_end, reading};
-ghost use Rattle.keys.specs.{slice_index, start, take, terminator, three_parameters, true, two_parameters, ℕ};
+ghost use Rattle.keys.specs.{AreKey, Asked, Backspace, Byte, Character, Delay, Enter, Escape, Event, HasRead, IsBegun};
+ghost use Rattle.keys.specs.{IsOfSequences, IsPending, IsScalar, IsSequence, Item, Key, LONGEST, List, Modifiers, Name};
+ghost use Rattle.keys.specs.{PasteEnds, Pressed, Resumes, Some, State, Tab, Taken, [], after_key, all_bytes, as_asked};
+ghost use Rattle.keys.specs.{ascii_key, bytes_of, bytes_taken, control_sequence, decimal, encode_utf8, escape, false};
+ghost use Rattle.keys.specs.{is_string, key_named, key_of, length, map, name_of_code, name_of_final, name_of_number};
+ghost use Rattle.keys.specs.{parameter_of, paste_end, reading, slice_index, start, take, terminator, three_parameters};
+ghost use Rattle.keys.specs.{true, two_parameters, ℕ};
 
 /// Each byte is in exactly one sequence: those of all sequences, in their order, and then those that are pending are
 /// the bytes that came.
@@ -31,16 +32,18 @@ pub fn one_reading()
         → HasRead events others other → one.asked ≡ other.asked → one ≡ other }
 {}
 
-/// Each sequence has its key, and none of its beginnings is whole; and what is pending is such a beginning.
+/// Each sequence has the key that it has after those before it, of which whole ones alone begin and end pasted texts,
+/// by their keys. None of its beginnings is whole, and what is pending is such a beginning.
 pub fn all_are_sequences()
-    ensures sequences { (asked : Asked) (events : List Event) → IsOfSequences (reading asked events) }
+    ensures sequences { (asked : Asked) (events : List Event) → IsOfSequences asked (reading asked events) }
     ensures pending { (events : List Event) (taken : List Taken) (state : State) → HasRead events taken state
         → IsPending state }
 {}
 
 /// A pasted text ends with these bytes alone.
 pub fn pastes_end_so()
-    ensures { (item : Item) (is : IsSequence item) → is.pasting ≡ true → item.key ≡ PasteEnds → item.bytes ≡ paste_end }
+    ensures { (asked : Asked) (item : Item) → IsSequence asked true item → item.key ≡ PasteEnds
+        → item.bytes ≡ paste_end }
 {}
 
 /// The bytes of a key, where nothing is pending and no text is pasted, are answered by that key, if it was asked for,
@@ -53,28 +56,33 @@ pub fn key_is_answered()
 {}
 
 /// No sequence is eaten by what was pending before it: a whole one that begins with an escape is answered after any
-/// events outside of a pasted text, unless it is ESC \, which ends a string, or its escape is the last byte that a
-/// string can have.
+/// events outside of a pasted text. But where a string is pending ESC \ ends it, and an escape may be the last byte
+/// that a string can have.
 pub fn no_sequence_is_eaten()
     ensures { (events : List Event) (taken : List Taken) (state : State) (byte : ℕ) (rest : List ℕ) (key : Key)
-        → HasRead events taken state → state.pasting ≡ false → length state.pending + 1 < LONGEST → byte ≢ terminator
+        → HasRead events taken state → state.pasting ≡ false
+        → (is_string state.pending ≡ false) ⊎ ((length state.pending + 1 < LONGEST) × (byte ≢ terminator))
         → AreKey (escape ∷ byte ∷ rest) key
         → Resumes state.asked events taken (escape ∷ byte ∷ rest) (as_asked state.asked key) }
 {}
 
-/// The end of a pasted text is never missed, whatever was pending.
+/// The end of a pasted text is never missed, whatever was pending, nor by a delay between its bytes, which changes
+/// nothing.
 pub fn no_end_is_missed()
-    ensures { (events : List Event) (taken : List Taken) (state : State) → HasRead events taken state
+    ensures ends { (events : List Event) (taken : List Taken) (state : State) → HasRead events taken state
         → state.pasting ≡ true → Resumes state.asked events taken paste_end PasteEnds }
+    ensures delays { (events more : List Event) (taken others : List Taken) (one other : State)
+        → HasRead events taken one → one.pasting ≡ true → one.asked ≡ other.asked
+        → HasRead (events ++ more) others other → HasRead (events ++ Delay ∷ more) others other }
 {}
 
-/// The bytes of each character in UTF-8 are its key, and no other bytes that begin so are. Of those below 128, control
-/// characters have names and modifiers.
+/// The bytes of each character in UTF-8 are its key, and no others but sequences of an escape are, also where they were
+/// cut short. Of those below 128 the control characters have names or modifiers.
 pub fn characters_are_keys()
     ensures ascii { (code : ℕ) → code < 128 → code ≢ escape → AreKey (code ∷ []) (ascii_key code) }
     ensures others { (code : ℕ) → 128 ≤ code → IsScalar code → AreKey (encode_utf8 code) (key_named (Character code)) }
-    ensures only { (bytes : List ℕ) (code : ℕ) → 128 ≤ slice_index bytes 0 → AreKey bytes (key_named (Character code))
-        → bytes ≡ encode_utf8 code }
+    ensures only { (bytes : List ℕ) (code : ℕ) → IsBegun false bytes → slice_index bytes 0 ≢ escape
+        → key_of false bytes ≡ key_named (Character code) → bytes ≡ encode_utf8 code }
 {}
 
 /// Names by their control sequences, whose numbers are spelled in decimal digits: ESC [ n ~ without modifiers, and with
@@ -89,7 +97,7 @@ pub fn names_are_keys()
 {}
 
 /// Characters, and enter, tab, escape and backspace, by their numbers with all modifiers: ESC [ n ; m u and
-/// ESC [ 27 ; m ; n ~. Of characters the control characters and those for private use, E000 to F8FF, have none.
+/// ESC [ 27 ; m ; n ~. Other characters below 32, and those for private use, E000 to F8FF, have none.
 pub fn codes_are_keys()
     ensures u { (code : ℕ) (name : Name) (held : Modifiers) → name_of_code code ≡ Some name
         → AreKey (control_sequence (two_parameters code (parameter_of held)) 117) (Pressed name held) }
@@ -97,4 +105,6 @@ pub fn codes_are_keys()
         → AreKey (control_sequence (three_parameters 27 (parameter_of held) code) 126) (Pressed name held) }
     ensures characters { (code : ℕ) → IsScalar code → 32 ≤ code → code ≢ 127 → (code < 0xe000) ⊎ (0xf900 ≤ code)
         → name_of_code code ≡ Some (Character code) }
+    ensures names { (name_of_code 13 ≡ Some Enter) × (name_of_code 9 ≡ Some Tab) × (name_of_code 27 ≡ Some Escape)
+        × (name_of_code 8 ≡ Some Backspace) × (name_of_code 127 ≡ Some Backspace) }
 {}

@@ -2,10 +2,10 @@
 
 ghost use Rattle.std.specs.Prelude.{◌<◌, ◌≡◌, ◌≤◌};
 ghost use Rattle.keys.specs.{action_of, ascii_key, button_of, character_key, coded_with, console_key, control_key};
-ghost use Rattle.keys.specs.{controlled_key, ended_key, escaped_key, held_by_ending, is_ending, is_odd, key_of};
-ghost use Rattle.keys.specs.{key_of_code, length, lettered_key, modifiers_of, mouse_key, name_of_code, name_of_final};
-ghost use Rattle.keys.specs.{name_of_keypad, name_of_letter, name_of_number, numbered_key, pointed, pressed};
-ghost use Rattle.keys.specs.{pressed_below, pressed_with, shifted_key, three_bytes_key};
+ghost use Rattle.keys.specs.{controlled_key, ended_key, escaped_key, held_by_ending, is_ending, is_odd, is_place};
+ghost use Rattle.keys.specs.{key_of, key_of_code, length, lettered_key, modifiers_of, mouse_key, name_of_code};
+ghost use Rattle.keys.specs.{name_of_final, name_of_keypad, name_of_letter, name_of_number, numbered_key, plain_key};
+ghost use Rattle.keys.specs.{pointed, pressed, pressed_below, pressed_with, shifted_key, three_bytes_key};
 
 use crate::grammar::{
     BRACKET, ESCAPE, SHIFT_THREE, THREE_BYTES, is_digit, is_numbered, opens_string,
@@ -232,22 +232,29 @@ fn numbered_key(p: Parameters) -> Key
             Key::Unknown
         };
     }
-    if p.ended == 0 && p.first == 200 {
+    if p.ended == 0 && p.first == 200 && !p.has_colon {
         return Key::PasteBegins;
     }
     pressed_with(name_of_number(p.first), p.second)
 }
 
-/// The key of a control sequence that ends in a letter.
+/// The key of a control sequence that ends in a letter behind the modifiers.
 fn lettered_key(p: Parameters, letter: u8) -> Key
     ensures { result ≡ lettered_key p letter }
 {
-    if p.first > 1 || p.ended > 1 {
+    if p.first > 1 || p.ended != 1 {
         return Key::Unknown;
     }
-    if p.ended == 1 {
-        return pressed_with(name_of_final(letter), p.second);
+    if letter == b'Z' {
+        return pressed_with(Some(Name::Tab), p.second).with(Modifiers::SHIFT);
     }
+    pressed_with(name_of_final(letter), p.second)
+}
+
+/// The key of a control sequence that is a letter without parameters.
+fn plain_key(letter: u8) -> Key
+    ensures { result ≡ plain_key letter }
+{
     if letter == b'I' {
         return Key::FocusIn;
     }
@@ -343,11 +350,18 @@ fn action_of(bits: u32, released: bool) -> Action
     }
 }
 
+/// Whether a number is a column or a line, from 1 on.
+fn is_place(number: u32) -> bool
+    ensures { result ≡ is_place number }
+{
+    0 < number && number < TOO_LARGE
+}
+
 /// What the mouse did, by the bits of its button, and the column and the line from 1.
 fn pointed(bits: u32, released: bool, column: u32, line: u32) -> Key
     ensures { result ≡ pointed bits released column line }
 {
-    if bits > 191 || column == 0 || line == 0 {
+    if bits > 191 || !is_place(column) || !is_place(line) {
         return Key::Unknown;
     }
     Key::Pointed(Mouse {
@@ -364,7 +378,7 @@ fn pointed(bits: u32, released: bool, column: u32, line: u32) -> Key
 fn mouse_key(p: Parameters, last: u8) -> Key
     ensures { result ≡ mouse_key p last }
 {
-    if p.strange || p.ended != 2 {
+    if p.strange || p.has_colon || p.ended != 2 {
         return Key::Unknown;
     }
     if last == b'M' || last == b'm' {
@@ -414,6 +428,9 @@ fn control_key(bytes: &[u8]) -> Key
     if bytes[2] == b'<' {
         return mouse_key(Parameters::of(&bytes[3..end]), last);
     }
+    if bytes.len() == 3 {
+        return plain_key(last);
+    }
     controlled_key(Parameters::of(&bytes[2..end]), last)
 }
 
@@ -446,7 +463,7 @@ fn escaped_key(bytes: &[u8]) -> Key
         return Key::named(Name::Escape);
     }
     if bytes.len() == 2 {
-        return character_key(&bytes[1..]).with_alt();
+        return character_key(&bytes[1..]).with(Modifiers::ALT);
     }
     if bytes[1] == BRACKET {
         return control_key(bytes);
@@ -457,7 +474,7 @@ fn escaped_key(bytes: &[u8]) -> Key
     if opens_string(bytes[1]) {
         return Key::Unknown;
     }
-    character_key(&bytes[1..]).with_alt()
+    character_key(&bytes[1..]).with(Modifiers::ALT)
 }
 
 /// The key of a sequence.

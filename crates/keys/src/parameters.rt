@@ -5,7 +5,7 @@ ghost use Rattle.keys.specs.{is_digit, nat_lt, true, with_digit};
 
 use crate::grammar::is_digit;
 
-/// The first number that is no character's: all that are greater are read as this one.
+/// The first number past all characters: all that are greater are read as this one.
 pub const TOO_LARGE: u32 = 0x11_0000;
 
 /// Up to three numbers, and how many of them a separator has ended.
@@ -19,6 +19,8 @@ pub struct Parameters {
     pub ended: u8,
     /// A colon was in the one that isn't ended.
     pub is_behind: bool,
+    /// A colon was in one of them.
+    pub has_colon: bool,
     /// They are none that a key has.
     pub strange: bool,
 }
@@ -33,6 +35,7 @@ impl Parameters {
         event: 0,
         ended: 0,
         is_behind: false,
+        has_colon: false,
         strange: false,
     };
 
@@ -69,6 +72,7 @@ impl Parameters {
             next.is_behind = false;
         } else if byte == b':' && self.takes_colon() {
             next.is_behind = true;
+            next.has_colon = true;
         } else {
             next.strange = true;
         }
