@@ -26,9 +26,9 @@ use Rattle.raw_box.proofs.nullable_box.NullableBox.empty.Code as code
 pub empty_spec : {M : Type 1} → statement M
 empty_spec 𝓤 𝓛 𝓜 𝓡 wired T L dd glued =
     let H = 𝓛.H in let 𝓣 = tables 𝓤 H 𝓜 𝓡 𝓡.env in let R : RattleType = param 0 T in let En = f.ended T dd in
-        let c = f.clauses T dd 𝓛 𝓜.mem 𝓡.returns in
+    let c = f.clauses T dd 𝓛 𝓜.mem 𝓡.returns in
     let at = bounded (a_type ∷ []) (T, tt) (dcons dd dnil) in let fn = inst_fn at code.function in
-        let hs : Stays En.signature.params En.kept = tt in
+    let hs : Stays En.signature.params En.kept = tt in
     proved_at 𝓛 En hs c 𝓜 𝓡 tt (f.Key.name at) fn (code.unfolded 𝓤 H 𝓜 𝓡 wired (T, tt) dd) (λ z are.
     let Post : Val → SProp 𝓤 = (walk_of 𝓛 En hs c).post z in let toks = ‵ (flft z.0.0.0 z.0.1.0) ⊛ ‵ ftrue in
     qed 𝓛 ((toks ⊛ ‵ ftrue) ∷ raw ((c z.0.0 z.0.3).requires z.1) ∷ []) ∵ split ! $ keep ! (0 ∷ []) $

@@ -41,13 +41,17 @@ use Rattle.raw_box.proofs.nullable_box.NullableBox.into_raw_box.Code as code
 pub into_raw_box_spec : {M : Type 1} → statement M
 into_raw_box_spec 𝓤 𝓛 𝓜 𝓡 wired T L dd glued =
     let H = 𝓛.H in let 𝓣 = tables 𝓤 H 𝓜 𝓡 𝓡.env in let R : RattleType = param 0 T in let En = f.ended T dd in
-        let c = f.clauses T dd 𝓛 𝓜.mem 𝓡.returns in
+    let c = f.clauses T dd 𝓛 𝓜.mem 𝓡.returns in
     let at = bounded (a_type ∷ []) (T, tt) (dcons dd dnil) in let fn = inst_fn at code.function in
-        let LZ = heap_laws.the_row_laws in let Lr : RattleType = RawBox R Z LZ ghosts in
-    let hs : Stays En.signature.params En.kept = (stay_dropped (plain (λ _. Row (nullable R))) no,
-    (stay_dropped (plain (λ _. Z)) yes, tt)) in
-    proved_at 𝓛 En hs c 𝓜 𝓡 (Goes-blank 𝓛 1 (plain (λ _. Row (nullable R))) no (λ κs x f. tt),
-    (Goes-dropped 𝓛 1 (plain (λ _. Z)) yes (λ κs x w. refl), tt))
+    let LZ = heap_laws.the_row_laws in let Lr : RattleType = RawBox R Z LZ ghosts in
+    let hs : Stays En.signature.params En.kept = (
+      stay_dropped (plain (λ _. Row (nullable R))) no,
+      (stay_dropped (plain (λ _. Z)) yes, tt),
+    ) in
+    proved_at 𝓛 En hs c 𝓜 𝓡 (
+      Goes-blank 𝓛 1 (plain (λ _. Row (nullable R))) no (λ κs x f. tt),
+      (Goes-dropped 𝓛 1 (plain (λ _. Z)) yes (λ κs x w. refl), tt),
+    )
     (f.Key.name at) fn (code.unfolded 𝓤 H 𝓜 𝓡 wired (T, tt) dd) (λ z are.
     let κs = z.0.0 in let d = z.0.3.0 in let a = z.0.3.1.0 in let toks = ‵ (flft κs.0 z.0.1.0) ⊛ ‵ ftrue in
     let h = one (layout Z) z.0.4.1.0 ((LZ.lawful 𝓛).typed a z.0.4.1.0 are.1.0) in let hv : Val = h.0 in let gh = h.2 in

@@ -34,9 +34,9 @@ use Rattle.raw_box.proofs.nullable_box.NullableBox.of.Code as code
 pub of_spec : {M : Type 1} → statement M
 of_spec 𝓤 𝓛 𝓜 𝓡 wired T L dd glued =
     let H = 𝓛.H in let 𝓣 = tables 𝓤 H 𝓜 𝓡 𝓡.env in let R : RattleType = param 0 T in let En = f.ended T dd in
-        let c = f.clauses T dd 𝓛 𝓜.mem 𝓡.returns in
+    let c = f.clauses T dd 𝓛 𝓜.mem 𝓡.returns in
     let at = bounded (a_type ∷ []) (T, tt) (dcons dd dnil) in let fn = inst_fn at code.function in
-        let LZ = heap_laws.the_row_laws in
+    let LZ = heap_laws.the_row_laws in
     let hs : Stays En.signature.params En.kept = (stay_dropped (plain (λ _. RawBox R Z LZ ghosts)) no, tt) in
     proved_at 𝓛 En hs c 𝓜 𝓡 (Goes-blank 𝓛 1 (plain (λ _. RawBox R Z LZ ghosts)) no (λ κs x f. tt), tt)
     (f.Key.name at) fn (code.unfolded 𝓤 H 𝓜 𝓡 wired (T, tt) dd) (λ z are.
