@@ -83,7 +83,8 @@ int wnoutrefresh(WINDOW *win) {
     if (!curspan_is_mixed && win != stdscr) curspan_note_refreshed(win);
     wsyncdown(win);
     bool outlies = win && win->outlies;
-    int answer = outlies ? curspan_show_outlying(win) : done(curspan_wnoutrefresh(curspan_settle(), curspan_placed(win)));
+    int answer = outlies ? curspan_show_outlying(win)
+                         : done(curspan_wnoutrefresh(curspan_settle(), curspan_placed(win)));
     if (answer == ERR) return ERR;
     win->moved = false;
     if (!outlies) curspan_note_cursor(win);

@@ -17,7 +17,8 @@ compile() {
     mkdir -p "$to"
     for source in "$from"/*.c; do
         # shellcheck disable=SC2086 # CFLAGS are words
-        "$compiler" -std=c99 -O3 -fPIC -fstack-protector "$@" ${CFLAGS:-} -c "$source" -o "$to/$(basename "$source" .c).o" || return
+        "$compiler" -std=c99 -O3 -fPIC -fstack-protector "$@" ${CFLAGS:-} -c "$source" \
+            -o "$to/$(basename "$source" .c).o" || return
     done
 }
 

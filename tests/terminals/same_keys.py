@@ -94,11 +94,14 @@ for command in [PROGRAMS[0], *SCRIPTS]:
         print(f'keys: of the table, {command[0]}:', [it for it in zip(table, named) if it[0][1] != it[1]])
         good = False
 texts = [b'a\xc3\xa9', b'\x1b[1;5D\x1b[1;6H\x1b[5;3~', b'\x1b[200~two\rlines\x1b[201~x', b'\x01\x1a\x1c\r\t', b'\x1bx\x1b\r', b'\xff\xe6\x97']
-wanted = ['a', 'é', 'ctrl+left', 'ctrl+shift+home', 'alt+pageup', 'paste two', 'lines', 'x', 'ctrl+a', 'ctrl+z', 'ctrl+\\', 'enter', 'tab', 'alt+x', 'alt+enter', 'unknown', 'unknown']
+wanted = ['a', 'é', 'ctrl+left', 'ctrl+shift+home', 'alt+pageup', 'paste two', 'lines', 'x', 'ctrl+a', 'ctrl+z',
+          'ctrl+\\', 'enter', 'tab', 'alt+x', 'alt+enter', 'unknown', 'unknown']
 for command in PROGRAMS:
     keys = keys_of(command, 'xterm', texts, 0)
     if keys != wanted:
         print(f'keys: {command[0]}: {keys}, and not {wanted}')
         good = False
-print(f'keys: {count} keys, and {len(table)} of the table, are the same in {len(PROGRAMS) + len(SCRIPTS)} languages' if good else 'keys: they are not the same')
+LANGUAGES = len(PROGRAMS) + len(SCRIPTS)
+print(f'keys: {count} keys, and {len(table)} of the table, are the same in {LANGUAGES} languages' if good
+      else 'keys: they are not the same')
 sys.exit(not good)
