@@ -61,7 +61,7 @@ enum curspan_terminal_status {
 const char *curspan_terminal_text(uint32_t status);
 
 enum curspan_terminal_options {
-    CURSPAN_TERMINAL_RAW = 1,         /* Ctrl-C, Ctrl-Z and Ctrl-\ are keys, and no signals */
+    CURSPAN_TERMINAL_RAW = 1,         /* Ctrl-C, Ctrl-Z, Ctrl-\, Ctrl-S and Ctrl-Q are keys */
     CURSPAN_TERMINAL_PAGE = 2,        /* the picture is on the terminal's other page */
     CURSPAN_TERMINAL_HIDE_CURSOR = 4,
     CURSPAN_TERMINAL_PASTE = 8,       /* a text that is pasted is one key, and not a key for each character */
@@ -190,8 +190,8 @@ enum curspan_key_code {
    its name. */
 uint32_t curspan_terminal_key(curspan_terminal *terminal, int milliseconds, curspan_key *key);
 
-/* Puts the name of a key into `out`, with a NUL, where there is room, and answers its length: the character, or a name
-   such as up, pagedown, f1, ctrl+left, alt+x, shift+tab, none, resize. */
+/* Puts the name of a key into `out`, as much of it as there is room for with a NUL, and answers its length: the
+   character, or a name such as up, pagedown, f1, ctrl+left, alt+x, shift+tab, none, resize. */
 size_t curspan_key_name(const curspan_key *key, char *out, size_t room);
 
 /* ---- texts */

@@ -115,8 +115,9 @@ impl<W> fmt::Display for Screen<W> {
     }
 }
 
-/// A text as a window can have it: a letter of Latin script without its mark, and in place of
-/// another character that isn't ASCII a question mark, with a blank where it is wide.
+/// A text as a window can have it: a letter of Latin script without its mark, and in place of any
+/// other character that a window has not, as a tab, a question mark, with a blank where it is wide.
+/// Newlines, carriage returns and backspaces stay.
 ///
 /// ```
 /// assert_eq!(curspan::plain("résumé.pdf"), "resume.pdf");
