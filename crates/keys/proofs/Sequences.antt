@@ -261,10 +261,7 @@ sequences-whole s bytes is = elim (cases_Bool (is_whole s.pasting bytes)) [
 -- what is left goes on, but for an escape where another follows
 escape-off : (byte : ℕ) → continues false (escape ∷ []) byte ≡ false → byte ≡ escape
 unfolding continues
-escape-off byte off = elim (cases_eq byte escape) [
-  | inl same ↦ same
-  | inr other ↦ absurd (let e : continues false (escape ∷ []) byte ≡ true = rw (ne_eqb byte escape other) refl in cc)
-]
+escape-off byte off = grind (arith, nat_tests, off)
 
 left-off : (s : State) (byte : ℕ) → continues (left_by s byte).pasting (left_by s byte).pending byte ≡ false
     → (byte ≡ escape) × ((left_by s byte).pasting ≡ false)
