@@ -28,10 +28,7 @@ whole bytes six begun = absurd (omega (arith, six))
 
 key-ends : (asked : Asked) (bytes : List ℕ) → as_asked asked (key_of true bytes) ≡ PasteEnds → length bytes ≡ 6
 unfolding key_of
-key-ends asked bytes is = elim (cases_eq (length bytes) 6) [
-  | inl six ↦ six
-  | inr other ↦ absurd (let e = rw (ne_eqb (length bytes) 6 other) at is in cc)
-]
+key-ends asked bytes is = grind (arith, nat_tests, is)
 
 pub paste-whole : (asked : Asked) (item : Item) → IsSequence asked true item → item.key ≡ PasteEnds
     → item.bytes ≡ paste_end
