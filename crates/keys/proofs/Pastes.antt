@@ -1,8 +1,7 @@
 -- How a pasted text ends.
 use Rattle.std.specs.Prelude.{◌∷◌, ◌≡◌, ◌≤◌}
-use Rattle.keys.specs.{Asked, IsBegun, IsSequence, Item, List, PasteEnds, [], arith, as_asked, cases_eq, continues}
-use Rattle.keys.specs.{false, get_or, inl, inr, is_whole, key_of, length, nat_tests, ne_eqb, paste_end, refl, sym, true}
-use Rattle.keys.specs.{ℕ, ◌∙◌}
+use Rattle.keys.specs.{Asked, IsBegun, IsSequence, Item, List, PasteEnds, [], arith, as_asked, continues, false, get_or}
+use Rattle.keys.specs.{is_whole, key_of, length, nat_tests, paste_end, refl, sym, true, ℕ, ◌∙◌}
 
 -- a byte that goes on is that of the end
 on : (bytes : List ℕ) (byte : ℕ) → 1 ≤ length bytes → continues true bytes byte ≡ true
