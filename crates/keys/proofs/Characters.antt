@@ -197,16 +197,7 @@ encoded-scalar c high scalar = elim (scalar_cases c scalar) [
 -- ---- no other bytes
 
 same-code : (k c : ℕ) → key_of_code k ≡ key_named (Character c) → k ≡ c
-same-code k c is = elim (cases_lt k 0xd800) [
-  | inl low ↦ (let e : key_of_code k ≡ key_named (Character k) = grind (arith, nat_tests, low) in cc)
-  | inr high ↦ elim (cases_lt k 0xe000) [
-    | inl none ↦ absurd (let e : key_of_code k ≡ Unknown = grind (arith, nat_tests, high, none) in cc)
-    | inr above ↦ elim (cases_lt k 0x110000) [
-      | inl most ↦ (let e : key_of_code k ≡ key_named (Character k) = grind (arith, nat_tests, above, most) in cc)
-      | inr past ↦ absurd (let e : key_of_code k ≡ Unknown = grind (arith, nat_tests, above, past) in cc)
-    ]
-  ]
-]
+same-code k c is = grind (arith, nat_tests, is)
 
 -- what a key says of the bytes of a character
 record Says (a : ℕ) (l : List ℕ) (c : ℕ) : Type 0 where

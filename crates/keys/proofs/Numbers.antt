@@ -2,13 +2,12 @@
 use Rattle.std.specs.Prelude.{◌%◌, ◌&&◌, ◌*◌, ◌++◌, ◌+◌, ◌-◌, ◌/◌, ◌<◌, ◌==◌, ◌^◌, ◌∷◌, ◌≡◌, ◌≤◌, ◌⊎◌}
 use Rattle.keys.specs.{AreKey, Bool, Character, IsScalar, Key, List, Modifiers, Name, Option, Parameters, Pressed, Some}
 use Rattle.keys.specs.{TOO_LARGE, [], after_byte, ap, arith, cases_lt, continues, control_key, control_sequence}
-use Rattle.keys.specs.{controlled_key, decimal, decimal_by_steps, eq-eqb, false, fold, fold-append, get_or}
-use Rattle.keys.specs.{get_or-append_right, get_or-take, get_or_append_left, inl, inr, is_digit, is_whole, key_named}
-use Rattle.keys.specs.{key_of, length, length-append, length-decimal-le, length-take-le, min, modifiers_of}
-use Rattle.keys.specs.{name_of_code, name_of_final, name_of_number, nat_le, nat_lt, nat_tests, ne_eqb, no_modifiers}
-use Rattle.keys.specs.{no_parameters, not, parameter_of, parameters, pressed_below, refl, scalar_cases, slice_range}
-use Rattle.keys.specs.{subst, suc, sym, take, take-append_seam, three_parameters, true, two_parameters, with_digit}
-use Rattle.keys.specs.{zero, ℕ, ◌∙◌}
+use Rattle.keys.specs.{controlled_key, decimal, decimal_by_steps, false, fold, fold-append, get_or, get_or-append_right}
+use Rattle.keys.specs.{get_or-take, get_or_append_left, inl, inr, is_digit, is_whole, key_named, key_of, length}
+use Rattle.keys.specs.{length-append, length-decimal-le, length-take-le, min, modifiers_of, name_of_code, name_of_final}
+use Rattle.keys.specs.{name_of_number, nat_le, nat_lt, nat_tests, ne_eqb, no_modifiers, no_parameters, not}
+use Rattle.keys.specs.{parameter_of, parameters, pressed_below, refl, scalar_cases, slice_range, subst, suc, sym, take}
+use Rattle.keys.specs.{take-append_seam, three_parameters, true, two_parameters, with_digit, zero, ℕ, ◌∙◌}
 use Rattle.keys.proofs.Sequences.{get-last}
 
 -- a digit or ;
@@ -56,24 +55,9 @@ finals byte is = record {
   no_ending = λ e. grind (arith, nat_tests, is, e);
 }
 
--- a control sequence, but for what it reads of its bytes
-control-by : (bytes between : List ℕ) (byte : ℕ) → get_or bytes 0 0 ≡ 27 → get_or bytes 1 0 ≡ 91 → 4 ≤ length bytes
-    → IsParameter (get_or bytes 2 0) → (get_or bytes 2 0 ≡ 60 → ⊥) → get_or bytes (length bytes - 1) 0 ≡ byte
-    → IsFinal byte → slice_range bytes 2 (length bytes - 1) ≡ between
-    → key_of false bytes ≡ controlled_key (parameters between) byte
-unfolding key_of control_key
-control-by bytes between byte one two some parameter mouse last final same =
-    rw (eq-eqb (get_or bytes 0 0) 27 one, ne_eqb (length bytes) 1 (λ e. omega (arith, e, some)))
-    (rw (ne_eqb (length bytes) 2 (λ e. omega (arith, e, some)), eq-eqb (get_or bytes 1 0) 91 two)
-    (rw (ne_eqb (get_or bytes 2 0) 91 (λ e. omega (arith, e, parameter.1)))
-    (rw (ne_eqb (get_or bytes 2 0) 77 (λ e. omega (arith, e, parameter.1)), last, same)
-    (rw (ne_eqb byte 36 (λ e. omega (arith, e, final.low)), ne_eqb byte 94 final.no_ending)
-    (rw (ne_eqb byte 64 (λ e. omega (arith, e, final.low)), ne_eqb (get_or bytes 2 0) 60 mouse)
-    (rw (ne_eqb (length bytes) 3 (λ e. omega (arith, e, some)))
-    (grind (arith, nat_tests, final.low))))))))
-
 final-key : (x : ℕ) (l : List ℕ) (byte : ℕ) → IsParameter x → IsFinal byte
     → key_of false (27 ∷ 91 ∷ x ∷ (l ++ byte ∷ [])) ≡ controlled_key (parameters (x ∷ l)) byte
+unfolding key_of control_key
 final-key x l byte first final =
     let bytes : List ℕ = 27 ∷ 91 ∷ x ∷ (l ++ byte ∷ []) in
     let last : get_or bytes (length bytes - 1) 0 ≡ byte = last-final (27 ∷ 91 ∷ x ∷ l) byte in
@@ -81,8 +65,17 @@ final-key x l byte first final =
     let count : length bytes - 1 - 2 ≡ length (x ∷ l) = omega (arith, long) in
     let between : slice_range bytes 2 (length bytes - 1) ≡ x ∷ l =
     ap (λ k. take k (x ∷ (l ++ byte ∷ []))) count ∙ take-append_seam (x ∷ l) (byte ∷ []) in
-    control-by bytes (x ∷ l) byte refl refl (omega (arith, long)) first (λ e. omega (arith, e, first.1)) last final
-    between
+    grind (
+      arith,
+      nat_tests,
+      first.0,
+      first.1,
+      final.low,
+      ne_eqb byte 94 final.no_ending,
+      last,
+      long,
+      between,
+    )
 
 module _ (x : ℕ) (l : List ℕ) (all : (k : ℕ) → k < length (x ∷ l) → IsParameter (get_or (x ∷ l) k 0))
     (short : length l < 4000) (byte : ℕ) (is : is_final byte ≡ true) where

@@ -1,8 +1,7 @@
 -- How a pasted text ends.
 use Rattle.std.specs.Prelude.{◌∷◌, ◌≡◌, ◌≤◌}
-use Rattle.keys.specs.{Asked, IsBegun, IsSequence, Item, List, PasteEnds, [], arith, as_asked, cases_eq, continues}
-use Rattle.keys.specs.{false, get_or, inl, inr, is_whole, key_of, length, nat_tests, ne_eqb, paste_end, refl, sym, true}
-use Rattle.keys.specs.{ℕ, ◌∙◌}
+use Rattle.keys.specs.{Asked, IsBegun, IsSequence, Item, List, PasteEnds, [], arith, as_asked, continues, false, get_or}
+use Rattle.keys.specs.{is_whole, key_of, length, nat_tests, paste_end, refl, sym, true, ℕ, ◌∙◌}
 
 -- a byte that goes on is that of the end
 on : (bytes : List ℕ) (byte : ℕ) → 1 ≤ length bytes → continues true bytes byte ≡ true
@@ -28,10 +27,7 @@ whole bytes six begun = absurd (omega (arith, six))
 
 key-ends : (asked : Asked) (bytes : List ℕ) → as_asked asked (key_of true bytes) ≡ PasteEnds → length bytes ≡ 6
 unfolding key_of
-key-ends asked bytes is = elim (cases_eq (length bytes) 6) [
-  | inl six ↦ six
-  | inr other ↦ absurd (let e = rw (ne_eqb (length bytes) 6 other) at is in cc)
-]
+key-ends asked bytes is = grind (arith, nat_tests, is)
 
 pub paste-whole : (asked : Asked) (item : Item) → IsSequence asked true item → item.key ≡ PasteEnds
     → item.bytes ≡ paste_end

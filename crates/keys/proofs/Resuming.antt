@@ -1,12 +1,12 @@
 -- What begins with an escape is read whatever was pending before it.
-use Rattle.std.specs.Prelude.{if◌then◌else◌, ◌++◌, ◌+◌, ◌-◌, ◌<◌, ◌==◌, ◌∷◌, ◌≡◌, ◌≤◌, ◌⊎◌}
-use Rattle.keys.specs.{AreKey, Asked, Bool, Byte, Delay, Event, HasRead, Item, Key, LONGEST, List, None, PasteEnds}
-use Rattle.keys.specs.{Reading, Resumes, State, Taken, [], ap, append-nil, append_assoc, arith, as_asked, begins_string}
-use Rattle.keys.specs.{cases_Bool, cases_eq, continues, cut_by, ended_by, eq-eqb, false, fold, fold-append, get_or}
-use Rattle.keys.specs.{get_or_append_left, goes_on_control, goes_on_escape, goes_on_shift, inl, inr, is_in_character}
-use Rattle.keys.specs.{is_string, is_whole, items_of, key_of, keys_of, leaves_escape, left_by, length, length-append}
-use Rattle.keys.specs.{map, map-append, nat_tests, ne_eqb, opens_string, option_list, paste_end, read_event, reading}
-use Rattle.keys.specs.{refl, state_after, suc, sym, taken_by, taken_of, true, zero, ℕ, ◌∙◌}
+use Rattle.std.specs.Prelude.{◌++◌, ◌+◌, ◌-◌, ◌<◌, ◌==◌, ◌∷◌, ◌≡◌, ◌⊎◌}
+use Rattle.keys.specs.{AreKey, Asked, Byte, Delay, Event, HasRead, Item, Key, LONGEST, List, None, PasteEnds, Reading}
+use Rattle.keys.specs.{Resumes, State, Taken, [], ap, append-nil, append_assoc, arith, as_asked, begins_string}
+use Rattle.keys.specs.{cases_Bool, continues, cut_by, ended_by, eq-eqb, false, fold, fold-append, get_or}
+use Rattle.keys.specs.{get_or_append_left, goes_on_control, goes_on_shift, inl, inr, is_in_character, is_string}
+use Rattle.keys.specs.{is_whole, items_of, key_of, keys_of, leaves_escape, left_by, length, length-append, map}
+use Rattle.keys.specs.{map-append, nat_tests, ne_eqb, opens_string, option_list, paste_end, read_event, reading, refl}
+use Rattle.keys.specs.{state_after, suc, sym, taken_by, taken_of, true, zero, ℕ, ◌∙◌}
 use Rattle.keys.proofs.Sequences.{get-last}
 use Rattle.keys.proofs.Readings.{ended-read, outside, read-whole}
 
@@ -30,49 +30,39 @@ escaped-one : (byte : ℕ) → (byte ≡ 27 → ⊥) → Escaped (27 ∷ []) byt
 unfolding Escaped
 escaped-one byte other asked = rw (one-on byte other) refl
 
--- a string that was begun
-record IsString (pending : List ℕ) : Type 0 where
-  long : 3 ≤ length pending
-  one : get_or pending 0 0 ≡ 27
-  opens : opens_string (get_or pending 1 0) ≡ true
-
-no-string : (pending : List ℕ) → IsString pending → is_string pending ≡ false → ⊥
-no-string pending is none = grind (arith, nat_tests, is.long, is.one, is.opens, none)
-
 -- no string is pending, or it goes on behind an escape, but not with the byte
 abbrev Passes : List ℕ → ℕ → Type 0
 Passes pending byte = (is_string pending ≡ false) ⊎ ((length pending + 1 < LONGEST) × (byte ≡ 92 → ⊥))
 
-no-sequence : (letter : ℕ) → opens_string letter ≡ true → (letter ≡ 91 → ⊥) × (letter ≡ 79 → ⊥)
-no-sequence letter opens = (λ e. grind (arith, nat_tests, opens, e), λ e. grind (arith, nat_tests, opens, e))
-
 -- a string that ends in an escape
-module _ (q : List ℕ) (is : IsString q) (short : length q < LONGEST) (ends : get_or q (length q - 1) 0 ≡ 27) where
-  string-open : is_whole false q ≡ false
+module _ (q : List ℕ) (is : is_string q ≡ true) (ends : get_or q (length q - 1) 0 ≡ 27) where
+  long : 2 < length q
+  long = grind (arith, nat_tests, is)
+
+  begins : (get_or q 0 0 == 27) ≡ true
+  begins = grind (arith, nat_tests, is)
+
+  opens : opens_string (get_or q 1 0) ≡ true
+  opens = grind (arith, nat_tests, is)
+
+  no_control : (get_or q 1 0 == 91) ≡ false
+  no_control = grind (arith, nat_tests, opens)
+
+  no_shift : (get_or q 1 0 == 79) ≡ false
+  no_shift = grind (arith, nat_tests, opens)
+
+  string-open : length q < LONGEST → is_whole false q ≡ false
   unfolding is_whole
-  string-open =
-      let letter = no-sequence (get_or q 1 0) is.opens in
-      rw (ne_eqb (length q) LONGEST (λ e. omega (arith, e, short)), eq-eqb (get_or q 0 0) 27 is.one)
-      (rw (ne_eqb (length q) 1 (λ e. omega (arith, e, is.long)), ne_eqb (get_or q 1 0) 91 letter.0)
-      (rw (ne_eqb (get_or q 1 0) 79 letter.1, is.opens) (grind (arith, nat_tests, is.long, ends))))
-
-  string-off : (byte : ℕ) → (byte ≡ 92 → ⊥) → continues false q byte ≡ false
-  unfolding continues
-  string-off byte string =
-      let letter = no-sequence (get_or q 1 0) is.opens in
-      rw (ne_eqb (length q) 0 (λ e. omega (arith, e, is.long)), eq-eqb (get_or q 0 0) 27 is.one)
-      (rw (ne_eqb (length q) 1 (λ e. omega (arith, e, is.long)), ne_eqb (get_or q 1 0) 91 letter.0)
-      (rw (ne_eqb (get_or q 1 0) 79 letter.1, is.opens)
-      (rw (ne_eqb (length q) 2 (λ e. omega (arith, e, is.long)), eq-eqb (get_or q (length q - 1) 0) 27 ends)
-      (ne_eqb byte 92 string))))
-
-  string-leaves : leaves_escape false q ≡ true
-  unfolding leaves_escape
-  string-leaves = grind (arith, nat_tests, is.long, is.one, is.opens, ends)
+  string-open short =
+      rw (begins, no_control, no_shift, opens) (grind (arith, nat_tests, long, ends, short))
 
   string-escaped : (byte : ℕ) → (byte ≡ 92 → ⊥) → Escaped q byte
-  unfolding Escaped
-  string-escaped byte string asked = rw (string-off byte string, string-leaves) refl
+  unfolding Escaped continues leaves_escape
+  string-escaped byte other asked =
+      let off : continues false q byte ≡ false =
+      rw (begins, no_control, no_shift, opens) (grind (arith, nat_tests, long, ends, ne_eqb byte 92 other)) in
+      let leaves : leaves_escape false q ≡ true = grind (arith, nat_tests, is, ends) in
+      rw (off, leaves) refl
 
 -- what an escape goes on
 
@@ -88,69 +78,34 @@ no-shift pending = grind (arith, nat_tests)
 no-begin : (letter : ℕ) → begins_string letter 27 ≡ false
 no-begin letter = grind (arith, nat_tests)
 
-if-false : (b x y : Bool) → x ≡ false → y ≡ false → (if b then x else y) ≡ false
-if-false true x y first second = first
-if-false false x y first second = second
-
-module _ (pending : List ℕ) where
-  off-short : length pending ≡ 1 → goes_on_escape pending 27 ≡ false
-  off-short one = rw (eq-eqb (length pending) 1 one) refl
-
-  off-two : length pending ≡ 2 → goes_on_escape pending 27 ≡ false
-  off-two two =
-      if-false (length pending == 1) _ _ refl
-      (if-false (get_or pending 1 0 == 91) _ _ (no-control pending)
-      (if-false (get_or pending 1 0 == 79) _ _ (no-shift pending)
-      (if-false (opens_string (get_or pending 1 0)) _ _
-      (rw (eq-eqb (length pending) 2 two) (no-begin (get_or pending 1 0)))
-      (no-character (get_or pending 1 0) (length pending - 1)))))
-
-  off-plain : opens_string (get_or pending 1 0) ≡ false → goes_on_escape pending 27 ≡ false
-  off-plain none =
-      if-false (length pending == 1) _ _ refl
-      (if-false (get_or pending 1 0 == 91) _ _ (no-control pending)
-      (if-false (get_or pending 1 0 == 79) _ _ (no-shift pending)
-      (rw none (no-character (get_or pending 1 0) (length pending - 1)))))
-
-on-escape : (a : ℕ) (l : List ℕ) → continues false (a ∷ l) 27 ≡ true
-    → (a ≡ 27) × (goes_on_escape (a ∷ l) 27 ≡ true)
+-- an escape goes on a string alone
+met-string : (a : ℕ) (l : List ℕ) → continues false (a ∷ l) 27 ≡ true → is_string (a ∷ l) ≡ true
 unfolding continues
-on-escape a l on =
-    let some = ne_eqb (length (a ∷ l)) 0 (λ e. omega (arith, e)) in
-    elim (cases_eq a 27) [
-      | inl one ↦ (one, rw (some, eq-eqb a 27 one) at on)
-      | inr other ↦ absurd (let e = rw (some, ne_eqb a 27 other, no-character a (length (a ∷ l))) at on in cc)
-    ]
-
-met-string : (a : ℕ) (l : List ℕ) → continues false (a ∷ l) 27 ≡ true → IsString (a ∷ l)
 met-string a l on =
-    let is = on-escape a l on in
-    elim (cases_eq (length (a ∷ l)) 1) [
-      | inl one ↦ absurd (let e = off-short (a ∷ l) one in cc)
-      | inr more ↦ elim (cases_eq (length (a ∷ l)) 2) [
-        | inl two ↦ absurd (let e = off-two (a ∷ l) two in cc)
-        | inr several ↦ elim (cases_Bool (opens_string (get_or (a ∷ l) 1 0))) [
-          | inl opens ↦ record { long = omega (arith, more, several); one = is.0; opens = opens }
-          | inr none ↦ absurd (let e = off-plain (a ∷ l) none in cc)
-        ]
-      ]
-    ]
+    grind (
+      arith,
+      nat_tests,
+      on,
+      no-character a (length (a ∷ l)),
+      no-character (get_or (a ∷ l) 1 0) (length (a ∷ l) - 1),
+      no-control (a ∷ l),
+      no-shift (a ∷ l),
+      no-begin (get_or (a ∷ l) 1 0),
+    )
 
--- An escape, whatever was pending: it is alone then, or the last byte of a string.
-with-escape : (pending : List ℕ) (byte : ℕ) → IsString pending → length pending + 1 < LONGEST → (byte ≡ 92 → ⊥)
-    → (is_whole false (pending ++ 27 ∷ []) ≡ false) × Escaped (pending ++ 27 ∷ []) byte
-with-escape pending byte is short string-none =
+-- an escape behind a string
+with-escape : (pending : List ℕ) (byte : ℕ) → is_string pending ≡ true → length pending + 1 < LONGEST
+    → (byte ≡ 92 → ⊥) → (is_whole false (pending ++ 27 ∷ []) ≡ false) × Escaped (pending ++ 27 ∷ []) byte
+with-escape pending byte is short other =
     let q = pending ++ 27 ∷ [] in
     let long : length q ≡ length pending + 1 = length-append pending (27 ∷ []) in
-    let string : IsString q = record {
-      long = omega (arith, long, is.long);
-      one = get_or_append_left pending (27 ∷ []) 0 0 (omega (arith, is.long)) ∙ is.one;
-      opens = ap opens_string (get_or_append_left pending (27 ∷ []) 0 1 (omega (arith, is.long))) ∙ is.opens;
-    } in
-    let few : length q < LONGEST = omega (arith, long, short) in
+    let some : 2 < length pending = grind (arith, nat_tests, is) in
+    let one = get_or_append_left pending (27 ∷ []) 0 0 (omega (arith, some)) in
+    let two = get_or_append_left pending (27 ∷ []) 0 1 (omega (arith, some)) in
+    let string : is_string q ≡ true = grind (arith, nat_tests, is, long, one, two) in
     let ends : get_or q (length q - 1) 0 ≡ 27 =
     ap (λ k. get_or q k 0) (let e : length q - 1 ≡ length pending = omega (arith, long) in e) ∙ get-last pending 27 in
-    (string-open q string few ends, string-escaped q string few ends byte string-none)
+    (string-open q string ends (omega (arith, long, short)), string-escaped q string ends byte other)
 
 -- the state after an escape
 abbrev after_escape : Asked → List ℕ → State
@@ -167,7 +122,7 @@ unfolding continues is_whole
 escaped asked [] byte other passes = record { q = 27 ∷ []; state = refl; escaped = escaped-one byte other }
 escaped asked (a ∷ l) byte other passes = elim (cases_Bool (continues false (a ∷ l) 27)) [
   | inl on ↦ elim passes [
-    | inl none ↦ absurd (no-string (a ∷ l) (met-string a l on) none)
+    | inl none ↦ absurd (let is = met-string a l on in cc)
     | inr string ↦
         let is = with-escape (a ∷ l) byte (met-string a l on) string.0 string.1 in
         record { q = (a ∷ l) ++ 27 ∷ []; state = rw on (rw on (rw is.0 refl)); escaped = is.1 }

@@ -5,10 +5,9 @@ use Rattle.keys.specs.{Item, LONGEST, List, Option, Reading, State, [], after_by
 use Rattle.keys.specs.{append-nil, append_assoc, arith, byte_of, bytes_of, cases_Bool, cases_eq, cases_lt, continues}
 use Rattle.keys.specs.{cut_by, cut_by_delay, cut_short, ended_by, eq-eqb, escape, false, flat_map, flat_map-append}
 use Rattle.keys.specs.{fold, get_or, get_or-append_right, get_or-take, get_or_append_left, inl, inr, is_whole, item}
-use Rattle.keys.specs.{items_of, leaves_escape, left_by, length, length-append, length-take-le, nat_tests, ne_eqb}
-use Rattle.keys.specs.{option_list, pasting_past, read_event, reading, refl, start, state_after, subst, sym, take}
-use Rattle.keys.specs.{take-append-le, take-append_seam, take-length, take-take, take_more, taken_by, true, waits}
-use Rattle.keys.specs.{whole_of, ℕ, ◌∙◌}
+use Rattle.keys.specs.{items_of, leaves_escape, left_by, length, length-append, length-take-le, nat_tests, option_list}
+use Rattle.keys.specs.{pasting_past, read_event, reading, refl, start, state_after, subst, sym, take, take-append-le}
+use Rattle.keys.specs.{take-append_seam, take-length, take-take, take_more, taken_by, true, waits, whole_of, ℕ, ◌∙◌}
 
 -- ---- no byte is lost
 
@@ -261,10 +260,7 @@ sequences-whole s bytes is = elim (cases_Bool (is_whole s.pasting bytes)) [
 -- what is left goes on, but for an escape where another follows
 escape-off : (byte : ℕ) → continues false (escape ∷ []) byte ≡ false → byte ≡ escape
 unfolding continues
-escape-off byte off = elim (cases_eq byte escape) [
-  | inl same ↦ same
-  | inr other ↦ absurd (let e : continues false (escape ∷ []) byte ≡ true = rw (ne_eqb byte escape other) refl in cc)
-]
+escape-off byte off = grind (arith, nat_tests, off)
 
 left-off : (s : State) (byte : ℕ) → continues (left_by s byte).pasting (left_by s byte).pending byte ≡ false
     → (byte ≡ escape) × ((left_by s byte).pasting ≡ false)
