@@ -32,8 +32,8 @@ def try_one(command, number, moment, is_stopped):
     while terminal.status is None and time.monotonic() < end:
         terminal.hears()
         time.sleep(0.002)
-    if terminal.status is None and is_stopped and number == signal.SIGINT:
-        terminal.type(b'\x11')    # Python ends once it has told there of KeyboardInterrupt
+    if terminal.status is None and is_stopped and command[0] == 'python3' and number == signal.SIGINT:
+        terminal.type(b'\x11')    # it ends once it has told there of KeyboardInterrupt
         terminal.ends(5)
     ended = terminal.status is not None
     found = [it for it in terminal.differences(3) if it == 'its modes' or not is_stopped]
